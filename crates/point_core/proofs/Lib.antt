@@ -1,0 +1,4 @@
+pub mod Latest
+pub mod Listings
+pub mod Names
+pub mod Values

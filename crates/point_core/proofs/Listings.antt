@@ -1,0 +1,76 @@
+-- What is listed, context by context.
+use Rattle.std.proofs.Common.{◌≡◌, ℕ, ◌+◌, ◌<◌, ◌≤◌, zero, suc, refl, sym, ap, ◌∙◌, List, [], ◌∷◌, ◌++◌, length, get_or, take, map, max, Option, None, Some, arith, Bool, true, false, nat_lt, if◌then◌else◌, inl, inr, append-nil}
+use Rattle.std.specs.Prelude.{option_map}
+use Rattle.std.specs.List.{filter_map, cons_option, range_with_len}
+use Rattle.std.proofs.lemmas.List.{map_more, take_more}
+use Rattle.std.proofs.lemmas.Bool.{lt-ltb, le-ltb, cases_lt}
+use Rattle.point_core.specs.declared.context.TheConstants.{CONTEXTS}
+use Rattle.point_core.specs.declared.entry.Point.{Point}
+use Rattle.point_core.specs.declared.entry.Entry.{Entry}
+use Rattle.point_core.specs.Reach.{value_at}
+use Rattle.point_core.specs.Agreement.{top, pending, pending_top, point_of, as_entry, as_entries, contexts, listing}
+use Rattle.point_core.specs.Latest.{raised_to, IsLatest, point_above, points_above}
+
+pub as_entries-take_more : (ps : List Point) (i : ℕ) (p : Point) → i < length ps → p ≡ get_or ps i p → as_entries (take (i + 1) ps) ≡ as_entries (take i ps) ++ as_entry p ∷ []
+as_entries-take_more ps i p low is = map_more as_entry ps i p low ∙ ap (λ q. as_entries (take i ps) ++ as_entry q ∷ []) (sym is)
+
+cons_option-append : {X : Type 0} (o : Option X) (xs ys : List X) → cons_option o (xs ++ ys) ≡ cons_option o xs ++ ys
+cons_option-append None xs ys = refl
+cons_option-append (Some x) xs ys = refl
+
+-- one more number
+pub filter_map-range_more : {X : Type 0} (h : ℕ → Option X) (a n : ℕ) → filter_map h (range_with_len a (suc n)) ≡ filter_map h (range_with_len a n) ++ cons_option (h (a + n)) []
+filter_map-range_more h a zero = ap (λ k. cons_option (h k) []) (omega arith)
+filter_map-range_more h a (suc n) =
+    ap (cons_option (h a)) (filter_map-range_more h (a + 1) n)
+    ∙ cons_option-append (h a) (filter_map h (range_with_len (a + 1) n)) (cons_option (h (a + 1 + n)) [])
+    ∙ ap (λ k. cons_option (h a) (filter_map h (range_with_len (a + 1) n)) ++ cons_option (h k) []) (omega arith)
+
+-- what agrees on the numbers gives the same list
+pub filter_map-range_same : {X : Type 0} (f h : ℕ → Option X) (a n : ℕ) → ((k : ℕ) → a ≤ k → k < a + n → f k ≡ h k) → filter_map f (range_with_len a n) ≡ filter_map h (range_with_len a n)
+filter_map-range_same f h a zero same = refl
+filter_map-range_same f h a (suc n) same =
+    ap (λ o. cons_option o (filter_map f (range_with_len (a + 1) n))) (same a (omega arith) (omega arith))
+    ∙ ap (cons_option (h a)) (filter_map-range_same f h (a + 1) n (λ k low high. same k (omega arith) (omega arith)))
+
+pending_is : (value ctx : ℕ) (t : Option ℕ) → (if nat_lt value (raised_to value t) then Some (point_of ctx (raised_to value t)) else None) ≡ option_map (point_of ctx) (pending value t)
+pending_is value ctx None = rw (le-ltb value value (omega arith)) refl
+pending_is value ctx (Some p) = elim (cases_lt value p) [
+  | inl above ↦ let is : max value p ≡ p = omega arith in rw (is, lt-ltb value p above) refl
+  | inr below ↦ let is : max value p ≡ value = omega arith in rw (is, le-ltb value value (omega arith), le-ltb value p below) refl
+]
+
+-- a table of the latest points holds what is listed
+pub points_above-IsLatest : {latest reach : List ℕ} {es : List Entry} {usage : ℕ} → IsLatest latest reach es usage → points_above latest reach ≡ listing es usage reach
+unfolding contexts
+points_above-IsLatest {latest} {reach} {es} {usage} h =
+    filter_map-range_same (point_above latest reach) (λ ctx. option_map (point_of ctx) (pending_top reach es usage ctx)) 1 CONTEXTS
+    (λ ctx low high. rw (h.values ctx low (omega arith)) (pending_is (value_at reach ctx) ctx (top es usage ctx)))
+
+-- every context is a number from 1 on
+pub filter_map-contexts : {X : Type 0} (h : ℕ → Option X) (n : ℕ) → n ≡ CONTEXTS → filter_map h (range_with_len 1 n) ≡ filter_map h contexts
+unfolding contexts
+filter_map-contexts h n is = ap (λ k. filter_map h (range_with_len 1 k)) is
+
+above_one_more : (latest reach : List ℕ) (n ctx : ℕ) → ctx ≡ n + 1 → filter_map (point_above latest reach) (range_with_len 1 (n + 1)) ≡ filter_map (point_above latest reach) (range_with_len 1 n) ++ cons_option (point_above latest reach ctx) []
+above_one_more latest reach n ctx is =
+    let more : n + 1 ≡ suc n = omega arith in
+    let at : 1 + n ≡ ctx = omega arith in
+    ap (λ k. filter_map (point_above latest reach) (range_with_len 1 k)) more
+    ∙ filter_map-range_more (point_above latest reach) 1 n
+    ∙ ap (λ k. filter_map (point_above latest reach) (range_with_len 1 n) ++ cons_option (point_above latest reach k) []) at
+
+-- a point of the next context is listed
+pub push_above : (latest reach : List ℕ) (points : List Point) (n ctx : ℕ) → points ≡ filter_map (point_above latest reach) (range_with_len 1 n) → ctx ≡ n + 1 → value_at reach ctx < value_at latest ctx → points ++ point_of ctx (value_at latest ctx) ∷ [] ≡ filter_map (point_above latest reach) (range_with_len 1 (n + 1))
+push_above latest reach points n ctx before is above =
+    ap (λ ps. ps ++ point_of ctx (value_at latest ctx) ∷ []) before
+    ∙ ap (λ b. filter_map (point_above latest reach) (range_with_len 1 n) ++ cons_option (if b then Some (point_of ctx (value_at latest ctx)) else None) []) (sym (lt-ltb _ _ above))
+    ∙ sym (above_one_more latest reach n ctx is)
+
+-- the next context has no pending point
+pub skip_above : (latest reach : List ℕ) (points : List Point) (n ctx : ℕ) → points ≡ filter_map (point_above latest reach) (range_with_len 1 n) → ctx ≡ n + 1 → value_at latest ctx ≤ value_at reach ctx → points ≡ filter_map (point_above latest reach) (range_with_len 1 (n + 1))
+skip_above latest reach points n ctx before is reached =
+    before
+    ∙ sym (append-nil _)
+    ∙ ap (λ b. filter_map (point_above latest reach) (range_with_len 1 n) ++ cons_option (if b then Some (point_of ctx (value_at latest ctx)) else None) []) (sym (le-ltb _ _ reached))
+    ∙ sym (above_one_more latest reach n ctx is)

@@ -1,0 +1,7 @@
+pub mod Agreement
+pub mod Latest
+pub mod Name
+pub mod Reach
+pub mod Refusal
+pub mod StoredName
+pub mod Usage

@@ -1,0 +1,21 @@
+use Rattle.std.specs.Prelude.{◌≡◌, ℕ, ◌+◌, ◌-◌, ◌<◌, ◌≤◌, Bool, true, nat_le, ◌&&◌, ◌||◌, ◌==◌, List, ◌++◌, length, take, drop, replicate}
+use Rattle.std.specs.List.{list_all}
+use Rattle.point_core.specs.declared.name.TheConstants.{NAME_BYTES}
+
+abbrev pub between : ℕ → ℕ → ℕ → Bool
+between low high b = nat_le low b && nat_le b high
+
+-- a letter, a digit, `_`, `.` or `-`
+abbrev pub is_name_byte : ℕ → Bool
+is_name_byte b = between 65 90 b || between 97 122 b || between 48 57 b || (b == 95) || (b == 46) || (b == 45)
+
+abbrev pub IsName : List ℕ → Type 0
+IsName bytes = (1 ≤ length bytes) × (length bytes ≤ NAME_BYTES) × (list_all is_name_byte bytes ≡ true)
+
+-- the bytes of a name, and zeros behind them
+abbrev pub padded : List ℕ → List ℕ
+padded bytes = bytes ++ replicate (NAME_BYTES - length bytes) 0
+
+-- the first bytes are a name, and zeros fill the rest
+abbrev pub IsStored : ℕ → List ℕ → Type 0
+IsStored len bytes = (len ≤ NAME_BYTES) × IsName (take len bytes) × (length (take len bytes) ≡ len) × (padded (take len bytes) ≡ bytes)

@@ -1,0 +1,18 @@
+use Rattle.std.specs.Prelude.{ℕ, ◌-◌, ◌≤◌, max, map, List, slice_index, slice_set}
+use Rattle.std.specs.List.{zip}
+
+-- the value of a context, which is numbered from 1
+abbrev pub value_at : List ℕ → ℕ → ℕ
+value_at reach ctx = slice_index reach (ctx - 1)
+
+-- the reach with one value changed
+abbrev pub with_value : List ℕ → ℕ → ℕ → List ℕ
+with_value reach ctx value = slice_set reach (ctx - 1) value
+
+-- the greater value of each context
+abbrev pub later_values : List ℕ → List ℕ → List ℕ
+later_values reach other = map (λ (both : ℕ × ℕ). max both.0 both.1) (zip reach other)
+
+-- no value is below the other's
+pub record IsAtLeast (reach other : List ℕ) : Type 0 where
+  pub values : (ctx : ℕ) → value_at other ctx ≤ value_at reach ctx

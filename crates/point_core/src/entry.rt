@@ -1,0 +1,53 @@
+// A point of a timeline, and a point with the usage that it was added for.
+ghost use Rattle.std.specs.Prelude.{◌≡◌, ◌≤◌, ◌↔◌, IsTrue};
+ghost use Rattle.point_core.specs.Usage.{number_of};
+
+use crate::context::Context;
+
+/// The kernel's sequence number of a fence in its context: it is signalled once the context's value has reached it.
+#[derive(Clone, Copy, Debug, PartialEq, Eq, Hash)]
+pub struct Point {
+    pub ctx: Context,
+    pub value: u64,
+}
+
+/// What a fence in a reservation is for, as Linux's `enum dma_resv_usage`: a lower number is the stronger usage,
+/// and asking for a usage gives all stronger ones too.
+#[derive(Clone, Copy, Debug, PartialEq, Eq, Hash)]
+pub enum Usage {
+    Kernel,
+    Write,
+    Read,
+    Bookkeep,
+}
+
+/// A fence in a reservation. A file's point is read as an entry of usage `Kernel`.
+#[derive(Clone, Copy, Debug, PartialEq, Eq, Hash)]
+pub struct Entry {
+    pub point: Point,
+    pub usage: Usage,
+}
+
+impl Usage {
+    /// The number of the kernel's enum, from 0.
+    pub fn number(self) -> u8
+        ensures { result ≡ number_of self }
+    {
+        match self {
+            Usage::Kernel => 0,
+            Usage::Write => 1,
+            Usage::Read => 2,
+            Usage::Bookkeep => 3,
+        }
+    }
+}
+
+/// Whether the first entry makes the second needless: the same context, a usage at least as strong, a point at
+/// least as late.
+pub fn covers(by: Entry, other: Entry) -> bool
+    ensures { IsTrue result ↔ ((by.point.ctx ≡ other.point.ctx) × (number_of by.usage ≤ number_of other.usage) × (other.point.value ≤ by.point.value)) }
+{
+    by.point.ctx == other.point.ctx
+        && by.usage.number() <= other.usage.number()
+        && by.point.value >= other.point.value
+}

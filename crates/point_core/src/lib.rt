@@ -1,0 +1,21 @@
+//! Points of timelines, usages, reaches, and what a set of fences says above a reach.
+//!
+//! Everything above this crate speaks in its words: a `Point` of a `Context`, an `Entry` of a reservation, the
+//! `Reach` of all timelines, the listing of what is pending, and the one list of refusals.
+#![tactic(auto)]
+
+mod context;
+mod entry;
+mod items;
+mod listing;
+mod name;
+mod reach;
+mod refusal;
+
+pub use context::{CONTEXTS, Context};
+pub use entry::{Entry, Point, Usage, covers};
+pub use items::Items;
+pub use listing::{Listing, TopRow, canon, points_above};
+pub use name::{NAME_BYTES, Name};
+pub use reach::{Reach, is_signalled};
+pub use refusal::{LimitKind, Refusal};

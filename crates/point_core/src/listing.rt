@@ -1,0 +1,67 @@
+// What is pending: the latest point of each context above a reach.
+ghost use Rattle.std.specs.Prelude.{◌≡◌, IfOk, IfErr};
+ghost use Rattle.point_core.specs.Agreement.{as_entries, listing};
+ghost use Rattle.point_core.specs.Latest.{IsLatest, points_above};
+
+use crate::context::{CONTEXTS, Context};
+use crate::entry::{Point, Usage};
+use crate::items::Items;
+use crate::reach::Reach;
+use crate::refusal::Refusal;
+use std::alloc::Global;
+
+/// What a reservation or a merge hands to a new file: the pending points by rising context, and the reach that they
+/// were taken above.
+#[derive(Debug, Drop)]
+pub struct Listing {
+    pub points: Items<Point>,
+    pub floor: Reach,
+}
+
+/// A row of a reservation's table: the latest pending point of a context at a usage or a stronger one.
+#[derive(Clone, Copy, Debug, PartialEq, Eq, Hash)]
+pub struct TopRow {
+    pub usage: Usage,
+    pub ctx: Context,
+    pub point: u64,
+}
+
+/// The pending points by rising context: the greatest of each context, where it is above the reach. Linux's
+/// `sync_file_merge` drops the same points, and keeps the latest of each context.
+///
+/// Refuses as `Memory` alone.
+pub fn canon(alloc: Global, points: &[Point], reach: &Reach) -> Result<Vec<Point>, Refusal>
+    ensures listing { IfOk result (λ ps. ps.items ≡ listing (as_entries points.now) 0 reach.now) }
+    ensures memory { IfErr result (λ e. e ≡ Refusal.Memory) }
+{
+    points_above(alloc, &latest_of(points, reach), reach)
+}
+
+/// The greatest point of each context, or its value where no point is above that.
+fn latest_of(points: &[Point], reach: &Reach) -> Reach
+    ensures { IsLatest result reach.now (as_entries points.now) 0 }
+{
+    let mut latest = *reach;
+    for point in points {
+        latest.raise_to(*point);
+    }
+    latest
+}
+
+/// The points of a table of latest points that are above the reach, by rising context.
+///
+/// Refuses as `Memory` alone.
+pub fn points_above(alloc: Global, latest: &Reach, reach: &Reach) -> Result<Vec<Point>, Refusal>
+    ensures points { IfOk result (λ ps. ps.items ≡ points_above latest.now reach.now) }
+    ensures memory { IfErr result (λ e. e ≡ Refusal.Memory) }
+{
+    let mut points = Vec::with_capacity(alloc, CONTEXTS)?;
+    for index in 0..CONTEXTS {
+        let ctx = Context::at(index);
+        let value = latest.get(ctx);
+        if value > reach.get(ctx) {
+            points.push_reserved(Point { ctx, value });
+        }
+    }
+    Ok(points)
+}

@@ -1,0 +1,101 @@
+// The value of each timeline.
+ghost use Rattle.std.specs.Prelude.{◌≡◌, ℕ, ◌+◌, ◌^◌, ◌<◌, ◌≤◌, ◌↔◌, length, max, slice_index, IsTrue, IsSome, IfSome};
+ghost use Rattle.point_core.specs.declared.context.TheConstants.{CONTEXTS};
+ghost use Rattle.point_core.specs.Reach.{value_at};
+
+use crate::context::{CONTEXTS, Context};
+use crate::entry::Point;
+use std::marker::Model;
+
+/// The value of each context: a point is signalled once the value has reached it. A context that was not made has
+/// the value 0.
+#[derive(Clone, Copy, Debug, PartialEq, Eq)]
+pub struct Reach {
+    values: [u64; CONTEXTS],
+}
+
+impl Model for Reach {
+    ghost use Rattle.std.specs.Prelude.{◌≡◌, List, ℕ, length};
+    ghost use Rattle.point_core.specs.declared.context.TheConstants.{CONTEXTS};
+
+    ghost Value = { List ℕ };
+
+    ghost view = { λ r. r.values };
+
+    ghost invariant = { λ r. length r.values ≡ CONTEXTS };
+
+    ghost inverse = { λ values. record { values = values } };
+}
+
+impl Reach {
+    ghost use Rattle.std.specs.Prelude.{replicate, slice_set, ◌-◌};
+    ghost use Rattle.point_core.specs.Reach.{with_value, later_values, IsAtLeast};
+
+    /// Every value is 0.
+    pub fn zero() -> Reach
+        ensures { result ≡ replicate CONTEXTS 0 }
+    {
+        Reach {
+            values: [0; CONTEXTS],
+        }
+    }
+
+    /// The value of a context.
+    pub fn get(&self, ctx: Context) -> u64
+        ensures value { result ≡ value_at self.now ctx }
+        ensures full { length self.now ≡ CONTEXTS }
+    {
+        self.values[ctx.index()]
+    }
+
+    /// The reach after the context advances by n, or none where its value would pass the greatest u64.
+    pub fn raised(&self, ctx: Context, n: u64) -> Option<Reach>
+        ensures fits { IsSome result ↔ (value_at self.now ctx + n < 2 ^ 64) }
+        ensures value { IfSome result (λ r. r ≡ with_value self.now ctx (value_at self.now ctx + n)) }
+    {
+        let value = self.get(ctx).checked_add(n)?;
+        let mut raised = *self;
+        raised.values[ctx.index()] = value;
+        Some(raised)
+    }
+
+    /// Raises the context's value to the point, where it is not there yet.
+    pub fn raise_to(&mut self, point: Point)
+        ensures value { self.new ≡ with_value self.old point.ctx (max (value_at self.old point.ctx) point.value) }
+        ensures full { length self.old ≡ CONTEXTS }
+        ensures context { (1 ≤ point.ctx) × (point.ctx ≤ CONTEXTS) }
+    {
+        let index = point.ctx.index();
+        self.values[index] = self.values[index].max(point.value);
+    }
+
+    /// The greater value of each context.
+    pub fn joined(&self, other: &Reach) -> Reach
+        ensures { result ≡ later_values self.now other.now }
+    {
+        let mut values = self.values;
+        for (index, value) in values.iter_mut().enumerate() {
+            *value = (*value).max(other.values[index]);
+        }
+        Reach { values }
+    }
+
+    /// Whether no value is below the other's.
+    pub fn at_least(&self, other: &Reach) -> bool
+        ensures { IsTrue result ↔ IsAtLeast self.now other.now }
+    {
+        for (index, value) in self.values.iter().enumerate() {
+            if *value < other.values[index] {
+                return false;
+            }
+        }
+        true
+    }
+}
+
+/// Whether the context's value has reached the point.
+pub fn is_signalled(point: Point, reach: &Reach) -> bool
+    ensures { IsTrue result ↔ (point.value ≤ value_at reach.now point.ctx) }
+{
+    point.value <= reach.get(point.ctx)
+}

@@ -1,0 +1,148 @@
+// Why a command or a call was refused.
+ghost use Rattle.std.specs.Prelude.{◌≡◌};
+ghost use Rattle.point_core.specs.Refusal.{number_of, name_of, word_of};
+
+use std::alloc::AllocError;
+use thiserror::Error;
+
+/// Which limit was met.
+#[derive(Clone, Copy, Debug, PartialEq, Eq, Hash, Error)]
+pub enum LimitKind {
+    #[error("timelines")]
+    Timelines,
+    #[error("buffers")]
+    Buffers,
+    #[error("files")]
+    Files,
+    #[error("watches")]
+    Watches,
+    #[error("flags")]
+    Flags,
+    #[error("clients")]
+    Clients,
+    #[error("plan")]
+    Plan,
+    #[error("script")]
+    Script,
+}
+
+/// Every refusal of the service. A refused command changes nothing.
+#[derive(Clone, Copy, Debug, PartialEq, Eq, Hash, Error)]
+pub enum Refusal {
+    #[error("the line is no command")]
+    Syntax,
+    /// The kernel's `ENOENT`.
+    #[error("there is no such name, buffer or context")]
+    NoEntry,
+    #[error("there is such a name, cookie or driver already")]
+    Exists,
+    #[error("an increment past the greatest value")]
+    Overflow,
+    /// The kernel's `EINVAL` of `DMA_BUF_IOCTL_EXPORT_SYNC_FILE`.
+    #[error("these are no sync flags")]
+    Flags,
+    #[error("the limit of {0} is met")]
+    Limit(LimitKind),
+    /// The kernel's `ENOENT` of `dma_fence_add_callback`.
+    #[error("it is signalled already")]
+    Signalled,
+    /// The kernel's `ETIME`.
+    #[error("it is still active")]
+    TimedOut,
+    #[error("these words do not bear the file or point out")]
+    Foreign,
+    #[error("the table or value disagrees with the plans or the words")]
+    Torn,
+    #[error("parts of seats are missing")]
+    NotAll,
+    #[error("the line is too long")]
+    LongLine,
+    #[error("the reader failed")]
+    Read,
+    #[error("the writer failed")]
+    Write,
+    #[error("the timeline is closed")]
+    Cancelled,
+    /// A growth was really refused.
+    #[error("out of memory")]
+    Memory,
+}
+
+impl From<AllocError> for Refusal {
+    ghost use Rattle.std.specs.Prelude.{◌≡◌};
+    ghost use Rattle.point_core.specs.declared.refusal.Refusal.TheVariants.{Memory};
+
+    ghost from_gives = { λ _ r. r ≡ Memory };
+
+    fn from(_error: AllocError) -> Self {
+        Refusal::Memory
+    }
+}
+
+impl LimitKind {
+    /// The word that answers print.
+    pub fn word(self) -> &'static str
+        ensures { result.now ≡ word_of self }
+    {
+        match self {
+            LimitKind::Timelines => "timelines",
+            LimitKind::Buffers => "buffers",
+            LimitKind::Files => "files",
+            LimitKind::Watches => "watches",
+            LimitKind::Flags => "flags",
+            LimitKind::Clients => "clients",
+            LimitKind::Plan => "plan",
+            LimitKind::Script => "script",
+        }
+    }
+}
+
+impl Refusal {
+    /// The number that answers print, from 1 to 16.
+    pub fn number(self) -> u8
+        ensures { result ≡ number_of self }
+    {
+        match self {
+            Refusal::Syntax => 1,
+            Refusal::NoEntry => 2,
+            Refusal::Exists => 3,
+            Refusal::Overflow => 4,
+            Refusal::Flags => 5,
+            Refusal::Limit(_) => 6,
+            Refusal::Signalled => 7,
+            Refusal::TimedOut => 8,
+            Refusal::Foreign => 9,
+            Refusal::Torn => 10,
+            Refusal::NotAll => 11,
+            Refusal::LongLine => 12,
+            Refusal::Read => 13,
+            Refusal::Write => 14,
+            Refusal::Cancelled => 15,
+            Refusal::Memory => 16,
+        }
+    }
+
+    /// The name that answers print. The kind of a limit is told by `LimitKind::word`.
+    pub fn name(self) -> &'static str
+        ensures { result.now ≡ name_of self }
+    {
+        match self {
+            Refusal::Syntax => "Syntax",
+            Refusal::NoEntry => "NoEntry",
+            Refusal::Exists => "Exists",
+            Refusal::Overflow => "Overflow",
+            Refusal::Flags => "Flags",
+            Refusal::Limit(_) => "Limit",
+            Refusal::Signalled => "Signalled",
+            Refusal::TimedOut => "TimedOut",
+            Refusal::Foreign => "Foreign",
+            Refusal::Torn => "Torn",
+            Refusal::NotAll => "NotAll",
+            Refusal::LongLine => "LongLine",
+            Refusal::Read => "Read",
+            Refusal::Write => "Write",
+            Refusal::Cancelled => "Cancelled",
+            Refusal::Memory => "Memory",
+        }
+    }
+}
