@@ -11,6 +11,7 @@ mod listing;
 mod name;
 mod reach;
 mod refusal;
+mod status;
 
 pub use context::{CONTEXTS, Context};
 pub use entry::{Entry, Point, Usage, covers};
@@ -19,3 +20,4 @@ pub use listing::{Listing, TopRow, canon, points_above};
 pub use name::{NAME_BYTES, Name};
 pub use reach::{Reach, is_signalled};
 pub use refusal::{LimitKind, Refusal};
+pub use status::Status;
