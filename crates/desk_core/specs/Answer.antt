@@ -1,0 +1,96 @@
+-- The answer of each command in a world: the first refusal whose cause holds, else what the accepted command tells.
+use Rattle.std.specs.Prelude.{ℕ, ◌+◌, Bool, true, false, not, ◌&&◌, ◌||◌, nat_le, if◌then◌else◌, List, [], ◌∷◌, length, map, Option, None, Some, codes}
+use Rattle.std.specs.List.{list_all}
+use Rattle.point_core.specs.declared.context.TheConstants.{CONTEXTS}
+use Rattle.point_core.specs.declared.entry.Point.{Point}
+use Rattle.point_core.specs.declared.entry.Entry.{Entry}
+use Rattle.point_core.specs.declared.refusal.Refusal.{Refusal}
+use Rattle.point_core.specs.declared.refusal.Refusal.TheVariants.{NoEntry, Exists, Limit, Memory}
+use Rattle.point_core.specs.declared.refusal.LimitKind.TheVariants.{Timelines, Files}
+use Rattle.point_core.specs.declared.status.Status.{Status}
+use Rattle.point_core.specs.declared.status.Status.TheVariants.{Signalled}
+use Rattle.point_core.specs.Usage.{number_of}
+use Rattle.point_core.specs.Status.{status_if}
+use Rattle.point_core.specs.Reach.{value_at}
+use Rattle.point_core.specs.Agreement.{listing}
+use Rattle.desk_core.specs.declared.command.Command.{Command}
+use Rattle.desk_core.specs.declared.command.Command.TheVariants as command
+use Rattle.desk_core.specs.declared.answer.Answer.{Answer}
+use Rattle.desk_core.specs.declared.answer.Answer.TheVariants as answer
+use Rattle.desk_core.specs.declared.answer.Info.{Info}
+use Rattle.desk_core.specs.declared.answer.FenceRow.{FenceRow}
+use Rattle.desk_core.specs.declared.answer.Maker.TheVariants.{SwSync, Stub}
+use Rattle.desk_core.specs.Timeline.{Timeline, has_timeline, name_of, reach_of}
+use Rattle.desk_core.specs.World.{File, World, has_file, file_named}
+use Rattle.desk_core.specs.declared.TheConstants.{FILES}
+
+-- the first refusal whose cause holds
+abbrev pub first_of : List (Bool × Refusal) → Option Refusal
+first_of [] = None
+first_of (r ∷ rs) = if r.0 then Some r.1 else first_of rs
+
+abbrev pub cause : Bool → Refusal → Bool × Refusal
+cause holds refusal = (holds, refusal)
+
+-- a file of that name can't be made
+abbrev pub making_file : World → List ℕ → List (Bool × Refusal)
+making_file w name = cause (has_file w.files name) Exists ∷ cause (nat_le FILES (length w.files)) (Limit Files) ∷ []
+
+-- the causes, in the order in which they are told
+abbrev pub causes : World → Command → List (Bool × Refusal)
+causes w (command.Timeline t) = cause (has_timeline w.timelines t) Exists ∷ cause (nat_le CONTEXTS (length w.timelines)) (Limit Timelines) ∷ []
+causes w (command.Fence f t p) = cause (not (has_timeline w.timelines t)) NoEntry ∷ making_file w f
+causes w (command.Merge f a b) = cause (not (has_file w.files a && has_file w.files b)) NoEntry ∷ making_file w f
+causes w (command.Info f) = cause (not (has_file w.files f)) NoEntry ∷ []
+
+-- the entry has been reached
+abbrev pub is_reached : List ℕ → Entry → Bool
+is_reached reach e = nat_le e.point.value (value_at reach e.point.ctx)
+
+-- each put entry of the usage or a stronger one has been reached
+abbrev pub all_reached : List ℕ → ℕ → List Entry → Bool
+all_reached reach usage es = list_all (λ e. not (nat_le (number_of e.usage) usage) || is_reached reach e) es
+
+-- a file is signalled exactly where all that was put into it is
+abbrev pub status_of : World → File → Status
+status_of w f = status_if (all_reached (reach_of w.timelines) 0 f.put)
+
+-- a file made of one point lists it, any other what was pending when it was made
+abbrev pub points_of : File → List Point
+points_of f = if f.is_one_point then map (λ e. e.point) f.put else listing f.put 0 f.made_at
+
+abbrev pub fence_row : List Timeline → Point → FenceRow
+fence_row ts p = record { timeline = name_of ts p.ctx; driver = SwSync; point = p.value; status = status_if (nat_le p.value (value_at (reach_of ts) p.ctx)) }
+
+abbrev pub stub_row : FenceRow
+stub_row = record { timeline = codes "stub"; driver = Stub; point = 0; status = Signalled }
+
+-- a file without points is shown as the stub
+abbrev pub or_stub : List FenceRow → List FenceRow
+or_stub [] = stub_row ∷ []
+or_stub (r ∷ rs) = r ∷ rs
+
+abbrev pub info_of : World → List ℕ → Option File → Info
+info_of w name None = record { name = name; status = Signalled; fences = [] }
+info_of w name (Some f) = record { name = name; status = status_of w f; fences = or_stub (map (fence_row w.timelines) (points_of f)) }
+
+-- what the accepted command tells
+abbrev pub told : World → Command → Answer
+told w (command.Timeline t) = answer.Value (length w.timelines + 1)
+told w (command.Fence f t p) = answer.Done
+told w (command.Merge f a b) = answer.Done
+told w (command.Info f) = answer.Info (info_of w f (file_named w.files f))
+
+abbrev pub refused_or : Option Refusal → Answer → Answer
+refused_or None a = a
+refused_or (Some r) a = answer.Refused r
+
+-- the one answer of the command
+abbrev pub answer_to : World → Command → Answer
+answer_to w c = refused_or (first_of (causes w c)) (told w c)
+
+abbrev pub is_refused : Answer → Bool
+is_refused (answer.Refused r) = true
+is_refused answer.Done = false
+is_refused (answer.Value n) = false
+is_refused (answer.Info i) = false

@@ -1,0 +1,37 @@
+-- A history is the list of the accepted commands, and means a world.
+use Rattle.std.specs.Prelude.{◌≡◌, ◌⊎◌, Bool, false, if◌then◌else◌, List, [], ◌∷◌, ◌++◌}
+use Rattle.point_core.specs.declared.refusal.Refusal.TheVariants.{Memory}
+use Rattle.desk_core.specs.declared.command.Command.{Command}
+use Rattle.desk_core.specs.declared.answer.Answer.{Answer}
+use Rattle.desk_core.specs.declared.answer.Answer.TheVariants as answer
+use Rattle.desk_core.specs.World.{World, empty_world, after}
+use Rattle.desk_core.specs.Answer.{answer_to, is_refused}
+
+abbrev pub world_from : World → List Command → World
+world_from w [] = w
+world_from w (c ∷ cs) = world_from (after w c) cs
+
+-- the world that a history means
+abbrev pub world_of : List Command → World
+world_of history = world_from empty_world history
+
+-- the one answer of the command, or Memory where that is no refusal
+pub record IsAnswer (history : List Command) (command : Command) (given : Answer) : Type 0 where
+  pub told : (given ≡ answer_to (world_of history) command) ⊎ ((given ≡ answer.Refused Memory) × (is_refused (answer_to (world_of history) command) ≡ false))
+
+-- the history after a command that was answered so
+abbrev pub history_after : List Command → Command → Answer → List Command
+history_after history command given = if is_refused given then history else history ++ command ∷ []
+
+-- the history after commands that were answered so
+abbrev pub history_of : List Command → List Command → List Answer → List Command
+history_of history [] given = history
+history_of history (c ∷ cs) [] = history
+history_of history (c ∷ cs) (a ∷ rest) = history_of (history_after history c a) cs rest
+
+-- each command has its answer, one after another
+abbrev pub AreAnswers : List Command → List Command → List Answer → Type 0
+AreAnswers history [] [] = Unit {0}
+AreAnswers history [] (a ∷ rest) = ⊥
+AreAnswers history (c ∷ cs) [] = ⊥
+AreAnswers history (c ∷ cs) (a ∷ rest) = IsAnswer history c a × AreAnswers (history_after history c a) cs rest

@@ -1,0 +1,16 @@
+// The commands.
+
+use point_core::Name;
+
+/// A command, with the words of its line in a script. Timelines and files have name spaces of their own.
+#[derive(Clone, Copy, Debug)]
+pub enum Command {
+    /// `timeline T`: makes a timeline at 0, as libsync's `sw_sync_timeline_create`.
+    Timeline(Name),
+    /// `fence F T P`: makes file F of point P on timeline T, as libsync's `sw_sync_fence_create`.
+    Fence(Name, Name, u64),
+    /// `merge F A B`: makes file F of files A and B, as libsync's `sync_merge`.
+    Merge(Name, Name, Name),
+    /// `info F`: file information, as libsync's `sync_file_info`.
+    Info(Name),
+}

@@ -1,0 +1,14 @@
+//! The desk: one command in, one answer out, and a run over a list of commands.
+//!
+//! What the accepted commands so far mean is told by put sets (`specs/World.antt`), in which nothing is ever dropped,
+//! replaced or compacted. The desk keeps less, and its answers are those of the put sets.
+#![tactic(auto)]
+
+mod answer;
+mod command;
+
+pub use answer::{Answer, FenceRow, Info, Maker};
+pub use command::Command;
+
+/// How many files there can be at a time.
+pub const FILES: usize = 1024;
