@@ -7,6 +7,7 @@
 mod context;
 mod entry;
 mod items;
+pub mod laws;
 mod listing;
 mod name;
 mod reach;
