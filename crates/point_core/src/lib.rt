@@ -20,3 +20,6 @@ pub use listing::{Listing, TopRow, canon, points_above};
 pub use name::{NAME_BYTES, Name};
 pub use reach::{Reach, is_signalled};
 pub use refusal::{LimitKind, Refusal};
+
+#[cfg(test)]
+mod tests;
