@@ -84,10 +84,11 @@ pub fn a_listing_absorbs_a_listing()
 {}
 
 /// So a merge depends neither on the order of the files nor on how they are grouped, a file merged with itself agrees
-/// with itself, and a merge agrees with both files together.
+/// with itself (and lists the same, where it is as listings are), and a merge agrees with both files together.
 pub fn merge_is_a_union()
     ensures commutative { (reach : List ℕ) (ps qs : List Point) → merged reach ps qs ≡ merged reach qs ps }
     ensures associative { (reach : List ℕ) (ps qs rs : List Point) → merged reach (merged reach ps qs) rs ≡ merged reach ps (merged reach qs rs) }
     ensures idempotent { (reach : List ℕ) (ps : List Point) → HasContexts (as_entries ps) → AgreesAbove reach (as_entries (merged reach ps ps)) (as_entries ps) }
+    ensures same { (reach : List ℕ) (ps : List Point) → HasRisingContexts ps → HasContexts (as_entries ps) → AllAbove reach ps → merged reach ps ps ≡ ps }
     ensures union { (reach : List ℕ) (ps qs : List Point) → HasContexts (as_entries ps) → HasContexts (as_entries qs) → AgreesAbove reach (as_entries (merged reach ps qs)) (as_entries ps ++ as_entries qs) }
 {}
