@@ -2,7 +2,7 @@
 ghost use Rattle.std.specs.Prelude.{◌≡◌, ℕ, ◌+◌, ◌≤◌, ◌↔◌, List, [], ◌∷◌, ◌++◌, length, sum, Some, None, Contains, IsPermutation};
 ghost use Rattle.point_core.specs.declared.entry.Point.{Point};
 ghost use Rattle.point_core.specs.declared.entry.Entry.{Entry};
-ghost use Rattle.point_core.specs.Agreement.{top, IsPut, NoneIsLater, NoneApplies, AgreesAbove, as_entries, listing, merged, HasContexts, HasRisingContexts, AllAbove, IsReached};
+ghost use Rattle.point_core.specs.Agreement.{top, IsPut, NoneIsLater, NoneApplies, AgreesAbove, as_entries, listing, merged, Covers, HasContexts, HasRisingContexts, AllAbove, IsReached};
 ghost use Rattle.point_core.specs.Reach.{value_at, with_value, later_values, IsAtLeast};
 
 /// A top is the point of a put entry of that context, at that usage or a stronger one, and none such is later.
@@ -48,18 +48,25 @@ pub fn union_keeps_agreement()
     ensures idempotent { (reach : List ℕ) (es : List Entry) → AgreesAbove reach (es ++ es) es }
 {}
 
+/// An entry that is signalled, or that another one covers, may be dropped.
+pub fn signalled_and_covered_entries_may_be_dropped()
+    ensures signalled { (reach : List ℕ) (e : Entry) (es : List Entry) → e.point.value ≤ value_at reach e.point.ctx → AgreesAbove reach (e ∷ es) es }
+    ensures covered { (reach : List ℕ) (by other : Entry) (es : List Entry) → Contains es by → Covers by other → AgreesAbove reach (other ∷ es) es }
+{}
+
 /// What agrees above a reach agrees above every reach that is at least as high.
 pub fn agreement_lasts_as_the_reach_rises()
     ensures { (reach later : List ℕ) (es fs : List Entry) → IsAtLeast later reach → AgreesAbove reach es fs → AgreesAbove later es fs }
 {}
 
 /// The points of a listing are pending, and stand by rising context. Nothing is listed exactly where each entry at
-/// that usage or a stronger one is reached.
+/// that usage or a stronger one is reached, and a list that is as listings are is its own listing.
 pub fn a_listing_is_what_is_pending()
     ensures rising { (es : List Entry) (usage : ℕ) (reach : List ℕ) → HasRisingContexts (listing es usage reach) }
     ensures contexts { (es : List Entry) (usage : ℕ) (reach : List ℕ) → HasContexts (as_entries (listing es usage reach)) }
     ensures above { (es : List Entry) (usage : ℕ) (reach : List ℕ) → AllAbove reach (listing es usage reach) }
     ensures empty { (es : List Entry) (usage : ℕ) (reach : List ℕ) → HasContexts es → ((listing es usage reach ≡ []) ↔ IsReached es usage reach) }
+    ensures itself { (ps : List Point) (reach : List ℕ) → HasRisingContexts ps → HasContexts (as_entries ps) → AllAbove reach ps → listing (as_entries ps) 0 reach ≡ ps }
 {}
 
 /// Listings show agreement, and nothing else: entries agree above a reach exactly where they list the same at every
@@ -77,10 +84,11 @@ pub fn a_listing_absorbs_a_listing()
 {}
 
 /// So a merge depends neither on the order of the files nor on how they are grouped, a file merged with itself agrees
-/// with itself, and a merge agrees with both files together.
+/// with itself (and lists the same, where it is as listings are), and a merge agrees with both files together.
 pub fn merge_is_a_union()
     ensures commutative { (reach : List ℕ) (ps qs : List Point) → merged reach ps qs ≡ merged reach qs ps }
     ensures associative { (reach : List ℕ) (ps qs rs : List Point) → merged reach (merged reach ps qs) rs ≡ merged reach ps (merged reach qs rs) }
     ensures idempotent { (reach : List ℕ) (ps : List Point) → HasContexts (as_entries ps) → AgreesAbove reach (as_entries (merged reach ps ps)) (as_entries ps) }
+    ensures same { (reach : List ℕ) (ps : List Point) → HasRisingContexts ps → HasContexts (as_entries ps) → AllAbove reach ps → merged reach ps ps ≡ ps }
     ensures union { (reach : List ℕ) (ps qs : List Point) → HasContexts (as_entries ps) → HasContexts (as_entries qs) → AgreesAbove reach (as_entries (merged reach ps qs)) (as_entries ps ++ as_entries qs) }
 {}
