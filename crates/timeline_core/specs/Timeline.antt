@@ -10,6 +10,7 @@ pub record Timeline : Type 0 where
   pub name : List ℕ
   pub value : ℕ
 
+-- the timeline with that name and value
 abbrev pub timeline_of : List ℕ → ℕ → Timeline
 timeline_of name value = record { name = name; value = value }
 
@@ -21,12 +22,15 @@ new_timeline name = timeline_of name 0
 abbrev pub is_named : List ℕ → Timeline → Bool
 is_named name t = pointwise nat_eq t.name name
 
+-- the names, in order of making
 abbrev pub names_of : List Timeline → List (List ℕ)
 names_of ts = map (λ t. t.name) ts
 
+-- the values, in order of making
 abbrev pub values_of : List Timeline → List ℕ
 values_of ts = map (λ t. t.value) ts
 
+-- whether there is a timeline of that name
 abbrev pub has_timeline : List Timeline → List ℕ → Bool
 has_timeline ts name = list_any (is_named name) ts
 
@@ -50,6 +54,7 @@ reach_of ts = values_of ts ++ replicate (CONTEXTS - length ts) 0
 abbrev pub value_of : List Timeline → List ℕ → ℕ
 value_of ts name = value_at (reach_of ts) (context_of ts name)
 
+-- the timeline once n is added to its value
 abbrev pub raised_by : ℕ → Timeline → Timeline
 raised_by n t = timeline_of t.name (t.value + n)
 

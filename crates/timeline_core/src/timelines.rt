@@ -10,7 +10,7 @@ use std::marker::Model;
 /// Named timelines, as libsync's sw_sync has them: a timeline begins at 0, and an increment adds to its value.
 ///
 /// There are at most `CONTEXTS`; none is ever taken away. A value does not wrap, where the kernel's 32-bit one does.
-#[derive(Drop)]
+#[derive(Debug, Drop)]
 pub struct Timelines {
     names: IndexSet<Name>,
     reach: Reach,
