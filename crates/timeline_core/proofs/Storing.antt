@@ -66,6 +66,7 @@ names-inserted {names} ts name e absent is =
     is ∙ ap (λ b. if b then names else names ++ name ∷ []) (has_timeline-stored ts name e ∙ absent)
     ∙ ap (λ ns. ns ++ name ∷ []) e ∙ sym (map-append (λ (t : Timeline). t.name) ts (new_timeline name ∷ []))
 
+-- what a clause says of an `Ok`
 pub on_ok : {T E P : Type 0} (r : Result T E) → true ≡ is_ok r → OnOk r P → P
 on_ok (Ok x) is p = p
 on_ok (Err e) is p = absurd (true≢false is)

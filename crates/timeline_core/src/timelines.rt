@@ -52,6 +52,7 @@ impl Timelines {
     pub fn create(&mut self, name: Name) -> Result<Context, Refusal>
         ensures number { IfOk result (λ ctx. ctx ≡ length self.old + 1) }
         ensures added { OnOk result (self.new ≡ self.old ++ new_timeline name ∷ []) }
+        ensures found { IfOk result (λ ctx. context_of self.new name ≡ ctx) }
         ensures same_values { reach_of self.new ≡ reach_of self.old }
 
         ensures exists { (result ≡ Err Refusal.Exists) ↔ IsTrue (has_timeline self.old name) }

@@ -1,15 +1,15 @@
-use Rattle.std.proofs.Common.{◌≡◌, ◌<◌, ◌++◌, ◌∷◌, [], false, true, true≢false, refl, sym, ap, subst, ◌∙◌, length, arith, rules}
+use Rattle.std.proofs.Common.{◌≡◌, ◌+◌, ◌<◌, ◌++◌, ◌∷◌, [], false, true, true≢false, refl, sym, ap, subst, ◌∙◌, length, arith, rules}
 use Rattle.std.specs.Prelude.{IfErr}
 use Rattle.std.proofs.lemmas.Result.{IfErr-at_err}
 use Rattle.point_core.specs.declared.refusal.Refusal.TheVariants.{Exists, Memory}
 use Rattle.point_core.specs.declared.context.TheConstants.{CONTEXTS}
-use Rattle.timeline_core.specs.Timeline.{has_timeline, new_timeline, names_of, reach_of, AreTimelines}
-use Rattle.timeline_core.proofs.Lookups.{has_timeline-stored}
+use Rattle.timeline_core.specs.Timeline.{has_timeline, new_timeline, context_of, names_of, reach_of, AreTimelines}
+use Rattle.timeline_core.proofs.Lookups.{has_timeline-told, context_of-new}
 use Rattle.timeline_core.proofs.Storing.{names-seen, values-seen, AreTimelines-seen, AreTimelines-new, AreStored-made, timelines_of-stored, reach_of-new, length-stored, names-inserted, on_ok}
 use Rattle.timeline_core.proofs.timelines.Timelines.create.Goals as goal
 
 absent : (c : goal.After-at) → has_timeline c.args.self.now c.args.name ≡ false
-absent c = sym (has_timeline-stored c.args.self.now c.args.name (names-seen c.self.invariant c.self.view_is)) ∙ sym c.contains.ensures ∙ c.if-contains.false
+absent c = has_timeline-told c.args.self.now c.args.name (names-seen c.self.invariant c.self.view_is) c.contains.ensures c.if-contains.false
 
 room : (c : goal.After-at) → length c.args.self.now < CONTEXTS
 room c = omega (arith, length-stored c.args.self.now (names-seen c.self.invariant c.self.view_is), (AreTimelines-seen c.self.invariant c.self.view_is).room)
@@ -29,6 +29,11 @@ invariant_of-self-2 c = AreStored-made _ (names_after c) (reach_after c) (kept c
 pub returns-clause-added : goal.returns-clause-added
 returns-clause-added c = timelines_of-stored _ (names_after c) (reach_after c)
 
+pub returns-clause-found : goal.returns-clause-found
+returns-clause-found c =
+    ap (λ ts. context_of ts c.args.name) (returns-clause-added c) ∙ context_of-new c.args.self.now c.args.name (absent c)
+    ∙ sym (c.at.ensures ∙ ap (λ n. n + 1) (c.len-index.ensures.len ∙ length-stored c.args.self.now (names-seen c.self.invariant c.self.view_is)))
+
 pub returns-clause-same_values : goal.returns-clause-same_values
 returns-clause-same_values c = ap reach_of (returns-clause-added c) ∙ reach_of-new c.args.self.now c.args.name (room c)
 
@@ -39,7 +44,7 @@ pub returns-clause-timelines : goal.returns-clause-timelines
 returns-clause-timelines c = subst AreTimelines (sym (returns-clause-added c)) (kept c)
 
 present : (c : goal.Then-contains) → has_timeline c.args.self.now c.args.name ≡ true
-present c = sym (has_timeline-stored c.args.self.now c.args.name (names-seen c.self.invariant c.self.view_is)) ∙ sym c.contains.ensures ∙ c.if-contains.true
+present c = has_timeline-told c.args.self.now c.args.name (names-seen c.self.invariant c.self.view_is) c.contains.ensures c.if-contains.true
 
 pub returns-then-contains-clause-exists : goal.returns-then-contains-clause-exists
 returns-then-contains-clause-exists c = (λ _. present c, λ _. refl)
@@ -51,7 +56,7 @@ pub returns-then-contains-clause-memory : goal.returns-then-contains-clause-memo
 returns-then-contains-clause-memory c = λ isnt _. absurd (true≢false (sym (present c) ∙ isnt))
 
 absent_at_limit : (c : goal.Then-index-eq-CONTEXTS) → has_timeline c.args.self.now c.args.name ≡ false
-absent_at_limit c = sym (has_timeline-stored c.args.self.now c.args.name (names-seen c.self.invariant c.self.view_is)) ∙ sym c.contains.ensures ∙ c.if-contains.false
+absent_at_limit c = has_timeline-told c.args.self.now c.args.name (names-seen c.self.invariant c.self.view_is) c.contains.ensures c.if-contains.false
 
 pub returns-then-index-eq-CONTEXTS-clause-exists : goal.returns-then-index-eq-CONTEXTS-clause-exists
 returns-then-index-eq-CONTEXTS-clause-exists c = (λ is. cc, λ has. absurd (true≢false (sym has ∙ absent_at_limit c)))
@@ -61,7 +66,7 @@ returns-then-index-eq-CONTEXTS-clause-limit c =
     (λ _. (absent_at_limit c, sym (length-stored c.args.self.now (names-seen c.self.invariant c.self.view_is)) ∙ sym c.len-index.ensures.len ∙ c.if-index-eq-CONTEXTS.true), λ _. refl)
 
 absent_on_refusal : (c : goal.After-from_residual) → has_timeline c.args.self.now c.args.name ≡ false
-absent_on_refusal c = sym (has_timeline-stored c.args.self.now c.args.name (names-seen c.self.invariant c.self.view_is)) ∙ sym c.contains.ensures ∙ c.if-contains.false
+absent_on_refusal c = has_timeline-told c.args.self.now c.args.name (names-seen c.self.invariant c.self.view_is) c.contains.ensures c.if-contains.false
 
 pub returns-in_err-map_err-clause-exists : goal.returns-in_err-map_err-clause-exists
 returns-in_err-map_err-clause-exists c =
