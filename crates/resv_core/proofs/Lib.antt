@@ -1,0 +1,3 @@
+pub mod Compaction
+pub mod Replacing
+pub mod Rows

@@ -1,0 +1,12 @@
+//! Reservations: the table of fences of one buffer, as Linux's `dma_resv`.
+//!
+//! A table drops and replaces entries as it likes, as long as it says the same above the reach as all that was added.
+#![tactic(auto)]
+
+mod resv;
+mod tops;
+
+pub use resv::{PLACES, PLACES_PER_CONTEXT, Resv};
+
+#[cfg(test)]
+mod tests;
