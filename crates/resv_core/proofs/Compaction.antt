@@ -1,5 +1,5 @@
 -- The entries that are kept of a table: of each context and usage one, where it is later than what the stronger usages have.
-use Rattle.std.proofs.Common.{◌≡◌, ◌≢◌, ℕ, ◌+◌, ◌<◌, ◌≤◌, ◌⊎◌, zero, suc, max, refl, sym, ap, ◌∙◌, subst, List, [], ◌∷◌, ◌++◌, length, get_or, append_assoc, append-nil, None, Some, arith, Bool, true, false, ◌==◌, nat_le, nat_lt, ◌&&◌, if◌then◌else◌, inl, inr, All, AllPairs}
+use Rattle.std.proofs.Common.{◌≡◌, ◌≢◌, ℕ, ◌+◌, ◌<◌, ◌≤◌, ◌⊎◌, zero, suc, max, refl, sym, ap, ◌∙◌, subst, List, [], ◌∷◌, ◌++◌, get_or, append_assoc, append-nil, None, arith, Bool, true, false, ◌==◌, nat_le, ◌&&◌, if◌then◌else◌, inl, inr, All}
 use Rattle.std.proofs.lemmas.Bool.{cases_lt, cases_eq, le-ltb, lt-ltb, lt-leb, le-leb, ne_eqb}
 use Rattle.std.proofs.Math.Bool.{and-false}
 use Rattle.std.proofs.lemmas.List.Elements.{All-push, All-weaker, All-nil, All-cons, All-append, All-contains}
@@ -12,7 +12,7 @@ use Rattle.point_core.specs.declared.entry.Usage.TheVariants.{Kernel, Write, Rea
 use Rattle.point_core.specs.Usage.{number_of}
 use Rattle.point_core.specs.Reach.{value_at}
 use Rattle.point_core.specs.Agreement.{applies, later, top, point_of, AgreesAbove, HasContexts}
-use Rattle.point_core.specs.Latest.{raised_to, IsLatest}
+use Rattle.point_core.specs.Latest.{raised_to}
 use Rattle.point_core.proofs.Latest.{put_if, raised_to-if, raised_to-top-append, applies-true, applies-other, applies-weak}
 use Rattle.point_core.proofs.Agreement.{AppliesAt-from_true, AgreesAbove-from_raised, raised_to-above, top-is_none, top-outside}
 use Rattle.resv_core.specs.declared.tops.Tops.{Tops}

@@ -1,13 +1,13 @@
 -- An entry that gives way to a new one is no loss.
-use Rattle.std.proofs.Common.{◌≡◌, ℕ, ◌+◌, ◌<◌, ◌≤◌, ◌⊎◌, zero, suc, max, refl, sym, ap, ◌∙◌, List, [], ◌∷◌, ◌++◌, length, get_or, set, Option, None, Some, arith, Bool, true, false, ◌==◌, nat_le, nat_lt, ◌&&◌, ◌||◌, if◌then◌else◌, inl, inr, MatchOption}
+use Rattle.std.proofs.Common.{◌≡◌, ℕ, ◌<◌, ◌≤◌, ◌⊎◌, zero, suc, refl, sym, ap, ◌∙◌, List, [], ◌∷◌, ◌++◌, length, get_or, set, arith, Bool, true, false, ◌==◌, nat_le, ◌&&◌, inl, inr}
 use Rattle.std.specs.List.{list_any, HoldsAt, AllWithin}
-use Rattle.std.proofs.lemmas.Bool.{cases_Bool, cases_lt, or_cases, and_parts, leb-true, eqb-true, lt-ltb, le-ltb}
+use Rattle.std.proofs.lemmas.Bool.{cases_Bool, or_cases, and_parts, leb-true, eqb-true}
 use Rattle.std.proofs.lemmas.List.Folds.{list_any_at, list_any_none}
 use Rattle.std.proofs.lemmas.List.Elements.{All-from_all_within}
 use Rattle.point_core.specs.declared.entry.Entry.{Entry}
 use Rattle.point_core.specs.Usage.{number_of}
 use Rattle.point_core.specs.Reach.{value_at}
-use Rattle.point_core.specs.Agreement.{applies, AppliesAt, top, AgreesAbove}
+use Rattle.point_core.specs.Agreement.{applies, top, AgreesAbove}
 use Rattle.point_core.specs.Latest.{raised_to}
 use Rattle.point_core.proofs.Latest.{put_if, raised_to-if, raised_to-top-last, applies-true}
 use Rattle.point_core.proofs.Agreement.{AppliesAt-from_true, AgreesAbove-from_raised, raised_to-above}

@@ -1,4 +1,5 @@
 pub mod Resv
+pub mod Run
 pub mod Tops
 pub use Rattle.point_core.specs.Agreement
 pub use Rattle.point_core.specs.Latest

@@ -3,9 +3,11 @@
 //! A table drops and replaces entries as it likes, as long as it says the same above the reach as all that was added.
 #![tactic(auto)]
 
+mod laws;
 mod resv;
 mod tops;
 
+pub use laws::{a_table_agrees_with_all_that_was_added, tables_that_agree_tell_the_same};
 pub use resv::{PLACES, PLACES_PER_CONTEXT, Resv};
 
 #[cfg(test)]

@@ -20,7 +20,7 @@ use std::marker::Model;
 /// How many places a table has for each context: one more than there are usages.
 pub const PLACES_PER_CONTEXT: usize = 5;
 
-/// How many entries a table can hold. Of a compacted table one place for each context is free.
+/// How many entries a table can hold. Of a trimmed table one place for each context is free.
 pub const PLACES: usize = PLACES_PER_CONTEXT * CONTEXTS;
 
 /// The fences of a buffer, each with the usage that it was added for, as Linux's `struct dma_resv`.
@@ -61,20 +61,25 @@ impl Resv {
         })
     }
 
-    /// Makes room for `n` entries to be added, as Linux's `dma_resv_reserve_fences`. Where there is too little, entries
-    /// that are signalled or covered by another are dropped; the kernel drops the signalled ones, and grows its table.
-    /// Here the places are taken once, by the first call that needs one, and always suffice.
+    /// Makes room for `n` entries to be added, as Linux's `dma_resv_reserve_fences`. Where there is too little, the
+    /// table is trimmed; the kernel makes a larger table, and doesn't carry signalled fences over. Here all places are
+    /// taken by the first call that needs one, and they always suffice.
     ///
-    /// Refuses as `Memory` alone, where no places were taken yet, and leaves the table as it was.
+    /// Refuses as `Memory` alone, where there were no places yet, and leaves the table as it was.
     pub fn reserve(&mut self, n: usize, reach: &Reach) -> Result<(), Refusal>
         requires few { n ≤ CONTEXTS }
-        ensures room { OnOk result (n ≤ self.new.room) }
-        ensures enough { n ≤ self.old.room → (result ≡ Ok tt) × (self.new ≡ self.old) }
-        ensures compacted { OnOk result (self.old.room < n → IsTrimmed reach.now self.new.entries) }
         ensures table { IsTable self.new }
+        ensures room { OnOk result (n ≤ self.new.room) }
         ensures agrees { AgreesAbove reach.now self.old.entries self.new.entries }
+
+        // With enough room nothing changes; otherwise the table is trimmed, and has all its places.
+        ensures enough { n ≤ self.old.room → (result ≡ Ok tt) × (self.new ≡ self.old) }
+        ensures trimmed { OnOk result (self.old.room < n → IsTrimmed reach.now self.new.entries) }
+        ensures places { OnOk result (self.old.room < n → length self.new.entries + self.new.room ≡ PLACES) }
+
         ensures memory { IfErr result (λ e. e ≡ Refusal.Memory) }
-        ensures refused { OnErr result ((self.old ≡ empty) × (self.new ≡ empty)) }
+        ensures first { OnErr result (self.old ≡ empty) }
+        ensures refused { OnErr result (self.new ≡ self.old) }
     {
         if n <= self.room() {
             return Ok(());
@@ -82,7 +87,7 @@ impl Resv {
         if self.entries.capacity() == 0 {
             self.entries = Vec::with_capacity(self.alloc, PLACES)?;
         } else {
-            compact(&mut self.entries, reach);
+            self.trim(reach);
         }
         Ok(())
     }
@@ -96,11 +101,11 @@ impl Resv {
     }
 
     /// Adds a fence. It replaces, in place, the first entry that is signalled, or that the new one covers: the same
-    /// context, a usage number at least the new one's, a point not later. Otherwise it takes a free place, for which
-    /// there has to be room.
+    /// context, a usage number at least the new one's, a point not later. Otherwise it takes a free place, so `reserve`
+    /// first.
     ///
-    /// Linux's `dma_resv_add_fence` replaces by the same rule, with `dma_fence_is_later_or_same` for the points, and
-    /// with `reserve` first. Takes no memory.
+    /// Linux's `dma_resv_add_fence` replaces in this manner; which entries it lets a new one replace differs between
+    /// kernels, and these conditions are our own. Takes no memory.
     pub fn add(&mut self, point: Point, usage: Usage, reach: &Reach)
         requires room { 1 ≤ self.old.room }
         ensures table { IsTable self.new }
@@ -120,12 +125,14 @@ impl Resv {
         }
     }
 
-    /// Drops the entries that are signalled, and those that another one covers; of equal ones one stays. The kernel
-    /// drops entries only where it makes a table larger. Takes no memory.
+    /// Drops the entries that are signalled, and those that another one covers; of equal ones one stays. So there is
+    /// a place for a new entry of each context. The kernel has no such call: it drops signalled fences where it makes
+    /// a table larger. Takes no memory.
     pub fn trim(&mut self, reach: &Reach)
         ensures table { IsTable self.new }
         ensures agrees { AgreesAbove reach.now self.old.entries self.new.entries }
         ensures trimmed { IsTrimmed reach.now self.new.entries }
+        ensures few { length self.new.entries + CONTEXTS ≤ PLACES }
         ensures places { length self.new.entries + self.new.room ≡ length self.old.entries + self.old.room }
     {
         if self.entries.capacity() != 0 {
@@ -134,7 +141,7 @@ impl Resv {
     }
 
     /// The pending points at the usage or a stronger one: the latest of each context, by rising context. Linux's
-    /// `dma_resv_get_fences` gives every entry of the usage and the stronger ones.
+    /// `dma_resv_get_fences` gives each pending fence of these usages.
     ///
     /// Refuses as `Memory` alone.
     pub fn collect(&self, usage: Usage, reach: &Reach) -> Result<Vec<Point>, Refusal>

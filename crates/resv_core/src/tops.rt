@@ -3,7 +3,7 @@ ghost use Rattle.std.specs.Prelude.{◌≡◌, ℕ, ◌+◌, ◌*◌, ◌<◌, �
 ghost use Rattle.std.specs.Vec.{vec_capacity};
 ghost use Rattle.point_core.specs.declared.entry.Entry.{Entry};
 ghost use Rattle.point_core.specs.declared.context.TheConstants.{CONTEXTS};
-ghost use Rattle.point_core.specs.Agreement.{AgreesAbove, HasContexts};
+ghost use Rattle.point_core.specs.Agreement.{AgreesAbove, HasContexts, point_of};
 ghost use Rattle.point_core.specs.Latest.{IsLatest};
 ghost use Rattle.point_core.specs.Usage.{number_of};
 ghost use Rattle.resv_core.specs.declared.tops.TheConstants.{USAGES};
@@ -100,33 +100,21 @@ fn keep(entries: &mut Vec<Entry>, ctx: Context, tops: &Tops, reach: &Reach)
     let write = tops.write.get(ctx);
     let read = tops.read.get(ctx);
     let bookkeep = tops.bookkeep.get(ctx);
-    keep_above(
-        entries,
-        reach.get(ctx),
-        Point { ctx, value: kernel },
-        Usage::Kernel,
-    );
-    keep_above(entries, kernel, Point { ctx, value: write }, Usage::Write);
-    keep_above(entries, write, Point { ctx, value: read }, Usage::Read);
-    keep_above(
-        entries,
-        read,
-        Point {
-            ctx,
-            value: bookkeep,
-        },
-        Usage::Bookkeep,
-    );
+    keep_above(entries, reach.get(ctx), ctx, kernel, Usage::Kernel);
+    keep_above(entries, kernel, ctx, write, Usage::Write);
+    keep_above(entries, write, ctx, read, Usage::Read);
+    keep_above(entries, read, ctx, bookkeep, Usage::Bookkeep);
 }
 
 /// Puts back an entry of the point, where it is later than what the stronger usages have.
-fn keep_above(entries: &mut Vec<Entry>, stronger: u64, point: Point, usage: Usage)
+fn keep_above(entries: &mut Vec<Entry>, stronger: u64, ctx: Context, value: u64, usage: Usage)
     requires places { vec_len entries.old < vec_capacity entries.old }
-    ensures items { entries.new.items ≡ entries.old.items ++ entry_above stronger point usage }
+    ensures items { entries.new.items ≡ entries.old.items ++ entry_above stronger (point_of ctx value) usage }
     ensures few { vec_len entries.new ≤ vec_len entries.old + 1 }
     ensures places { vec_capacity entries.new ≡ vec_capacity entries.old }
 {
-    if point.value > stronger {
+    if value > stronger {
+        let point = Point { ctx, value };
         entries.push_reserved(Entry { point, usage });
     }
 }

@@ -1,4 +1,4 @@
-use Rattle.std.proofs.Common.{◌≡◌, ◌++◌, ap, refl, ◌∙◌, map, arith}
+use Rattle.std.proofs.Common.{◌++◌, ap, refl, ◌∙◌, map, arith}
 use Rattle.point_core.specs.Latest.{point_above}
 use Rattle.point_core.proofs.Listings.{filter_map-contexts, push_above, skip_above}
 use Rattle.resv_core.specs.Resv.{row_of}

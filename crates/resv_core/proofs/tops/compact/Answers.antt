@@ -1,5 +1,4 @@
-use Rattle.std.proofs.Common.{◌≡◌, ◌<◌, arith}
-use Rattle.point_core.specs.declared.context.TheConstants.{CONTEXTS}
+use Rattle.std.proofs.Common.{arith}
 use Rattle.resv_core.proofs.Compaction.{IsCompacted-none, IsCompacted-more, AgreesAbove-IsCompacted}
 use Rattle.resv_core.proofs.tops.compact.Goals as goal
 

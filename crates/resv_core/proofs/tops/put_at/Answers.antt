@@ -1,4 +1,4 @@
-use Rattle.std.proofs.Common.{◌≡◌, arith}
+use Rattle.std.proofs.Common.{arith}
 use Rattle.point_core.proofs.Latest.{IsLatest-put, IsLatest-weaker}
 use Rattle.resv_core.proofs.tops.put_at.Goals as goal
 

@@ -1,6 +1,5 @@
-use Rattle.std.proofs.Common.{◌≡◌, ◌+◌, Bool, true, false, arith, rules, tests}
+use Rattle.std.proofs.Common.{◌≡◌, true, false, arith, rules, tests}
 use Rattle.std.proofs.lemmas.Iterator.{IsFirst-from_position, YieldsList-from_slice}
-use Rattle.std.specs.List.{list_any}
 use Rattle.resv_core.specs.Resv.{entry_of, gives_way}
 use Rattle.resv_core.proofs.Replacing.{AgreesAbove-set, list_any-found, list_any-not_found}
 use Rattle.resv_core.proofs.resv.Resv.add.Goals as goal

@@ -1,4 +1,3 @@
-use Rattle.std.proofs.Common.{◌≡◌}
 use Rattle.point_core.proofs.Listings.{points_above-IsLatest}
 use Rattle.resv_core.proofs.resv.Resv.collect.Goals as goal
 

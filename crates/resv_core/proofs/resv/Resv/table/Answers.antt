@@ -1,7 +1,6 @@
-use Rattle.std.proofs.Common.{◌≡◌, refl, ◌++◌, map}
+use Rattle.std.proofs.Common.{refl}
 use Rattle.point_core.specs.declared.entry.Usage.TheVariants.{Kernel, Write, Read, Bookkeep}
-use Rattle.point_core.specs.Latest.{points_above}
-use Rattle.resv_core.specs.Resv.{row_of, rows_at}
+use Rattle.resv_core.specs.Resv.{rows_at}
 use Rattle.resv_core.proofs.Rows.{rows_at-IsLatest, rows-join}
 use Rattle.resv_core.proofs.resv.Resv.table.Goals as goal
 
