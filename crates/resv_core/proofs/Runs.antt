@@ -11,12 +11,13 @@ use Rattle.point_core.proofs.Agreement.{AgreesAbove-same, AgreesAbove-sym, Agree
 use Rattle.resv_core.specs.Resv.{row_of, rows_at, rows_of}
 use Rattle.resv_core.specs.Run.{Call, Reserve, Add, Trim, Leaves, Step, IsRun, last_reach, last_entries, added_by, all_added}
 
+-- each call agrees with what was there and what it adds
 AgreesAbove-Leaves : (call : Call) (reach : List ℕ) (before after : List Entry) → Leaves call reach before after → AgreesAbove reach after (before ++ added_by call)
 AgreesAbove-Leaves Reserve reach before after h = AgreesAbove-trans (AgreesAbove-sym h) (AgreesAbove-same reach (sym (append-nil before)))
 AgreesAbove-Leaves (Add e) reach before after h = h
 AgreesAbove-Leaves Trim reach before after h = AgreesAbove-trans (AgreesAbove-sym h) (AgreesAbove-same reach (sym (append-nil before)))
 
-AgreesAbove-run : (reach : List ℕ) (es put : List Entry) (steps : List Step) → AgreesAbove reach es put → IsRun reach es steps → AgreesAbove (last_reach reach steps) (last_entries es steps) (put ++ all_added steps)
+pub AgreesAbove-run : (reach : List ℕ) (es put : List Entry) (steps : List Step) → AgreesAbove reach es put → IsRun reach es steps → AgreesAbove (last_reach reach steps) (last_entries es steps) (put ++ all_added steps)
 AgreesAbove-run reach es put [] h run = AgreesAbove-trans h (AgreesAbove-same reach (sym (append-nil put)))
 AgreesAbove-run reach es put (step ∷ steps) h run =
     let left = AgreesAbove-Leaves step.call step.reach es step.after run.1 in

@@ -32,7 +32,7 @@ pub record IsTable (r : Reservation) : Type 0 where
 abbrev pub covers : Entry → Entry → Bool
 covers by other = (by.point.ctx == other.point.ctx) && nat_le (number_of by.usage) (number_of other.usage) && nat_le other.point.value by.point.value
 
--- the old entry may be replaced by the new one
+-- the old entry may be replaced by the new one: it is signalled, or the new one covers it
 abbrev pub gives_way : List ℕ → Entry → Entry → Bool
 gives_way reach new old = nat_le old.point.value (value_at reach old.point.ctx) || covers new old
 

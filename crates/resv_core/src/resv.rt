@@ -17,8 +17,8 @@ use point_core::{
 use std::alloc::Global;
 use std::marker::Model;
 
-/// How many places a table has for each context: one more than there are usages.
-pub const PLACES_PER_CONTEXT: usize = 5;
+/// How many places a table has for each context: one for an entry of each usage, and one for a new entry.
+pub const PLACES_PER_CONTEXT: usize = USAGES + 1;
 
 /// How many entries a table can hold. Of a trimmed table one place for each context is free.
 pub const PLACES: usize = PLACES_PER_CONTEXT * CONTEXTS;

@@ -3,7 +3,7 @@ use crate::{PLACES, Resv};
 use point_core::{CONTEXTS, Context, Point, Reach, TopRow, Usage};
 use std::test::Fail;
 
-const USAGES: [Usage; 4] = [Usage::Kernel, Usage::Write, Usage::Read, Usage::Bookkeep];
+const EVERY_USAGE: [Usage; 4] = [Usage::Kernel, Usage::Write, Usage::Read, Usage::Bookkeep];
 
 fn point(number: u16, value: u64) -> Result<Point, Fail> {
     let ctx = Context::new(number).ok_or("no such context")?;
@@ -92,7 +92,7 @@ fn imports_into_a_full_table(rt: HostRuntime) -> Result<(), Fail> {
     let mut resv = Resv::new(rt.alloc())?;
     for index in 0..CONTEXTS {
         let ctx = Context::at(index);
-        for usage in USAGES {
+        for usage in EVERY_USAGE {
             let value = u64::from(usage.number()) + 1;
             reserve_and_add(&mut resv, Point { ctx, value }, usage, &none)?;
         }
@@ -107,7 +107,7 @@ fn imports_into_a_full_table(rt: HostRuntime) -> Result<(), Fail> {
         assert_eq!(rt; resv.room(), 0);
     }
     let mut rows = Vec::new(rt.alloc());
-    for usage in USAGES {
+    for usage in EVERY_USAGE {
         for index in 0..CONTEXTS {
             let ctx = Context::at(index);
             let point = u64::from(usage.number()) + 1;

@@ -1,5 +1,5 @@
 // The latest point of each context, at each usage or a stronger one.
-ghost use Rattle.std.specs.Prelude.{◌≡◌, ℕ, ◌+◌, ◌*◌, ◌<◌, ◌≤◌, ◌++◌, ◌∷◌, [], List, All, vec_len};
+ghost use Rattle.std.specs.Prelude.{◌≡◌, ℕ, ◌+◌, ◌*◌, ◌<◌, ◌≤◌, ◌++◌, ◌∷◌, [], List, vec_len};
 ghost use Rattle.std.specs.Vec.{vec_capacity};
 ghost use Rattle.point_core.specs.declared.entry.Entry.{Entry};
 ghost use Rattle.point_core.specs.declared.context.TheConstants.{CONTEXTS};
@@ -25,6 +25,7 @@ pub(crate) struct Tops {
 }
 
 impl Tops {
+    /// The tables of these entries.
     pub(crate) fn of(entries: &[Entry], reach: &Reach) -> Tops
         ensures tops { AreTops result reach.now entries.now }
         ensures contexts { HasContexts entries.now }
@@ -41,6 +42,7 @@ impl Tops {
         tops
     }
 
+    /// Puts an entry into the tables of its usage and of the weaker ones.
     fn put(&mut self, entry: &Entry)
         ensures tops { (reach : List ℕ) (es : List Entry) → AreTops self.old reach es → AreTops self.new reach (es ++ entry.now ∷ []) }
         ensures context { HasContexts (entry.now ∷ []) }
