@@ -1,0 +1,4 @@
+pub mod Compaction
+pub mod Replacing
+pub mod Rows
+pub mod Runs

@@ -1,0 +1,63 @@
+-- Calls on a table, one after another, and what a table tells.
+use Rattle.std.proofs.Common.{◌≡◌, ℕ, ◌≤◌, ◌↔◌, refl, sym, ap, List, [], ◌∷◌, ◌++◌, map, append_assoc, append-nil, Option, None, Some, arith, Contains}
+use Rattle.point_core.specs.declared.entry.Entry.{Entry}
+use Rattle.point_core.specs.declared.entry.Usage.{Usage}
+use Rattle.point_core.specs.declared.entry.Usage.TheVariants.{Kernel, Write, Read, Bookkeep}
+use Rattle.point_core.specs.Usage.{number_of}
+use Rattle.point_core.specs.Reach.{value_at}
+use Rattle.point_core.specs.Agreement.{top, AgreesAbove, IsReached}
+use Rattle.point_core.specs.Latest.{raised_to}
+use Rattle.point_core.proofs.Agreement.{AgreesAbove-same, AgreesAbove-sym, AgreesAbove-trans, AgreesAbove-append, AgreesAbove-refl, AgreesAbove-later, AgreesAbove-raised, AgreesAbove-same_entries, listing-AgreesAbove, raised_to-top-above, top-Some}
+use Rattle.resv_core.specs.Resv.{row_of, rows_at, rows_of}
+use Rattle.resv_core.specs.Run.{Call, Reserve, Add, Trim, Leaves, Step, IsRun, last_reach, last_entries, added_by, all_added}
+
+-- each call agrees with what was there and what it adds
+AgreesAbove-Leaves : (call : Call) (reach : List ℕ) (before after : List Entry) → Leaves call reach before after → AgreesAbove reach after (before ++ added_by call)
+AgreesAbove-Leaves Reserve reach before after h = AgreesAbove-trans (AgreesAbove-sym h) (AgreesAbove-same reach (sym (append-nil before)))
+AgreesAbove-Leaves (Add e) reach before after h = h
+AgreesAbove-Leaves Trim reach before after h = AgreesAbove-trans (AgreesAbove-sym h) (AgreesAbove-same reach (sym (append-nil before)))
+
+pub AgreesAbove-run : (reach : List ℕ) (es put : List Entry) (steps : List Step) → AgreesAbove reach es put → IsRun reach es steps → AgreesAbove (last_reach reach steps) (last_entries es steps) (put ++ all_added steps)
+AgreesAbove-run reach es put [] h run = AgreesAbove-trans h (AgreesAbove-same reach (sym (append-nil put)))
+AgreesAbove-run reach es put (step ∷ steps) h run =
+    let left = AgreesAbove-Leaves step.call step.reach es step.after run.1 in
+    let now = AgreesAbove-trans left (AgreesAbove-append (AgreesAbove-later run.0 h) (AgreesAbove-refl step.reach (added_by step.call))) in
+    AgreesAbove-trans (AgreesAbove-run step.reach step.after (put ++ added_by step.call) steps now run.2) (AgreesAbove-same (last_reach step.reach steps) (append_assoc put (added_by step.call) (all_added steps)))
+
+pub AgreesAbove-all_added : (reach : List ℕ) (steps : List Step) → IsRun reach [] steps → AgreesAbove (last_reach reach steps) (last_entries [] steps) (all_added steps)
+AgreesAbove-all_added reach steps run = AgreesAbove-run reach [] [] steps (AgreesAbove-refl reach []) run
+
+pub AgreesAbove-same_added : (reach : List ℕ) (steps others : List Step) → IsRun reach [] steps → IsRun reach [] others → last_reach reach steps ≡ last_reach reach others → ((e : Entry) → (Contains (all_added steps) e ↔ Contains (all_added others) e)) → AgreesAbove (last_reach reach steps) (last_entries [] steps) (last_entries [] others)
+AgreesAbove-same_added reach steps others run run' is same =
+    let other = rw (← is) at (AgreesAbove-all_added reach others run') in
+    AgreesAbove-trans (AgreesAbove-all_added reach steps run)
+    (AgreesAbove-trans (AgreesAbove-same_entries (last_reach reach steps) (all_added steps) (all_added others) (λ e. (same e).0) (λ e. (same e).1)) (AgreesAbove-sym other))
+
+rows_at-AgreesAbove : {reach : List ℕ} {es fs : List Entry} (usage : Usage) → AgreesAbove reach es fs → rows_at es reach usage ≡ rows_at fs reach usage
+rows_at-AgreesAbove usage h = ap (map (row_of usage)) (listing-AgreesAbove (number_of usage) h)
+
+pub rows_of-AgreesAbove : {reach : List ℕ} {es fs : List Entry} → AgreesAbove reach es fs → rows_of es reach ≡ rows_of fs reach
+rows_of-AgreesAbove h =
+    let kernel = rows_at-AgreesAbove Kernel h in
+    let write = rows_at-AgreesAbove Write h in
+    let read = rows_at-AgreesAbove Read h in
+    let bookkeep = rows_at-AgreesAbove Bookkeep h in
+    cc
+
+-- where all is reached, no top lifts the value
+raised_to-IsReached : (es : List Entry) (usage : ℕ) (reach : List ℕ) (ctx : ℕ) (t : Option ℕ) → IsReached es usage reach → top es usage ctx ≡ t → raised_to (value_at reach ctx) t ≡ value_at reach ctx
+raised_to-IsReached es usage reach ctx None reached is = refl
+raised_to-IsReached es usage reach ctx (Some p) reached is =
+    let put = (top-Some es usage ctx p is).0 in
+    let below = reached put.0 put.1 put.2.0 in
+    let low : put.0.point.value ≤ value_at reach ctx = rw put.2.1 at below in
+    let value : put.0.point.value ≡ p = put.3 in
+    omega arith
+
+pub IsReached-AgreesAbove : {reach : List ℕ} {es fs : List Entry} (usage : ℕ) → AgreesAbove reach es fs → IsReached es usage reach → IsReached fs usage reach
+IsReached-AgreesAbove {reach} {es} {fs} usage h reached = λ e among strong.
+    let value = value_at reach e.point.ctx in
+    let below = raised_to-top-above fs usage e.point.ctx value e among (strong, refl) in
+    let same = AgreesAbove-raised h usage e.point.ctx in
+    let none = raised_to-IsReached es usage reach e.point.ctx (top es usage e.point.ctx) reached refl in
+    omega arith

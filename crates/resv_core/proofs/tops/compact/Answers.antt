@@ -1,0 +1,23 @@
+use Rattle.std.proofs.Common.{arith}
+use Rattle.resv_core.proofs.Compaction.{IsCompacted-none, IsCompacted-more, AgreesAbove-IsCompacted}
+use Rattle.resv_core.proofs.tops.compact.Goals as goal
+
+pub loop-index-init : goal.loop-index-init
+loop-index-init c = record {
+  kept = rw c.clear.ensures.items (IsCompacted-none c.of-tops.result c.args.reach.now);
+  few = omega arith;
+  places = omega arith;
+}
+
+pub loop-index-preserved : goal.loop-index-preserved
+loop-index-preserved c = record {
+  kept = rw c.keep.ensures.items (IsCompacted-more c.of-tops.ensures.tops c.loop-index.invariant.kept c.at.result c.at.ensures c.loop-index-test.true);
+  few = omega arith;
+  places = omega arith;
+}
+
+pub returns-clause-agrees : goal.returns-clause-agrees
+returns-clause-agrees c =
+    let tell = rw c.as_slice.ensures.value at c.of-tops.ensures.tops in
+    let within = rw c.as_slice.ensures.value at c.of-tops.ensures.contexts in
+    AgreesAbove-IsCompacted tell within (omega arith) c.loop-index.invariant.kept

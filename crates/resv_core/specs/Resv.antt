@@ -1,0 +1,53 @@
+-- A reservation as its callers see it.
+use Rattle.std.specs.Prelude.{◌≡◌, ℕ, ◌+◌, ◌≤◌, ◌<◌, ◌==◌, Bool, false, ◌&&◌, ◌||◌, nat_le, List, [], ◌∷◌, length, map, All, AllPairs}
+use Rattle.std.specs.List.{flat_map}
+use Rattle.point_core.specs.declared.entry.Point.{Point}
+use Rattle.point_core.specs.declared.entry.Entry.{Entry}
+use Rattle.point_core.specs.declared.entry.Usage.{Usage}
+use Rattle.point_core.specs.declared.entry.Usage.TheVariants.{Kernel, Write, Read, Bookkeep}
+use Rattle.point_core.specs.declared.listing.TopRow.{TopRow}
+use Rattle.resv_core.specs.declared.resv.TheConstants.{PLACES}
+use Rattle.point_core.specs.Usage.{number_of}
+use Rattle.point_core.specs.Reach.{value_at}
+use Rattle.point_core.specs.Agreement.{HasContexts, listing}
+
+-- the entries, and how many more there is a place for
+pub record Reservation : Type 0 where
+  pub entries : List Entry
+  pub room : ℕ
+
+-- no entries, and no places yet
+abbrev pub empty : Reservation
+empty = record { entries = []; room = 0 }
+
+abbrev pub entry_of : Point → Usage → Entry
+entry_of point usage = record { point = point; usage = usage }
+
+-- what every reservation keeps
+pub record IsTable (r : Reservation) : Type 0 where
+  pub places : length r.entries + r.room ≤ PLACES
+  pub contexts : HasContexts r.entries
+
+-- the same context, a usage at least as strong, a point at least as late
+abbrev pub covers : Entry → Entry → Bool
+covers by other = (by.point.ctx == other.point.ctx) && nat_le (number_of by.usage) (number_of other.usage) && nat_le other.point.value by.point.value
+
+-- the old entry may be replaced by the new one: it is signalled, or the new one covers it
+abbrev pub gives_way : List ℕ → Entry → Entry → Bool
+gives_way reach new old = nat_le old.point.value (value_at reach old.point.ctx) || covers new old
+
+-- every entry is pending, and none covers another
+pub record IsTrimmed (reach : List ℕ) (es : List Entry) : Type 0 where
+  pub pending : All (λ e. value_at reach e.point.ctx < e.point.value) es
+  pub apart : AllPairs (λ e f. (covers e f ≡ false) × (covers f e ≡ false)) es
+
+abbrev pub row_of : Usage → Point → TopRow
+row_of usage point = record { usage = usage; ctx = point.ctx; point = point.value }
+
+-- the pending tops at one usage, by rising context
+abbrev pub rows_at : List Entry → List ℕ → Usage → List TopRow
+rows_at es reach usage = map (row_of usage) (listing es (number_of usage) reach)
+
+-- the pending tops, from the strongest usage to the weakest
+abbrev pub rows_of : List Entry → List ℕ → List TopRow
+rows_of es reach = flat_map (rows_at es reach) (Kernel ∷ Write ∷ Read ∷ Bookkeep ∷ [])

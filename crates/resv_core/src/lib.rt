@@ -1,0 +1,14 @@
+//! Reservations: the table of fences of one buffer, as Linux's `dma_resv`.
+//!
+//! A table drops and replaces entries as it likes, as long as it says the same above the reach as all that was added.
+#![tactic(auto)]
+
+mod laws;
+mod resv;
+mod tops;
+
+pub use laws::{a_table_agrees_with_all_that_was_added, tables_that_agree_tell_the_same};
+pub use resv::{PLACES, PLACES_PER_CONTEXT, Resv};
+
+#[cfg(test)]
+mod tests;

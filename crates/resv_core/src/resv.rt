@@ -1,0 +1,205 @@
+// The reservation of a buffer.
+ghost use Rattle.std.specs.Prelude.{◌≡◌, ◌+◌, ◌-◌, ◌<◌, ◌≤◌, ◌↔◌, ◌++◌, ◌∷◌, [], Ok, if◌then◌else◌, length, map, vec_len, IfErr, IfOk, IsTrue, OnErr, OnOk};
+ghost use Rattle.std.specs.List.{list_any};
+ghost use Rattle.std.specs.Vec.{vec_capacity};
+ghost use Rattle.point_core.specs.declared.context.TheConstants.{CONTEXTS};
+ghost use Rattle.point_core.specs.Agreement.{AgreesAbove, IsReached, listing};
+ghost use Rattle.point_core.specs.Latest.{points_above};
+ghost use Rattle.point_core.specs.Usage.{number_of};
+ghost use Rattle.resv_core.specs.declared.resv.TheConstants.{PLACES};
+ghost use Rattle.resv_core.specs.Resv.{IsTable, IsTrimmed, empty, entry_of, gives_way, row_of, rows_of};
+
+use crate::tops::{Tops, USAGES, compact, latest_of};
+use point_core::{
+    CONTEXTS, Context, Entry, Point, Reach, Refusal, TopRow, Usage, covers, is_signalled,
+    points_above,
+};
+use std::alloc::Global;
+use std::marker::Model;
+
+/// How many places a table has for each context: one for an entry of each usage, and one for a new entry.
+pub const PLACES_PER_CONTEXT: usize = USAGES + 1;
+
+/// How many entries a table can hold. Of a trimmed table one place for each context is free.
+pub const PLACES: usize = PLACES_PER_CONTEXT * CONTEXTS;
+
+/// The fences of a buffer, each with the usage that it was added for, as Linux's `struct dma_resv`.
+///
+/// What matters of a table is its latest pending point of each context at each usage or a stronger one. Where an
+/// entry stands, and which of the others are still kept, is not told.
+#[derive(Debug, Drop)]
+pub struct Resv {
+    entries: Vec<Entry>,
+    alloc: Global,
+}
+
+impl Model for Resv {
+    ghost use Rattle.std.specs.Prelude.{◌≡◌, ◌-◌, ◌<◌, ◌≤◌, vec_len};
+    ghost use Rattle.std.specs.Vec.{vec_capacity};
+    ghost use Rattle.resv_core.specs.Resv.{Reservation};
+    ghost use Rattle.point_core.specs.Agreement.{HasContexts};
+    ghost use Rattle.resv_core.specs.declared.resv.TheConstants.{PLACES};
+
+    ghost Value = { Reservation };
+
+    ghost view = { λ r. record { entries = r.entries.items; room = vec_capacity r.entries - vec_len r.entries } };
+
+    ghost invariant = { λ r. (0 < vec_capacity r.entries → vec_capacity r.entries ≡ PLACES) × HasContexts r.entries.items };
+}
+
+impl Resv {
+    /// No entries and no room: the places are taken by the first `reserve`.
+    ///
+    /// Refuses as `Memory` alone.
+    pub fn new(alloc: Global) -> Result<Self, Refusal>
+        ensures empty { IfOk result (λ r. r ≡ empty) }
+        ensures memory { IfErr result (λ e. e ≡ Refusal.Memory) }
+    {
+        Ok(Resv {
+            entries: Vec::new(alloc),
+            alloc,
+        })
+    }
+
+    /// Makes room for `n` entries to be added, as Linux's `dma_resv_reserve_fences`. Where there is too little, the
+    /// table is trimmed; the kernel makes a larger table, and doesn't carry signalled fences over. Here all places are
+    /// taken by the first call that needs one, and they always suffice.
+    ///
+    /// Refuses as `Memory` alone, where there were no places yet, and leaves the table as it was.
+    pub fn reserve(&mut self, n: usize, reach: &Reach) -> Result<(), Refusal>
+        requires few { n ≤ CONTEXTS }
+        ensures table { IsTable self.new }
+        ensures room { OnOk result (n ≤ self.new.room) }
+        ensures agrees { AgreesAbove reach.now self.old.entries self.new.entries }
+
+        // With enough room nothing changes; otherwise the table is trimmed, and has all its places.
+        ensures enough { n ≤ self.old.room → (result ≡ Ok tt) × (self.new ≡ self.old) }
+        ensures trimmed { OnOk result (self.old.room < n → IsTrimmed reach.now self.new.entries) }
+        ensures places { OnOk result (self.old.room < n → length self.new.entries + self.new.room ≡ PLACES) }
+
+        ensures memory { IfErr result (λ e. e ≡ Refusal.Memory) }
+        ensures first { OnErr result (self.old ≡ empty) }
+        ensures refused { OnErr result (self.new ≡ self.old) }
+    {
+        if n <= self.room() {
+            return Ok(());
+        }
+        if self.entries.capacity() == 0 {
+            self.entries = Vec::with_capacity(self.alloc, PLACES)?;
+        } else {
+            self.trim(reach);
+        }
+        Ok(())
+    }
+
+    /// How many entries can be added before there has to be another `reserve`.
+    pub fn room(&self) -> usize
+        ensures room { result ≡ self.now.room }
+        ensures table { IsTable self.now }
+    {
+        self.entries.capacity() - self.entries.len()
+    }
+
+    /// Adds a fence. It replaces, in place, the first entry that is signalled, or that the new one covers: the same
+    /// context, a usage number at least the new one's, a point not later. Otherwise it takes a free place, so `reserve`
+    /// first.
+    ///
+    /// Linux's `dma_resv_add_fence` replaces in this manner; which entries it lets a new one replace differs between
+    /// kernels, and these conditions are our own. Takes no memory.
+    pub fn add(&mut self, point: Point, usage: Usage, reach: &Reach)
+        requires room { 1 ≤ self.old.room }
+        ensures table { IsTable self.new }
+        ensures agrees { AgreesAbove reach.now self.new.entries (self.old.entries ++ entry_of point usage ∷ []) }
+        ensures room { self.new.room ≡ (if list_any (gives_way reach.now (entry_of point usage)) self.old.entries then self.old.room else self.old.room - 1) }
+        ensures falls { self.old.room ≤ self.new.room + 1 }
+        ensures places { length self.new.entries + self.new.room ≡ length self.old.entries + self.old.room }
+    {
+        let entry = Entry { point, usage };
+        match self
+            .entries
+            .iter()
+            .position(|old| gives_way(&entry, old, reach))
+        {
+            Some(index) => self.entries[index] = entry,
+            None => self.entries.push_reserved(entry),
+        }
+    }
+
+    /// Drops the entries that are signalled, and those that another one covers; of equal ones one stays. So there is
+    /// a place for a new entry of each context. The kernel has no such call: it drops signalled fences where it makes
+    /// a table larger. Takes no memory.
+    pub fn trim(&mut self, reach: &Reach)
+        ensures table { IsTable self.new }
+        ensures agrees { AgreesAbove reach.now self.old.entries self.new.entries }
+        ensures trimmed { IsTrimmed reach.now self.new.entries }
+        ensures few { length self.new.entries + CONTEXTS ≤ PLACES }
+        ensures places { length self.new.entries + self.new.room ≡ length self.old.entries + self.old.room }
+    {
+        if self.entries.capacity() != 0 {
+            compact(&mut self.entries, reach);
+        }
+    }
+
+    /// The pending points at the usage or a stronger one: the latest of each context, by rising context. Linux's
+    /// `dma_resv_get_fences` gives each pending fence of these usages.
+    ///
+    /// Refuses as `Memory` alone.
+    pub fn collect(&self, usage: Usage, reach: &Reach) -> Result<Vec<Point>, Refusal>
+        ensures points { IfOk result (λ ps. ps.items ≡ listing self.now.entries (number_of usage) reach.now) }
+        ensures memory { IfErr result (λ e. e ≡ Refusal.Memory) }
+    {
+        points_above(
+            self.alloc,
+            &latest_of(self.entries.as_slice(), usage, reach),
+            reach,
+        )
+    }
+
+    /// The pending top of each context at each usage: from the strongest usage to the weakest, and by rising context.
+    ///
+    /// Refuses as `Memory` alone.
+    pub fn table(&self, reach: &Reach) -> Result<Vec<TopRow>, Refusal>
+        ensures rows { IfOk result (λ rows. rows.items ≡ rows_of self.now.entries reach.now) }
+        ensures memory { IfErr result (λ e. e ≡ Refusal.Memory) }
+    {
+        let tops = Tops::of(self.entries.as_slice(), reach);
+        let mut rows = Vec::with_capacity(self.alloc, USAGES * CONTEXTS)?;
+        push_rows(&mut rows, Usage::Kernel, &tops.kernel, reach);
+        push_rows(&mut rows, Usage::Write, &tops.write, reach);
+        push_rows(&mut rows, Usage::Read, &tops.read, reach);
+        push_rows(&mut rows, Usage::Bookkeep, &tops.bookkeep, reach);
+        Ok(rows)
+    }
+
+    /// Whether every entry of the usage or a stronger one is signalled, as Linux's `dma_resv_test_signaled`. Takes no
+    /// memory.
+    pub fn test(&self, usage: Usage, reach: &Reach) -> bool
+        ensures { IsTrue result ↔ IsReached self.now.entries (number_of usage) reach.now }
+    {
+        self.entries.iter().all(|entry| entry.usage.number() > usage.number()
+            || is_signalled(entry.point, reach))
+    }
+}
+
+/// Whether the old entry may be replaced by the new one: it is signalled, or the new one covers it.
+fn gives_way(new: &Entry, old: &Entry, reach: &Reach) -> bool
+    ensures { result ≡ gives_way reach.now new.now old.now }
+{
+    is_signalled(old.point, reach) || covers(*new, *old)
+}
+
+/// Appends a row for each point of the table of latest points that is above the reach, by rising context.
+fn push_rows(rows: &mut Vec<TopRow>, usage: Usage, latest: &Reach, reach: &Reach)
+    requires places { vec_len rows.old + CONTEXTS ≤ vec_capacity rows.old }
+    ensures rows { rows.new.items ≡ rows.old.items ++ map (row_of usage) (points_above latest.now reach.now) }
+    ensures few { vec_len rows.new ≤ vec_len rows.old + CONTEXTS }
+    ensures places { vec_capacity rows.new ≡ vec_capacity rows.old }
+{
+    for index in 0..CONTEXTS {
+        let ctx = Context::at(index);
+        let point = latest.get(ctx);
+        if point > reach.get(ctx) {
+            rows.push_reserved(TopRow { usage, ctx, point });
+        }
+    }
+}

@@ -1,0 +1,122 @@
+// The latest point of each context, at each usage or a stronger one.
+ghost use Rattle.std.specs.Prelude.{◌≡◌, ℕ, ◌+◌, ◌*◌, ◌<◌, ◌≤◌, ◌++◌, ◌∷◌, [], List, vec_len};
+ghost use Rattle.std.specs.Vec.{vec_capacity};
+ghost use Rattle.point_core.specs.declared.entry.Entry.{Entry};
+ghost use Rattle.point_core.specs.declared.context.TheConstants.{CONTEXTS};
+ghost use Rattle.point_core.specs.Agreement.{AgreesAbove, HasContexts, point_of};
+ghost use Rattle.point_core.specs.Latest.{IsLatest};
+ghost use Rattle.point_core.specs.Usage.{number_of};
+ghost use Rattle.resv_core.specs.declared.tops.TheConstants.{USAGES};
+ghost use Rattle.resv_core.specs.Resv.{IsTrimmed};
+ghost use Rattle.resv_core.specs.Tops.{AreTops, entries_at, entry_above};
+
+use point_core::{CONTEXTS, Context, Entry, Point, Reach, Usage};
+
+/// How many usages there are.
+pub(crate) const USAGES: usize = 4;
+
+/// Tables of latest points, which begin as a reach: for each usage one that has the stronger usages too.
+#[derive(Drop)]
+pub(crate) struct Tops {
+    pub(crate) kernel: Reach,
+    pub(crate) write: Reach,
+    pub(crate) read: Reach,
+    pub(crate) bookkeep: Reach,
+}
+
+impl Tops {
+    /// The tables of these entries.
+    pub(crate) fn of(entries: &[Entry], reach: &Reach) -> Tops
+        ensures tops { AreTops result reach.now entries.now }
+        ensures contexts { HasContexts entries.now }
+    {
+        let mut tops = Tops {
+            kernel: *reach,
+            write: *reach,
+            read: *reach,
+            bookkeep: *reach,
+        };
+        for entry in entries {
+            tops.put(entry);
+        }
+        tops
+    }
+
+    /// Puts an entry into the tables of its usage and of the weaker ones.
+    fn put(&mut self, entry: &Entry)
+        ensures tops { (reach : List ℕ) (es : List Entry) → AreTops self.old reach es → AreTops self.new reach (es ++ entry.now ∷ []) }
+        ensures context { HasContexts (entry.now ∷ []) }
+    {
+        put_at(&mut self.kernel, Usage::Kernel, entry);
+        put_at(&mut self.write, Usage::Write, entry);
+        put_at(&mut self.read, Usage::Read, entry);
+        put_at(&mut self.bookkeep, Usage::Bookkeep, entry);
+    }
+}
+
+/// The latest point of each context at the usage or a stronger one, or its value where no point is above that.
+pub(crate) fn latest_of(entries: &[Entry], usage: Usage, reach: &Reach) -> Reach
+    ensures { IsLatest result reach.now entries.now (number_of usage) }
+{
+    let mut latest = *reach;
+    for entry in entries {
+        put_at(&mut latest, usage, entry);
+    }
+    latest
+}
+
+/// Puts an entry into the table of a usage, where it is of that usage or a stronger one.
+fn put_at(latest: &mut Reach, usage: Usage, entry: &Entry)
+    ensures latest { (reach : List ℕ) (es : List Entry) → IsLatest latest.old reach es (number_of usage) → IsLatest latest.new reach (es ++ entry.now ∷ []) (number_of usage) }
+    ensures context { number_of entry.now.usage ≤ number_of usage → HasContexts (entry.now ∷ []) }
+{
+    if entry.usage.number() <= usage.number() {
+        latest.raise_to(entry.point);
+    }
+}
+
+/// Drops what is signalled or covered by another entry. Takes no memory.
+pub(crate) fn compact(entries: &mut Vec<Entry>, reach: &Reach)
+    requires places { USAGES * CONTEXTS ≤ vec_capacity entries.old }
+    ensures agrees { AgreesAbove reach.now entries.old.items entries.new.items }
+    ensures trimmed { IsTrimmed reach.now entries.new.items }
+    ensures contexts { HasContexts entries.new.items }
+    ensures few { vec_len entries.new ≤ USAGES * CONTEXTS }
+    ensures places { vec_capacity entries.new ≡ vec_capacity entries.old }
+{
+    let tops = Tops::of(entries.as_slice(), reach);
+    entries.clear();
+    for index in 0..CONTEXTS {
+        keep(entries, Context::at(index), &tops, reach);
+    }
+}
+
+/// Puts back the entries of a context that its tops stand for.
+fn keep(entries: &mut Vec<Entry>, ctx: Context, tops: &Tops, reach: &Reach)
+    requires places { vec_len entries.old + USAGES ≤ vec_capacity entries.old }
+    ensures items { entries.new.items ≡ entries.old.items ++ entries_at tops.now reach.now ctx }
+    ensures few { vec_len entries.new ≤ vec_len entries.old + USAGES }
+    ensures places { vec_capacity entries.new ≡ vec_capacity entries.old }
+{
+    let kernel = tops.kernel.get(ctx);
+    let write = tops.write.get(ctx);
+    let read = tops.read.get(ctx);
+    let bookkeep = tops.bookkeep.get(ctx);
+    keep_above(entries, reach.get(ctx), ctx, kernel, Usage::Kernel);
+    keep_above(entries, kernel, ctx, write, Usage::Write);
+    keep_above(entries, write, ctx, read, Usage::Read);
+    keep_above(entries, read, ctx, bookkeep, Usage::Bookkeep);
+}
+
+/// Puts back an entry of the point, where it is later than what the stronger usages have.
+fn keep_above(entries: &mut Vec<Entry>, stronger: u64, ctx: Context, value: u64, usage: Usage)
+    requires places { vec_len entries.old < vec_capacity entries.old }
+    ensures items { entries.new.items ≡ entries.old.items ++ entry_above stronger (point_of ctx value) usage }
+    ensures few { vec_len entries.new ≤ vec_len entries.old + 1 }
+    ensures places { vec_capacity entries.new ≡ vec_capacity entries.old }
+{
+    if value > stronger {
+        let point = Point { ctx, value };
+        entries.push_reserved(Entry { point, usage });
+    }
+}
