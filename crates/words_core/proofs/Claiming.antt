@@ -1,0 +1,51 @@
+-- A test-and-set keeps the rule.
+use Rattle.std.proofs.Common.{◌≡◌, ℕ, ◌-◌, ◌<◌, ◌≤◌, ◌==◌, true, false, cond, List, map, set, slice_index, bit_or, sym, refl, subst, arith}
+use mathlib.Core.Option.{some, none}
+use lib.ListN.{get_elem?}
+use Rattle.atomic_table.specs.Table.{step, Allows, keeps}
+use Rattle.atomic_table.proofs.Lists.{at_map}
+use Rattle.words_core.specs.declared.trace.Step.{Step}
+use Rattle.words_core.specs.declared.trace.View.{View}
+use Rattle.words_core.specs.declared.words.Sizes.{Sizes}
+use Rattle.words_core.specs.Layout.{value_at, claim_at, IsSetOnce}
+use Rattle.words_core.specs.Trace.{on, total, added, is_win, won, lost, wins_of}
+use Rattle.words_core.specs.Rule.{context_trace, set_once_trace, AddsAsDriver, IsKept}
+use Rattle.words_core.specs.Plays.{Holder, view_with, set_once_step, claims_context}
+use Rattle.words_core.proofs.Totals.{total_at, Each-at}
+use Rattle.words_core.proofs.Traces.{added_none}
+use Rattle.words_core.proofs.Marks.{IsMark-set}
+use Rattle.words_core.proofs.Frames.{IsKept-mark}
+use Rattle.words_core.proofs.Joining.{claim_is_mark}
+
+set_once_step-word : (k n : ℕ) → (set_once_step k n).word ≡ k
+set_once_step-word k n = elim (n == 0) as (λ b. (cond b (won k) (lost k)).word ≡ k) [ true ↦ refl | false ↦ refl ]
+
+pub IsKept-set : (z : Sizes) (words : List ℕ) (views : List View) (id k : ℕ) (v : View) → IsSetOnce z k → 0 < v.parts → get_elem? views id ≡ some v → IsKept z words views
+    → IsKept z (set words k (bit_or (slice_index words k) 1)) (set views id (view_with v (set_once_step k (slice_index words k))))
+IsKept-set z words views id k v mark live at h = let n : ℕ = slice_index words k in
+    IsKept-mark z words views id k (bit_or n 1) v (set_once_step k n) mark live at (set_once_step-word k n) h (IsMark-set k n (map (set_once_trace k) views) id (set_once_trace k v) (at_map (set_once_trace k) views id v at) (h.marks k mark))
+
+-- who has won nothing has added nothing
+added_unclaimed : (z : Sizes) (words : List ℕ) (views : List View) (id c : ℕ) (v : View) → c < z.contexts → get_elem? views id ≡ some v → IsKept z words views → wins_of (claim_at c) v.trace ≡ 0 → added (on (value_at c) v.trace) ≡ 0
+added_unclaimed z words views id c v low at h idle =
+    added_none (on (value_at c) v.trace) (Each-at AddsAsDriver (map (context_trace c) views) id (context_trace c v) (h.values c low).driven (at_map (context_trace c) views id v at) idle)
+
+pub claims_context-allowed : (z : Sizes) (slots id c : ℕ) (me : Holder) → c < z.contexts → 0 < me.0.parts → Allows (λ s. IsKept z s.words s.views) slots id me (claim_at c) (λ n. bit_or n 1) (claims_context (step slots (claim_at c) 1 0 none) me)
+claims_context-allowed z slots id c me low live s h homes at small =
+    let v : View = me.0 in let k : ℕ = claim_at c in let n : ℕ = slice_index s.words k in let views : List View = s.views in
+    let mark = claim_is_mark z c low in
+    let fits = h.marks k mark in
+    let back : k - 1 ≡ value_at c = omega arith in (
+      view_with v (set_once_step k n),
+      keeps,
+      tt,
+      IsKept-set z s.words views id k v mark live at h,
+      (
+        refl,
+        λ free.
+            let le : total is_win (set_once_trace k v) ≤ total (total is_win) (map (set_once_trace k) views) = total_at (total is_win) (map (set_once_trace k) views) id (set_once_trace k v) (at_map (set_once_trace k) views id v at) in
+            let won = fits.won in
+            let none_won : wins_of k v.trace ≡ 0 = omega arith in
+            (none_won, subst (λ (w : ℕ). added (on w v.trace) ≡ 0) (sym back) (added_unclaimed z s.words views id c v low at h none_won)),
+      ),
+    )

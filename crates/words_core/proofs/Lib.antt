@@ -1,0 +1,14 @@
+mod Totals
+mod Traces
+mod Values
+mod Marks
+mod Frames
+mod Loading
+mod Splitting
+mod Joining
+mod Claiming
+mod Adding
+mod Driving
+mod Gathering
+mod LoadingAll
+pub mod Seen

@@ -1,0 +1,31 @@
+-- A step on a claim or a flag.
+use Rattle.std.proofs.Common.{◌≡◌, ℕ, ◌+◌, List, [], ◌∷◌, ◌++◌, set, bit_or, sym, refl, subst, arith}
+use mathlib.Core.Option.{some}
+use mathlib.Core.Logic.{dite}
+use native.Mathlib.Decide.{ℕ_discrete}
+use lib.ListN.{get_elem?}
+use Rattle.words_core.specs.declared.trace.Step.{Step}
+use Rattle.words_core.specs.Trace.{total, is_win, is_loss, won, lost}
+use Rattle.words_core.specs.Rule.{IsMark}
+use Rattle.words_core.specs.Plays.{set_once_step}
+use Rattle.words_core.proofs.Totals.{total-set, total-append}
+
+pub total-mark_grown : (f : Step → ℕ) (traces : List (List Step)) (id : ℕ) (t : List Step) (s : Step) → get_elem? traces id ≡ some t
+    → total (total f) (set traces id (t ++ s ∷ [])) ≡ total (total f) traces + f s
+total-mark_grown f traces id t s at =
+    let a : total f (t ++ s ∷ []) ≡ total f t + (f s + 0) = total-append f t (s ∷ []) in
+    let b : total (total f) (set traces id (t ++ s ∷ [])) + total f t ≡ total (total f) traces + total f (t ++ s ∷ []) = total-set (total f) traces id t (t ++ s ∷ []) at in
+    omega arith
+
+IsMark-won : (k : ℕ) (traces : List (List Step)) (id : ℕ) (t : List Step) → get_elem? traces id ≡ some t → IsMark 0 traces → IsMark 1 (set traces id (t ++ won k ∷ []))
+IsMark-won k traces id t at h = let a = total-mark_grown is_win traces id t (won k) at in let b = h.won in
+    record { won = omega arith; once = omega arith; lost = λ _. refl }
+
+IsMark-lost : (k : ℕ) (traces : List (List Step)) (id : ℕ) (t : List Step) → get_elem? traces id ≡ some t → IsMark 1 traces → IsMark 1 (set traces id (t ++ lost k ∷ []))
+IsMark-lost k traces id t at h = let a = total-mark_grown is_win traces id t (lost k) at in let b = h.won in
+    record { won = omega arith; once = omega arith; lost = λ _. refl }
+
+pub IsMark-set : (k n : ℕ) (traces : List (List Step)) (id : ℕ) (t : List Step) → get_elem? traces id ≡ some t → IsMark n traces → IsMark (bit_or n 1) (set traces id (t ++ set_once_step k n ∷ []))
+IsMark-set k n traces id t at h = let P : ℕ → Type 0 = λ m. IsMark (bit_or m 1) (set traces id (t ++ set_once_step k m ∷ [])) in dite (ℕ_discrete n 0)
+    (λ e. subst P (sym e) (IsMark-won k traces id t at (subst (λ (m : ℕ). IsMark m traces) e h)))
+    (λ ne. let e : n ≡ 1 = let o = h.once in omega arith in subst P (sym e) (IsMark-lost k traces id t at (subst (λ (m : ℕ). IsMark m traces) e h)))

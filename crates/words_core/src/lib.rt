@@ -1,0 +1,20 @@
+//! Words that threads share, each under one rule, and the seats that step on them.
+//!
+//! A thread steps with its own `Seat`, which keeps a trace of its steps. What one seat may conclude of the others'
+//! steps is the rule, which holds between any two steps whatever the schedule. No call waits.
+#![tactic(auto)]
+
+mod driver;
+mod plays;
+mod seat;
+#[cfg(test)]
+mod tests;
+mod trace;
+mod whole;
+mod words;
+
+pub use driver::Driver;
+pub use seat::{PARTS, Seat};
+pub use trace::{Kind, Step, View};
+pub use whole::Whole;
+pub use words::{BUFFERS, CONTEXT_STRIDE, FLAGS, Sizes, Words};
