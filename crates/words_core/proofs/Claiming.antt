@@ -10,7 +10,7 @@ use Rattle.words_core.specs.declared.words.Sizes.{Sizes}
 use Rattle.words_core.specs.Layout.{value_at, claim_at, IsSetOnce}
 use Rattle.words_core.specs.Trace.{on, total, added, is_win, won, lost, wins_of}
 use Rattle.words_core.specs.Rule.{context_trace, set_once_trace, AddsAsDriver, IsKept}
-use Rattle.words_core.specs.Plays.{Holder, view_with, set_once_step, claims_context}
+use Rattle.words_core.specs.Plays.{Holder, view_with, set_once_step, claims_context, sets_flag}
 use Rattle.words_core.proofs.Totals.{total_at, Each-at}
 use Rattle.words_core.proofs.Traces.{added_none}
 use Rattle.words_core.proofs.Marks.{IsMark-set}
@@ -49,3 +49,6 @@ claims_context-allowed z slots id c me low live s h homes at small =
             (none_won, subst (λ (w : ℕ). added (on w v.trace) ≡ 0) (sym back) (added_unclaimed z s.words views id c v low at h none_won)),
       ),
     )
+
+pub sets_flag-allowed : (z : Sizes) (slots id k : ℕ) (me : Holder) → IsSetOnce z k → 0 < me.0.parts → Allows (λ s. IsKept z s.words s.views) slots id me k (λ n. bit_or n 1) (sets_flag (step slots k 1 0 none) me)
+sets_flag-allowed z slots id k me mark live s h homes at small = (view_with me.0 (set_once_step k (slice_index s.words k)), keeps, tt, IsKept-set z s.words s.views id k me.0 mark live at h, refl)

@@ -11,10 +11,11 @@ use Rattle.words_core.specs.declared.words.Sizes.{Sizes}
 use Rattle.words_core.specs.Layout.{value_at, claim_at, IsSetOnce}
 use Rattle.words_core.specs.Trace.{on, amount_of, total, is_win, is_loss, is_load_of, is_add_to, load}
 use Rattle.words_core.specs.Rule.{WordTrace, context_trace, set_once_trace, made_in, known_in, parts_of, IsEmptyIfSpent, IsKept}
-use Rattle.words_core.specs.Plays.{Holder, view_with, IsDecided, loads_total}
+use Rattle.words_core.specs.Plays.{Holder, view_with, IsDecided, loads_total, loads_flag}
 use Rattle.words_core.proofs.Totals.{total_at, Each-weaker, total_alone, total-map}
 use Rattle.words_core.proofs.Values.{IsValue-loaded}
-use Rattle.words_core.proofs.Frames.{IsKept-value}
+use Rattle.words_core.proofs.Marks.{IsMark-loaded}
+use Rattle.words_core.proofs.Frames.{IsKept-value, IsKept-mark}
 use Rattle.words_core.proofs.Joining.{claim_is_mark}
 
 -- a total over all traces, which is 0 of an empty one, is that of the whole seat
@@ -51,4 +52,15 @@ loads_total-allowed z slots id c me low all s h homes at small =
             let found = fits.traced.found x pos (omega arith) in let same = own (is_add_to x) in omega arith,
         (IsDecided-whole z s.words views id (claim_at c) v (claim_is_mark z c low) at h all).0,
       ),
+    )
+
+pub loads_flag-allowed : (z : Sizes) (slots id k : ℕ) (me : Holder) → IsSetOnce z k → me.0.parts ≡ PARTS → Allows (λ s. IsKept z s.words s.views) slots id me k (λ n. n) (loads_flag (step slots k 0 0 none) me)
+loads_flag-allowed z slots id k me mark all s h homes at small =
+    let v : View = me.0 in let n : ℕ = slice_index s.words k in let views : List View = s.views in
+    let whole = IsDecided-whole z s.words views id k v mark at h all in (
+      view_with v (load k n),
+      keeps,
+      tt,
+      IsKept-mark z s.words views id k n v (load k n) mark (omega arith) at refl h (IsMark-loaded k n (map (set_once_trace k) views) id (set_once_trace k v) (at_map (set_once_trace k) views id v at) (h.marks k mark)),
+      (refl, whole.1, whole.0),
     )

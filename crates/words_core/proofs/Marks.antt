@@ -5,7 +5,7 @@ use mathlib.Core.Logic.{dite}
 use native.Mathlib.Decide.{ℕ_discrete}
 use lib.ListN.{get_elem?}
 use Rattle.words_core.specs.declared.trace.Step.{Step}
-use Rattle.words_core.specs.Trace.{total, is_win, is_loss, won, lost}
+use Rattle.words_core.specs.Trace.{total, is_win, is_loss, load, won, lost}
 use Rattle.words_core.specs.Rule.{IsMark}
 use Rattle.words_core.specs.Plays.{set_once_step}
 use Rattle.words_core.proofs.Totals.{total-set, total-append}
@@ -29,3 +29,8 @@ pub IsMark-set : (k n : ℕ) (traces : List (List Step)) (id : ℕ) (t : List St
 IsMark-set k n traces id t at h = let P : ℕ → Type 0 = λ m. IsMark (bit_or m 1) (set traces id (t ++ set_once_step k m ∷ [])) in dite (ℕ_discrete n 0)
     (λ e. subst P (sym e) (IsMark-won k traces id t at (subst (λ (m : ℕ). IsMark m traces) e h)))
     (λ ne. let e : n ≡ 1 = let o = h.once in omega arith in subst P (sym e) (IsMark-lost k traces id t at (subst (λ (m : ℕ). IsMark m traces) e h)))
+
+-- a load says nothing of it
+pub IsMark-loaded : (k n : ℕ) (traces : List (List Step)) (id : ℕ) (t : List Step) → get_elem? traces id ≡ some t → IsMark n traces → IsMark n (set traces id (t ++ load k n ∷ []))
+IsMark-loaded k n traces id t at h = let a = total-mark_grown is_win traces id t (load k n) at in let b = total-mark_grown is_loss traces id t (load k n) at in let d = h.won in
+    record { won = omega arith; once = h.once; lost = λ some. h.lost (omega arith) }

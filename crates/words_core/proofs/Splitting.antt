@@ -3,14 +3,14 @@ use Rattle.std.proofs.Common.{◌≡◌, ℕ, ◌+◌, ◌-◌, ◌<◌, ◌≤�
 use mathlib.Core.Option.{some}
 use lib.ListN.{get_elem?}
 use Rattle.std.proofs.lemmas.List.{map-append}
-use Rattle.atomic_table.specs.Table.{Splits}
+use Rattle.atomic_table.specs.Table.{Splits, Enters}
 use Rattle.atomic_table.proofs.Lists.{at_map}
 use Rattle.words_core.specs.declared.trace.Step.{Step}
 use Rattle.words_core.specs.declared.trace.View.{View}
 use Rattle.words_core.specs.declared.words.Sizes.{Sizes}
 use Rattle.words_core.specs.Layout.{value_at}
 use Rattle.words_core.specs.Trace.{amount_of, total, greatest, is_win, is_loss, is_load_of, is_add_to}
-use Rattle.words_core.specs.Rule.{WordTrace, context_trace, set_once_trace, made_in, known_in, IsAtMost, HasSums, AddsAsDriver, parts_of, IsEmptyIfSpent, IsTraced, IsValue, IsMark, IsKept}
+use Rattle.words_core.specs.Rule.{spent_view, WordTrace, context_trace, set_once_trace, made_in, known_in, IsAtMost, HasSums, AddsAsDriver, parts_of, IsEmptyIfSpent, IsTraced, IsValue, IsMark, IsKept}
 use Rattle.words_core.specs.Plays.{parent_view, child_view}
 use Rattle.words_core.proofs.Totals.{total-set, total-append, total_at, Each-set, Each-at, Each-last, map-set_same}
 use Rattle.words_core.proofs.Traces.{on-append, greatest-append_le}
@@ -77,3 +77,19 @@ split-allowed z id n v pos less s h at =
       marks = λ k is. IsMark-same _ _ _ _ refl (map-append (set_once_trace k) vs (r ∷ []) ∙ (λ i. map-set_same (set_once_trace k) views id v l at refl i ++ [] ∷ []))
           (IsMark-started (slice_index s.words k) (map (set_once_trace k) views) (h.marks k is));
     }
+
+-- a spent seat may come at any time
+IsKept-spent : (z : Sizes) (words : List ℕ) (views : List View) → IsKept z words views → IsKept z words (views ++ spent_view ∷ [])
+IsKept-spent z words views h =
+    let two : total parts_of (views ++ spent_view ∷ []) ≡ total parts_of views + (0 + 0) = total-append parts_of views (spent_view ∷ []) in
+    let all = h.parts in
+    record {
+      counted = h.counted;
+      parts = omega arith;
+      spent = Each-last IsEmptyIfSpent views spent_view h.spent (λ _. (refl, refl));
+      values = λ c low. IsValue-same _ _ _ _ refl (map-append (context_trace c) views (spent_view ∷ [])) (IsValue-started (slice_index words (value_at c)) (map (context_trace c) views) [] (omega arith) (λ x. omega arith) (h.values c low));
+      marks = λ k is. IsMark-same _ _ _ _ refl (map-append (set_once_trace k) views (spent_view ∷ [])) (IsMark-started (slice_index words k) (map (set_once_trace k) views) (h.marks k is));
+    }
+
+pub spent-allowed : (z : Sizes) (slots i : ℕ) → Enters {S = Unit {0}} (λ s. IsKept z s.words s.views) slots i (λ n w. Unit {0})
+spent-allowed z slots i s h homes small = (spent_view, IsKept-spent z s.words s.views h, tt)

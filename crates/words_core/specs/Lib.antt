@@ -4,4 +4,5 @@ pub mod Plays
 pub mod Rule
 pub mod Seat
 pub mod Trace
+pub mod Won
 pub mod Words

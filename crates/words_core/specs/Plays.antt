@@ -31,6 +31,9 @@ set_once_step w found = if found == 0 then won w else lost w
 abbrev pub claims_context : TableStep (Unit {0}) → Holder → ℕ → Holder → Type 0
 claims_context s me found after = (after ≡ (view_with me.0 (set_once_step s.word found), me.1)) × (found ≡ 0 → (wins_of s.word me.0.trace ≡ 0) × (added (on (s.word - 1) me.0.trace) ≡ 0))
 
+abbrev pub sets_flag : TableStep (Unit {0}) → Holder → ℕ → Holder → Type 0
+sets_flag s me found after = after ≡ (view_with me.0 (set_once_step s.word found), me.1)
+
 -- the word was all that the seat had added
 abbrev pub adds_to_value : TableStep (Unit {0}) → Holder → ℕ → Holder → Type 0
 adds_to_value s me found after = (after ≡ (view_with me.0 (add s.word s.first (found + s.first)), me.1)) × (found ≡ added (on s.word me.0.trace))
@@ -47,6 +50,13 @@ pub record IsDecided (w : ℕ) (trace : List Step) : Type 0 where
 -- a seat with all parts has added all that the word is, and its claim is the word after it
 abbrev pub loads_total : TableStep (Unit {0}) → Holder → ℕ → Holder → Type 0
 loads_total s me found after = (after ≡ (view_with me.0 (load s.word found), me.1)) × (found ≡ added (on s.word me.0.trace)) × LoadsWereLeft s.word me.0.trace × IsDecided (s.word + 1) me.0.trace
+
+-- a flag is how often a seat with all parts has won it
+abbrev pub loads_flag : TableStep (Unit {0}) → Holder → ℕ → Holder → Type 0
+loads_flag s me found after = (after ≡ (view_with me.0 (load s.word found), me.1)) × (found ≡ wins_of s.word me.0.trace) × IsDecided s.word me.0.trace
+
+abbrev pub tells_nothing : TableStep (Unit {0}) → Holder → ℕ → Holder → Type 0
+tells_nothing s me found after = Unit {0}
 
 -- the parent's view when n parts go to a child
 abbrev pub parent_view : ℕ → View → View

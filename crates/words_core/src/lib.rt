@@ -11,10 +11,12 @@ mod seat;
 mod tests;
 mod trace;
 mod whole;
+mod won;
 mod words;
 
 pub use driver::Driver;
 pub use seat::{PARTS, Seat};
 pub use trace::{Kind, Step, View};
 pub use whole::Whole;
+pub use won::{Once, Won, WordsId};
 pub use words::{BUFFERS, CONTEXT_STRIDE, FLAGS, Sizes, Words};

@@ -1,7 +1,7 @@
 // The rule of the words, what each kind of step tells, and how views are split and joined.
 ghost use Rattle.std.specs.Prelude.{ℕ};
 ghost use Rattle.words_core.specs.Rule.{IsKept, first_view, spent_view};
-ghost use Rattle.words_core.specs.Plays.{loads_value, claims_context, adds_to_value, counts_parts, loads_total, parent_view, child_view, joined_view};
+ghost use Rattle.words_core.specs.Plays.{loads_value, claims_context, adds_to_value, counts_parts, loads_total, sets_flag, loads_flag, tells_nothing, parent_view, child_view, joined_view};
 
 use crate::trace::View;
 use crate::words::Sizes;
@@ -45,6 +45,25 @@ pub struct LoadsTotal;
 
 impl Play<(), View> for LoadsTotal {
     ghost then = { loads_total };
+}
+
+pub struct SetsFlag;
+
+impl Play<(), View> for SetsFlag {
+    ghost then = { sets_flag };
+}
+
+// By a seat with all parts.
+pub struct LoadsFlag;
+
+impl Play<(), View> for LoadsFlag {
+    ghost then = { loads_flag };
+}
+
+pub struct TellsNothing;
+
+impl Play<(), View> for TellsNothing {
+    ghost then = { tells_nothing };
 }
 
 // The number of parts that go to a new seat, which each call picks.

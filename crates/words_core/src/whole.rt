@@ -1,9 +1,9 @@
 // A seat with all parts.
-ghost use Rattle.std.specs.Prelude.{◌≡◌, ◌≤◌};
-ghost use Rattle.words_core.specs.Layout.{value_word, claim_word};
+ghost use Rattle.std.specs.Prelude.{◌≡◌, ◌<◌, ◌≤◌, if◌then◌else◌};
+ghost use Rattle.words_core.specs.Layout.{value_word, claim_word, flag_word};
 ghost use Rattle.words_core.specs.Plays.{IsDecided};
 ghost use Rattle.words_core.specs.Seat.{with_step, added_to};
-ghost use Rattle.words_core.specs.Trace.{load, LoadsWereLeft};
+ghost use Rattle.words_core.specs.Trace.{load, wins_of, LoadsWereLeft};
 
 use crate::seat::Seat;
 use crate::words::Words;
@@ -40,6 +40,17 @@ impl Whole {
         ensures driver { IsDecided (claim_word ctx) self.old.trace }
     {
         words.total(&mut self.seat, ctx)
+    }
+
+    /// Whether a flag is set, by one load: exactly where one step has won it, once.
+    pub fn flag(&mut self, words: &Words, flag: usize) -> bool
+        requires own { self.old.table ≡ words.now.table }
+        requires flag { flag < words.now.flags }
+        ensures entered { self.new ≡ with_step self.old (load (flag_word words.now.contexts flag) (if result then 1 else 0)) }
+        ensures state { wins_of (flag_word words.now.contexts flag) self.old.trace ≡ (if result then 1 else 0) }
+        ensures decided { IsDecided (flag_word words.now.contexts flag) self.old.trace }
+    {
+        words.total_flag(&mut self.seat, flag) == 1
     }
 
     /// The seat again.

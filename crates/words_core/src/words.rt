@@ -6,19 +6,22 @@ ghost use Rattle.point_core.specs.declared.refusal.Refusal.TheVariants as refusa
 ghost use Rattle.point_core.specs.Reach.{value_at};
 ghost use Rattle.words_core.specs.declared.seat.TheConstants.{PARTS};
 ghost use Rattle.words_core.specs.declared.words.TheConstants.{BUFFERS, FLAGS};
-ghost use Rattle.words_core.specs.Layout.{value_word, claim_word};
-ghost use Rattle.words_core.specs.Plays.{IsDecided};
+ghost use Rattle.words_core.specs.declared.won.Once.TheVariants as once;
+ghost use Rattle.words_core.specs.Layout.{value_word, claim_word, flag_word};
+ghost use Rattle.words_core.specs.Plays.{IsDecided, set_once_step};
 ghost use Rattle.words_core.specs.Seat.{seen, added_to, with_step, with_steps, loads_of, without_parts, parted, both_of};
 ghost use Rattle.words_core.specs.Trace.{load, add, won, lost, wins_of, LoadsWereLeft};
+ghost use Rattle.words_core.specs.Won.{WonModel};
 ghost use Rattle.words_core.specs.Words.{WordsModel};
 
 use crate::driver::Driver;
 use crate::plays::{
-    AddsToValue, ClaimsContext, CountsParts, JoinSeats, LoadsTotal, LoadsValue, PartCount,
-    SplitParts, WordsRule,
+    AddsToValue, ClaimsContext, CountsParts, JoinSeats, LoadsFlag, LoadsTotal, LoadsValue,
+    PartCount, SetsFlag, SplitParts, TellsNothing, WordsRule,
 };
 use crate::seat::{PARTS, Seat};
 use crate::trace::View;
+use crate::won::{Once, Won, WordsId};
 use atomic_table::Table;
 use point_core::{CONTEXTS, Context, LimitKind, Point, Reach, Refusal};
 use std::alloc::Global;
@@ -262,5 +265,57 @@ impl Words {
         self.table
             .shared
             .load::<LoadsTotal>(&mut seat.token, CONTEXT_STRIDE * ctx.index())
+    }
+
+    /// Sets a flag, by one test-and-set, as the kernel's `dma_fence_signal` sets that of a fence. It answers `First`
+    /// to the call that found it 0, and to all others `Already`.
+    pub fn set_once(&self, seat: &mut Seat, flag: usize) -> Once
+        requires own { seat.old.table ≡ self.now.table }
+        requires flag { flag < self.now.flags }
+        ensures first { (token : WonModel) → result ≡ once.First token → (token ≡ record { table = self.now.table; flag = flag }) × (seat.new ≡ with_step seat.old (won (flag_word self.now.contexts flag))) }
+        ensures already { result ≡ once.Already → seat.new ≡ with_step seat.old (lost (flag_word self.now.contexts flag)) }
+    {
+        if self.set_flag(seat, flag) == 0 {
+            Once::First(Won {
+                flag,
+                words: self.id(),
+            })
+        } else {
+            Once::Already
+        }
+    }
+
+    fn set_flag(&self, seat: &mut Seat, flag: usize) -> u64
+        requires own { seat.old.table ≡ self.now.table }
+        requires flag { flag < self.now.flags }
+        ensures { seat.new ≡ with_step seat.old (set_once_step (flag_word self.now.contexts flag) result) }
+    {
+        self.table.shared.fetch_or::<SetsFlag>(
+            &mut seat.token,
+            CONTEXT_STRIDE * self.sizes.contexts + flag,
+            1,
+        )
+    }
+
+    pub(crate) fn total_flag(&self, seat: &mut Seat, flag: usize) -> u64
+        requires own { seat.old.table ≡ self.now.table }
+        requires flag { flag < self.now.flags }
+        requires all { seat.old.parts ≡ PARTS }
+        ensures entered { seat.new ≡ with_step seat.old (load (flag_word self.now.contexts flag) result) }
+        ensures state { result ≡ wins_of (flag_word self.now.contexts flag) seat.old.trace }
+        ensures decided { IsDecided (flag_word self.now.contexts flag) seat.old.trace }
+    {
+        self.table.shared.load::<LoadsFlag>(
+            &mut seat.token,
+            CONTEXT_STRIDE * self.sizes.contexts + flag,
+        )
+    }
+
+    /// A name of these words. It costs one load, which tells nothing.
+    pub fn id(&self) -> WordsId
+        ensures { result ≡ self.now.table }
+    {
+        let (_, token) = self.table.shared.load_new_seat::<TellsNothing>(0);
+        WordsId { token }
     }
 }
