@@ -12,7 +12,7 @@ use Rattle.words_core.specs.Rule.{WordTrace, context_trace, wins_in, AddsAsDrive
 use Rattle.words_core.specs.Plays.{Holder, view_with, adds_to_value}
 use Rattle.words_core.proofs.Totals.{Each-weaker, total_alone}
 use Rattle.words_core.proofs.Traces.{added_none}
-use Rattle.words_core.proofs.Values.{IsValue-added}
+use Rattle.words_core.proofs.ValueSteps.{IsValue-added}
 use Rattle.words_core.proofs.Frames.{IsKept-value}
 use Rattle.words_core.proofs.Joining.{few_wins}
 
@@ -35,6 +35,6 @@ adds_to_value-allowed z slots id c k me low live won fits s h homes at small =
       keeps,
       tt,
       subst (λ (m : ℕ). IsKept z (set s.words w m) (set views id (view_with v (add w k (n + k))))) (sym exact)
-          (IsKept-value z s.words views id c (n + k) v (add w k (n + k)) low live at refl h (IsValue-added w n k (map (context_trace c) views) id (context_trace c v) (at_map (context_trace c) views id v at) (h.values c low) won own)),
+          (IsKept-value z s.words views id c (n + k) v (add w k (n + k)) low live at refl refl h (IsValue-added w n k (map (context_trace c) views) id (context_trace c v) (at_map (context_trace c) views id v at) (h.values c low) won own)),
       (refl, own),
     )

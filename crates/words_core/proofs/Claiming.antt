@@ -1,6 +1,8 @@
 -- A test-and-set keeps the rule.
-use Rattle.std.proofs.Common.{◌≡◌, ℕ, ◌-◌, ◌<◌, ◌≤◌, ◌==◌, true, false, cond, List, map, set, slice_index, bit_or, sym, refl, subst, arith}
+use Rattle.std.proofs.Common.{◌≡◌, ℕ, ◌+◌, ◌-◌, ◌<◌, ◌≤◌, ◌==◌, true, false, cond, List, map, set, slice_index, bit_or, sym, refl, ◌∙◌, subst, arith}
 use mathlib.Core.Option.{some, none}
+use mathlib.Core.Logic.{dite}
+use native.Mathlib.Decide.{ℕ_discrete}
 use lib.ListN.{get_elem?}
 use Rattle.atomic_table.specs.Table.{step, Allows, keeps}
 use Rattle.atomic_table.proofs.Lists.{at_map}
@@ -9,21 +11,36 @@ use Rattle.words_core.specs.declared.trace.View.{View}
 use Rattle.words_core.specs.declared.words.Sizes.{Sizes}
 use Rattle.words_core.specs.Layout.{value_at, claim_at, IsSetOnce}
 use Rattle.words_core.specs.Trace.{on, total, added, is_win, won, lost, wins_of}
-use Rattle.words_core.specs.Rule.{context_trace, set_once_trace, AddsAsDriver, IsKept}
+use Rattle.words_core.specs.Rule.{context_trace, set_once_trace, wins_on, AddsAsDriver, IsKept}
 use Rattle.words_core.specs.Plays.{Holder, view_with, set_once_step, claims_context, sets_flag}
-use Rattle.words_core.proofs.Totals.{total_at, Each-at}
+use Rattle.words_core.proofs.Totals.{total_at, total-map, Each-at}
 use Rattle.words_core.proofs.Traces.{added_none}
-use Rattle.words_core.proofs.Marks.{IsMark-set}
+use Rattle.words_core.proofs.MarkSteps.{IsMark-set}
 use Rattle.words_core.proofs.Frames.{IsKept-mark}
 use Rattle.words_core.proofs.Joining.{claim_is_mark}
 
 set_once_step-word : (k n : ℕ) → (set_once_step k n).word ≡ k
 set_once_step-word k n = elim (n == 0) as (λ b. (cond b (won k) (lost k)).word ≡ k) [ true ↦ refl | false ↦ refl ]
 
+-- all wins of a claim or a flag are its word
+wins-mark : (z : Sizes) (words : List ℕ) (views : List View) (k : ℕ) → IsSetOnce z k → IsKept z words views → total (wins_on k) views ≡ slice_index words k
+wins-mark z words views k mark h = sym (total-map (total is_win) (set_once_trace k) views) ∙ sym (h.marks k mark).won
+
+-- it is won only where it was 0
+set_once_step-wins : (k n : ℕ) → n ≤ 1 → n + is_win (set_once_step k n) ≤ 1
+set_once_step-wins k n low = dite (ℕ_discrete n 0) (λ e. subst (λ (m : ℕ). m + is_win (set_once_step k m) ≤ 1) (sym e) (omega arith)) (λ ne. let e : n ≡ 1 = omega arith in subst (λ (m : ℕ). m + is_win (set_once_step k m) ≤ 1) (sym e) (omega arith))
+
 pub IsKept-set : (z : Sizes) (words : List ℕ) (views : List View) (id k : ℕ) (v : View) → IsSetOnce z k → 0 < v.parts → get_elem? views id ≡ some v → IsKept z words views
     → IsKept z (set words k (bit_or (slice_index words k) 1)) (set views id (view_with v (set_once_step k (slice_index words k))))
-IsKept-set z words views id k v mark live at h = let n : ℕ = slice_index words k in
-    IsKept-mark z words views id k (bit_or n 1) v (set_once_step k n) mark live at (set_once_step-word k n) h (IsMark-set k n (map (set_once_trace k) views) id (set_once_trace k v) (at_map (set_once_trace k) views id v at) (h.marks k mark))
+IsKept-set z words views id k v mark live at h =
+    let n : ℕ = slice_index words k in
+    let s : Step = set_once_step k n in
+    let wins : total (wins_on k) views ≡ n = wins-mark z words views k mark h in
+    let few = h.won_once k in
+    let one : n + is_win s ≤ 1 = set_once_step-wins k n (omega arith) in
+    let here : total (wins_on k) views + is_win s ≤ 1 = omega arith in
+    IsKept-mark z words views id k (bit_or n 1) v s mark live at (set_once_step-word k n) (subst (λ (w : ℕ). total (wins_on w) views + is_win s ≤ 1) (sym (set_once_step-word k n)) here) h
+    (IsMark-set k n (map (set_once_trace k) views) id (set_once_trace k v) (at_map (set_once_trace k) views id v at) (omega arith) (h.marks k mark))
 
 -- who has won nothing has added nothing
 added_unclaimed : (z : Sizes) (words : List ℕ) (views : List View) (id c : ℕ) (v : View) → c < z.contexts → get_elem? views id ≡ some v → IsKept z words views → wins_of (claim_at c) v.trace ≡ 0 → added (on (value_at c) v.trace) ≡ 0

@@ -10,12 +10,12 @@ use Rattle.words_core.specs.declared.trace.Step.{Step}
 use Rattle.words_core.specs.declared.trace.View.{View}
 use Rattle.words_core.specs.declared.words.Sizes.{Sizes}
 use Rattle.words_core.specs.Layout.{value_at, claim_at, word_count, IsSetOnce}
-use Rattle.words_core.specs.Trace.{on, total}
-use Rattle.words_core.specs.Rule.{Each, WordTrace, context_trace, set_once_trace, parts_of, IsEmptyIfSpent, IsValue, IsMark, IsKept}
+use Rattle.words_core.specs.Trace.{on, total, is_win}
+use Rattle.words_core.specs.Rule.{Each, WordTrace, context_trace, set_once_trace, wins_on, parts_of, IsEmptyIfSpent, IsValue, IsMark, IsKept}
 use Rattle.words_core.specs.Plays.{view_with}
-use Rattle.words_core.proofs.Totals.{total-set, Each-set, map-set_same}
+use Rattle.words_core.proofs.Totals.{total-set, total-append, Each-set, map-set_same}
 use Rattle.words_core.proofs.Traces.{on-append_here, on-append_other}
-use Rattle.words_core.proofs.Values.{grown, claimed, IsValue-claimed}
+use Rattle.words_core.proofs.ValueSteps.{grown, claimed, IsValue-claimed}
 
 -- a view with one more step, as a context sees it: on its value, on its claim, or on another word
 
@@ -40,16 +40,28 @@ parts-view_with views id v s at = let a : total parts_of (set views id (view_wit
 spent-view_with : (views : List View) (id : ℕ) (v : View) (s : Step) → 0 < v.parts → Each IsEmptyIfSpent views → Each IsEmptyIfSpent (set views id (view_with v s))
 spent-view_with views id v s live h = Each-set IsEmptyIfSpent views id (view_with v s) h (λ bad. absurd (omega arith))
 
+-- how often each word was won, where the step was on the word w
+won_once-view_with : (views : List View) (id : ℕ) (v : View) (s : Step) → get_elem? views id ≡ some v → total (wins_on s.word) views + is_win s ≤ 1 → ((k : ℕ) → total (wins_on k) views ≤ 1) → (k : ℕ) → total (wins_on k) (set views id (view_with v s)) ≤ 1
+won_once-view_with views id v s at here h k =
+    let few = h k in
+    let a : total (wins_on k) (set views id (view_with v s)) + wins_on k v ≡ total (wins_on k) views + wins_on k (view_with v s) = total-set (wins_on k) views id v (view_with v s) at in
+    dite (ℕ_discrete s.word k)
+    (λ same.
+    let b : wins_on k (view_with v s) ≡ wins_on k v + (is_win s + 0) = ap (total is_win) (on-append_here k v.trace s same) ∙ total-append is_win (on k v.trace) (s ∷ []) in
+    let c : total (wins_on k) views + is_win s ≤ 1 = subst (λ (w : ℕ). total (wins_on w) views + is_win s ≤ 1) same here in omega arith)
+    (λ other. let b : wins_on k (view_with v s) ≡ wins_on k v = ap (total is_win) (on-append_other k v.trace s other) in omega arith)
+
 -- a step on the value of a context leaves every other word as it was
-pub IsKept-value : (z : Sizes) (words : List ℕ) (views : List View) (id c m : ℕ) (v : View) (s : Step) → c < z.contexts → 0 < v.parts → get_elem? views id ≡ some v → s.word ≡ value_at c → IsKept z words views
+pub IsKept-value : (z : Sizes) (words : List ℕ) (views : List View) (id c m : ℕ) (v : View) (s : Step) → c < z.contexts → 0 < v.parts → get_elem? views id ≡ some v → s.word ≡ value_at c → is_win s ≡ 0 → IsKept z words views
     → IsValue m (set (map (context_trace c) views) id (grown (context_trace c v) s))
     → IsKept z (set words (value_at c) m) (set views id (view_with v s))
-IsKept-value z words views id c m v s low live at on_c h fits =
+IsKept-value z words views id c m v s low live at on_c no_win h fits =
     let w : View = view_with v s in
     let long : value_at c < length words = let l = h.counted in omega arith in record {
       counted = length-set words (value_at c) m ∙ h.counted;
       parts = parts-view_with views id v s at ∙ h.parts;
       spent = spent-view_with views id v s live h.spent;
+      won_once = won_once-view_with views id v s at (let few = h.won_once s.word in omega arith) h.won_once;
       values = λ b lower. dite (ℕ_discrete b c)
           (λ e. subst (λ (y : ℕ). IsValue (get_or (set words (value_at c) m) (value_at y) 0) (map (context_trace y) (set views id w))) (sym e)
           (IsValue-same _ m _ _ (get_or-set_same words (value_at c) m 0 long) (map-set (context_trace c) views id w ∙ ap (λ (t : WordTrace). set (map (context_trace c) views) id t) (context_trace-value c v s on_c)) fits))
@@ -60,16 +72,17 @@ IsKept-value z words views id c m v s low live at on_c h fits =
     }
 
 -- a step on a claim or a flag leaves every other word as it was
-pub IsKept-mark : (z : Sizes) (words : List ℕ) (views : List View) (id k m : ℕ) (v : View) (s : Step) → IsSetOnce z k → 0 < v.parts → get_elem? views id ≡ some v → s.word ≡ k → IsKept z words views
+pub IsKept-mark : (z : Sizes) (words : List ℕ) (views : List View) (id k m : ℕ) (v : View) (s : Step) → IsSetOnce z k → 0 < v.parts → get_elem? views id ≡ some v → s.word ≡ k → total (wins_on s.word) views + is_win s ≤ 1 → IsKept z words views
     → IsMark m (set (map (set_once_trace k) views) id (set_once_trace k v ++ s ∷ []))
     → IsKept z (set words k m) (set views id (view_with v s))
-IsKept-mark z words views id k m v s mark live at on_k h fits =
+IsKept-mark z words views id k m v s mark live at on_k few h fits =
     let w : View = view_with v s in
     let claim = mark.claim in
     let long : k < length words = let l = h.counted in let inside = mark.inside in omega arith in record {
       counted = length-set words k m ∙ h.counted;
       parts = parts-view_with views id v s at ∙ h.parts;
       spent = spent-view_with views id v s live h.spent;
+      won_once = won_once-view_with views id v s at few h.won_once;
       values = λ b lower. let was = h.values b lower in
           let word : get_or (set words k m) (value_at b) 0 ≡ get_or words (value_at b) 0 = get_or-set_other words k (value_at b) m 0 (λ bad. let i = claim (omega arith) in absurd (omega arith)) in
           dite (ℕ_discrete k (claim_at b))

@@ -10,11 +10,11 @@ use Rattle.words_core.specs.declared.trace.View.{View}
 use Rattle.words_core.specs.declared.words.Sizes.{Sizes}
 use Rattle.words_core.specs.Layout.{value_at, claim_at, IsSetOnce}
 use Rattle.words_core.specs.Trace.{on, amount_of, total, is_win, is_loss, is_load_of, is_add_to, load}
-use Rattle.words_core.specs.Rule.{WordTrace, context_trace, set_once_trace, made_in, known_in, parts_of, IsEmptyIfSpent, IsKept}
+use Rattle.words_core.specs.Rule.{WordTrace, context_trace, set_once_trace, made_in, known_in, wins_on, parts_of, IsEmptyIfSpent, IsKept}
 use Rattle.words_core.specs.Plays.{Holder, view_with, IsDecided, loads_total, loads_flag}
 use Rattle.words_core.proofs.Totals.{total_at, Each-weaker, total_alone, total-map}
-use Rattle.words_core.proofs.Values.{IsValue-loaded}
-use Rattle.words_core.proofs.Marks.{IsMark-loaded}
+use Rattle.words_core.proofs.ValueSteps.{IsValue-loaded}
+use Rattle.words_core.proofs.MarkSteps.{IsMark-loaded}
 use Rattle.words_core.proofs.Frames.{IsKept-value, IsKept-mark}
 use Rattle.words_core.proofs.Joining.{claim_is_mark}
 
@@ -32,7 +32,8 @@ pub IsDecided-whole : (z : Sizes) (words : List ℕ) (views : List View) (id k :
 IsDecided-whole z words views id k v mark at h all =
     let fits = h.marks k mark in
     let own : (f : Step → ℕ) → total (total f) (map (set_once_trace k) views) ≡ total f (on k v.trace) = λ f. total-map (total f) (set_once_trace k) views ∙ total_whole z words views id v (λ steps. total f (on k steps)) refl at h all in
-    let wins = own is_win in let losses = own is_loss in let won = fits.won in let once = fits.once in
+    let wins = own is_win in let losses = own is_loss in let won = fits.won in
+    let mine : wins_on k v ≤ total (wins_on k) views = total_at (wins_on k) views id v at in let few = h.won_once k in
     (record { once = omega arith; lost = λ some. let is = fits.lost (omega arith) in omega arith }, won ∙ wins)
 
 pub loads_total-allowed : (z : Sizes) (slots id c : ℕ) (me : Holder) → c < z.contexts → me.0.parts ≡ PARTS → Allows (λ s. IsKept z s.words s.views) slots id me (value_at c) (λ n. n) (loads_total (step slots (value_at c) 0 0 none) me)
@@ -43,7 +44,7 @@ loads_total-allowed z slots id c me low all s h homes at small =
       view_with v (load w n),
       keeps,
       tt,
-      IsKept-value z s.words views id c n v (load w n) low (omega arith) at refl h (IsValue-loaded w n traces id (context_trace c v) there fits),
+      IsKept-value z s.words views id c n v (load w n) low (omega arith) at refl refl h (IsValue-loaded w n traces id (context_trace c v) there fits),
       (
         refl,
         fits.summed ∙ own amount_of,
@@ -61,6 +62,6 @@ loads_flag-allowed z slots id k me mark all s h homes at small =
       view_with v (load k n),
       keeps,
       tt,
-      IsKept-mark z s.words views id k n v (load k n) mark (omega arith) at refl h (IsMark-loaded k n (map (set_once_trace k) views) id (set_once_trace k v) (at_map (set_once_trace k) views id v at) (h.marks k mark)),
+      IsKept-mark z s.words views id k n v (load k n) mark (omega arith) at refl (let few = h.won_once k in omega arith) h (IsMark-loaded k n (map (set_once_trace k) views) id (set_once_trace k v) (at_map (set_once_trace k) views id v at) (h.marks k mark)),
       (refl, whole.1, whole.0),
     )

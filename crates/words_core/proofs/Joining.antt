@@ -12,7 +12,7 @@ use Rattle.words_core.specs.declared.trace.View.{View}
 use Rattle.words_core.specs.declared.words.Sizes.{Sizes}
 use Rattle.words_core.specs.Layout.{value_at, claim_at, IsSetOnce}
 use Rattle.words_core.specs.Trace.{on, amount_of, total, greatest, added, is_add, is_win, is_loss, is_load_of, is_add_to, HasRunningSums}
-use Rattle.words_core.specs.Rule.{spent_view, WordTrace, context_trace, set_once_trace, made_in, known_in, wins_in, IsAtMost, HasSums, AddsAsDriver, parts_of, IsEmptyIfSpent, IsTraced, IsValue, IsMark, IsKept}
+use Rattle.words_core.specs.Rule.{spent_view, WordTrace, context_trace, set_once_trace, made_in, known_in, wins_in, wins_on, IsAtMost, HasSums, AddsAsDriver, parts_of, IsEmptyIfSpent, IsTraced, IsValue, IsMark, IsKept}
 use Rattle.words_core.specs.Plays.{Holder, counts_parts, joined_view}
 use Rattle.words_core.proofs.Totals.{total-append, total_at, Each-set, Each-at, total-joined, total_two, total-map}
 use Rattle.words_core.proofs.Traces.{on-append, greatest-append_le, HasRunningSums-append, added_none, HasRunningSums-none}
@@ -70,7 +70,7 @@ IsMark-joined : (n : ℕ) (traces : List (List Step)) (id other : ℕ) (t u : Li
 IsMark-joined n traces id other t u at apart at' h =
     let same : (f : Step → ℕ) → total (total f) (set (set traces id (t ++ u)) other []) ≡ total (total f) traces = λ f.
     total-joined (total f) traces id other t u (t ++ u) [] at apart at' (total-append f t u) refl in
-    record { won = h.won ∙ sym (same is_win); once = h.once; lost = λ some. h.lost (let a = same is_loss in omega arith) }
+    record { won = h.won ∙ sym (same is_win); lost = λ some. h.lost (let a = same is_loss in omega arith) }
 
 pub claim_is_mark : (z : Sizes) (c : ℕ) → c < z.contexts → IsSetOnce z (claim_at c)
 claim_is_mark z c low = record { inside = omega arith; claim = λ _. omega arith }
@@ -78,10 +78,9 @@ claim_is_mark z c low = record { inside = omega arith; claim = λ _. omega arith
 -- at most one view has won a claim, once
 pub few_wins : (z : Sizes) (words : List ℕ) (views : List View) (c : ℕ) → c < z.contexts → IsKept z words views → total wins_in (map (context_trace c) views) ≤ 1
 few_wins z words views c low h =
-    let mark = h.marks (claim_at c) (claim_is_mark z c low) in
+    let few = h.won_once (claim_at c) in
     let a : total wins_in (map (context_trace c) views) ≡ total (λ (v : View). total is_win (on (claim_at c) v.trace)) views = total-map wins_in (context_trace c) views in
-    let b : total (total is_win) (map (set_once_trace (claim_at c)) views) ≡ total (λ (v : View). total is_win (on (claim_at c) v.trace)) views = total-map (total is_win) (set_once_trace (claim_at c)) views in
-    let won = mark.won in let once = mark.once in omega arith
+    omega arith
 
 pub join-allowed : (z : Sizes) (id other : ℕ) (v w : View) → 0 < v.parts → Joins {S = Unit {0}} (λ s. IsKept z s.words s.views) id v other w (joined_view v w) spent_view
 join-allowed z id other v w live s h at apart there =
@@ -91,6 +90,9 @@ join-allowed z id other v w live s h at apart there =
       counted = h.counted;
       parts = total-joined parts_of views id other v w b spent_view at apart at' refl refl ∙ h.parts;
       spent = Each-set IsEmptyIfSpent (set views id b) other spent_view (Each-set IsEmptyIfSpent views id b h.spent (λ bad. absurd (omega arith))) (λ _. (refl, refl));
+      won_once = λ k. let few = h.won_once k in
+          let a : total (wins_on k) (set (set views id b) other spent_view) ≡ total (wins_on k) views = total-joined (wins_on k) views id other v w b spent_view at apart at'
+          (ap (total is_win) (on-append k v.trace w.trace) ∙ total-append is_win (on k v.trace) (on k w.trace)) refl in omega arith;
       values = λ c low. IsValue-same _ _ _ _ refl
           (map-set (context_trace c) (set views id b) other spent_view ∙ ap (λ (ts : List WordTrace). set ts other no_trace) (map-set (context_trace c) views id b)
           ∙ (λ i. set (set (map (context_trace c) views) id record { start = on-append (value_at c) v.start w.start i; made = on-append (value_at c) v.trace w.trace i; claim = on-append (claim_at c) v.trace w.trace i }) other no_trace))
@@ -108,5 +110,5 @@ counts_parts-allowed z slots id me s h homes at small =
       keeps,
       tt,
       (let P : List ℕ × List View → Type 0 = λ u. IsKept z u.0 u.1 in subst P (λ i. (sym (set-get_or s.words 0 0) i, sym (set_again s.views id me.0 at) i)) h),
-      (refl, omega arith),
+      (refl, omega arith, λ w. let mine : wins_on w me.0 ≤ total (wins_on w) s.views = total_at (wins_on w) s.views id me.0 at in let few = h.won_once w in omega arith),
     )

@@ -1,7 +1,7 @@
 mod Totals
 mod Traces
-mod Values
-mod Marks
+mod ValueSteps
+mod MarkSteps
 mod Frames
 mod Loading
 mod Splitting

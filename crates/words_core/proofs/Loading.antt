@@ -13,7 +13,7 @@ use Rattle.words_core.specs.Rule.{WordTrace, context_trace, IsAtMost, IsKept}
 use Rattle.words_core.specs.Plays.{Holder, view_with, seen_by, loads_value}
 use Rattle.words_core.proofs.Totals.{Each-at}
 use Rattle.words_core.proofs.Traces.{on-append, greatest-append_le}
-use Rattle.words_core.proofs.Values.{IsValue-loaded}
+use Rattle.words_core.proofs.ValueSteps.{IsValue-loaded}
 use Rattle.words_core.proofs.Frames.{IsKept-value}
 
 seen_by_le : (w n : ℕ) (v : View) → greatest (on w v.start) ≤ n → greatest (on w v.trace) ≤ n → seen_by w v ≤ n
@@ -25,4 +25,4 @@ loads_value-allowed z slots id c me low live s h homes at small =
     let fits = h.values c low in
     let there = at_map (context_trace c) s.views id v at in
     let mine = Each-at (IsAtMost n) traces id (context_trace c v) fits.traced.below there in
-    (view_with v (load w n), keeps, tt, IsKept-value z s.words s.views id c n v (load w n) low live at refl h (IsValue-loaded w n traces id (context_trace c v) there fits), (refl, seen_by_le w n v mine.0 mine.1))
+    (view_with v (load w n), keeps, tt, IsKept-value z s.words s.views id c n v (load w n) low live at refl refl h (IsValue-loaded w n traces id (context_trace c v) there fits), (refl, seen_by_le w n v mine.0 mine.1))

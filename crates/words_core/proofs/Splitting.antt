@@ -10,7 +10,7 @@ use Rattle.words_core.specs.declared.trace.View.{View}
 use Rattle.words_core.specs.declared.words.Sizes.{Sizes}
 use Rattle.words_core.specs.Layout.{value_at}
 use Rattle.words_core.specs.Trace.{amount_of, total, greatest, is_win, is_loss, is_load_of, is_add_to}
-use Rattle.words_core.specs.Rule.{spent_view, WordTrace, context_trace, set_once_trace, made_in, known_in, IsAtMost, HasSums, AddsAsDriver, parts_of, IsEmptyIfSpent, IsTraced, IsValue, IsMark, IsKept}
+use Rattle.words_core.specs.Rule.{spent_view, WordTrace, context_trace, set_once_trace, made_in, known_in, wins_on, IsAtMost, HasSums, AddsAsDriver, parts_of, IsEmptyIfSpent, IsTraced, IsValue, IsMark, IsKept}
 use Rattle.words_core.specs.Plays.{parent_view, child_view}
 use Rattle.words_core.proofs.Totals.{total-set, total-append, total_at, Each-set, Each-at, Each-last, map-set_same}
 use Rattle.words_core.proofs.Traces.{on-append, greatest-append_le}
@@ -59,7 +59,7 @@ pub IsMark-started : (n : ℕ) (traces : List (List Step)) → IsMark n traces �
 IsMark-started n traces h =
     let more : (f : Step → ℕ) → total (total f) (traces ++ [] ∷ []) ≡ total (total f) traces = λ f.
     let a : total (total f) (traces ++ [] ∷ []) ≡ total (total f) traces + (0 + 0) = total-append (total f) traces ([] ∷ []) in omega arith in
-    record { won = h.won ∙ sym (more is_win); once = h.once; lost = λ some. h.lost (let a = more is_loss in omega arith) }
+    record { won = h.won ∙ sym (more is_win); lost = λ some. h.lost (let a = more is_loss in omega arith) }
 
 pub split-allowed : (z : Sizes) (id n : ℕ) (v : View) → 0 < n → n < v.parts → Splits {S = Unit {0}} (λ s. IsKept z s.words s.views) id v (parent_view n v) (child_view n v)
 split-allowed z id n v pos less s h at =
@@ -71,6 +71,10 @@ split-allowed z id n v pos less s h at =
       counted = h.counted;
       parts = omega arith;
       spent = Each-last IsEmptyIfSpent vs r (Each-set IsEmptyIfSpent views id l h.spent (λ bad. absurd (omega arith))) (λ bad. absurd (omega arith));
+      won_once = λ w.
+          let few = h.won_once w in
+          let a : total (wins_on w) vs + wins_on w v ≡ total (wins_on w) views + wins_on w v = total-set (wins_on w) views id v l at in
+          let b : total (wins_on w) (vs ++ r ∷ []) ≡ total (wins_on w) vs + (0 + 0) = total-append (wins_on w) vs (r ∷ []) in omega arith;
       values = λ c low. IsValue-same _ _ _ _ refl
           (map-append (context_trace c) vs (r ∷ []) ∙ (λ i. map-set_same (context_trace c) views id v l at refl i ++ record { start = on-append (value_at c) v.start v.trace i; made = []; claim = [] } ∷ []))
           (IsValue-parted (slice_index s.words (value_at c)) (map (context_trace c) views) id (context_trace c v) (at_map (context_trace c) views id v at) (h.values c low));
@@ -87,6 +91,7 @@ IsKept-spent z words views h =
       counted = h.counted;
       parts = omega arith;
       spent = Each-last IsEmptyIfSpent views spent_view h.spent (λ _. (refl, refl));
+      won_once = λ w. let few = h.won_once w in let a : total (wins_on w) (views ++ spent_view ∷ []) ≡ total (wins_on w) views + (0 + 0) = total-append (wins_on w) views (spent_view ∷ []) in omega arith;
       values = λ c low. IsValue-same _ _ _ _ refl (map-append (context_trace c) views (spent_view ∷ [])) (IsValue-started (slice_index words (value_at c)) (map (context_trace c) views) [] (omega arith) (λ x. omega arith) (h.values c low));
       marks = λ k is. IsMark-same _ _ _ _ refl (map-append (set_once_trace k) views (spent_view ∷ [])) (IsMark-started (slice_index words k) (map (set_once_trace k) views) (h.marks k is));
     }

@@ -38,9 +38,9 @@ sets_flag s me found after = after ≡ (view_with me.0 (set_once_step s.word fou
 abbrev pub adds_to_value : TableStep (Unit {0}) → Holder → ℕ → Holder → Type 0
 adds_to_value s me found after = (after ≡ (view_with me.0 (add s.word s.first (found + s.first)), me.1)) × (found ≡ added (on s.word me.0.trace))
 
--- nothing is entered, and the seat's parts are seen to be no more than all
+-- nothing is entered. The seat's parts are seen to be no more than all, and its wins of each word no more than one
 abbrev pub counts_parts : TableStep (Unit {0}) → Holder → ℕ → Holder → Type 0
-counts_parts s me found after = (after ≡ me) × (me.0.parts ≤ PARTS)
+counts_parts s me found after = (after ≡ me) × (me.0.parts ≤ PARTS) × ((w : ℕ) → wins_of w me.0.trace ≤ 1)
 
 -- what a seat with all parts knows of a claim or a flag: it was won once at most, and once where it was lost
 pub record IsDecided (w : ℕ) (trace : List Step) : Type 0 where

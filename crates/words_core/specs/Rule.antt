@@ -5,7 +5,7 @@ use Rattle.words_core.specs.declared.trace.Step.{Step}
 use Rattle.words_core.specs.declared.trace.View.{View}
 use Rattle.words_core.specs.declared.words.Sizes.{Sizes}
 use Rattle.words_core.specs.Layout.{value_at, claim_at, word_count, IsSetOnce}
-use Rattle.words_core.specs.Trace.{is_add, is_win, is_loss, is_load_of, is_add_to, total, on, greatest, added, HasRunningSums}
+use Rattle.words_core.specs.Trace.{is_add, is_win, is_loss, is_load_of, is_add_to, total, on, greatest, added, HasRunningSums, wins_of}
 
 abbrev pub view : ℕ → List Step → List Step → View
 view parts start trace = record { parts = parts; start = start; trace = trace }
@@ -47,6 +47,10 @@ known_in f t = total f t.start + total f t.made
 abbrev pub wins_in : WordTrace → ℕ
 wins_in t = total is_win t.claim
 
+-- how often a seat has won the word w
+abbrev pub wins_on : ℕ → View → ℕ
+wins_on w v = wins_of w v.trace
+
 abbrev pub parts_of : View → ℕ
 parts_of v = v.parts
 
@@ -82,10 +86,9 @@ pub record IsValue (word : ℕ) (traces : List WordTrace) : Type 0 where
   pub running : Each HasSums traces
   pub driven : Each AddsAsDriver traces
 
--- a claim or a flag: 1 where it was won, once, and else 0. Where it was lost it is 1
+-- a claim or a flag: 1 where it was won, and else 0. Where it was lost it is 1
 pub record IsMark (word : ℕ) (traces : List (List Step)) : Type 0 where
   pub won : word ≡ total (total is_win) traces
-  pub once : word ≤ 1
   pub lost : 0 < total (total is_loss) traces → word ≡ 1
 
 -- the rule. Lost seats are among the views, with their parts
@@ -93,5 +96,7 @@ pub record IsKept (sizes : Sizes) (words : List ℕ) (views : List View) : Type 
   pub counted : length words ≡ word_count sizes
   pub parts : total parts_of views ≡ PARTS
   pub spent : Each IsEmptyIfSpent views
+  -- each word was won once at most, by all seats together
+  pub won_once : (w : ℕ) → total (wins_on w) views ≤ 1
   pub values : (place : ℕ) → place < sizes.contexts → IsValue (slice_index words (value_at place)) (map (context_trace place) views)
   pub marks : (k : ℕ) → IsSetOnce sizes k → IsMark (slice_index words k) (map (set_once_trace k) views)

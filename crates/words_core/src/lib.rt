@@ -5,18 +5,18 @@
 #![tactic(auto)]
 
 mod driver;
+mod flags;
 mod plays;
 mod seat;
 #[cfg(test)]
 mod tests;
 mod trace;
+mod values;
 mod whole;
-mod won;
 mod words;
 
 pub use driver::Driver;
+pub use flags::{Once, Won};
 pub use seat::{PARTS, Seat};
-pub use trace::{Kind, Step, View};
 pub use whole::Whole;
-pub use won::{Once, Won, WordsId};
-pub use words::{BUFFERS, CONTEXT_STRIDE, FLAGS, Sizes, Words};
+pub use words::{BUFFERS, CONTEXT_STRIDE, FLAGS, Words, WordsId};

@@ -1,29 +1,18 @@
-// The words, and each step on them.
-ghost use Rattle.std.specs.Prelude.{◌≡◌, ℕ, ◌+◌, ◌^◌, ◌<◌, ◌≤◌, ◌⊎◌, [], true, IfOk, IfErr, MatchBool, max};
+// A set of words, and its seats.
+ghost use Rattle.std.specs.Prelude.{◌≡◌, ℕ, ◌<◌, ◌≤◌, ◌⊎◌, [], IfOk, IfErr, max};
 ghost use Rattle.point_core.specs.declared.context.TheConstants.{CONTEXTS};
 ghost use Rattle.point_core.specs.declared.refusal.LimitKind.TheVariants as limit;
 ghost use Rattle.point_core.specs.declared.refusal.Refusal.TheVariants as refusal;
-ghost use Rattle.point_core.specs.Reach.{value_at};
 ghost use Rattle.words_core.specs.declared.seat.TheConstants.{PARTS};
 ghost use Rattle.words_core.specs.declared.words.TheConstants.{BUFFERS, FLAGS};
-ghost use Rattle.words_core.specs.declared.won.Once.TheVariants as once;
-ghost use Rattle.words_core.specs.Layout.{value_word, claim_word, flag_word};
-ghost use Rattle.words_core.specs.Plays.{IsDecided, set_once_step};
-ghost use Rattle.words_core.specs.Seat.{seen, added_to, with_step, with_steps, loads_of, without_parts, parted, both_of};
-ghost use Rattle.words_core.specs.Trace.{load, add, won, lost, wins_of, LoadsWereLeft};
-ghost use Rattle.words_core.specs.Won.{WonModel};
-ghost use Rattle.words_core.specs.Words.{WordsModel};
+ghost use Rattle.words_core.specs.Seat.{seen, without_parts, parted, both_of};
+ghost use Rattle.words_core.specs.Trace.{wins_of};
 
-use crate::driver::Driver;
-use crate::plays::{
-    AddsToValue, ClaimsContext, CountsParts, JoinSeats, LoadsFlag, LoadsTotal, LoadsValue,
-    PartCount, SetsFlag, SplitParts, TellsNothing, WordsRule,
-};
+use crate::plays::{CountsParts, JoinSeats, PartCount, SplitParts, TellsNothing, WordsRule};
 use crate::seat::{PARTS, Seat};
 use crate::trace::View;
-use crate::won::{Once, Won, WordsId};
 use atomic_table::Table;
-use point_core::{CONTEXTS, Context, LimitKind, Point, Reach, Refusal};
+use point_core::{CONTEXTS, LimitKind, Refusal};
 use std::alloc::Global;
 use std::marker::{Brand, Model};
 
@@ -47,8 +36,8 @@ pub struct Sizes {
 /// Words that threads share by reference. Each thread steps with a seat of its own, and no step waits.
 #[derive(Drop)]
 pub struct Words {
-    table: Table<(), View, Sizes, WordsRule, Global>,
-    sizes: Sizes,
+    pub(crate) table: Table<(), View, Sizes, WordsRule, Global>,
+    pub(crate) sizes: Sizes,
 }
 
 impl Model for Words {
@@ -111,21 +100,24 @@ impl Words {
 
     /// The number of contexts.
     pub fn contexts(&self) -> usize
-        ensures { result ≡ self.now.contexts }
+        ensures value { result ≡ self.now.contexts }
+        ensures within { (1 ≤ result) × (result ≤ CONTEXTS) }
     {
         self.sizes.contexts
     }
 
     /// The number of buffers.
     pub fn buffers(&self) -> usize
-        ensures { result ≡ self.now.buffers }
+        ensures value { result ≡ self.now.buffers }
+        ensures within { result ≤ BUFFERS }
     {
         self.sizes.buffers
     }
 
     /// The number of flags.
     pub fn flags(&self) -> usize
-        ensures { result ≡ self.now.flags }
+        ensures value { result ≡ self.now.flags }
+        ensures within { result ≤ FLAGS }
     {
         self.sizes.flags
     }
@@ -156,10 +148,12 @@ impl Words {
         Seat { token, parts: n }
     }
 
-    /// Takes in another seat of the same words: its parts, its start and its trace, which follow this one's.
+    /// Takes in another seat of the same words: its parts, its start and its trace, which follow this one's. No claim
+    /// and no flag was won by both.
     pub fn join(&self, seat: &mut Seat, other: Seat)
         requires own { (seat.old.table ≡ self.now.table) × (other.table ≡ self.now.table) }
         ensures both { seat.new ≡ both_of seat.old other }
+        ensures once { (w : ℕ) → wins_of w seat.new.trace ≤ 1 }
         ensures seen { (w : ℕ) → seen seat.new w ≡ max (seen seat.old w) (seen other w) }
     {
         self.absorb(seat, other);
@@ -167,7 +161,8 @@ impl Words {
 
     fn absorb(&self, seat: &mut Seat, other: Seat)
         requires own { (seat.old.table ≡ self.now.table) × (other.table ≡ self.now.table) }
-        ensures { seat.new ≡ both_of seat.old other }
+        ensures both { seat.new ≡ both_of seat.old other }
+        ensures once { (w : ℕ) → wins_of w seat.new.trace ≤ 1 }
     {
         let Seat { token, parts } = other;
         self.table
@@ -177,140 +172,6 @@ impl Words {
         seat.parts += parts;
     }
 
-    /// The right to advance a context, by one test-and-set of its claim.
-    ///
-    /// Refuses as `Exists` alone, from the second claim on that was ever made on the context, and hands the seat back.
-    pub fn driver(&self, mut seat: Seat, ctx: Context) -> Result<Driver, (Refusal, Seat)>
-        requires own { seat.table ≡ self.now.table }
-        requires context { ctx ≤ self.now.contexts }
-        ensures won { IfOk result (λ d. d ≡ record { seat = with_step seat (won (claim_word ctx)); ctx = ctx; value = 0 }) }
-        ensures first { IfOk result (λ d. wins_of (claim_word ctx) d.seat.trace ≡ 1) }
-        ensures lost { IfErr result (λ e. (e.0 ≡ refusal.Exists) × (e.1 ≡ with_step seat (lost (claim_word ctx)))) }
-    {
-        if self.claim(&mut seat, ctx) {
-            Ok(Driver {
-                seat,
-                ctx,
-                value: 0,
-            })
-        } else {
-            Err((Refusal::Exists, seat))
-        }
-    }
-
-    fn claim(&self, seat: &mut Seat, ctx: Context) -> bool
-        requires own { seat.old.table ≡ self.now.table }
-        requires context { ctx ≤ self.now.contexts }
-        ensures entered { MatchBool result (seat.new ≡ with_step seat.old (won (claim_word ctx))) (seat.new ≡ with_step seat.old (lost (claim_word ctx))) }
-        ensures first { result ≡ true → (wins_of (claim_word ctx) seat.old.trace ≡ 0) × (added_to seat.old ctx ≡ 0) }
-    {
-        self.table
-            .shared
-            .fetch_or::<ClaimsContext>(&mut seat.token, CONTEXT_STRIDE * ctx.index() + 1, 1)
-            == 0
-    }
-
-    pub(crate) fn add(&self, seat: &mut Seat, ctx: Context, n: u64) -> u64
-        requires own { seat.old.table ≡ self.now.table }
-        requires context { ctx ≤ self.now.contexts }
-        requires won { 0 < wins_of (claim_word ctx) seat.old.trace }
-        requires fits { added_to seat.old ctx + n < 2 ^ 64 }
-        ensures value { result ≡ added_to seat.old ctx + n }
-        ensures entered { seat.new ≡ with_step seat.old (add (value_word ctx) n result) }
-    {
-        self.table
-            .shared
-            .fetch_add::<AddsToValue>(&mut seat.token, CONTEXT_STRIDE * ctx.index(), n)
-            + n
-    }
-
-    /// The value of a context, by one load. It is no less than any value that the seat has seen.
-    pub fn load(&self, seat: &mut Seat, ctx: Context) -> u64
-        requires own { seat.old.table ≡ self.now.table }
-        requires context { ctx ≤ self.now.contexts }
-        ensures entered { seat.new ≡ with_step seat.old (load (value_word ctx) result) }
-        ensures later { seen seat.old (value_word ctx) ≤ result }
-    {
-        self.table
-            .shared
-            .load::<LoadsValue>(&mut seat.token, CONTEXT_STRIDE * ctx.index())
-    }
-
-    /// The values of all contexts, by one load each, in rising order: no one moment need have had them all. Those past
-    /// the last context are 0.
-    pub fn load_all(&self, seat: &mut Seat) -> Reach
-        requires own { seat.old.table ≡ self.now.table }
-        ensures entered { seat.new ≡ with_steps seat.old (loads_of result self.now.contexts) }
-        ensures later { (ctx : ℕ) → 1 ≤ ctx → ctx ≤ self.now.contexts → seen seat.old (value_word ctx) ≤ value_at result ctx }
-        ensures past { (ctx : ℕ) → self.now.contexts < ctx → value_at result ctx ≡ 0 }
-    {
-        let mut reach = Reach::zero();
-        for index in 0..self.sizes.contexts {
-            let ctx = Context::at(index);
-            let value = self.load(seat, ctx);
-            reach.raise_to(Point { ctx, value });
-        }
-        reach
-    }
-
-    pub(crate) fn total(&self, seat: &mut Seat, ctx: Context) -> u64
-        requires own { seat.old.table ≡ self.now.table }
-        requires context { ctx ≤ self.now.contexts }
-        requires all { seat.old.parts ≡ PARTS }
-        ensures entered { seat.new ≡ with_step seat.old (load (value_word ctx) result) }
-        ensures state { result ≡ added_to seat.old ctx }
-        ensures loaded { LoadsWereLeft (value_word ctx) seat.old.trace }
-        ensures driver { IsDecided (claim_word ctx) seat.old.trace }
-    {
-        self.table
-            .shared
-            .load::<LoadsTotal>(&mut seat.token, CONTEXT_STRIDE * ctx.index())
-    }
-
-    /// Sets a flag, by one test-and-set, as the kernel's `dma_fence_signal` sets that of a fence. It answers `First`
-    /// to the call that found it 0, and to all others `Already`.
-    pub fn set_once(&self, seat: &mut Seat, flag: usize) -> Once
-        requires own { seat.old.table ≡ self.now.table }
-        requires flag { flag < self.now.flags }
-        ensures first { (token : WonModel) → result ≡ once.First token → (token ≡ record { table = self.now.table; flag = flag }) × (seat.new ≡ with_step seat.old (won (flag_word self.now.contexts flag))) }
-        ensures already { result ≡ once.Already → seat.new ≡ with_step seat.old (lost (flag_word self.now.contexts flag)) }
-    {
-        if self.set_flag(seat, flag) == 0 {
-            Once::First(Won {
-                flag,
-                words: self.id(),
-            })
-        } else {
-            Once::Already
-        }
-    }
-
-    fn set_flag(&self, seat: &mut Seat, flag: usize) -> u64
-        requires own { seat.old.table ≡ self.now.table }
-        requires flag { flag < self.now.flags }
-        ensures { seat.new ≡ with_step seat.old (set_once_step (flag_word self.now.contexts flag) result) }
-    {
-        self.table.shared.fetch_or::<SetsFlag>(
-            &mut seat.token,
-            CONTEXT_STRIDE * self.sizes.contexts + flag,
-            1,
-        )
-    }
-
-    pub(crate) fn total_flag(&self, seat: &mut Seat, flag: usize) -> u64
-        requires own { seat.old.table ≡ self.now.table }
-        requires flag { flag < self.now.flags }
-        requires all { seat.old.parts ≡ PARTS }
-        ensures entered { seat.new ≡ with_step seat.old (load (flag_word self.now.contexts flag) result) }
-        ensures state { result ≡ wins_of (flag_word self.now.contexts flag) seat.old.trace }
-        ensures decided { IsDecided (flag_word self.now.contexts flag) seat.old.trace }
-    {
-        self.table.shared.load::<LoadsFlag>(
-            &mut seat.token,
-            CONTEXT_STRIDE * self.sizes.contexts + flag,
-        )
-    }
-
     /// A name of these words. It costs one load, which tells nothing.
     pub fn id(&self) -> WordsId
         ensures { result ≡ self.now.table }
@@ -318,4 +179,18 @@ impl Words {
         let (_, token) = self.table.shared.load_new_seat::<TellsNothing>(0);
         WordsId { token }
     }
+}
+
+/// Names a set of words, for a value that goes with them. It has no bytes, and no step is made with it.
+#[derive(Drop)]
+pub struct WordsId {
+    pub(crate) token: atomic_table::Seat<(), View>,
+}
+
+impl Model for WordsId {
+    ghost use Rattle.atomic_table.specs.Seated.{TableId};
+
+    ghost Value = { TableId };
+
+    ghost view = { λ id. id.token.table_id };
 }

@@ -1,5 +1,5 @@
 -- A step on a claim or a flag.
-use Rattle.std.proofs.Common.{◌≡◌, ℕ, ◌+◌, List, [], ◌∷◌, ◌++◌, set, bit_or, sym, refl, subst, arith}
+use Rattle.std.proofs.Common.{◌≡◌, ℕ, ◌+◌, ◌≤◌, List, [], ◌∷◌, ◌++◌, set, bit_or, sym, refl, subst, arith}
 use mathlib.Core.Option.{some}
 use mathlib.Core.Logic.{dite}
 use native.Mathlib.Decide.{ℕ_discrete}
@@ -19,18 +19,18 @@ total-mark_grown f traces id t s at =
 
 IsMark-won : (k : ℕ) (traces : List (List Step)) (id : ℕ) (t : List Step) → get_elem? traces id ≡ some t → IsMark 0 traces → IsMark 1 (set traces id (t ++ won k ∷ []))
 IsMark-won k traces id t at h = let a = total-mark_grown is_win traces id t (won k) at in let b = h.won in
-    record { won = omega arith; once = omega arith; lost = λ _. refl }
+    record { won = omega arith; lost = λ _. refl }
 
 IsMark-lost : (k : ℕ) (traces : List (List Step)) (id : ℕ) (t : List Step) → get_elem? traces id ≡ some t → IsMark 1 traces → IsMark 1 (set traces id (t ++ lost k ∷ []))
 IsMark-lost k traces id t at h = let a = total-mark_grown is_win traces id t (lost k) at in let b = h.won in
-    record { won = omega arith; once = omega arith; lost = λ _. refl }
+    record { won = omega arith; lost = λ _. refl }
 
-pub IsMark-set : (k n : ℕ) (traces : List (List Step)) (id : ℕ) (t : List Step) → get_elem? traces id ≡ some t → IsMark n traces → IsMark (bit_or n 1) (set traces id (t ++ set_once_step k n ∷ []))
-IsMark-set k n traces id t at h = let P : ℕ → Type 0 = λ m. IsMark (bit_or m 1) (set traces id (t ++ set_once_step k m ∷ [])) in dite (ℕ_discrete n 0)
+pub IsMark-set : (k n : ℕ) (traces : List (List Step)) (id : ℕ) (t : List Step) → get_elem? traces id ≡ some t → n ≤ 1 → IsMark n traces → IsMark (bit_or n 1) (set traces id (t ++ set_once_step k n ∷ []))
+IsMark-set k n traces id t at few h = let P : ℕ → Type 0 = λ m. IsMark (bit_or m 1) (set traces id (t ++ set_once_step k m ∷ [])) in dite (ℕ_discrete n 0)
     (λ e. subst P (sym e) (IsMark-won k traces id t at (subst (λ (m : ℕ). IsMark m traces) e h)))
-    (λ ne. let e : n ≡ 1 = let o = h.once in omega arith in subst P (sym e) (IsMark-lost k traces id t at (subst (λ (m : ℕ). IsMark m traces) e h)))
+    (λ ne. let e : n ≡ 1 = omega arith in subst P (sym e) (IsMark-lost k traces id t at (subst (λ (m : ℕ). IsMark m traces) e h)))
 
 -- a load says nothing of it
 pub IsMark-loaded : (k n : ℕ) (traces : List (List Step)) (id : ℕ) (t : List Step) → get_elem? traces id ≡ some t → IsMark n traces → IsMark n (set traces id (t ++ load k n ∷ []))
 IsMark-loaded k n traces id t at h = let a = total-mark_grown is_win traces id t (load k n) at in let b = total-mark_grown is_loss traces id t (load k n) at in let d = h.won in
-    record { won = omega arith; once = h.once; lost = λ some. h.lost (omega arith) }
+    record { won = omega arith; lost = λ some. h.lost (omega arith) }
