@@ -10,9 +10,9 @@ use Rattle.words_core.specs.declared.trace.Step.{Step}
 use Rattle.words_core.specs.declared.trace.View.{View}
 use Rattle.words_core.specs.declared.words.Sizes.{Sizes}
 use Rattle.words_core.specs.Layout.{value_at, claim_at, IsSetOnce}
-use Rattle.words_core.specs.Trace.{on, total, added, is_win, won, lost, wins_of}
+use Rattle.words_core.specs.Trace.{on, total, added, is_win, won, lost, wins_of, set_once_step}
 use Rattle.words_core.specs.Rule.{context_trace, set_once_trace, wins_on, AddsAsDriver, IsKept}
-use Rattle.words_core.specs.Plays.{Holder, view_with, set_once_step, claims_context, sets_flag}
+use Rattle.words_core.specs.Plays.{Holder, view_with, claims_context, sets_flag}
 use Rattle.words_core.proofs.Totals.{total_at, total-map, Each-at}
 use Rattle.words_core.proofs.Traces.{added_none}
 use Rattle.words_core.proofs.MarkSteps.{IsMark-set}

@@ -9,7 +9,7 @@ use Rattle.atomic_table.proofs.Lists.{at_map}
 use Rattle.words_core.specs.declared.trace.Step.{Step}
 use Rattle.words_core.specs.declared.trace.View.{View}
 use Rattle.words_core.specs.declared.words.Sizes.{Sizes}
-use Rattle.words_core.specs.Layout.{value_at, claim_at, word_count, IsSetOnce}
+use Rattle.words_core.specs.Layout.{value_at, claim_at, IsSetOnce}
 use Rattle.words_core.specs.Trace.{on, total, is_win}
 use Rattle.words_core.specs.Rule.{Each, WordTrace, context_trace, set_once_trace, wins_on, parts_of, IsEmptyIfSpent, IsValue, IsMark, IsKept}
 use Rattle.words_core.specs.Plays.{view_with}

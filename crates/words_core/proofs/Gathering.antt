@@ -9,9 +9,9 @@ use Rattle.words_core.specs.declared.trace.Step.{Step}
 use Rattle.words_core.specs.declared.trace.View.{View}
 use Rattle.words_core.specs.declared.words.Sizes.{Sizes}
 use Rattle.words_core.specs.Layout.{value_at, claim_at, IsSetOnce}
-use Rattle.words_core.specs.Trace.{on, amount_of, total, is_win, is_loss, is_load_of, is_add_to, load}
+use Rattle.words_core.specs.Trace.{on, amount_of, total, is_win, is_loss, is_load_of, is_add_to, load, IsDecided}
 use Rattle.words_core.specs.Rule.{WordTrace, context_trace, set_once_trace, made_in, known_in, wins_on, parts_of, IsEmptyIfSpent, IsKept}
-use Rattle.words_core.specs.Plays.{Holder, view_with, IsDecided, loads_total, loads_flag}
+use Rattle.words_core.specs.Plays.{Holder, view_with, loads_total, loads_flag}
 use Rattle.words_core.proofs.Totals.{total_at, Each-weaker, total_alone, total-map}
 use Rattle.words_core.proofs.ValueSteps.{IsValue-loaded}
 use Rattle.words_core.proofs.MarkSteps.{IsMark-loaded}

@@ -11,7 +11,7 @@ use Rattle.words_core.specs.declared.trace.Step.{Step}
 use Rattle.words_core.specs.declared.trace.View.{View}
 use Rattle.words_core.specs.declared.words.Sizes.{Sizes}
 use Rattle.words_core.specs.Layout.{value_at, claim_at, IsSetOnce}
-use Rattle.words_core.specs.Trace.{on, amount_of, total, greatest, added, is_add, is_win, is_loss, is_load_of, is_add_to, HasRunningSums}
+use Rattle.words_core.specs.Trace.{on, amount_of, total, added, is_add, is_win, is_loss, is_load_of, is_add_to, HasRunningSums}
 use Rattle.words_core.specs.Rule.{spent_view, WordTrace, context_trace, set_once_trace, made_in, known_in, wins_in, wins_on, IsAtMost, HasSums, AddsAsDriver, parts_of, IsEmptyIfSpent, IsTraced, IsValue, IsMark, IsKept}
 use Rattle.words_core.specs.Plays.{Holder, counts_parts, joined_view}
 use Rattle.words_core.proofs.Totals.{total-append, total_at, Each-set, Each-at, total-joined, total_two, total-map}

@@ -1,5 +1,5 @@
-mod Totals
-mod Traces
+pub mod Totals
+pub mod Traces
 mod ValueSteps
 mod MarkSteps
 mod Frames
@@ -8,7 +8,7 @@ mod Splitting
 mod Joining
 mod Claiming
 mod Adding
-mod Driving
+pub mod Driving
 mod Gathering
 mod LoadingAll
 pub mod Seen

@@ -1,5 +1,5 @@
 -- One load after another.
-use Rattle.std.proofs.Common.{◌≡◌, ◌≢◌, ℕ, zero, suc, ◌+◌, ◌-◌, ◌<◌, ◌≤◌, max, List, [], ◌∷◌, ◌++◌, length, replicate, inl, inr, refl, sym, ap, ◌∙◌, subst, arith}
+use Rattle.std.proofs.Common.{◌≡◌, ℕ, zero, suc, ◌+◌, ◌-◌, ◌<◌, ◌≤◌, max, List, [], ◌∷◌, ◌++◌, length, replicate, inl, inr, refl, sym, ap, ◌∙◌, subst, arith}
 use mathlib.Core.Logic.{dite}
 use native.Mathlib.Decide.{ℕ_discrete}
 use Rattle.std.proofs.lemmas.Bool.{cases_lt}
@@ -8,9 +8,10 @@ use Rattle.point_core.specs.Reach.{value_at, with_value}
 use Rattle.point_core.proofs.Values.{value_at-with_value_same, value_at-with_value_other}
 use Rattle.words_core.specs.declared.trace.Step.{Step}
 use Rattle.words_core.specs.Layout.{value_word}
-use Rattle.words_core.specs.Trace.{load}
+use Rattle.words_core.specs.Trace.{load, on, greatest}
 use Rattle.words_core.specs.Seat.{SeatModel, seen, with_step, with_steps, loads_of}
-use Rattle.words_core.proofs.Seen.{seen_stays}
+use Rattle.words_core.proofs.Traces.{on-append_here, on-append_other, greatest-append}
+use Rattle.words_core.proofs.Seen.{seen-with_steps, seen_stays}
 
 pub value_at-replicate : (n ctx : ℕ) → value_at (replicate n 0) ctx ≡ 0
 value_at-replicate n ctx = elim (cases_lt (ctx - 1) n) [
@@ -47,6 +48,31 @@ later-more first seat reach n ctx value is fits before later earlier c low high 
     let d : value_at (with_value reach ctx value) c ≡ value = ap (value_at (with_value reach ctx value)) same ∙ value_at-with_value_same reach ctx value (omega arith) fits in
     omega arith)
     (λ other. rw (value_at-with_value_other reach ctx c value (omega arith) low other) (earlier c low (omega arith)))
+
+-- the loads of a context's value
+
+greatest-loads_of_past : (reach : List ℕ) (n ctx : ℕ) → n < ctx → greatest (on (value_word ctx) (loads_of reach n)) ≡ 0
+greatest-loads_of_past reach zero ctx past = refl
+greatest-loads_of_past reach (suc n) ctx past =
+    ap greatest (on-append_other (value_word ctx) (loads_of reach n) (load (value_word (suc n)) (value_at reach (suc n))) (λ bad. absurd (omega arith)))
+    ∙ greatest-loads_of_past reach n ctx (omega arith)
+
+greatest-loads_of : (reach : List ℕ) (n ctx : ℕ) → 1 ≤ ctx → ctx ≤ n → greatest (on (value_word ctx) (loads_of reach n)) ≡ value_at reach ctx
+greatest-loads_of reach zero ctx low high = absurd (omega arith)
+greatest-loads_of reach (suc n) ctx low high =
+    let last : Step = load (value_word (suc n)) (value_at reach (suc n)) in
+    dite (ℕ_discrete (suc n) ctx)
+    (λ same.
+    let none : greatest (on (value_word ctx) (loads_of reach n)) ≡ 0 = greatest-loads_of_past reach n ctx (omega arith) in
+    let here : greatest (on (value_word ctx) (loads_of reach n) ++ last ∷ []) ≡ max (greatest (on (value_word ctx) (loads_of reach n))) (max (value_at reach (suc n)) 0) = greatest-append (on (value_word ctx) (loads_of reach n)) (last ∷ []) in
+    let value : value_at reach (suc n) ≡ value_at reach ctx = ap (value_at reach) same in
+    ap greatest (on-append_here (value_word ctx) (loads_of reach n) last (ap value_word same)) ∙ here ∙ (omega arith))
+    (λ other.
+    ap greatest (on-append_other (value_word ctx) (loads_of reach n) last (λ bad. other (omega arith))) ∙ greatest-loads_of reach n ctx low (omega arith))
+
+pub seen-loads_of : (first : SeatModel) (reach : List ℕ) (n ctx : ℕ) → 1 ≤ ctx → ctx ≤ n → seen first (value_word ctx) ≤ value_at reach ctx → seen (with_steps first (loads_of reach n)) (value_word ctx) ≡ value_at reach ctx
+seen-loads_of first reach n ctx low high later =
+    let loaded = greatest-loads_of reach n ctx low high in seen-with_steps first (value_word ctx) (loads_of reach n) ∙ (omega arith)
 
 -- the contexts that come after it are as they were
 pub past-more : (reach : List ℕ) (n ctx value : ℕ) → ctx ≡ n + 1 → ((c : ℕ) → n < c → value_at reach c ≡ 0) → (c : ℕ) → n + 1 < c → value_at (with_value reach ctx value) c ≡ 0

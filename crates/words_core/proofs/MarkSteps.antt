@@ -5,9 +5,8 @@ use mathlib.Core.Logic.{dite}
 use native.Mathlib.Decide.{ℕ_discrete}
 use lib.ListN.{get_elem?}
 use Rattle.words_core.specs.declared.trace.Step.{Step}
-use Rattle.words_core.specs.Trace.{total, is_win, is_loss, load, won, lost}
+use Rattle.words_core.specs.Trace.{total, is_win, is_loss, load, won, lost, set_once_step}
 use Rattle.words_core.specs.Rule.{IsMark}
-use Rattle.words_core.specs.Plays.{set_once_step}
 use Rattle.words_core.proofs.Totals.{total-set, total-append}
 
 pub total-mark_grown : (f : Step → ℕ) (traces : List (List Step)) (id : ℕ) (t : List Step) (s : Step) → get_elem? traces id ≡ some t

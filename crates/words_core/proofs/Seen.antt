@@ -15,6 +15,9 @@ max_left a b = grind arith
 max_right : (a b : ℕ) → b ≤ max a (max b 0)
 max_right a b = grind arith
 
+max_later : (a b : ℕ) → a ≤ b → max a (max b 0) ≡ b
+max_later a b h = grind arith
+
 pub seen-with_steps : (seat : SeatModel) (w : ℕ) (steps : List Step) → seen (with_steps seat steps) w ≡ max (seen seat w) (greatest (on w steps))
 seen-with_steps seat w steps =
     ap (λ (l : List Step). greatest (on w l)) (sym (append_assoc seat.start seat.trace steps))
@@ -30,6 +33,12 @@ pub seen-with_step : (seat : SeatModel) (s : Step) → s.value ≤ seen (with_st
 seen-with_step seat s =
     let here : on s.word (s ∷ []) ≡ s ∷ [] = on-append_here s.word [] s refl in
     rw (seen-with_steps seat s.word (s ∷ []), here) (max_right (seen seat s.word) s.value)
+
+-- what is no less than what was seen is seen now
+pub seen-with_step_later : (seat : SeatModel) (s : Step) → seen seat s.word ≤ s.value → seen (with_step seat s) s.word ≡ s.value
+seen-with_step_later seat s later =
+    let here : on s.word (s ∷ []) ≡ s ∷ [] = on-append_here s.word [] s refl in
+    seen-with_steps seat s.word (s ∷ []) ∙ ap (λ (l : List Step). max (seen seat s.word) (greatest l)) here ∙ max_later (seen seat s.word) s.value later
 
 -- a new seat has seen what its parent had
 pub seen-parted : (seat : SeatModel) (n w : ℕ) → seen (parted seat n) w ≡ seen seat w

@@ -1,10 +1,10 @@
 -- What each kind of step tells its seat, and how views are split and joined.
-use Rattle.std.specs.Prelude.{◌≡◌, ℕ, ◌+◌, ◌-◌, ◌<◌, ◌≤◌, ◌==◌, if◌then◌else◌, List, [], ◌∷◌, ◌++◌}
+use Rattle.std.specs.Prelude.{◌≡◌, ℕ, ◌+◌, ◌-◌, ◌≤◌, [], ◌∷◌, ◌++◌}
 use Rattle.atomic_table.specs.Table.{Me, Step as TableStep}
 use Rattle.words_core.specs.declared.seat.TheConstants.{PARTS}
 use Rattle.words_core.specs.declared.trace.Step.{Step}
 use Rattle.words_core.specs.declared.trace.View.{View}
-use Rattle.words_core.specs.Trace.{load, add, won, lost, on, greatest, added, wins_of, losses_of, LoadsWereLeft}
+use Rattle.words_core.specs.Trace.{load, add, set_once_step, on, greatest, added, wins_of, LoadsWereLeft, IsDecided}
 use Rattle.words_core.specs.Rule.{view}
 
 -- a seat's view, with no slots
@@ -23,10 +23,6 @@ seen_by w v = greatest (on w (v.start ++ v.trace))
 abbrev pub loads_value : TableStep (Unit {0}) → Holder → ℕ → Holder → Type 0
 loads_value s me found after = (after ≡ (view_with me.0 (load s.word found), me.1)) × (seen_by s.word me.0 ≤ found)
 
--- what a test-and-set enters
-abbrev pub set_once_step : ℕ → ℕ → Step
-set_once_step w found = if found == 0 then won w else lost w
-
 -- a claim is won where it was 0, and then nothing was added to the context's value, the word before it
 abbrev pub claims_context : TableStep (Unit {0}) → Holder → ℕ → Holder → Type 0
 claims_context s me found after = (after ≡ (view_with me.0 (set_once_step s.word found), me.1)) × (found ≡ 0 → (wins_of s.word me.0.trace ≡ 0) × (added (on (s.word - 1) me.0.trace) ≡ 0))
@@ -41,11 +37,6 @@ adds_to_value s me found after = (after ≡ (view_with me.0 (add s.word s.first 
 -- nothing is entered. The seat's parts are seen to be no more than all, and its wins of each word no more than one
 abbrev pub counts_parts : TableStep (Unit {0}) → Holder → ℕ → Holder → Type 0
 counts_parts s me found after = (after ≡ me) × (me.0.parts ≤ PARTS) × ((w : ℕ) → wins_of w me.0.trace ≤ 1)
-
--- what a seat with all parts knows of a claim or a flag: it was won once at most, and once where it was lost
-pub record IsDecided (w : ℕ) (trace : List Step) : Type 0 where
-  pub once : wins_of w trace ≤ 1
-  pub lost : 0 < losses_of w trace → wins_of w trace ≡ 1
 
 -- a seat with all parts has added all that the word is, and its claim is the word after it
 abbrev pub loads_total : TableStep (Unit {0}) → Holder → ℕ → Holder → Type 0

@@ -1,5 +1,5 @@
 -- Steps, and what a list of them says of one word.
-use Rattle.std.specs.Prelude.{◌≡◌, ℕ, ◌+◌, ◌<◌, ◌==◌, max, if◌then◌else◌, filter, List, [], ◌∷◌}
+use Rattle.std.specs.Prelude.{◌≡◌, ℕ, ◌+◌, ◌<◌, ◌≤◌, ◌==◌, max, if◌then◌else◌, filter, List, [], ◌∷◌}
 use Rattle.words_core.specs.declared.trace.Kind.{Kind}
 use Rattle.words_core.specs.declared.trace.Kind.TheVariants.{Load, Add, Won, Lost}
 use Rattle.words_core.specs.declared.trace.Step.{Step}
@@ -19,6 +19,10 @@ won w = record { kind = Won; word = w; operand = 0; value = 0 }
 -- the word w was set already
 abbrev pub lost : ℕ → Step
 lost w = record { kind = Lost; word = w; operand = 0; value = 0 }
+
+-- a test-and-set of the word w that found a value
+abbrev pub set_once_step : ℕ → ℕ → Step
+set_once_step w found = if found == 0 then won w else lost w
 
 -- n where the kinds are one, and else 0
 abbrev pub if_kind : Kind → Kind → ℕ → ℕ
@@ -92,3 +96,8 @@ WasLeft w x steps = 0 < total (is_add_to x) (on w steps)
 -- each value of the word w that was loaded is 0 or was left by an addition
 abbrev pub LoadsWereLeft : ℕ → List Step → Type 0
 LoadsWereLeft w steps = (x : ℕ) → 0 < x → WasLoaded w x steps → WasLeft w x steps
+
+-- of a claim or a flag, where the steps are all that were made: it was won once at most, and once where it was lost
+pub record IsDecided (w : ℕ) (steps : List Step) : Type 0 where
+  pub once : wins_of w steps ≤ 1
+  pub lost : 0 < losses_of w steps → wins_of w steps ≡ 1

@@ -1,9 +1,9 @@
 // A driver: the one that advances a context.
-ghost use Rattle.std.specs.Prelude.{◌≡◌, ◌+◌, ◌^◌, ◌≤◌, ◌↔◌, IfOk, IfErr, IsErr, OnErr};
+ghost use Rattle.std.specs.Prelude.{◌≡◌, ◌+◌, ◌^◌, ◌<◌, ◌≤◌, ◌↔◌, IfOk, IfErr, IsErr, OnErr};
 ghost use Rattle.point_core.specs.declared.refusal.Refusal.TheVariants as refusal;
-ghost use Rattle.words_core.specs.Layout.{value_word};
-ghost use Rattle.words_core.specs.Seat.{with_step};
-ghost use Rattle.words_core.specs.Trace.{add};
+ghost use Rattle.words_core.specs.Layout.{value_word, claim_word};
+ghost use Rattle.words_core.specs.Seat.{added_to, with_step};
+ghost use Rattle.words_core.specs.Trace.{add, wins_of};
 
 use crate::seat::Seat;
 use crate::words::Words;
@@ -53,16 +53,19 @@ impl Driver {
         Ok(self.value)
     }
 
-    /// The value of its context.
+    /// The value of its context: the sum of all that its seat has added.
     pub fn value(&self) -> u64
-        ensures { result ≡ self.now.value }
+        ensures value { result ≡ self.now.value }
+        ensures sum { result ≡ added_to self.now.seat self.now.ctx }
     {
         self.value
     }
 
-    /// Its seat again. Nobody advances the context afterwards.
+    /// Its seat again, which has won the context's claim. Nobody advances the context afterwards.
     pub fn finish(self) -> Seat
-        ensures { result ≡ self.seat }
+        ensures seat { result ≡ self.seat }
+        ensures won { 0 < wins_of (claim_word self.ctx) result.trace }
+        ensures sum { added_to result self.ctx ≡ self.value }
     {
         let Driver {
             seat,

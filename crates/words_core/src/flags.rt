@@ -3,9 +3,8 @@ ghost use Rattle.std.specs.Prelude.{◌≡◌, ◌<◌};
 ghost use Rattle.words_core.specs.declared.seat.TheConstants.{PARTS};
 ghost use Rattle.words_core.specs.Layout.{flag_word};
 ghost use Rattle.words_core.specs.Once.{IfFirst, IfAlready};
-ghost use Rattle.words_core.specs.Plays.{IsDecided, set_once_step};
 ghost use Rattle.words_core.specs.Seat.{with_step};
-ghost use Rattle.words_core.specs.Trace.{load, won, lost, wins_of};
+ghost use Rattle.words_core.specs.Trace.{load, won, lost, wins_of, IsDecided, set_once_step};
 
 use crate::plays::{LoadsFlag, SetsFlag};
 use crate::seat::Seat;

@@ -4,9 +4,8 @@ ghost use Rattle.point_core.specs.declared.refusal.Refusal.TheVariants as refusa
 ghost use Rattle.point_core.specs.Reach.{value_at};
 ghost use Rattle.words_core.specs.declared.seat.TheConstants.{PARTS};
 ghost use Rattle.words_core.specs.Layout.{value_word, claim_word};
-ghost use Rattle.words_core.specs.Plays.{IsDecided};
 ghost use Rattle.words_core.specs.Seat.{seen, added_to, with_step, with_steps, loads_of};
-ghost use Rattle.words_core.specs.Trace.{load, add, won, lost, wins_of, LoadsWereLeft};
+ghost use Rattle.words_core.specs.Trace.{load, add, won, lost, wins_of, LoadsWereLeft, IsDecided};
 
 use crate::driver::Driver;
 use crate::plays::{AddsToValue, ClaimsContext, LoadsTotal, LoadsValue};
@@ -68,6 +67,7 @@ impl Words {
         requires context { ctx ≤ self.now.contexts }
         ensures entered { seat.new ≡ with_step seat.old (load (value_word ctx) result) }
         ensures later { seen seat.old (value_word ctx) ≤ result }
+        ensures seen { seen seat.new (value_word ctx) ≡ result }
     {
         self.table
             .shared
@@ -80,6 +80,7 @@ impl Words {
         requires own { seat.old.table ≡ self.now.table }
         ensures entered { seat.new ≡ with_steps seat.old (loads_of result self.now.contexts) }
         ensures later { (ctx : ℕ) → 1 ≤ ctx → ctx ≤ self.now.contexts → seen seat.old (value_word ctx) ≤ value_at result ctx }
+        ensures seen { (ctx : ℕ) → 1 ≤ ctx → ctx ≤ self.now.contexts → seen seat.new (value_word ctx) ≡ value_at result ctx }
         ensures past { (ctx : ℕ) → self.now.contexts < ctx → value_at result ctx ≡ 0 }
     {
         let mut reach = Reach::zero();

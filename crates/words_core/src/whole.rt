@@ -1,9 +1,8 @@
 // A seat with all parts.
 ghost use Rattle.std.specs.Prelude.{◌≡◌, ◌<◌, ◌≤◌, if◌then◌else◌};
 ghost use Rattle.words_core.specs.Layout.{value_word, claim_word, flag_word};
-ghost use Rattle.words_core.specs.Plays.{IsDecided};
 ghost use Rattle.words_core.specs.Seat.{with_step, added_to};
-ghost use Rattle.words_core.specs.Trace.{load, wins_of, LoadsWereLeft};
+ghost use Rattle.words_core.specs.Trace.{load, wins_of, LoadsWereLeft, IsDecided};
 
 use crate::seat::Seat;
 use crate::words::Words;

@@ -1,5 +1,5 @@
 // A set of words, and its seats.
-ghost use Rattle.std.specs.Prelude.{◌≡◌, ℕ, ◌<◌, ◌≤◌, ◌⊎◌, [], IfOk, IfErr, max};
+ghost use Rattle.std.specs.Prelude.{◌≡◌, ℕ, ◌+◌, ◌<◌, ◌≤◌, ◌⊎◌, [], IfOk, IfErr, max};
 ghost use Rattle.point_core.specs.declared.context.TheConstants.{CONTEXTS};
 ghost use Rattle.point_core.specs.declared.refusal.LimitKind.TheVariants as limit;
 ghost use Rattle.point_core.specs.declared.refusal.Refusal.TheVariants as refusal;
@@ -149,11 +149,11 @@ impl Words {
     }
 
     /// Takes in another seat of the same words: its parts, its start and its trace, which follow this one's. No claim
-    /// and no flag was won by both.
+    /// and no flag was won by both, so no two drivers of one context ever meet.
     pub fn join(&self, seat: &mut Seat, other: Seat)
         requires own { (seat.old.table ≡ self.now.table) × (other.table ≡ self.now.table) }
         ensures both { seat.new ≡ both_of seat.old other }
-        ensures once { (w : ℕ) → wins_of w seat.new.trace ≤ 1 }
+        ensures once { (w : ℕ) → wins_of w seat.old.trace + wins_of w other.trace ≤ 1 }
         ensures seen { (w : ℕ) → seen seat.new w ≡ max (seen seat.old w) (seen other w) }
     {
         self.absorb(seat, other);

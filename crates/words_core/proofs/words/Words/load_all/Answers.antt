@@ -5,7 +5,8 @@ use Rattle.point_core.specs.declared.context.TheConstants.{CONTEXTS}
 use Rattle.words_core.specs.declared.trace.Step.{Step}
 use Rattle.words_core.specs.Layout.{value_word}
 use Rattle.words_core.specs.Seat.{SeatModel, seen, with_steps, loads_of}
-use Rattle.words_core.proofs.LoadingAll.{value_at-replicate, loads_of-more, later-more, past-more, raised_from_zero}
+use Rattle.words_core.specs.Words.{WordsModel}
+use Rattle.words_core.proofs.LoadingAll.{value_at-replicate, loads_of-more, later-more, past-more, raised_from_zero, seen-loads_of}
 use Rattle.words_core.proofs.words.Words.load_all.Goals as goal
 
 pub loop-index-init : goal.loop-index-init
@@ -32,3 +33,13 @@ loop-index-preserved c =
       later = subst (λ (r : List ℕ). (k : ℕ) → 1 ≤ k → k ≤ n + 1 → seen first (value_word k) ≤ value_at r k) (sym after) (later-more first seat reach n ctx value is fits before.entered c.load-value.ensures.later before.later);
       past = subst (λ (r : List ℕ). (k : ℕ) → n + 1 < k → value_at r k ≡ 0) (sym after) (past-more reach n ctx value is before.past);
     }
+
+pub returns-clause-seen : goal.returns-clause-seen
+returns-clause-seen c =
+    let first = c.args.seat.now in
+    let reach = c.loop-index.reach in
+    let n = c.loop-index.index in
+    let after = c.loop-index.invariant in
+    let contexts = ap (λ (w : WordsModel). w.contexts) c.self.view_is in
+    λ ctx low high.
+    subst (λ (s : SeatModel). seen s (value_word ctx) ≡ value_at reach ctx) (sym after.entered) (seen-loads_of first reach n ctx low (omega arith) (after.later ctx low (omega arith)))

@@ -1,6 +1,5 @@
-use Rattle.std.proofs.Common.{◌≡◌, ℕ, ◌<◌, ◌≤◌, length}
+use Rattle.std.proofs.Common.{◌≡◌, ℕ, ◌<◌, ◌≤◌}
 use Rattle.point_core.specs.Reach.{value_at}
-use Rattle.point_core.specs.declared.context.TheConstants.{CONTEXTS}
 use Rattle.words_core.specs.Layout.{value_word}
 use Rattle.words_core.specs.Seat.{seen, with_steps, loads_of}
 use Rattle.words_core.proofs.words.Words.load_all.Given as goal
