@@ -9,9 +9,9 @@ use Rattle.atomic_table.proofs.Lists.{at_map}
 use Rattle.words_core.specs.declared.trace.Step.{Step}
 use Rattle.words_core.specs.declared.trace.View.{View}
 use Rattle.words_core.specs.declared.words.Sizes.{Sizes}
-use Rattle.words_core.specs.Layout.{value_at, claim_at, IsSetOnce}
+use Rattle.words_core.specs.Layout.{value_at, claim_at, IsClaimOrFlag}
 use Rattle.words_core.specs.Trace.{on, total, is_win}
-use Rattle.words_core.specs.Rule.{Each, WordTrace, context_trace, set_once_trace, wins_on, parts_of, IsEmptyIfSpent, IsValue, IsMark, IsKept}
+use Rattle.words_core.specs.Rule.{Each, WordTrace, context_trace, set_once_trace, wins_on, parts_of, IsEmptyIfSpent, IsValue, IsSetOnce, IsKept}
 use Rattle.words_core.specs.Plays.{view_with}
 use Rattle.words_core.proofs.Totals.{total-set, total-append, Each-set, map-set_same}
 use Rattle.words_core.proofs.Traces.{on-append_here, on-append_other}
@@ -31,8 +31,8 @@ context_trace-other c v s m n = λ i. record { start = on (value_at c) v.start; 
 pub IsValue-same : (m n : ℕ) (xs ys : List WordTrace) → m ≡ n → xs ≡ ys → IsValue n ys → IsValue m xs
 IsValue-same m n xs ys e f h = let P : ℕ × List WordTrace → Type 0 = λ u. IsValue u.0 u.1 in subst P (λ i. (sym e i, sym f i)) h
 
-pub IsMark-same : (m n : ℕ) (xs ys : List (List Step)) → m ≡ n → xs ≡ ys → IsMark n ys → IsMark m xs
-IsMark-same m n xs ys e f h = let P : ℕ × List (List Step) → Type 0 = λ u. IsMark u.0 u.1 in subst P (λ i. (sym e i, sym f i)) h
+pub IsSetOnce-same : (m n : ℕ) (xs ys : List (List Step)) → m ≡ n → xs ≡ ys → IsSetOnce n ys → IsSetOnce m xs
+IsSetOnce-same m n xs ys e f h = let P : ℕ × List (List Step) → Type 0 = λ u. IsSetOnce u.0 u.1 in subst P (λ i. (sym e i, sym f i)) h
 
 parts-view_with : (views : List View) (id : ℕ) (v : View) (s : Step) → get_elem? views id ≡ some v → total parts_of (set views id (view_with v s)) ≡ total parts_of views
 parts-view_with views id v s at = let a : total parts_of (set views id (view_with v s)) + v.parts ≡ total parts_of views + v.parts = total-set parts_of views id v (view_with v s) at in omega arith
@@ -67,18 +67,18 @@ IsKept-value z words views id c m v s low live at on_c no_win h fits =
           (IsValue-same _ m _ _ (get_or-set_same words (value_at c) m 0 long) (map-set (context_trace c) views id w ∙ ap (λ (t : WordTrace). set (map (context_trace c) views) id t) (context_trace-value c v s on_c)) fits))
           (λ ne. IsValue-same _ (get_or words (value_at b) 0) _ _ (get_or-set_other words (value_at c) (value_at b) m 0 (λ bad. ne (omega arith)))
           (map-set_same (context_trace b) views id v w at (context_trace-other b v s (λ bad. ne (omega arith)) (λ bad. absurd (omega arith)))) (h.values b lower));
-      marks = λ k is. IsMark-same _ (get_or words k 0) _ _ (get_or-set_other words (value_at c) k m 0 (λ bad. let i = is.claim (omega arith) in absurd (omega arith)))
-          (map-set_same (set_once_trace k) views id v w at (on-append_other k v.trace s (λ bad. let i = is.claim (omega arith) in absurd (omega arith)))) (h.marks k is);
+      set_once = λ k is. IsSetOnce-same _ (get_or words k 0) _ _ (get_or-set_other words (value_at c) k m 0 (λ bad. let i = is.claim (omega arith) in absurd (omega arith)))
+          (map-set_same (set_once_trace k) views id v w at (on-append_other k v.trace s (λ bad. let i = is.claim (omega arith) in absurd (omega arith)))) (h.set_once k is);
     }
 
 -- a step on a claim or a flag leaves every other word as it was
-pub IsKept-mark : (z : Sizes) (words : List ℕ) (views : List View) (id k m : ℕ) (v : View) (s : Step) → IsSetOnce z k → 0 < v.parts → get_elem? views id ≡ some v → s.word ≡ k → total (wins_on s.word) views + is_win s ≤ 1 → IsKept z words views
-    → IsMark m (set (map (set_once_trace k) views) id (set_once_trace k v ++ s ∷ []))
+pub IsKept-set_once : (z : Sizes) (words : List ℕ) (views : List View) (id k m : ℕ) (v : View) (s : Step) → IsClaimOrFlag z k → 0 < v.parts → get_elem? views id ≡ some v → s.word ≡ k → total (wins_on s.word) views + is_win s ≤ 1 → IsKept z words views
+    → IsSetOnce m (set (map (set_once_trace k) views) id (set_once_trace k v ++ s ∷ []))
     → IsKept z (set words k m) (set views id (view_with v s))
-IsKept-mark z words views id k m v s mark live at on_k few h fits =
+IsKept-set_once z words views id k m v s named live at on_k few h fits =
     let w : View = view_with v s in
-    let claim = mark.claim in
-    let long : k < length words = let l = h.counted in let inside = mark.inside in omega arith in record {
+    let claim = named.claim in
+    let long : k < length words = let l = h.counted in let inside = named.inside in omega arith in record {
       counted = length-set words k m ∙ h.counted;
       parts = parts-view_with views id v s at ∙ h.parts;
       spent = spent-view_with views id v s live h.spent;
@@ -89,8 +89,8 @@ IsKept-mark z words views id k m v s mark live at on_k few h fits =
           (λ e. IsValue-same _ (get_or words (value_at b) 0) _ _ word (map-set (context_trace b) views id w ∙ ap (λ (t : WordTrace). set (map (context_trace b) views) id t) (context_trace-claim b v s (on_k ∙ e)))
           (IsValue-claimed (get_or words (value_at b) 0) (map (context_trace b) views) id (context_trace b v) s (at_map (context_trace b) views id v at) was))
           (λ ne. IsValue-same _ (get_or words (value_at b) 0) _ _ word (map-set_same (context_trace b) views id v w at (context_trace-other b v s (λ bad. let i = claim (omega arith) in absurd (omega arith)) (λ bad. ne (sym on_k ∙ bad)))) was);
-      marks = λ j is. dite (ℕ_discrete j k)
-          (λ e. subst (λ (y : ℕ). IsMark (get_or (set words k m) y 0) (map (set_once_trace y) (set views id w))) (sym e)
-          (IsMark-same _ m _ _ (get_or-set_same words k m 0 long) (map-set (set_once_trace k) views id w ∙ ap (λ (t : List Step). set (map (set_once_trace k) views) id t) (on-append_here k v.trace s on_k)) fits))
-          (λ ne. IsMark-same _ (get_or words j 0) _ _ (get_or-set_other words k j m 0 ne) (map-set_same (set_once_trace j) views id v w at (on-append_other j v.trace s (λ bad. ne (sym bad ∙ on_k)))) (h.marks j is));
+      set_once = λ j is. dite (ℕ_discrete j k)
+          (λ e. subst (λ (y : ℕ). IsSetOnce (get_or (set words k m) y 0) (map (set_once_trace y) (set views id w))) (sym e)
+          (IsSetOnce-same _ m _ _ (get_or-set_same words k m 0 long) (map-set (set_once_trace k) views id w ∙ ap (λ (t : List Step). set (map (set_once_trace k) views) id t) (on-append_here k v.trace s on_k)) fits))
+          (λ ne. IsSetOnce-same _ (get_or words j 0) _ _ (get_or-set_other words k j m 0 ne) (map-set_same (set_once_trace j) views id v w at (on-append_other j v.trace s (λ bad. ne (sym bad ∙ on_k)))) (h.set_once j is));
     }

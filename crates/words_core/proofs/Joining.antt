@@ -10,13 +10,13 @@ use Rattle.atomic_table.proofs.Lists.{at_map, set_again, set_else}
 use Rattle.words_core.specs.declared.trace.Step.{Step}
 use Rattle.words_core.specs.declared.trace.View.{View}
 use Rattle.words_core.specs.declared.words.Sizes.{Sizes}
-use Rattle.words_core.specs.Layout.{value_at, claim_at, IsSetOnce}
+use Rattle.words_core.specs.Layout.{value_at, claim_at, IsClaimOrFlag}
 use Rattle.words_core.specs.Trace.{on, amount_of, total, added, is_add, is_win, is_loss, is_load_of, is_add_to, HasRunningSums}
-use Rattle.words_core.specs.Rule.{spent_view, WordTrace, context_trace, set_once_trace, made_in, known_in, wins_in, wins_on, IsAtMost, HasSums, AddsAsDriver, parts_of, IsEmptyIfSpent, IsTraced, IsValue, IsMark, IsKept}
+use Rattle.words_core.specs.Rule.{spent_view, WordTrace, context_trace, set_once_trace, made_in, known_in, wins_in, wins_on, IsAtMost, HasSums, AddsAsDriver, parts_of, IsEmptyIfSpent, IsTraced, IsValue, IsSetOnce, IsKept}
 use Rattle.words_core.specs.Plays.{Holder, counts_parts, joined_view}
 use Rattle.words_core.proofs.Totals.{total-append, total_at, Each-set, Each-at, total-joined, total_two, total-map}
 use Rattle.words_core.proofs.Traces.{on-append, greatest-append_le, HasRunningSums-append, added_none, HasRunningSums-none}
-use Rattle.words_core.proofs.Frames.{IsValue-same, IsMark-same}
+use Rattle.words_core.proofs.Frames.{IsValue-same, IsSetOnce-same}
 
 abbrev both_traces : WordTrace → WordTrace → WordTrace
 both_traces t u = record { start = t.start ++ u.start; made = t.made ++ u.made; claim = t.claim ++ u.claim }
@@ -66,14 +66,14 @@ IsValue-joined n traces id other t u at apart at' few h =
           let x = mine (omega arith) in let y = theirs (omega arith) in omega arith)) (λ _. refl);
     }
 
-IsMark-joined : (n : ℕ) (traces : List (List Step)) (id other : ℕ) (t u : List Step) → get_elem? traces id ≡ some t → other ≢ id → get_elem? traces other ≡ some u → IsMark n traces → IsMark n (set (set traces id (t ++ u)) other [])
-IsMark-joined n traces id other t u at apart at' h =
+IsSetOnce-joined : (n : ℕ) (traces : List (List Step)) (id other : ℕ) (t u : List Step) → get_elem? traces id ≡ some t → other ≢ id → get_elem? traces other ≡ some u → IsSetOnce n traces → IsSetOnce n (set (set traces id (t ++ u)) other [])
+IsSetOnce-joined n traces id other t u at apart at' h =
     let same : (f : Step → ℕ) → total (total f) (set (set traces id (t ++ u)) other []) ≡ total (total f) traces = λ f.
     total-joined (total f) traces id other t u (t ++ u) [] at apart at' (total-append f t u) refl in
     record { won = h.won ∙ sym (same is_win); lost = λ some. h.lost (let a = same is_loss in omega arith) }
 
-pub claim_is_mark : (z : Sizes) (c : ℕ) → c < z.contexts → IsSetOnce z (claim_at c)
-claim_is_mark z c low = record { inside = omega arith; claim = λ _. omega arith }
+pub IsClaimOrFlag-claim : (z : Sizes) (c : ℕ) → c < z.contexts → IsClaimOrFlag z (claim_at c)
+IsClaimOrFlag-claim z c low = record { inside = omega arith; claim = λ _. omega arith }
 
 -- at most one view has won a claim, once
 pub few_wins : (z : Sizes) (words : List ℕ) (views : List View) (c : ℕ) → c < z.contexts → IsKept z words views → total wins_in (map (context_trace c) views) ≤ 1
@@ -97,9 +97,9 @@ join-allowed z id other v w live s h at apart there =
           (map-set (context_trace c) (set views id b) other spent_view ∙ ap (λ (ts : List WordTrace). set ts other no_trace) (map-set (context_trace c) views id b)
           ∙ (λ i. set (set (map (context_trace c) views) id record { start = on-append (value_at c) v.start w.start i; made = on-append (value_at c) v.trace w.trace i; claim = on-append (claim_at c) v.trace w.trace i }) other no_trace))
           (IsValue-joined (slice_index s.words (value_at c)) (map (context_trace c) views) id other (context_trace c v) (context_trace c w) (at_map (context_trace c) views id v at) apart (at_map (context_trace c) views other w at') (few_wins z s.words views c low h) (h.values c low));
-      marks = λ k is. IsMark-same _ _ _ _ refl
+      set_once = λ k is. IsSetOnce-same _ _ _ _ refl
           (map-set (set_once_trace k) (set views id b) other spent_view ∙ ap (λ (ts : List (List Step)). set ts other []) (map-set (set_once_trace k) views id b) ∙ (λ i. set (set (map (set_once_trace k) views) id (on-append k v.trace w.trace i)) other []))
-          (IsMark-joined (slice_index s.words k) (map (set_once_trace k) views) id other (set_once_trace k v) (set_once_trace k w) (at_map (set_once_trace k) views id v at) apart (at_map (set_once_trace k) views other w at') (h.marks k is));
+          (IsSetOnce-joined (slice_index s.words k) (map (set_once_trace k) views) id other (set_once_trace k v) (set_once_trace k w) (at_map (set_once_trace k) views id v at) apart (at_map (set_once_trace k) views other w at') (h.set_once k is));
     }
 
 -- a load that enters nothing, and sees that the parts are no more than all

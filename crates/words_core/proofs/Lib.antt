@@ -1,7 +1,7 @@
 pub mod Totals
 pub mod Traces
 mod ValueSteps
-mod MarkSteps
+mod SetOnceSteps
 mod Frames
 mod Loading
 mod Splitting

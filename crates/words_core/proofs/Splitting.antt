@@ -10,11 +10,11 @@ use Rattle.words_core.specs.declared.trace.View.{View}
 use Rattle.words_core.specs.declared.words.Sizes.{Sizes}
 use Rattle.words_core.specs.Layout.{value_at}
 use Rattle.words_core.specs.Trace.{amount_of, total, greatest, is_win, is_loss, is_load_of, is_add_to}
-use Rattle.words_core.specs.Rule.{spent_view, WordTrace, context_trace, set_once_trace, made_in, known_in, wins_on, IsAtMost, HasSums, AddsAsDriver, parts_of, IsEmptyIfSpent, IsTraced, IsValue, IsMark, IsKept}
+use Rattle.words_core.specs.Rule.{spent_view, WordTrace, context_trace, set_once_trace, made_in, known_in, wins_on, IsAtMost, HasSums, AddsAsDriver, parts_of, IsEmptyIfSpent, IsTraced, IsValue, IsSetOnce, IsKept}
 use Rattle.words_core.specs.Plays.{parent_view, child_view}
 use Rattle.words_core.proofs.Totals.{total-set, total-append, total_at, Each-set, Each-at, Each-last, map-set_same}
 use Rattle.words_core.proofs.Traces.{on-append, greatest-append_le}
-use Rattle.words_core.proofs.Frames.{IsValue-same, IsMark-same}
+use Rattle.words_core.proofs.Frames.{IsValue-same, IsSetOnce-same}
 
 -- what a new seat has on a word
 abbrev pub started : List Step → WordTrace
@@ -55,8 +55,8 @@ IsValue-parted n traces id t at h =
     (λ x. let b : total (is_load_of x) (t.start ++ t.made) ≡ total (is_load_of x) t.start + total (is_load_of x) t.made = total-append (is_load_of x) t.start t.made in
     let d : total (is_load_of x) t.start + total (is_load_of x) t.made ≤ total (known_in (is_load_of x)) traces = total_at (known_in (is_load_of x)) traces id t at in omega arith) h
 
-pub IsMark-started : (n : ℕ) (traces : List (List Step)) → IsMark n traces → IsMark n (traces ++ [] ∷ [])
-IsMark-started n traces h =
+pub IsSetOnce-started : (n : ℕ) (traces : List (List Step)) → IsSetOnce n traces → IsSetOnce n (traces ++ [] ∷ [])
+IsSetOnce-started n traces h =
     let more : (f : Step → ℕ) → total (total f) (traces ++ [] ∷ []) ≡ total (total f) traces = λ f.
     let a : total (total f) (traces ++ [] ∷ []) ≡ total (total f) traces + (0 + 0) = total-append (total f) traces ([] ∷ []) in omega arith in
     record { won = h.won ∙ sym (more is_win); lost = λ some. h.lost (let a = more is_loss in omega arith) }
@@ -78,8 +78,8 @@ split-allowed z id n v pos less s h at =
       values = λ c low. IsValue-same _ _ _ _ refl
           (map-append (context_trace c) vs (r ∷ []) ∙ (λ i. map-set_same (context_trace c) views id v l at refl i ++ record { start = on-append (value_at c) v.start v.trace i; made = []; claim = [] } ∷ []))
           (IsValue-parted (slice_index s.words (value_at c)) (map (context_trace c) views) id (context_trace c v) (at_map (context_trace c) views id v at) (h.values c low));
-      marks = λ k is. IsMark-same _ _ _ _ refl (map-append (set_once_trace k) vs (r ∷ []) ∙ (λ i. map-set_same (set_once_trace k) views id v l at refl i ++ [] ∷ []))
-          (IsMark-started (slice_index s.words k) (map (set_once_trace k) views) (h.marks k is));
+      set_once = λ k is. IsSetOnce-same _ _ _ _ refl (map-append (set_once_trace k) vs (r ∷ []) ∙ (λ i. map-set_same (set_once_trace k) views id v l at refl i ++ [] ∷ []))
+          (IsSetOnce-started (slice_index s.words k) (map (set_once_trace k) views) (h.set_once k is));
     }
 
 -- a spent seat may come at any time
@@ -93,7 +93,7 @@ IsKept-spent z words views h =
       spent = Each-last IsEmptyIfSpent views spent_view h.spent (λ _. (refl, refl));
       won_once = λ w. let few = h.won_once w in let a : total (wins_on w) (views ++ spent_view ∷ []) ≡ total (wins_on w) views + (0 + 0) = total-append (wins_on w) views (spent_view ∷ []) in omega arith;
       values = λ c low. IsValue-same _ _ _ _ refl (map-append (context_trace c) views (spent_view ∷ [])) (IsValue-started (slice_index words (value_at c)) (map (context_trace c) views) [] (omega arith) (λ x. omega arith) (h.values c low));
-      marks = λ k is. IsMark-same _ _ _ _ refl (map-append (set_once_trace k) views (spent_view ∷ [])) (IsMark-started (slice_index words k) (map (set_once_trace k) views) (h.marks k is));
+      set_once = λ k is. IsSetOnce-same _ _ _ _ refl (map-append (set_once_trace k) views (spent_view ∷ [])) (IsSetOnce-started (slice_index words k) (map (set_once_trace k) views) (h.set_once k is));
     }
 
 pub spent-allowed : (z : Sizes) (slots i : ℕ) → Enters {S = Unit {0}} (λ s. IsKept z s.words s.views) slots i (λ n w. Unit {0})

@@ -27,6 +27,6 @@ abbrev pub word_count : Sizes → ℕ
 word_count sizes = flag_word sizes.contexts sizes.flags
 
 -- the word k is a claim or a flag
-pub record IsSetOnce (sizes : Sizes) (k : ℕ) : Type 0 where
+pub record IsClaimOrFlag (sizes : Sizes) (k : ℕ) : Type 0 where
   pub inside : k < word_count sizes
   pub claim : k < flag_word sizes.contexts 0 → k % CONTEXT_STRIDE ≡ 1

@@ -4,7 +4,7 @@ use Rattle.words_core.specs.declared.seat.TheConstants.{PARTS}
 use Rattle.words_core.specs.declared.trace.Step.{Step}
 use Rattle.words_core.specs.declared.trace.View.{View}
 use Rattle.words_core.specs.declared.words.Sizes.{Sizes}
-use Rattle.words_core.specs.Layout.{value_at, claim_at, word_count, IsSetOnce}
+use Rattle.words_core.specs.Layout.{value_at, claim_at, word_count, IsClaimOrFlag}
 use Rattle.words_core.specs.Trace.{is_add, is_win, is_loss, is_load_of, is_add_to, total, on, greatest, added, HasRunningSums, wins_of}
 
 abbrev pub view : ℕ → List Step → List Step → View
@@ -69,7 +69,7 @@ AddsAsDriver t = wins_in t ≡ 0 → made_in is_add t ≡ 0
 abbrev pub IsEmptyIfSpent : View → Type 0
 IsEmptyIfSpent v = v.parts ≡ 0 → (v.start ≡ []) × (v.trace ≡ [])
 
--- a word that only rises, beside the steps that `leaves` a value and those that `finds` one
+-- a word that only rises, where `leaves x` is 1 at a step that left x, and `finds x` at one that found it
 pub record IsTraced (leaves finds : ℕ → Step → ℕ) (word : ℕ) (traces : List WordTrace) : Type 0 where
   -- each known value is at most the word
   pub below : Each (IsAtMost word) traces
@@ -87,7 +87,7 @@ pub record IsValue (word : ℕ) (traces : List WordTrace) : Type 0 where
   pub driven : Each AddsAsDriver traces
 
 -- a claim or a flag: 1 where it was won, and else 0. Where it was lost it is 1
-pub record IsMark (word : ℕ) (traces : List (List Step)) : Type 0 where
+pub record IsSetOnce (word : ℕ) (traces : List (List Step)) : Type 0 where
   pub won : word ≡ total (total is_win) traces
   pub lost : 0 < total (total is_loss) traces → word ≡ 1
 
@@ -99,4 +99,4 @@ pub record IsKept (sizes : Sizes) (words : List ℕ) (views : List View) : Type 
   -- each word was won once at most, by all seats together
   pub won_once : (w : ℕ) → total (wins_on w) views ≤ 1
   pub values : (place : ℕ) → place < sizes.contexts → IsValue (slice_index words (value_at place)) (map (context_trace place) views)
-  pub marks : (k : ℕ) → IsSetOnce sizes k → IsMark (slice_index words k) (map (set_once_trace k) views)
+  pub set_once : (k : ℕ) → IsClaimOrFlag sizes k → IsSetOnce (slice_index words k) (map (set_once_trace k) views)
