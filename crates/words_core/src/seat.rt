@@ -1,5 +1,5 @@
 // A seat: what a thread steps with.
-ghost use Rattle.std.specs.Prelude.{◌≡◌, ◌≢◌, ◌+◌, IfOk, IfErr};
+ghost use Rattle.std.specs.Prelude.{◌≡◌, ◌≢◌, ◌+◌, ◌≤◌, IfOk, IfErr};
 ghost use Rattle.words_core.specs.declared.seat.TheConstants.{PARTS};
 
 use crate::trace::View;
@@ -32,7 +32,8 @@ impl Model for Seat {
 impl Seat {
     /// Its number of parts.
     pub fn parts(&self) -> u32
-        ensures { result ≡ self.now.parts }
+        ensures value { result ≡ self.now.parts }
+        ensures within { (1 ≤ result) × (result ≤ PARTS) }
     {
         self.parts
     }
