@@ -1,0 +1,30 @@
+-- What a seat has won and added, after its steps.
+use Rattle.std.proofs.Common.{◌≡◌, ◌≢◌, ℕ, ◌+◌, ◌-◌, ◌<◌, [], ◌∷◌, ◌++◌, sym, refl, ap, ◌∙◌, arith}
+use Rattle.words_core.specs.declared.trace.Step.{Step}
+use Rattle.words_core.specs.Layout.{value_at, claim_at, value_word, claim_word}
+use Rattle.words_core.specs.Trace.{on, amount_of, total, added, is_win, add, won, wins_of}
+use Rattle.words_core.specs.Seat.{SeatModel, with_step, both_of, added_to}
+use Rattle.words_core.proofs.Totals.{total-append}
+use Rattle.words_core.proofs.Traces.{on-append, on-append_here, on-append_other}
+
+apart : (c : ℕ) → value_at c ≢ claim_at c
+apart c e = omega arith
+
+pub wins_of-won : (seat : SeatModel) (w : ℕ) → wins_of w (with_step seat (won w)).trace ≡ wins_of w seat.trace + 1
+wins_of-won seat w =
+    let a : total is_win (on w seat.trace ++ won w ∷ []) ≡ total is_win (on w seat.trace) + (1 + 0) = total-append is_win (on w seat.trace) (won w ∷ []) in
+    rw (on-append_here w seat.trace (won w) refl) (omega arith)
+
+pub wins_of-both_of : (seat other : SeatModel) (w : ℕ) → wins_of w (both_of seat other).trace ≡ wins_of w seat.trace + wins_of w other.trace
+wins_of-both_of seat other w = ap (total is_win) (on-append w seat.trace other.trace) ∙ total-append is_win (on w seat.trace) (on w other.trace)
+
+pub added_to-won : (seat : SeatModel) (ctx : ℕ) → added_to (with_step seat (won (claim_word ctx))) ctx ≡ added_to seat ctx
+added_to-won seat ctx = ap added (on-append_other (value_word ctx) seat.trace (won (claim_word ctx)) (λ e. apart (ctx - 1) (sym e)))
+
+pub wins_of-add : (seat : SeatModel) (ctx n v : ℕ) → 0 < wins_of (claim_word ctx) seat.trace → 0 < wins_of (claim_word ctx) (with_step seat (add (value_word ctx) n v)).trace
+wins_of-add seat ctx n v won = rw (on-append_other (claim_word ctx) seat.trace (add (value_word ctx) n v) (apart (ctx - 1))) won
+
+pub added_to-add : (seat : SeatModel) (ctx n v : ℕ) → added_to (with_step seat (add (value_word ctx) n v)) ctx ≡ added_to seat ctx + n
+added_to-add seat ctx n v = let w : ℕ = value_word ctx in let s : Step = add w n v in
+    let a : added (on w seat.trace ++ s ∷ []) ≡ added (on w seat.trace) + (n + 0) = total-append amount_of (on w seat.trace) (s ∷ []) in
+    rw (on-append_here w seat.trace s refl) (omega arith)

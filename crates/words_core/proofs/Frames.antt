@@ -1,0 +1,96 @@
+-- A step on one word leaves what the rule says of the others.
+use Rattle.std.proofs.Common.{◌≡◌, ◌≢◌, ℕ, ◌+◌, ◌<◌, ◌≤◌, List, [], ◌∷◌, ◌++◌, map, length, set, get_or, sym, ap, ◌∙◌, subst, arith}
+use mathlib.Core.Option.{some}
+use mathlib.Core.Logic.{dite}
+use native.Mathlib.Decide.{ℕ_discrete}
+use lib.ListN.{get_elem?}
+use Rattle.std.proofs.lemmas.List.{map-set, length-set, get_or-set_same, get_or-set_other}
+use Rattle.atomic_table.proofs.Lists.{at_map}
+use Rattle.words_core.specs.declared.trace.Step.{Step}
+use Rattle.words_core.specs.declared.trace.View.{View}
+use Rattle.words_core.specs.declared.words.Sizes.{Sizes}
+use Rattle.words_core.specs.Layout.{value_at, claim_at, IsClaimOrFlag}
+use Rattle.words_core.specs.Trace.{on, total, is_win}
+use Rattle.words_core.specs.Rule.{Each, WordTrace, context_trace, set_once_trace, wins_on, parts_of, IsEmptyIfSpent, IsValue, IsSetOnce, IsKept}
+use Rattle.words_core.specs.Plays.{view_with}
+use Rattle.words_core.proofs.Totals.{total-set, total-append, Each-set, map-set_same}
+use Rattle.words_core.proofs.Traces.{on-append_here, on-append_other}
+use Rattle.words_core.proofs.ValueSteps.{grown, claimed, IsValue-claimed}
+
+-- a view with one more step, as a context sees it: on its value, on its claim, or on another word
+
+context_trace-value : (c : ℕ) (v : View) (s : Step) → s.word ≡ value_at c → context_trace c (view_with v s) ≡ grown (context_trace c v) s
+context_trace-value c v s e = λ i. record { start = on (value_at c) v.start; made = on-append_here (value_at c) v.trace s e i; claim = on-append_other (claim_at c) v.trace s (λ bad. absurd (omega arith)) i }
+
+context_trace-claim : (c : ℕ) (v : View) (s : Step) → s.word ≡ claim_at c → context_trace c (view_with v s) ≡ claimed (context_trace c v) s
+context_trace-claim c v s e = λ i. record { start = on (value_at c) v.start; made = on-append_other (value_at c) v.trace s (λ bad. absurd (omega arith)) i; claim = on-append_here (claim_at c) v.trace s e i }
+
+context_trace-other : (c : ℕ) (v : View) (s : Step) → s.word ≢ value_at c → s.word ≢ claim_at c → context_trace c (view_with v s) ≡ context_trace c v
+context_trace-other c v s m n = λ i. record { start = on (value_at c) v.start; made = on-append_other (value_at c) v.trace s m i; claim = on-append_other (claim_at c) v.trace s n i }
+
+pub IsValue-same : (m n : ℕ) (xs ys : List WordTrace) → m ≡ n → xs ≡ ys → IsValue n ys → IsValue m xs
+IsValue-same m n xs ys e f h = let P : ℕ × List WordTrace → Type 0 = λ u. IsValue u.0 u.1 in subst P (λ i. (sym e i, sym f i)) h
+
+pub IsSetOnce-same : (m n : ℕ) (xs ys : List (List Step)) → m ≡ n → xs ≡ ys → IsSetOnce n ys → IsSetOnce m xs
+IsSetOnce-same m n xs ys e f h = let P : ℕ × List (List Step) → Type 0 = λ u. IsSetOnce u.0 u.1 in subst P (λ i. (sym e i, sym f i)) h
+
+parts-view_with : (views : List View) (id : ℕ) (v : View) (s : Step) → get_elem? views id ≡ some v → total parts_of (set views id (view_with v s)) ≡ total parts_of views
+parts-view_with views id v s at = let a : total parts_of (set views id (view_with v s)) + v.parts ≡ total parts_of views + v.parts = total-set parts_of views id v (view_with v s) at in omega arith
+
+spent-view_with : (views : List View) (id : ℕ) (v : View) (s : Step) → 0 < v.parts → Each IsEmptyIfSpent views → Each IsEmptyIfSpent (set views id (view_with v s))
+spent-view_with views id v s live h = Each-set IsEmptyIfSpent views id (view_with v s) h (λ bad. absurd (omega arith))
+
+-- how often each word was won, where the step was on the word w
+won_once-view_with : (views : List View) (id : ℕ) (v : View) (s : Step) → get_elem? views id ≡ some v → total (wins_on s.word) views + is_win s ≤ 1 → ((k : ℕ) → total (wins_on k) views ≤ 1) → (k : ℕ) → total (wins_on k) (set views id (view_with v s)) ≤ 1
+won_once-view_with views id v s at here h k =
+    let few = h k in
+    let a : total (wins_on k) (set views id (view_with v s)) + wins_on k v ≡ total (wins_on k) views + wins_on k (view_with v s) = total-set (wins_on k) views id v (view_with v s) at in
+    dite (ℕ_discrete s.word k)
+    (λ same.
+    let b : wins_on k (view_with v s) ≡ wins_on k v + (is_win s + 0) = ap (total is_win) (on-append_here k v.trace s same) ∙ total-append is_win (on k v.trace) (s ∷ []) in
+    let c : total (wins_on k) views + is_win s ≤ 1 = subst (λ (w : ℕ). total (wins_on w) views + is_win s ≤ 1) same here in omega arith)
+    (λ other. let b : wins_on k (view_with v s) ≡ wins_on k v = ap (total is_win) (on-append_other k v.trace s other) in omega arith)
+
+-- a step on the value of a context leaves every other word as it was
+pub IsKept-value : (z : Sizes) (words : List ℕ) (views : List View) (id c m : ℕ) (v : View) (s : Step) → c < z.contexts → 0 < v.parts → get_elem? views id ≡ some v → s.word ≡ value_at c → is_win s ≡ 0 → IsKept z words views
+    → IsValue m (set (map (context_trace c) views) id (grown (context_trace c v) s))
+    → IsKept z (set words (value_at c) m) (set views id (view_with v s))
+IsKept-value z words views id c m v s low live at on_c no_win h fits =
+    let w : View = view_with v s in
+    let long : value_at c < length words = let l = h.counted in omega arith in record {
+      counted = length-set words (value_at c) m ∙ h.counted;
+      parts = parts-view_with views id v s at ∙ h.parts;
+      spent = spent-view_with views id v s live h.spent;
+      won_once = won_once-view_with views id v s at (let few = h.won_once s.word in omega arith) h.won_once;
+      values = λ b lower. dite (ℕ_discrete b c)
+          (λ e. subst (λ (y : ℕ). IsValue (get_or (set words (value_at c) m) (value_at y) 0) (map (context_trace y) (set views id w))) (sym e)
+          (IsValue-same _ m _ _ (get_or-set_same words (value_at c) m 0 long) (map-set (context_trace c) views id w ∙ ap (λ (t : WordTrace). set (map (context_trace c) views) id t) (context_trace-value c v s on_c)) fits))
+          (λ ne. IsValue-same _ (get_or words (value_at b) 0) _ _ (get_or-set_other words (value_at c) (value_at b) m 0 (λ bad. ne (omega arith)))
+          (map-set_same (context_trace b) views id v w at (context_trace-other b v s (λ bad. ne (omega arith)) (λ bad. absurd (omega arith)))) (h.values b lower));
+      set_once = λ k is. IsSetOnce-same _ (get_or words k 0) _ _ (get_or-set_other words (value_at c) k m 0 (λ bad. let i = is.claim (omega arith) in absurd (omega arith)))
+          (map-set_same (set_once_trace k) views id v w at (on-append_other k v.trace s (λ bad. let i = is.claim (omega arith) in absurd (omega arith)))) (h.set_once k is);
+    }
+
+-- a step on a claim or a flag leaves every other word as it was
+pub IsKept-set_once : (z : Sizes) (words : List ℕ) (views : List View) (id k m : ℕ) (v : View) (s : Step) → IsClaimOrFlag z k → 0 < v.parts → get_elem? views id ≡ some v → s.word ≡ k → total (wins_on s.word) views + is_win s ≤ 1 → IsKept z words views
+    → IsSetOnce m (set (map (set_once_trace k) views) id (set_once_trace k v ++ s ∷ []))
+    → IsKept z (set words k m) (set views id (view_with v s))
+IsKept-set_once z words views id k m v s named live at on_k few h fits =
+    let w : View = view_with v s in
+    let claim = named.claim in
+    let long : k < length words = let l = h.counted in let inside = named.inside in omega arith in record {
+      counted = length-set words k m ∙ h.counted;
+      parts = parts-view_with views id v s at ∙ h.parts;
+      spent = spent-view_with views id v s live h.spent;
+      won_once = won_once-view_with views id v s at few h.won_once;
+      values = λ b lower. let was = h.values b lower in
+          let word : get_or (set words k m) (value_at b) 0 ≡ get_or words (value_at b) 0 = get_or-set_other words k (value_at b) m 0 (λ bad. let i = claim (omega arith) in absurd (omega arith)) in
+          dite (ℕ_discrete k (claim_at b))
+          (λ e. IsValue-same _ (get_or words (value_at b) 0) _ _ word (map-set (context_trace b) views id w ∙ ap (λ (t : WordTrace). set (map (context_trace b) views) id t) (context_trace-claim b v s (on_k ∙ e)))
+          (IsValue-claimed (get_or words (value_at b) 0) (map (context_trace b) views) id (context_trace b v) s (at_map (context_trace b) views id v at) was))
+          (λ ne. IsValue-same _ (get_or words (value_at b) 0) _ _ word (map-set_same (context_trace b) views id v w at (context_trace-other b v s (λ bad. let i = claim (omega arith) in absurd (omega arith)) (λ bad. ne (sym on_k ∙ bad)))) was);
+      set_once = λ j is. dite (ℕ_discrete j k)
+          (λ e. subst (λ (y : ℕ). IsSetOnce (get_or (set words k m) y 0) (map (set_once_trace y) (set views id w))) (sym e)
+          (IsSetOnce-same _ m _ _ (get_or-set_same words k m 0 long) (map-set (set_once_trace k) views id w ∙ ap (λ (t : List Step). set (map (set_once_trace k) views) id t) (on-append_here k v.trace s on_k)) fits))
+          (λ ne. IsSetOnce-same _ (get_or words j 0) _ _ (get_or-set_other words k j m 0 ne) (map-set_same (set_once_trace j) views id v w at (on-append_other j v.trace s (λ bad. ne (sym bad ∙ on_k)))) (h.set_once j is));
+    }

@@ -1,0 +1,114 @@
+-- Two views that are joined keep the rule.
+use Rattle.std.proofs.Common.{◌≡◌, ◌≢◌, ℕ, ◌+◌, ◌<◌, ◌≤◌, ◌⊎◌, inl, inr, List, [], ◌++◌, map, set, slice_index, sym, refl, ap, ◌∙◌, subst, arith}
+use mathlib.Core.Option.{some, none}
+use mathlib.Core.Logic.{dite}
+use native.Mathlib.Decide.{ℕ_discrete}
+use lib.ListN.{get_elem?}
+use Rattle.std.proofs.lemmas.List.{map-set, set-get_or}
+use Rattle.atomic_table.specs.Table.{step, Allows, Joins, keeps}
+use Rattle.atomic_table.proofs.Lists.{at_map, set_again, set_else}
+use Rattle.words_core.specs.declared.trace.Step.{Step}
+use Rattle.words_core.specs.declared.trace.View.{View}
+use Rattle.words_core.specs.declared.words.Sizes.{Sizes}
+use Rattle.words_core.specs.Layout.{value_at, claim_at, IsClaimOrFlag}
+use Rattle.words_core.specs.Trace.{on, amount_of, total, added, is_add, is_win, is_loss, is_load_of, is_add_to, HasRunningSums}
+use Rattle.words_core.specs.Rule.{spent_view, WordTrace, context_trace, set_once_trace, made_in, known_in, wins_in, wins_on, IsAtMost, HasSums, AddsAsDriver, parts_of, IsEmptyIfSpent, IsTraced, IsValue, IsSetOnce, IsKept}
+use Rattle.words_core.specs.Plays.{Holder, counts_parts, joined_view}
+use Rattle.words_core.proofs.Totals.{total-append, total_at, Each-set, Each-at, total-joined, total_two, total-map}
+use Rattle.words_core.proofs.Traces.{on-append, greatest-append_le, HasRunningSums-append, added_none, HasRunningSums-none}
+use Rattle.words_core.proofs.Frames.{IsValue-same, IsSetOnce-same}
+
+abbrev both_traces : WordTrace → WordTrace → WordTrace
+both_traces t u = record { start = t.start ++ u.start; made = t.made ++ u.made; claim = t.claim ++ u.claim }
+
+abbrev no_trace : WordTrace
+no_trace = record { start = []; made = []; claim = [] }
+
+-- one of the two has added nothing
+HasRunningSums-both : (xs ys : List Step) → HasRunningSums 0 xs → HasRunningSums 0 ys → (total is_add xs ≡ 0) ⊎ (total is_add ys ≡ 0) → HasRunningSums 0 (xs ++ ys)
+HasRunningSums-both xs ys a b (inl idle) = HasRunningSums-append 0 xs ys a (subst (λ (k : ℕ). HasRunningSums k ys) (let e = added_none xs idle in omega arith) b)
+HasRunningSums-both xs ys a b (inr idle) = HasRunningSums-append 0 xs ys a (HasRunningSums-none (0 + added xs) ys idle)
+
+total-both : (f : Step → ℕ) (traces : List WordTrace) (id other : ℕ) (t u : WordTrace) → get_elem? traces id ≡ some t → other ≢ id → get_elem? traces other ≡ some u
+    → total (made_in f) (set (set traces id (both_traces t u)) other no_trace) ≡ total (made_in f) traces
+total-both f traces id other t u at apart at' = total-joined (made_in f) traces id other t u (both_traces t u) no_trace at apart at' (total-append f t.made u.made) refl
+
+IsTraced-joined : (leaves finds : ℕ → Step → ℕ) (n : ℕ) (traces : List WordTrace) (id other : ℕ) (t u : WordTrace) → get_elem? traces id ≡ some t → other ≢ id → get_elem? traces other ≡ some u
+    → IsTraced leaves finds n traces → IsTraced leaves finds n (set (set traces id (both_traces t u)) other no_trace)
+IsTraced-joined leaves finds n traces id other t u at apart at' h =
+    let b : WordTrace = both_traces t u in
+    let mine = Each-at (IsAtMost n) traces id t h.below at in let theirs = Each-at (IsAtMost n) traces other u h.below at' in
+    record {
+      below = Each-set (IsAtMost n) (set traces id b) other no_trace (Each-set (IsAtMost n) traces id b h.below (greatest-append_le t.start u.start n mine.0 theirs.0, greatest-append_le t.made u.made n mine.1 theirs.1)) (omega arith, omega arith);
+      left = rw (total-both (leaves n) traces id other t u at apart at') h.left;
+      found = λ x pos some.
+          let s : total (finds x) (t.start ++ u.start) ≡ total (finds x) t.start + total (finds x) u.start = total-append (finds x) t.start u.start in
+          let m : total (finds x) (t.made ++ u.made) ≡ total (finds x) t.made + total (finds x) u.made = total-append (finds x) t.made u.made in
+          let a : total (known_in (finds x)) (set (set traces id b) other no_trace) ≡ total (known_in (finds x)) traces = total-joined (known_in (finds x)) traces id other t u b no_trace at apart at' (omega arith) refl in
+          rw (total-both (leaves x) traces id other t u at apart at') (h.found x pos (omega arith));
+    }
+
+IsValue-joined : (n : ℕ) (traces : List WordTrace) (id other : ℕ) (t u : WordTrace) → get_elem? traces id ≡ some t → other ≢ id → get_elem? traces other ≡ some u
+    → total wins_in traces ≤ 1 → IsValue n traces → IsValue n (set (set traces id (both_traces t u)) other no_trace)
+IsValue-joined n traces id other t u at apart at' few h =
+    let b : WordTrace = both_traces t u in
+    let mine = Each-at AddsAsDriver traces id t h.driven at in let theirs = Each-at AddsAsDriver traces other u h.driven at' in
+    let wins : total is_win t.claim + total is_win u.claim ≤ total wins_in traces = total_two wins_in traces id other t u at apart at' in
+    record {
+      traced = IsTraced-joined is_add_to is_load_of n traces id other t u at apart at' h.traced;
+      summed = h.summed ∙ sym (total-both amount_of traces id other t u at apart at');
+      running = Each-set HasSums (set traces id b) other no_trace (Each-set HasSums traces id b h.running
+          (HasRunningSums-both t.made u.made (Each-at HasSums traces id t h.running at) (Each-at HasSums traces other u h.running at')
+          (dite (ℕ_discrete (total is_win t.claim) 0) (λ e. inl (mine e)) (λ some. inr (theirs (omega arith)))))) tt;
+      driven = Each-set AddsAsDriver (set traces id b) other no_trace (Each-set AddsAsDriver traces id b h.driven
+          (λ idle. let c : total is_win (t.claim ++ u.claim) ≡ total is_win t.claim + total is_win u.claim = total-append is_win t.claim u.claim in
+          let m : total is_add (t.made ++ u.made) ≡ total is_add t.made + total is_add u.made = total-append is_add t.made u.made in
+          let x = mine (omega arith) in let y = theirs (omega arith) in omega arith)) (λ _. refl);
+    }
+
+IsSetOnce-joined : (n : ℕ) (traces : List (List Step)) (id other : ℕ) (t u : List Step) → get_elem? traces id ≡ some t → other ≢ id → get_elem? traces other ≡ some u → IsSetOnce n traces → IsSetOnce n (set (set traces id (t ++ u)) other [])
+IsSetOnce-joined n traces id other t u at apart at' h =
+    let same : (f : Step → ℕ) → total (total f) (set (set traces id (t ++ u)) other []) ≡ total (total f) traces = λ f.
+    total-joined (total f) traces id other t u (t ++ u) [] at apart at' (total-append f t u) refl in
+    record { won = h.won ∙ sym (same is_win); lost = λ some. h.lost (let a = same is_loss in omega arith) }
+
+pub IsClaimOrFlag-claim : (z : Sizes) (c : ℕ) → c < z.contexts → IsClaimOrFlag z (claim_at c)
+IsClaimOrFlag-claim z c low = record { inside = omega arith; claim = λ _. omega arith }
+
+-- at most one view has won a claim, once
+pub few_wins : (z : Sizes) (words : List ℕ) (views : List View) (c : ℕ) → c < z.contexts → IsKept z words views → total wins_in (map (context_trace c) views) ≤ 1
+few_wins z words views c low h =
+    let few = h.won_once (claim_at c) in
+    let a : total wins_in (map (context_trace c) views) ≡ total (λ (v : View). total is_win (on (claim_at c) v.trace)) views = total-map wins_in (context_trace c) views in
+    omega arith
+
+pub join-allowed : (z : Sizes) (id other : ℕ) (v w : View) → 0 < v.parts → Joins {S = Unit {0}} (λ s. IsKept z s.words s.views) id v other w (joined_view v w) spent_view
+join-allowed z id other v w live s h at apart there =
+    let b : View = joined_view v w in let views : List View = s.views in
+    let at' : get_elem? views other ≡ some w = sym (set_else views id other b apart) ∙ there in
+    record {
+      counted = h.counted;
+      parts = total-joined parts_of views id other v w b spent_view at apart at' refl refl ∙ h.parts;
+      spent = Each-set IsEmptyIfSpent (set views id b) other spent_view (Each-set IsEmptyIfSpent views id b h.spent (λ bad. absurd (omega arith))) (λ _. (refl, refl));
+      won_once = λ k. let few = h.won_once k in
+          let a : total (wins_on k) (set (set views id b) other spent_view) ≡ total (wins_on k) views = total-joined (wins_on k) views id other v w b spent_view at apart at'
+          (ap (total is_win) (on-append k v.trace w.trace) ∙ total-append is_win (on k v.trace) (on k w.trace)) refl in omega arith;
+      values = λ c low. IsValue-same _ _ _ _ refl
+          (map-set (context_trace c) (set views id b) other spent_view ∙ ap (λ (ts : List WordTrace). set ts other no_trace) (map-set (context_trace c) views id b)
+          ∙ (λ i. set (set (map (context_trace c) views) id record { start = on-append (value_at c) v.start w.start i; made = on-append (value_at c) v.trace w.trace i; claim = on-append (claim_at c) v.trace w.trace i }) other no_trace))
+          (IsValue-joined (slice_index s.words (value_at c)) (map (context_trace c) views) id other (context_trace c v) (context_trace c w) (at_map (context_trace c) views id v at) apart (at_map (context_trace c) views other w at') (few_wins z s.words views c low h) (h.values c low));
+      set_once = λ k is. IsSetOnce-same _ _ _ _ refl
+          (map-set (set_once_trace k) (set views id b) other spent_view ∙ ap (λ (ts : List (List Step)). set ts other []) (map-set (set_once_trace k) views id b) ∙ (λ i. set (set (map (set_once_trace k) views) id (on-append k v.trace w.trace i)) other []))
+          (IsSetOnce-joined (slice_index s.words k) (map (set_once_trace k) views) id other (set_once_trace k v) (set_once_trace k w) (at_map (set_once_trace k) views id v at) apart (at_map (set_once_trace k) views other w at') (h.set_once k is));
+    }
+
+-- a load that enters nothing, and sees that the parts are no more than all
+pub counts_parts-allowed : (z : Sizes) (slots id : ℕ) (me : Holder) → Allows (λ s. IsKept z s.words s.views) slots id me 0 (λ n. n) (counts_parts (step slots 0 0 0 none) me)
+counts_parts-allowed z slots id me s h homes at small =
+    let le : me.0.parts ≤ total parts_of s.views = total_at parts_of s.views id me.0 at in let all = h.parts in (
+      me.0,
+      keeps,
+      tt,
+      (let P : List ℕ × List View → Type 0 = λ u. IsKept z u.0 u.1 in subst P (λ i. (sym (set-get_or s.words 0 0) i, sym (set_again s.views id me.0 at) i)) h),
+      (refl, omega arith, λ w. let mine : wins_on w me.0 ≤ total (wins_on w) s.views = total_at (wins_on w) s.views id me.0 at in let few = h.won_once w in omega arith),
+    )

@@ -1,0 +1,100 @@
+-- A view that is split keeps the rule.
+use Rattle.std.proofs.Common.{◌≡◌, ℕ, ◌+◌, ◌-◌, ◌<◌, ◌≤◌, List, [], ◌∷◌, ◌++◌, map, set, slice_index, sym, refl, ◌∙◌, arith}
+use mathlib.Core.Option.{some}
+use lib.ListN.{get_elem?}
+use Rattle.std.proofs.lemmas.List.{map-append}
+use Rattle.atomic_table.specs.Table.{Splits, Enters}
+use Rattle.atomic_table.proofs.Lists.{at_map}
+use Rattle.words_core.specs.declared.trace.Step.{Step}
+use Rattle.words_core.specs.declared.trace.View.{View}
+use Rattle.words_core.specs.declared.words.Sizes.{Sizes}
+use Rattle.words_core.specs.Layout.{value_at}
+use Rattle.words_core.specs.Trace.{amount_of, total, greatest, is_win, is_loss, is_load_of, is_add_to}
+use Rattle.words_core.specs.Rule.{spent_view, WordTrace, context_trace, set_once_trace, made_in, known_in, wins_on, IsAtMost, HasSums, AddsAsDriver, parts_of, IsEmptyIfSpent, IsTraced, IsValue, IsSetOnce, IsKept}
+use Rattle.words_core.specs.Plays.{parent_view, child_view}
+use Rattle.words_core.proofs.Totals.{total-set, total-append, total_at, Each-set, Each-at, Each-last, map-set_same}
+use Rattle.words_core.proofs.Traces.{on-append, greatest-append_le}
+use Rattle.words_core.proofs.Frames.{IsValue-same, IsSetOnce-same}
+
+-- what a new seat has on a word
+abbrev pub started : List Step → WordTrace
+started start = record { start = start; made = []; claim = [] }
+
+total-started : (f : Step → ℕ) (traces : List WordTrace) (start : List Step) → total (made_in f) (traces ++ started start ∷ []) ≡ total (made_in f) traces
+total-started f traces start = let a : total (made_in f) (traces ++ started start ∷ []) ≡ total (made_in f) traces + (0 + 0) = total-append (made_in f) traces (started start ∷ []) in omega arith
+
+-- a new seat starts with what others know
+pub IsTraced-started : (leaves finds : ℕ → Step → ℕ) (n : ℕ) (traces : List WordTrace) (start : List Step) → greatest start ≤ n → ((x : ℕ) → total (finds x) start ≤ total (known_in (finds x)) traces)
+    → IsTraced leaves finds n traces → IsTraced leaves finds n (traces ++ started start ∷ [])
+IsTraced-started leaves finds n traces start low known h =
+    let t : WordTrace = started start in record {
+      below = Each-last (IsAtMost n) traces t h.below (low, omega arith);
+      left = rw (total-started (leaves n) traces start) h.left;
+      found = λ x pos some.
+          let f : WordTrace → ℕ = λ u. total (finds x) u.start + total (finds x) u.made in
+          let a : total f (traces ++ t ∷ []) ≡ total f traces + ((total (finds x) start + 0) + 0) = total-append f traces (t ∷ []) in
+          let b : total (finds x) start ≤ total f traces = known x in
+          rw (total-started (leaves x) traces start) (h.found x pos (omega arith));
+    }
+
+pub IsValue-started : (n : ℕ) (traces : List WordTrace) (start : List Step) → greatest start ≤ n → ((x : ℕ) → total (is_load_of x) start ≤ total (known_in (is_load_of x)) traces)
+    → IsValue n traces → IsValue n (traces ++ started start ∷ [])
+IsValue-started n traces start low known h =
+    let t : WordTrace = started start in record {
+      traced = IsTraced-started is_add_to is_load_of n traces start low known h.traced;
+      summed = h.summed ∙ sym (total-started amount_of traces start);
+      running = Each-last HasSums traces t h.running tt;
+      driven = Each-last AddsAsDriver traces t h.driven (λ _. refl);
+    }
+
+-- its start is all that its parent knows
+IsValue-parted : (n : ℕ) (traces : List WordTrace) (id : ℕ) (t : WordTrace) → get_elem? traces id ≡ some t → IsValue n traces → IsValue n (traces ++ started (t.start ++ t.made) ∷ [])
+IsValue-parted n traces id t at h =
+    let mine = Each-at (IsAtMost n) traces id t h.traced.below at in
+    IsValue-started n traces (t.start ++ t.made) (greatest-append_le t.start t.made n mine.0 mine.1)
+    (λ x. let b : total (is_load_of x) (t.start ++ t.made) ≡ total (is_load_of x) t.start + total (is_load_of x) t.made = total-append (is_load_of x) t.start t.made in
+    let d : total (is_load_of x) t.start + total (is_load_of x) t.made ≤ total (known_in (is_load_of x)) traces = total_at (known_in (is_load_of x)) traces id t at in omega arith) h
+
+pub IsSetOnce-started : (n : ℕ) (traces : List (List Step)) → IsSetOnce n traces → IsSetOnce n (traces ++ [] ∷ [])
+IsSetOnce-started n traces h =
+    let more : (f : Step → ℕ) → total (total f) (traces ++ [] ∷ []) ≡ total (total f) traces = λ f.
+    let a : total (total f) (traces ++ [] ∷ []) ≡ total (total f) traces + (0 + 0) = total-append (total f) traces ([] ∷ []) in omega arith in
+    record { won = h.won ∙ sym (more is_win); lost = λ some. h.lost (let a = more is_loss in omega arith) }
+
+pub split-allowed : (z : Sizes) (id n : ℕ) (v : View) → 0 < n → n < v.parts → Splits {S = Unit {0}} (λ s. IsKept z s.words s.views) id v (parent_view n v) (child_view n v)
+split-allowed z id n v pos less s h at =
+    let l : View = parent_view n v in let r : View = child_view n v in let views : List View = s.views in let vs : List View = set views id l in
+    let one : total parts_of vs + v.parts ≡ total parts_of views + (v.parts - n) = total-set parts_of views id v l at in
+    let two : total parts_of (vs ++ r ∷ []) ≡ total parts_of vs + (n + 0) = total-append parts_of vs (r ∷ []) in
+    let all = h.parts in
+    record {
+      counted = h.counted;
+      parts = omega arith;
+      spent = Each-last IsEmptyIfSpent vs r (Each-set IsEmptyIfSpent views id l h.spent (λ bad. absurd (omega arith))) (λ bad. absurd (omega arith));
+      won_once = λ w.
+          let few = h.won_once w in
+          let a : total (wins_on w) vs + wins_on w v ≡ total (wins_on w) views + wins_on w v = total-set (wins_on w) views id v l at in
+          let b : total (wins_on w) (vs ++ r ∷ []) ≡ total (wins_on w) vs + (0 + 0) = total-append (wins_on w) vs (r ∷ []) in omega arith;
+      values = λ c low. IsValue-same _ _ _ _ refl
+          (map-append (context_trace c) vs (r ∷ []) ∙ (λ i. map-set_same (context_trace c) views id v l at refl i ++ record { start = on-append (value_at c) v.start v.trace i; made = []; claim = [] } ∷ []))
+          (IsValue-parted (slice_index s.words (value_at c)) (map (context_trace c) views) id (context_trace c v) (at_map (context_trace c) views id v at) (h.values c low));
+      set_once = λ k is. IsSetOnce-same _ _ _ _ refl (map-append (set_once_trace k) vs (r ∷ []) ∙ (λ i. map-set_same (set_once_trace k) views id v l at refl i ++ [] ∷ []))
+          (IsSetOnce-started (slice_index s.words k) (map (set_once_trace k) views) (h.set_once k is));
+    }
+
+-- a spent seat may come at any time
+IsKept-spent : (z : Sizes) (words : List ℕ) (views : List View) → IsKept z words views → IsKept z words (views ++ spent_view ∷ [])
+IsKept-spent z words views h =
+    let two : total parts_of (views ++ spent_view ∷ []) ≡ total parts_of views + (0 + 0) = total-append parts_of views (spent_view ∷ []) in
+    let all = h.parts in
+    record {
+      counted = h.counted;
+      parts = omega arith;
+      spent = Each-last IsEmptyIfSpent views spent_view h.spent (λ _. (refl, refl));
+      won_once = λ w. let few = h.won_once w in let a : total (wins_on w) (views ++ spent_view ∷ []) ≡ total (wins_on w) views + (0 + 0) = total-append (wins_on w) views (spent_view ∷ []) in omega arith;
+      values = λ c low. IsValue-same _ _ _ _ refl (map-append (context_trace c) views (spent_view ∷ [])) (IsValue-started (slice_index words (value_at c)) (map (context_trace c) views) [] (omega arith) (λ x. omega arith) (h.values c low));
+      set_once = λ k is. IsSetOnce-same _ _ _ _ refl (map-append (set_once_trace k) views (spent_view ∷ [])) (IsSetOnce-started (slice_index words k) (map (set_once_trace k) views) (h.set_once k is));
+    }
+
+pub spent-allowed : (z : Sizes) (slots i : ℕ) → Enters {S = Unit {0}} (λ s. IsKept z s.words s.views) slots i (λ n w. Unit {0})
+spent-allowed z slots i s h homes small = (spent_view, IsKept-spent z s.words s.views h, tt)

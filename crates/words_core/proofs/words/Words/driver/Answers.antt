@@ -1,0 +1,23 @@
+use Rattle.std.proofs.Common.{◌≡◌, ◌<◌, sym, ap, ◌∙◌, refl, subst, arith}
+use Rattle.words_core.specs.Layout.{claim_word}
+use Rattle.words_core.specs.Seat.{SeatModel, added_to}
+use Rattle.words_core.specs.Trace.{wins_of}
+use Rattle.words_core.proofs.Driving.{wins_of-won, added_to-won}
+use Rattle.words_core.proofs.words.Words.driver.Goals as goal
+
+pub invariant_of-result : goal.invariant_of-result
+invariant_of-result c =
+    let ctx = c.args.ctx in
+    let entered = c.if-claim.ensures.entered in
+    let first = c.if-claim.ensures.first refl in
+    let wins = wins_of-won c.args.seat (claim_word ctx) in (
+      subst (λ (s : SeatModel). 0 < wins_of (claim_word ctx) s.trace) (sym entered) (omega arith),
+      sym (ap (λ (s : SeatModel). added_to s ctx) entered ∙ (added_to-won c.args.seat ctx ∙ first.1)),
+    )
+
+pub returns-then-claim-clause-first : goal.returns-then-claim-clause-first
+returns-then-claim-clause-first c =
+    let ctx = c.args.ctx in
+    let first = c.if-claim.ensures.first refl in
+    let wins = wins_of-won c.args.seat (claim_word ctx) in
+    subst (λ (s : SeatModel). wins_of (claim_word ctx) s.trace ≡ 1) (sym c.if-claim.ensures.entered) (omega arith)

@@ -1,0 +1,61 @@
+-- What each kind of step tells its seat, and how views are split and joined.
+use Rattle.std.specs.Prelude.{◌≡◌, ℕ, ◌+◌, ◌-◌, ◌≤◌, [], ◌∷◌, ◌++◌}
+use Rattle.atomic_table.specs.Table.{Me, Step as TableStep}
+use Rattle.words_core.specs.declared.seat.TheConstants.{PARTS}
+use Rattle.words_core.specs.declared.trace.Step.{Step}
+use Rattle.words_core.specs.declared.trace.View.{View}
+use Rattle.words_core.specs.Trace.{load, add, set_once_step, on, greatest, added, wins_of, LoadsWereLeft, IsDecided}
+use Rattle.words_core.specs.Rule.{view}
+
+-- a seat's view, with no slots
+abbrev pub Holder : Type 0
+Holder = Me (Unit {0}) View
+
+-- the view with one more step
+abbrev pub view_with : View → Step → View
+view_with v s = view v.parts v.start (v.trace ++ s ∷ [])
+
+-- the greatest value that is known of the word w
+abbrev pub seen_by : ℕ → View → ℕ
+seen_by w v = greatest (on w (v.start ++ v.trace))
+
+-- the value is entered, and it is at least what was seen
+abbrev pub loads_value : TableStep (Unit {0}) → Holder → ℕ → Holder → Type 0
+loads_value s me found after = (after ≡ (view_with me.0 (load s.word found), me.1)) × (seen_by s.word me.0 ≤ found)
+
+-- a claim is won where it was 0, and then nothing was added to the context's value, the word before it
+abbrev pub claims_context : TableStep (Unit {0}) → Holder → ℕ → Holder → Type 0
+claims_context s me found after = (after ≡ (view_with me.0 (set_once_step s.word found), me.1)) × (found ≡ 0 → (wins_of s.word me.0.trace ≡ 0) × (added (on (s.word - 1) me.0.trace) ≡ 0))
+
+abbrev pub sets_flag : TableStep (Unit {0}) → Holder → ℕ → Holder → Type 0
+sets_flag s me found after = after ≡ (view_with me.0 (set_once_step s.word found), me.1)
+
+-- the word was all that the seat had added
+abbrev pub adds_to_value : TableStep (Unit {0}) → Holder → ℕ → Holder → Type 0
+adds_to_value s me found after = (after ≡ (view_with me.0 (add s.word s.first (found + s.first)), me.1)) × (found ≡ added (on s.word me.0.trace))
+
+-- nothing is entered. The seat's parts are seen to be no more than all, and its wins of each word no more than one
+abbrev pub counts_parts : TableStep (Unit {0}) → Holder → ℕ → Holder → Type 0
+counts_parts s me found after = (after ≡ me) × (me.0.parts ≤ PARTS) × ((w : ℕ) → wins_of w me.0.trace ≤ 1)
+
+-- a seat with all parts has added all that the word is, and its claim is the word after it
+abbrev pub loads_total : TableStep (Unit {0}) → Holder → ℕ → Holder → Type 0
+loads_total s me found after = (after ≡ (view_with me.0 (load s.word found), me.1)) × (found ≡ added (on s.word me.0.trace)) × LoadsWereLeft s.word me.0.trace × IsDecided (s.word + 1) me.0.trace
+
+-- a flag is how often a seat with all parts has won it
+abbrev pub loads_flag : TableStep (Unit {0}) → Holder → ℕ → Holder → Type 0
+loads_flag s me found after = (after ≡ (view_with me.0 (load s.word found), me.1)) × (found ≡ wins_of s.word me.0.trace) × IsDecided s.word me.0.trace
+
+abbrev pub tells_nothing : TableStep (Unit {0}) → Holder → ℕ → Holder → Type 0
+tells_nothing s me found after = Unit {0}
+
+-- the parent's view when n parts go to a child
+abbrev pub parent_view : ℕ → View → View
+parent_view n v = view (v.parts - n) v.start v.trace
+
+-- the child's, which starts with all that was known
+abbrev pub child_view : ℕ → View → View
+child_view n v = view n (v.start ++ v.trace) []
+
+abbrev pub joined_view : View → View → View
+joined_view v w = view (v.parts + w.parts) (v.start ++ w.start) (v.trace ++ w.trace)

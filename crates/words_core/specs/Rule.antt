@@ -1,0 +1,102 @@
+-- The rule on the words, which holds between any two steps.
+use Rattle.std.specs.Prelude.{◌≡◌, ℕ, ◌+◌, ◌<◌, ◌≤◌, ◌⊎◌, List, [], ◌∷◌, map, length, slice_index}
+use Rattle.words_core.specs.declared.seat.TheConstants.{PARTS}
+use Rattle.words_core.specs.declared.trace.Step.{Step}
+use Rattle.words_core.specs.declared.trace.View.{View}
+use Rattle.words_core.specs.declared.words.Sizes.{Sizes}
+use Rattle.words_core.specs.Layout.{value_at, claim_at, word_count, IsClaimOrFlag}
+use Rattle.words_core.specs.Trace.{is_add, is_win, is_loss, is_load_of, is_add_to, total, on, greatest, added, HasRunningSums, wins_of}
+
+abbrev pub view : ℕ → List Step → List Step → View
+view parts start trace = record { parts = parts; start = start; trace = trace }
+
+abbrev pub first_view : View
+first_view = view PARTS [] []
+
+-- of a seat whose parts went to another
+abbrev pub spent_view : View
+spent_view = view 0 [] []
+
+-- P holds of each element
+abbrev pub Each : {A : Type 0} → (A → Type 0) → List A → Type 0
+Each P [] = Unit {0}
+Each P (x ∷ xs) = P x × Each P xs
+
+-- what one seat has on a word: the steps that it started with and those that it made; and those on a second word, a context's claim
+pub record WordTrace : Type 0 where
+  pub start : List Step
+  pub made : List Step
+  pub claim : List Step
+
+-- on the context at a place
+abbrev pub context_trace : ℕ → View → WordTrace
+context_trace place v = record { start = on (value_at place) v.start; made = on (value_at place) v.trace; claim = on (claim_at place) v.trace }
+
+-- on a claim or a flag
+abbrev pub set_once_trace : ℕ → View → List Step
+set_once_trace k v = on k v.trace
+
+-- f of the steps that were made, added up
+abbrev pub made_in : (Step → ℕ) → WordTrace → ℕ
+made_in f t = total f t.made
+
+-- f of all steps that are known, added up
+abbrev pub known_in : (Step → ℕ) → WordTrace → ℕ
+known_in f t = total f t.start + total f t.made
+
+abbrev pub wins_in : WordTrace → ℕ
+wins_in t = total is_win t.claim
+
+-- how often a seat has won the word w
+abbrev pub wins_on : ℕ → View → ℕ
+wins_on w v = wins_of w v.trace
+
+abbrev pub parts_of : View → ℕ
+parts_of v = v.parts
+
+-- what is known of the word is at most n
+abbrev pub IsAtMost : ℕ → WordTrace → Type 0
+IsAtMost n t = (greatest t.start ≤ n) × (greatest t.made ≤ n)
+
+-- each addition leaves the sum up to it
+abbrev pub HasSums : WordTrace → Type 0
+HasSums t = HasRunningSums 0 t.made
+
+-- who has not won the claim has added nothing
+abbrev pub AddsAsDriver : WordTrace → Type 0
+AddsAsDriver t = wins_in t ≡ 0 → made_in is_add t ≡ 0
+
+abbrev pub IsEmptyIfSpent : View → Type 0
+IsEmptyIfSpent v = v.parts ≡ 0 → (v.start ≡ []) × (v.trace ≡ [])
+
+-- a word that only rises, where `leaves x` is 1 at a step that left x, and `finds x` at one that found it
+pub record IsTraced (leaves finds : ℕ → Step → ℕ) (word : ℕ) (traces : List WordTrace) : Type 0 where
+  -- each known value is at most the word
+  pub below : Each (IsAtMost word) traces
+  -- it is 0 or was left by a step
+  pub left : (word ≡ 0) ⊎ (0 < total (made_in (leaves word)) traces)
+  -- each known value is 0 or was left by a step
+  pub found : (x : ℕ) → 0 < x → 0 < total (known_in (finds x)) traces → 0 < total (made_in (leaves x)) traces
+
+-- the value of a context
+pub record IsValue (word : ℕ) (traces : List WordTrace) : Type 0 where
+  pub traced : IsTraced is_add_to is_load_of word traces
+  -- it is the sum of all that was added
+  pub summed : word ≡ total (λ (t : WordTrace). added t.made) traces
+  pub running : Each HasSums traces
+  pub driven : Each AddsAsDriver traces
+
+-- a claim or a flag: 1 where it was won, and else 0. Where it was lost it is 1
+pub record IsSetOnce (word : ℕ) (traces : List (List Step)) : Type 0 where
+  pub won : word ≡ total (total is_win) traces
+  pub lost : 0 < total (total is_loss) traces → word ≡ 1
+
+-- the rule. Lost seats are among the views, with their parts
+pub record IsKept (sizes : Sizes) (words : List ℕ) (views : List View) : Type 0 where
+  pub counted : length words ≡ word_count sizes
+  pub parts : total parts_of views ≡ PARTS
+  pub spent : Each IsEmptyIfSpent views
+  -- each word was won once at most, by all seats together
+  pub won_once : (w : ℕ) → total (wins_on w) views ≤ 1
+  pub values : (place : ℕ) → place < sizes.contexts → IsValue (slice_index words (value_at place)) (map (context_trace place) views)
+  pub set_once : (k : ℕ) → IsClaimOrFlag sizes k → IsSetOnce (slice_index words k) (map (set_once_trace k) views)

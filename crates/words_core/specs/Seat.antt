@@ -1,0 +1,47 @@
+-- A seat, as contracts see it.
+use Rattle.std.specs.Prelude.{ℕ, zero, suc, ◌+◌, ◌-◌, List, [], ◌∷◌, ◌++◌}
+use Rattle.atomic_table.specs.Seated.{TableId}
+use Rattle.point_core.specs.Reach.{value_at}
+use Rattle.words_core.specs.declared.trace.Step.{Step}
+use Rattle.words_core.specs.Layout.{value_word}
+use Rattle.words_core.specs.Trace.{load, on, greatest, added}
+
+-- the words that it is of, its parts, the steps that its parent knew when it was parted, and its own steps
+pub record SeatModel : Type 0 where
+  pub table : TableId
+  pub parts : ℕ
+  pub start : List Step
+  pub trace : List Step
+
+-- the greatest value that a seat has seen of the word w, or 0
+abbrev pub seen : SeatModel → ℕ → ℕ
+seen seat w = greatest (on w (seat.start ++ seat.trace))
+
+-- the sum of what a seat has added to the value of a context
+abbrev pub added_to : SeatModel → ℕ → ℕ
+added_to seat ctx = added (on (value_word ctx) seat.trace)
+
+-- the seat with one more step
+abbrev pub with_step : SeatModel → Step → SeatModel
+with_step seat s = record seat { trace = seat.trace ++ s ∷ [] }
+
+-- the seat with more steps
+abbrev pub with_steps : SeatModel → List Step → SeatModel
+with_steps seat steps = record seat { trace = seat.trace ++ steps }
+
+-- one load of each of the first n contexts, by rising number, that found the reach's values
+abbrev pub loads_of : List ℕ → ℕ → List Step
+loads_of reach zero = []
+loads_of reach (suc n) = loads_of reach n ++ load (value_word (suc n)) (value_at reach (suc n)) ∷ []
+
+-- the seat that is left when n parts go
+abbrev pub without_parts : SeatModel → ℕ → SeatModel
+without_parts seat n = record seat { parts = seat.parts - n }
+
+-- the seat that they go to
+abbrev pub parted : SeatModel → ℕ → SeatModel
+parted seat n = record { table = seat.table; parts = n; start = seat.start ++ seat.trace; trace = [] }
+
+-- two seats of the same words in one
+abbrev pub both_of : SeatModel → SeatModel → SeatModel
+both_of seat other = record { table = seat.table; parts = seat.parts + other.parts; start = seat.start ++ other.start; trace = seat.trace ++ other.trace }

@@ -1,0 +1,103 @@
+-- Steps, and what a list of them says of one word.
+use Rattle.std.specs.Prelude.{◌≡◌, ℕ, ◌+◌, ◌<◌, ◌≤◌, ◌==◌, max, if◌then◌else◌, filter, List, [], ◌∷◌}
+use Rattle.words_core.specs.declared.trace.Kind.{Kind}
+use Rattle.words_core.specs.declared.trace.Kind.TheVariants.{Load, Add, Won, Lost}
+use Rattle.words_core.specs.declared.trace.Step.{Step}
+
+-- the word w was read, and v found
+abbrev pub load : ℕ → ℕ → Step
+load w v = record { kind = Load; word = w; operand = 0; value = v }
+
+-- n was added to the word w, which left v
+abbrev pub add : ℕ → ℕ → ℕ → Step
+add w n v = record { kind = Add; word = w; operand = n; value = v }
+
+-- the word w was set
+abbrev pub won : ℕ → Step
+won w = record { kind = Won; word = w; operand = 0; value = 0 }
+
+-- the word w was set already
+abbrev pub lost : ℕ → Step
+lost w = record { kind = Lost; word = w; operand = 0; value = 0 }
+
+-- a test-and-set of the word w that found a value
+abbrev pub set_once_step : ℕ → ℕ → Step
+set_once_step w found = if found == 0 then won w else lost w
+
+-- n where the kinds are one, and else 0
+abbrev pub if_kind : Kind → Kind → ℕ → ℕ
+if_kind Load Load n = n
+if_kind Add Add n = n
+if_kind Won Won n = n
+if_kind Lost Lost n = n
+if_kind wanted kind n = 0
+
+-- what a step added
+abbrev pub amount_of : Step → ℕ
+amount_of s = if_kind Add s.kind s.operand
+
+-- 1 at an addition, and else 0
+abbrev pub is_add : Step → ℕ
+is_add s = if_kind Add s.kind 1
+
+abbrev pub is_win : Step → ℕ
+is_win s = if_kind Won s.kind 1
+
+abbrev pub is_loss : Step → ℕ
+is_loss s = if_kind Lost s.kind 1
+
+-- 1 at a load that found x
+abbrev pub is_load_of : ℕ → Step → ℕ
+is_load_of x s = if_kind Load s.kind (if s.value == x then 1 else 0)
+
+-- 1 at an addition that left x
+abbrev pub is_add_to : ℕ → Step → ℕ
+is_add_to x s = if_kind Add s.kind (if s.value == x then 1 else 0)
+
+-- f of each, added up
+abbrev pub total : {A : Type 0} → (A → ℕ) → List A → ℕ
+total f [] = 0
+total f (x ∷ xs) = f x + total f xs
+
+-- the steps on the word w
+abbrev pub on : ℕ → List Step → List Step
+on w steps = filter (λ (s : Step). s.word == w) steps
+
+-- the greatest value that was found or left
+abbrev pub greatest : List Step → ℕ
+greatest [] = 0
+greatest (s ∷ steps) = max s.value (greatest steps)
+
+-- the sum of what was added
+abbrev pub added : List Step → ℕ
+added steps = total amount_of steps
+
+-- each addition leaves the sum up to it, from n on
+abbrev pub HasRunningSums : ℕ → List Step → Type 0
+HasRunningSums n [] = Unit {0}
+HasRunningSums n (s ∷ steps) = (0 < is_add s → s.value ≡ n + amount_of s) × HasRunningSums (n + amount_of s) steps
+
+-- how often the word w was won
+abbrev pub wins_of : ℕ → List Step → ℕ
+wins_of w steps = total is_win (on w steps)
+
+-- how often it was found set
+abbrev pub losses_of : ℕ → List Step → ℕ
+losses_of w steps = total is_loss (on w steps)
+
+-- a load of the word w found x
+abbrev pub WasLoaded : ℕ → ℕ → List Step → Type 0
+WasLoaded w x steps = 0 < total (is_load_of x) (on w steps)
+
+-- an addition to the word w left x
+abbrev pub WasLeft : ℕ → ℕ → List Step → Type 0
+WasLeft w x steps = 0 < total (is_add_to x) (on w steps)
+
+-- each value of the word w that was loaded is 0 or was left by an addition
+abbrev pub LoadsWereLeft : ℕ → List Step → Type 0
+LoadsWereLeft w steps = (x : ℕ) → 0 < x → WasLoaded w x steps → WasLeft w x steps
+
+-- of a claim or a flag, where the steps are all that were made: it was won once at most, and once where it was lost
+pub record IsDecided (w : ℕ) (steps : List Step) : Type 0 where
+  pub once : wins_of w steps ≤ 1
+  pub lost : 0 < losses_of w steps → wins_of w steps ≡ 1

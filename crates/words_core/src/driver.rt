@@ -1,0 +1,77 @@
+// A driver: the one that advances a context.
+ghost use Rattle.std.specs.Prelude.{◌≡◌, ◌+◌, ◌^◌, ◌<◌, ◌≤◌, ◌↔◌, IfOk, IfErr, IsErr, OnErr};
+ghost use Rattle.point_core.specs.declared.refusal.Refusal.TheVariants as refusal;
+ghost use Rattle.words_core.specs.Layout.{value_word, claim_word};
+ghost use Rattle.words_core.specs.Seat.{added_to, with_step};
+ghost use Rattle.words_core.specs.Trace.{add, wins_of};
+
+use crate::seat::Seat;
+use crate::words::Words;
+use point_core::{Context, Refusal};
+use std::marker::Model;
+
+/// The right to advance one context, with its value. `Words::driver` gives one for each context at most.
+#[derive(Drop)]
+pub struct Driver {
+    pub(crate) seat: Seat,
+    pub(crate) ctx: Context,
+    pub(crate) value: u64,
+}
+
+impl Model for Driver {
+    ghost use Rattle.std.specs.Prelude.{◌≡◌, ◌<◌, ◌≤◌};
+    ghost use Rattle.words_core.specs.Driver.{DriverModel};
+    ghost use Rattle.words_core.specs.Layout.{claim_word};
+    ghost use Rattle.words_core.specs.Seat.{added_to};
+    ghost use Rattle.words_core.specs.Trace.{wins_of};
+
+    ghost Value = { DriverModel };
+
+    ghost view = { λ d. record { seat = d.seat; ctx = d.ctx; value = d.value } };
+
+    ghost invariant = { λ d. (0 < wins_of (claim_word d.ctx) d.seat.trace) × (d.value ≡ added_to d.seat d.ctx) };
+}
+
+impl Driver {
+    /// Adds n to the context by one fetch_add, and answers its new value, as sw_sync's increment does; ours does not
+    /// wrap.
+    ///
+    /// Refuses as `Overflow` alone, where the value would pass the greatest u64. No step is made then.
+    pub fn inc(&mut self, words: &Words, n: u64) -> Result<u64, Refusal>
+        requires own { self.old.seat.table ≡ words.now.table }
+        requires context { self.old.ctx ≤ words.now.contexts }
+        ensures value { IfOk result (λ value. value ≡ self.old.value + n) }
+        ensures added { IfOk result (λ value. self.new ≡ record { seat = with_step self.old.seat (add (value_word self.old.ctx) n value); ctx = self.old.ctx; value = value }) }
+        ensures overflow { IsErr result ↔ (2 ^ 64 ≤ self.old.value + n) }
+        ensures refusal { IfErr result (λ e. e ≡ refusal.Overflow) }
+        ensures unchanged { OnErr result (self.new ≡ self.old) }
+    {
+        if n > u64::MAX - self.value {
+            return Err(Refusal::Overflow);
+        }
+        self.value = words.add(&mut self.seat, self.ctx, n);
+        Ok(self.value)
+    }
+
+    /// The value of its context: the sum of all that its seat has added.
+    pub fn value(&self) -> u64
+        ensures value { result ≡ self.now.value }
+        ensures sum { result ≡ added_to self.now.seat self.now.ctx }
+    {
+        self.value
+    }
+
+    /// Its seat again, which has won the context's claim. Nobody advances the context afterwards.
+    pub fn finish(self) -> Seat
+        ensures seat { result ≡ self.seat }
+        ensures won { 0 < wins_of (claim_word self.ctx) result.trace }
+        ensures sum { added_to result self.ctx ≡ self.value }
+    {
+        let Driver {
+            seat,
+            ctx: _,
+            value: _,
+        } = self;
+        seat
+    }
+}

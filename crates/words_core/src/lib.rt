@@ -1,0 +1,22 @@
+//! Words that threads share, each under one rule, and the seats that step on them.
+//!
+//! A thread steps with its own `Seat`, which keeps a trace of its steps. What one seat may conclude of the others'
+//! steps is the rule, which holds between any two steps whatever the schedule. No call waits.
+#![tactic(auto)]
+
+mod driver;
+mod flags;
+mod plays;
+mod seat;
+#[cfg(test)]
+mod tests;
+mod trace;
+mod values;
+mod whole;
+mod words;
+
+pub use driver::Driver;
+pub use flags::{Once, Won};
+pub use seat::{PARTS, Seat};
+pub use whole::Whole;
+pub use words::{BUFFERS, CONTEXT_STRIDE, FLAGS, Words, WordsId};

@@ -1,0 +1,94 @@
+// The rule of the words, what each kind of step tells, and how views are split and joined.
+ghost use Rattle.std.specs.Prelude.{ℕ};
+ghost use Rattle.words_core.specs.Rule.{IsKept, first_view, spent_view};
+ghost use Rattle.words_core.specs.Plays.{loads_value, claims_context, adds_to_value, counts_parts, loads_total, sets_flag, loads_flag, tells_nothing, parent_view, child_view, joined_view};
+
+use crate::trace::View;
+use crate::words::Sizes;
+use atomic_table::{Join, Play, Split, TableRule};
+use std::marker::{Brand, PhantomData};
+
+pub struct WordsRule;
+
+impl TableRule<(), View, Sizes> for WordsRule {
+    ghost holds = { λ sizes s. IsKept sizes s.words s.views };
+
+    ghost first = { λ _. first_view };
+}
+
+pub struct LoadsValue;
+
+impl Play<(), View> for LoadsValue {
+    ghost then = { loads_value };
+}
+
+pub struct ClaimsContext;
+
+impl Play<(), View> for ClaimsContext {
+    ghost then = { claims_context };
+}
+
+pub struct AddsToValue;
+
+impl Play<(), View> for AddsToValue {
+    ghost then = { adds_to_value };
+}
+
+pub struct CountsParts;
+
+impl Play<(), View> for CountsParts {
+    ghost then = { counts_parts };
+}
+
+// By a seat with all parts.
+pub struct LoadsTotal;
+
+impl Play<(), View> for LoadsTotal {
+    ghost then = { loads_total };
+}
+
+pub struct SetsFlag;
+
+impl Play<(), View> for SetsFlag {
+    ghost then = { sets_flag };
+}
+
+// By a seat with all parts.
+pub struct LoadsFlag;
+
+impl Play<(), View> for LoadsFlag {
+    ghost then = { loads_flag };
+}
+
+pub struct TellsNothing;
+
+impl Play<(), View> for TellsNothing {
+    ghost then = { tells_nothing };
+}
+
+// The number of parts that go to a new seat, which each call picks.
+pub trait PartCount {
+    ghost count: { ℕ };
+}
+
+impl PartCount for Brand {
+    ghost count = { 0 };
+}
+
+pub struct SplitParts<N> {
+    count: PhantomData<N>,
+}
+
+impl<N: PartCount> Split<View> for SplitParts<N> {
+    ghost left = { parent_view N.count };
+
+    ghost right = { child_view N.count };
+}
+
+pub struct JoinSeats;
+
+impl Join<View> for JoinSeats {
+    ghost both = { joined_view };
+
+    ghost spent = { spent_view };
+}

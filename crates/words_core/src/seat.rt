@@ -1,0 +1,54 @@
+// A seat: what a thread steps with.
+ghost use Rattle.std.specs.Prelude.{◌≡◌, ◌≢◌, ◌+◌, ◌≤◌, IfOk, IfErr};
+ghost use Rattle.words_core.specs.declared.seat.TheConstants.{PARTS};
+
+use crate::trace::View;
+use crate::whole::Whole;
+use std::marker::Model;
+
+/// The parts of a set of words, which its seats share. A dropped seat takes its parts with it.
+pub const PARTS: u32 = 65_536;
+
+/// A thread's right to step on a set of words, with a trace of its steps and a start, what its parent had seen when it
+/// was parted. Both are seen by contracts alone: a seat has no bytes but its number of parts.
+#[derive(Drop)]
+pub struct Seat {
+    pub(crate) token: atomic_table::Seat<(), View>,
+    pub(crate) parts: u32,
+}
+
+impl Model for Seat {
+    ghost use Rattle.std.specs.Prelude.{◌≡◌, ◌≤◌, []};
+    ghost use Rattle.words_core.specs.declared.seat.TheConstants.{PARTS};
+    ghost use Rattle.words_core.specs.Seat.{SeatModel};
+
+    ghost Value = { SeatModel };
+
+    ghost view = { λ s. record { table = s.token.table_id; parts = s.parts; start = s.token.me.0.start; trace = s.token.me.0.trace } };
+
+    ghost invariant = { λ s. (s.token.me.1 ≡ []) × (s.token.me.0.parts ≡ s.parts) × (1 ≤ s.parts) × (s.parts ≤ PARTS) };
+}
+
+impl Seat {
+    /// Its number of parts.
+    pub fn parts(&self) -> u32
+        ensures value { result ≡ self.now.parts }
+        ensures within { (1 ≤ result) × (result ≤ PARTS) }
+    {
+        self.parts
+    }
+
+    /// With all parts a seat has made every step on the words. Else it comes back with the number of parts that are
+    /// missing, for good where a seat was dropped.
+    pub fn gather(self) -> Result<Whole, (Seat, u32)>
+        ensures all { IfOk result (λ whole. (whole ≡ self) × (self.parts ≡ PARTS)) }
+        ensures missing { IfErr result (λ e. (e.0 ≡ self) × (self.parts ≢ PARTS) × (e.1 + self.parts ≡ PARTS)) }
+    {
+        if self.parts == PARTS {
+            Ok(Whole { seat: self })
+        } else {
+            let missing = PARTS - self.parts;
+            Err((self, missing))
+        }
+    }
+}

@@ -1,0 +1,32 @@
+// What a seat knows. These are words of contracts: only proofs have values of these types.
+use std::collections::LinkedList;
+
+/// What a step does to its word.
+pub enum Kind {
+    /// Reads it.
+    Load,
+    /// Adds the operand to it.
+    Add,
+    /// Sets it from 0 to 1.
+    Won,
+    /// Finds that it was set.
+    Lost,
+}
+
+/// One step of a seat on one word.
+pub struct Step {
+    pub kind: Kind,
+    pub word: u64,
+    pub operand: u64,
+    /// The value that it found, or for what changes the value, left. It is 0 where a word is set once.
+    pub value: u64,
+}
+
+/// What a seat knows and has done. A seat with no parts is spent.
+pub struct View {
+    pub parts: u64,
+    /// The steps that its parent knew when it was parted.
+    pub start: LinkedList<Step>,
+    /// Its own steps.
+    pub trace: LinkedList<Step>,
+}

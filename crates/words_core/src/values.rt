@@ -1,0 +1,108 @@
+// The steps on the claims and values of contexts.
+ghost use Rattle.std.specs.Prelude.{◌≡◌, ℕ, ◌+◌, ◌^◌, ◌<◌, ◌≤◌, true, IfOk, IfErr, MatchBool};
+ghost use Rattle.point_core.specs.declared.refusal.Refusal.TheVariants as refusal;
+ghost use Rattle.point_core.specs.Reach.{value_at};
+ghost use Rattle.words_core.specs.declared.seat.TheConstants.{PARTS};
+ghost use Rattle.words_core.specs.Layout.{value_word, claim_word};
+ghost use Rattle.words_core.specs.Seat.{seen, added_to, with_step, with_steps, loads_of};
+ghost use Rattle.words_core.specs.Trace.{load, add, won, lost, wins_of, LoadsWereLeft, IsDecided};
+
+use crate::driver::Driver;
+use crate::plays::{AddsToValue, ClaimsContext, LoadsTotal, LoadsValue};
+use crate::seat::Seat;
+use crate::words::{CONTEXT_STRIDE, Words};
+use point_core::{Context, Point, Reach, Refusal};
+
+impl Words {
+    /// The right to advance a context, by one test-and-set of its claim.
+    ///
+    /// Refuses as `Exists` alone, from the second claim on that was ever made on the context, and hands the seat back.
+    pub fn driver(&self, mut seat: Seat, ctx: Context) -> Result<Driver, (Refusal, Seat)>
+        requires own { seat.table ≡ self.now.table }
+        requires context { ctx ≤ self.now.contexts }
+        ensures won { IfOk result (λ d. d ≡ record { seat = with_step seat (won (claim_word ctx)); ctx = ctx; value = 0 }) }
+        ensures first { IfOk result (λ d. wins_of (claim_word ctx) d.seat.trace ≡ 1) }
+        ensures lost { IfErr result (λ e. (e.0 ≡ refusal.Exists) × (e.1 ≡ with_step seat (lost (claim_word ctx)))) }
+    {
+        if self.claim(&mut seat, ctx) {
+            Ok(Driver {
+                seat,
+                ctx,
+                value: 0,
+            })
+        } else {
+            Err((Refusal::Exists, seat))
+        }
+    }
+
+    fn claim(&self, seat: &mut Seat, ctx: Context) -> bool
+        requires own { seat.old.table ≡ self.now.table }
+        requires context { ctx ≤ self.now.contexts }
+        ensures entered { MatchBool result (seat.new ≡ with_step seat.old (won (claim_word ctx))) (seat.new ≡ with_step seat.old (lost (claim_word ctx))) }
+        ensures first { result ≡ true → (wins_of (claim_word ctx) seat.old.trace ≡ 0) × (added_to seat.old ctx ≡ 0) }
+    {
+        self.table
+            .shared
+            .fetch_or::<ClaimsContext>(&mut seat.token, CONTEXT_STRIDE * ctx.index() + 1, 1)
+            == 0
+    }
+
+    pub(crate) fn add(&self, seat: &mut Seat, ctx: Context, n: u64) -> u64
+        requires own { seat.old.table ≡ self.now.table }
+        requires context { ctx ≤ self.now.contexts }
+        requires won { 0 < wins_of (claim_word ctx) seat.old.trace }
+        requires fits { added_to seat.old ctx + n < 2 ^ 64 }
+        ensures value { result ≡ added_to seat.old ctx + n }
+        ensures entered { seat.new ≡ with_step seat.old (add (value_word ctx) n result) }
+    {
+        self.table
+            .shared
+            .fetch_add::<AddsToValue>(&mut seat.token, CONTEXT_STRIDE * ctx.index(), n)
+            + n
+    }
+
+    /// The value of a context, by one load. It is no less than any value that the seat has seen.
+    pub fn load(&self, seat: &mut Seat, ctx: Context) -> u64
+        requires own { seat.old.table ≡ self.now.table }
+        requires context { ctx ≤ self.now.contexts }
+        ensures entered { seat.new ≡ with_step seat.old (load (value_word ctx) result) }
+        ensures later { seen seat.old (value_word ctx) ≤ result }
+        ensures seen { seen seat.new (value_word ctx) ≡ result }
+    {
+        self.table
+            .shared
+            .load::<LoadsValue>(&mut seat.token, CONTEXT_STRIDE * ctx.index())
+    }
+
+    /// The values of all contexts, by one load each, in rising order: no one moment need have had them all. Those past
+    /// the last context are 0.
+    pub fn load_all(&self, seat: &mut Seat) -> Reach
+        requires own { seat.old.table ≡ self.now.table }
+        ensures entered { seat.new ≡ with_steps seat.old (loads_of result self.now.contexts) }
+        ensures later { (ctx : ℕ) → 1 ≤ ctx → ctx ≤ self.now.contexts → seen seat.old (value_word ctx) ≤ value_at result ctx }
+        ensures seen { (ctx : ℕ) → 1 ≤ ctx → ctx ≤ self.now.contexts → seen seat.new (value_word ctx) ≡ value_at result ctx }
+        ensures past { (ctx : ℕ) → self.now.contexts < ctx → value_at result ctx ≡ 0 }
+    {
+        let mut reach = Reach::zero();
+        for index in 0..self.sizes.contexts {
+            let ctx = Context::at(index);
+            let value = self.load(seat, ctx);
+            reach.raise_to(Point { ctx, value });
+        }
+        reach
+    }
+
+    pub(crate) fn total(&self, seat: &mut Seat, ctx: Context) -> u64
+        requires own { seat.old.table ≡ self.now.table }
+        requires context { ctx ≤ self.now.contexts }
+        requires all { seat.old.parts ≡ PARTS }
+        ensures entered { seat.new ≡ with_step seat.old (load (value_word ctx) result) }
+        ensures state { result ≡ added_to seat.old ctx }
+        ensures loaded { LoadsWereLeft (value_word ctx) seat.old.trace }
+        ensures driver { IsDecided (claim_word ctx) seat.old.trace }
+    {
+        self.table
+            .shared
+            .load::<LoadsTotal>(&mut seat.token, CONTEXT_STRIDE * ctx.index())
+    }
+}

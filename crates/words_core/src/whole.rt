@@ -1,0 +1,62 @@
+// A seat with all parts.
+ghost use Rattle.std.specs.Prelude.{◌≡◌, ◌<◌, ◌≤◌, if◌then◌else◌};
+ghost use Rattle.words_core.specs.Layout.{value_word, claim_word, flag_word};
+ghost use Rattle.words_core.specs.Seat.{with_step, added_to};
+ghost use Rattle.words_core.specs.Trace.{load, wins_of, LoadsWereLeft, IsDecided};
+
+use crate::seat::Seat;
+use crate::words::Words;
+use point_core::Context;
+use std::marker::Model;
+
+/// A seat with all parts, whose trace has every step that was made on the words.
+#[derive(Drop)]
+pub struct Whole {
+    pub(crate) seat: Seat,
+}
+
+impl Model for Whole {
+    ghost use Rattle.std.specs.Prelude.{◌≡◌};
+    ghost use Rattle.words_core.specs.declared.seat.TheConstants.{PARTS};
+    ghost use Rattle.words_core.specs.Seat.{SeatModel};
+
+    ghost Value = { SeatModel };
+
+    ghost view = { λ w. w.seat };
+
+    ghost invariant = { λ w. w.seat.parts ≡ PARTS };
+}
+
+impl Whole {
+    /// The value of a context, by one load: the sum of all that was ever added to it. Each value that was loaded from
+    /// it is 0 or was left by an addition, and one driver at most was ever given for it.
+    pub fn value(&mut self, words: &Words, ctx: Context) -> u64
+        requires own { self.old.table ≡ words.now.table }
+        requires context { ctx ≤ words.now.contexts }
+        ensures entered { self.new ≡ with_step self.old (load (value_word ctx) result) }
+        ensures state { result ≡ added_to self.old ctx }
+        ensures loaded { LoadsWereLeft (value_word ctx) self.old.trace }
+        ensures driver { IsDecided (claim_word ctx) self.old.trace }
+    {
+        words.total(&mut self.seat, ctx)
+    }
+
+    /// Whether a flag is set, by one load: exactly where one step has won it, once.
+    pub fn flag(&mut self, words: &Words, flag: usize) -> bool
+        requires own { self.old.table ≡ words.now.table }
+        requires flag { flag < words.now.flags }
+        ensures entered { self.new ≡ with_step self.old (load (flag_word words.now.contexts flag) (if result then 1 else 0)) }
+        ensures state { wins_of (flag_word words.now.contexts flag) self.old.trace ≡ (if result then 1 else 0) }
+        ensures decided { IsDecided (flag_word words.now.contexts flag) self.old.trace }
+    {
+        words.total_flag(&mut self.seat, flag) == 1
+    }
+
+    /// The seat again.
+    pub fn seat(self) -> Seat
+        ensures { result ≡ self }
+    {
+        let Whole { seat } = self;
+        seat
+    }
+}

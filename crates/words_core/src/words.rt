@@ -1,0 +1,196 @@
+// A set of words, and its seats.
+ghost use Rattle.std.specs.Prelude.{◌≡◌, ℕ, ◌+◌, ◌<◌, ◌≤◌, ◌⊎◌, [], IfOk, IfErr, max};
+ghost use Rattle.point_core.specs.declared.context.TheConstants.{CONTEXTS};
+ghost use Rattle.point_core.specs.declared.refusal.LimitKind.TheVariants as limit;
+ghost use Rattle.point_core.specs.declared.refusal.Refusal.TheVariants as refusal;
+ghost use Rattle.words_core.specs.declared.seat.TheConstants.{PARTS};
+ghost use Rattle.words_core.specs.declared.words.TheConstants.{BUFFERS, FLAGS};
+ghost use Rattle.words_core.specs.Seat.{seen, without_parts, parted, both_of};
+ghost use Rattle.words_core.specs.Trace.{wins_of};
+
+use crate::plays::{CountsParts, JoinSeats, PartCount, SplitParts, TellsNothing, WordsRule};
+use crate::seat::{PARTS, Seat};
+use crate::trace::View;
+use atomic_table::Table;
+use point_core::{CONTEXTS, LimitKind, Refusal};
+use std::alloc::Global;
+use std::marker::{Brand, Model};
+
+/// The most buffers of a set of words.
+pub const BUFFERS: usize = 64;
+
+/// The most flags of a set of words.
+pub const FLAGS: usize = 65_536;
+
+/// How many words each context has room for: a cache line of 64 bytes, so that no two timelines share one.
+pub const CONTEXT_STRIDE: usize = 8;
+
+/// How many contexts, buffers and flags a set of words has.
+#[derive(Clone, Copy)]
+pub struct Sizes {
+    pub contexts: usize,
+    pub buffers: usize,
+    pub flags: usize,
+}
+
+/// Words that threads share by reference. Each thread steps with a seat of its own, and no step waits.
+#[derive(Drop)]
+pub struct Words {
+    pub(crate) table: Table<(), View, Sizes, WordsRule, Global>,
+    pub(crate) sizes: Sizes,
+}
+
+impl Model for Words {
+    ghost use Rattle.std.specs.Prelude.{◌≡◌, ◌≤◌};
+    ghost use Rattle.point_core.specs.declared.context.TheConstants.{CONTEXTS};
+    ghost use Rattle.words_core.specs.declared.words.TheConstants.{BUFFERS, FLAGS};
+    ghost use Rattle.words_core.specs.Layout.{word_count};
+    ghost use Rattle.words_core.specs.Words.{WordsModel};
+
+    ghost Value = { WordsModel };
+
+    ghost view = { λ w. record { table = w.table.shared.table_id; contexts = w.sizes.contexts; buffers = w.sizes.buffers; flags = w.sizes.flags } };
+
+    ghost invariant = { λ w. (w.table.shared.key ≡ w.sizes) × (w.table.shared.table_id.words ≡ word_count w.sizes) × (1 ≤ w.sizes.contexts) × (w.sizes.contexts ≤ CONTEXTS) × (w.sizes.buffers ≤ BUFFERS) × (w.sizes.flags ≤ FLAGS) };
+}
+
+impl Words {
+    /// A set of words that are all 0, and its first seat, which has all parts.
+    ///
+    /// Refuses, in this order: as `Limit(Timelines)` where the contexts are not 1 to `CONTEXTS`, as `Limit(Buffers)`
+    /// above `BUFFERS`, as `Limit(Flags)` above `FLAGS`, and as `Memory`.
+    pub fn new(
+        alloc: Global,
+        contexts: usize,
+        buffers: usize,
+        flags: usize,
+    ) -> Result<(Words, Seat), Refusal>
+        ensures words { IfOk result (λ r. (r.0.contexts ≡ contexts) × (r.0.buffers ≡ buffers) × (r.0.flags ≡ flags)) }
+        ensures limits { IfOk result (λ r. (1 ≤ contexts) × (contexts ≤ CONTEXTS) × (buffers ≤ BUFFERS) × (flags ≤ FLAGS)) }
+        ensures seat { IfOk result (λ r. r.1 ≡ record { table = r.0.table; parts = PARTS; start = []; trace = [] }) }
+        ensures timelines { (contexts < 1) ⊎ (CONTEXTS < contexts) → IfErr result (λ e. e ≡ refusal.Limit limit.Timelines) }
+        ensures buffers { 1 ≤ contexts → contexts ≤ CONTEXTS → BUFFERS < buffers → IfErr result (λ e. e ≡ refusal.Limit limit.Buffers) }
+        ensures flags { 1 ≤ contexts → contexts ≤ CONTEXTS → buffers ≤ BUFFERS → FLAGS < flags → IfErr result (λ e. e ≡ refusal.Limit limit.Flags) }
+        ensures memory { 1 ≤ contexts → contexts ≤ CONTEXTS → buffers ≤ BUFFERS → flags ≤ FLAGS → IfErr result (λ e. e ≡ refusal.Memory) }
+    {
+        if contexts < 1 || contexts > CONTEXTS {
+            return Err(Refusal::Limit(LimitKind::Timelines));
+        }
+        if buffers > BUFFERS {
+            return Err(Refusal::Limit(LimitKind::Buffers));
+        }
+        if flags > FLAGS {
+            return Err(Refusal::Limit(LimitKind::Flags));
+        }
+        let sizes = Sizes {
+            contexts,
+            buffers,
+            flags,
+        };
+        let zeros = Vec::from_elem(alloc, 0u64, CONTEXT_STRIDE * contexts + flags)?;
+        let (table, token) = Table::of_words(alloc, zeros.as_slice(), &sizes)?;
+        Ok((
+            Words { table, sizes },
+            Seat {
+                token,
+                parts: PARTS,
+            },
+        ))
+    }
+
+    /// The number of contexts.
+    pub fn contexts(&self) -> usize
+        ensures value { result ≡ self.now.contexts }
+        ensures within { (1 ≤ result) × (result ≤ CONTEXTS) }
+    {
+        self.sizes.contexts
+    }
+
+    /// The number of buffers.
+    pub fn buffers(&self) -> usize
+        ensures value { result ≡ self.now.buffers }
+        ensures within { result ≤ BUFFERS }
+    {
+        self.sizes.buffers
+    }
+
+    /// The number of flags.
+    pub fn flags(&self) -> usize
+        ensures value { result ≡ self.now.flags }
+        ensures within { result ≤ FLAGS }
+    {
+        self.sizes.flags
+    }
+
+    /// A new seat with n of the parts, for another thread. It starts with all that this one has seen.
+    pub fn part(&self, seat: &mut Seat, n: u32) -> Seat
+        requires own { seat.old.table ≡ self.now.table }
+        requires parts { (1 ≤ n) × (n < seat.old.parts) }
+        ensures parent { seat.new ≡ without_parts seat.old n }
+        ensures child { result ≡ parted seat.old n }
+        ensures seen { (w : ℕ) → seen result w ≡ seen seat.old w }
+    {
+        self.split::<Brand>(seat, n)
+    }
+
+    fn split<N: PartCount>(&self, seat: &mut Seat, n: u32) -> Seat
+        requires own { seat.old.table ≡ self.now.table }
+        requires parts { (1 ≤ n) × (n < seat.old.parts) }
+        requires count { n ≡ N.count }
+        ensures parent { seat.new ≡ without_parts seat.old n }
+        ensures child { result ≡ parted seat.old n }
+    {
+        let token = self
+            .table
+            .shared
+            .split_seat::<SplitParts<N>>(&mut seat.token);
+        seat.parts -= n;
+        Seat { token, parts: n }
+    }
+
+    /// Takes in another seat of the same words: its parts, its start and its trace, which follow this one's. No claim
+    /// and no flag was won by both, so no two drivers of one context ever meet.
+    pub fn join(&self, seat: &mut Seat, other: Seat)
+        requires own { (seat.old.table ≡ self.now.table) × (other.table ≡ self.now.table) }
+        ensures both { seat.new ≡ both_of seat.old other }
+        ensures once { (w : ℕ) → wins_of w seat.old.trace + wins_of w other.trace ≤ 1 }
+        ensures seen { (w : ℕ) → seen seat.new w ≡ max (seen seat.old w) (seen other w) }
+    {
+        self.absorb(seat, other);
+    }
+
+    fn absorb(&self, seat: &mut Seat, other: Seat)
+        requires own { (seat.old.table ≡ self.now.table) × (other.table ≡ self.now.table) }
+        ensures both { seat.new ≡ both_of seat.old other }
+        ensures once { (w : ℕ) → wins_of w seat.new.trace ≤ 1 }
+    {
+        let Seat { token, parts } = other;
+        self.table
+            .shared
+            .join_seat::<JoinSeats>(&mut seat.token, token);
+        self.table.shared.load::<CountsParts>(&mut seat.token, 0);
+        seat.parts += parts;
+    }
+
+    /// A name of these words. It costs one load, which tells nothing.
+    pub fn id(&self) -> WordsId
+        ensures { result ≡ self.now.table }
+    {
+        let (_, token) = self.table.shared.load_new_seat::<TellsNothing>(0);
+        WordsId { token }
+    }
+}
+
+/// Names a set of words, for a value that goes with them. It has no bytes, and no step is made with it.
+#[derive(Drop)]
+pub struct WordsId {
+    pub(crate) token: atomic_table::Seat<(), View>,
+}
+
+impl Model for WordsId {
+    ghost use Rattle.atomic_table.specs.Seated.{TableId};
+
+    ghost Value = { TableId };
+
+    ghost view = { λ id. id.token.table_id };
+}
