@@ -1,0 +1,6 @@
+//! A script's bytes to commands, answers to bytes, and the engine that turns the one into the other.
+//!
+//! Lines, words, names and numbers are told as functions of the bytes (`specs/`), and so are the texts of answers.
+#![tactic(auto)]
+
+mod words;
