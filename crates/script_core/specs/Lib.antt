@@ -1,1 +1,3 @@
+pub mod Number
+pub mod Table
 pub mod Words

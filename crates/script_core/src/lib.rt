@@ -3,4 +3,8 @@
 //! Lines, words, names and numbers are told as functions of the bytes (`specs/`), and so are the texts of answers.
 #![tactic(auto)]
 
+mod number;
+mod table;
 mod words;
+
+pub use number::DIGITS;
