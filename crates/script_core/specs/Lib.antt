@@ -1,3 +1,4 @@
+pub mod Line
 pub mod Number
 pub mod Table
 pub mod Words

@@ -3,8 +3,10 @@
 //! Lines, words, names and numbers are told as functions of the bytes (`specs/`), and so are the texts of answers.
 #![tactic(auto)]
 
+mod line;
 mod number;
 mod table;
 mod words;
 
+pub use line::{Body, LINE_BYTES, Line};
 pub use number::DIGITS;
