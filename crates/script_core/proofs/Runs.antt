@@ -79,3 +79,12 @@ module _ (p : ℕ → Bool) where
       let other : p (get_or xs (start xs) 0) ≡ false = fails (get_or xs (start xs) 0) (passes_at_first (λ x. not (p x)) xs 0 at.0) in
       let head : p (get_or (drop i xs) 0 0) ≡ false = ap p (get_or-drop i xs 0 0 ∙ ap (λ k. get_or xs k 0) (add-zero i ∙ sym at.1)) ∙ other in
       sym skipped ∙ runs-front (drop i xs) n (omega (arith, length-drop i xs)) head e
+
+  -- what stands before the first element that passes, and what stands behind it
+  pub slice_split-some : (xs : List ℕ) (i : ℕ) → position p xs ≡ Some i → slice_split p xs ≡ take i xs ∷ slice_split p (drop (i + 1) xs)
+  slice_split-some xs i e =
+      let at = chosen (position_or_len p xs) (length xs) i e in
+      slice_split_first p xs 0 at.0 ∙ ap (λ k. take k xs ∷ slice_split p (drop (k + 1) xs)) at.1
+
+  pub slice_split-none : (xs : List ℕ) → position p xs ≡ None → slice_split p xs ≡ xs ∷ []
+  slice_split-none xs e = slice_split_none p xs (λ k d w. fails_before_first p xs k d (omega (arith, unchosen (position_or_len p xs) (length xs) e)))

@@ -1,4 +1,6 @@
 pub mod Line
+pub mod Lines
 pub mod Number
+pub mod Script
 pub mod Table
 pub mod Words

@@ -5,8 +5,10 @@
 
 mod line;
 mod number;
+mod script;
 mod table;
 mod words;
 
 pub use line::{Body, LINE_BYTES, Line};
 pub use number::DIGITS;
+pub use script::SCRIPT_BYTES;
