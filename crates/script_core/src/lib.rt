@@ -11,4 +11,4 @@ mod words;
 
 pub use line::{Body, LINE_BYTES, Line};
 pub use number::DIGITS;
-pub use script::SCRIPT_BYTES;
+pub use script::{SCRIPT_BYTES, read_script};

@@ -10,6 +10,19 @@ use std::alloc::Global;
 /// The most bytes of a script.
 pub const SCRIPT_BYTES: usize = 1_048_576;
 
+/// The lines of a script that have an answer, in order.
+///
+/// Of a script of more than `SCRIPT_BYTES` bytes, the lines whose line feed is among the first so many, and behind them a
+/// line that the limit cuts, as `Bad(Limit(Script))`.
+///
+/// Refused as Memory alone.
+pub fn read_script(alloc: Global, bytes: &[u8]) -> Result<Vec<Line>, Refusal>
+    ensures ok { IfOk result (λ lines. lines.items ≡ script_of bytes.now) }
+    ensures err { IfErr result (λ refusal. refusal ≡ Memory) }
+{
+    Ok(Lines::of(bytes).collect(alloc)?)
+}
+
 /// What stands behind the last line feed of some bytes.
 #[derive(Clone, Copy, Debug)]
 pub(crate) enum Ending {
