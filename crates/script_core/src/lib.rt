@@ -7,8 +7,10 @@ mod line;
 mod number;
 mod script;
 mod table;
+mod text;
 mod words;
 
 pub use line::{Body, LINE_BYTES, Line};
 pub use number::DIGITS;
 pub use script::{SCRIPT_BYTES, read_script};
+pub use text::print;
