@@ -1,4 +1,6 @@
 pub mod Answer
+pub mod Desk
+pub mod Files
 pub mod History
 pub mod Timeline
 pub mod World

@@ -1,0 +1,43 @@
+-- What a desk keeps, and the histories that it stands for.
+use Rattle.std.specs.Prelude.{◌≡◌, ℕ, ◌≤◌, List, map, length, All}
+use Rattle.point_core.specs.declared.entry.Point.{Point}
+use Rattle.point_core.specs.declared.entry.Entry.{Entry}
+use Rattle.point_core.specs.declared.entry.Usage.TheVariants.{Kernel}
+use Rattle.point_core.specs.declared.context.TheConstants.{CONTEXTS}
+use Rattle.point_core.specs.Reach.{IsAtLeast}
+use Rattle.desk_core.specs.Timeline.{Timeline, reach_of}
+use Rattle.desk_core.specs.Files.{SyncFile}
+use Rattle.desk_core.specs.World.{File, World}
+use Rattle.desk_core.specs.Answer.{points_of}
+use Rattle.desk_core.specs.declared.command.Command.{Command}
+use Rattle.desk_core.specs.History.{world_of}
+
+pub record DeskState : Type 0 where
+  pub timelines : List Timeline
+  pub files : List SyncFile
+
+-- each listed point is of a timeline that was made
+abbrev pub HaveTimelines : ℕ → List SyncFile → Type 0
+HaveTimelines made fs = All (λ (f : SyncFile). All (λ (p : Point). p.ctx ≤ made) f.points) fs
+
+-- an entry of a file: its timeline was made
+pub record IsFilePoint (made : ℕ) (e : Entry) : Type 0 where
+  pub usage : e.usage ≡ Kernel
+  pub timeline : (1 ≤ e.point.ctx) × (e.point.ctx ≤ made)
+
+-- the file was made, and no value has fallen since
+pub record WasMade (ts : List Timeline) (f : File) : Type 0 where
+  pub since : IsAtLeast (reach_of ts) f.made_at
+  pub put : All (IsFilePoint (length ts)) f.put
+
+-- the desk keeps the world: its timelines, and its files by name and order, each with the points that it lists
+pub record Keeps (desk : DeskState) (world : World) : Type 0 where
+  pub timelines : desk.timelines ≡ world.timelines
+  pub names : map (λ (f : SyncFile). f.name) desk.files ≡ map (λ (f : File). f.name) world.files
+  pub points : map (λ (f : SyncFile). f.points) desk.files ≡ map points_of world.files
+  pub made : All (WasMade world.timelines) world.files
+  pub room : length world.timelines ≤ CONTEXTS
+
+-- the desk stands for a history whose world it keeps
+abbrev pub StandsFor : DeskState → List Command → Type 0
+StandsFor desk history = Keeps desk (world_of history)
