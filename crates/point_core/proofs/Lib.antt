@@ -1,3 +1,4 @@
+pub mod Agreement
 pub mod Latest
 pub mod Listings
 pub mod Names

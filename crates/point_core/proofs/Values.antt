@@ -1,8 +1,7 @@
 -- Tables by context, and the greater value of each context.
-use Rattle.std.proofs.Common.{◌≡◌, ◌≢◌, ℕ, ◌+◌, ◌-◌, ◌<◌, ◌≤◌, max, refl, sym, ap, ◌∙◌, List, [], ◌∷◌, ◌++◌, length, get_or, set, map, arith, get_or-set_same, get_or-set_other, suc, inl, inr}
+use Rattle.std.proofs.Common.{◌≡◌, ◌≢◌, ℕ, ◌+◌, ◌-◌, ◌<◌, ◌≤◌, max, refl, ap, ◌∙◌, List, [], ◌∷◌, length, get_or, arith, get_or-set_same, get_or-set_other, suc, inl, inr}
 use Rattle.std.proofs.lemmas.Bool.{cases_lt}
 use Rattle.std.proofs.lemmas.List.{get_or_past}
-use Rattle.std.specs.List.{zip}
 use Rattle.point_core.specs.Reach.{value_at, with_value, later_values, IsAtLeast}
 
 pub value_at-with_value_same : (reach : List ℕ) (ctx value : ℕ) → 1 ≤ ctx → ctx ≤ length reach → value_at (with_value reach ctx value) ctx ≡ value
