@@ -17,14 +17,14 @@ answers_from w [] = []
 answers_from w (c ∷ cs) = answer_to w c ∷ answers_from (if is_refused (answer_to w c) then w else after w c) cs
 
 both_orders : answers_from empty_world (
-      command.Timeline (codes "a")
+    command.Timeline (codes "a")
     ∷ command.Fence (codes "f") (codes "a") 5
     ∷ command.Fence (codes "g") (codes "a") 3
     ∷ command.Merge (codes "m") (codes "f") (codes "g")
     ∷ command.Merge (codes "n") (codes "g") (codes "f")
     ∷ command.Info (codes "m")
     ∷ command.Info (codes "n") ∷ [])
-  ≡ (answer.Value 1
+    ≡ (answer.Value 1
     ∷ answer.Done
     ∷ answer.Done
     ∷ answer.Done
@@ -36,7 +36,7 @@ both_orders = refl
 
 -- one of the six orders, then merged with itself
 third_order : answers_from empty_world (
-      command.Timeline (codes "a")
+    command.Timeline (codes "a")
     ∷ command.Timeline (codes "b")
     ∷ command.Fence (codes "f") (codes "a") 5
     ∷ command.Fence (codes "g") (codes "b") 2
@@ -45,7 +45,7 @@ third_order : answers_from empty_world (
     ∷ command.Merge (codes "r") (codes "q") (codes "f")
     ∷ command.Merge (codes "s") (codes "r") (codes "r")
     ∷ command.Info (codes "s") ∷ [])
-  ≡ (answer.Value 1
+    ≡ (answer.Value 1
     ∷ answer.Value 2
     ∷ answer.Done
     ∷ answer.Done
@@ -59,14 +59,14 @@ third_order = refl
 
 -- a name that is not there is told before one that is there already
 refusals_in_order : answers_from empty_world (
-      command.Timeline (codes "a")
+    command.Timeline (codes "a")
     ∷ command.Timeline (codes "a")
     ∷ command.Fence (codes "f") (codes "a") 1
     ∷ command.Fence (codes "f") (codes "b") 1
     ∷ command.Merge (codes "f") (codes "f") (codes "g")
     ∷ command.Fence (codes "f") (codes "a") 2
     ∷ command.Info (codes "g") ∷ [])
-  ≡ (answer.Value 1
+    ≡ (answer.Value 1
     ∷ answer.Refused Exists
     ∷ answer.Done
     ∷ answer.Refused NoEntry

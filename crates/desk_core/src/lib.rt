@@ -6,6 +6,7 @@
 
 mod answer;
 mod command;
+mod timelines;
 
 pub use answer::{Answer, FenceRow, Info, Maker};
 pub use command::Command;
