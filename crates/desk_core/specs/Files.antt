@@ -36,6 +36,14 @@ abbrev pub plain_file : List ℕ → Point → SyncFile
 plain_file name point = record { name = name; points = point ∷ []; floor = replicate CONTEXTS 0 }
 
 -- a file of what is pending of two files, whose floor is the latest of both floors and the reach
+abbrev pub merged_of : List ℕ → SyncFile → SyncFile → List ℕ → SyncFile
+merged_of name a b reach = record {
+  name = name;
+  points = listing (as_entries (a.points ++ b.points)) 0 reach;
+  floor = later_values (later_values a.floor b.floor) reach;
+}
+
+-- the same of the files of two names
 abbrev pub merged_file : List SyncFile → List ℕ → List ℕ → List ℕ → List ℕ → SyncFile
 merged_file fs name a b reach = record {
   name = name;

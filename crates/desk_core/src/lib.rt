@@ -6,6 +6,7 @@
 
 mod answer;
 mod command;
+mod files;
 mod timelines;
 
 pub use answer::{Answer, FenceRow, Info, Maker};
