@@ -3,7 +3,7 @@ use Rattle.std.proofs.Common.{◌≡◌, ℕ, ◌+◌, ◌<◌, ◌≤◌, ◌�
 use Rattle.std.specs.List.{filter_map, cons_option, range_with_len}
 use Rattle.std.specs.List.Sorted.{IsStrictlyIncreasing}
 use Rattle.std.proofs.lemmas.Bool.{cases_eq, cases_lt, eqb-true, le-leb, leb-true, lt-ltb, le-ltb, and_parts, cases_Bool, false≢true}
-use Rattle.std.proofs.lemmas.List.Elements.{Contains-append_right, Contains-append_cases, All-cons, All-nil, All-contains, All-map, All-append}
+use Rattle.std.proofs.lemmas.List.Elements.{Contains-append_left, Contains-append_right, Contains-append_cases, Contains-push_cases, All-cons, All-nil, All-contains, All-map, All-append}
 use Rattle.std.proofs.lemmas.List.Sorted.{Contains-permutation, IsPermutation-sym}
 use Rattle.point_core.specs.declared.context.TheConstants.{CONTEXTS}
 use Rattle.point_core.specs.declared.entry.Point.{Point}
@@ -13,6 +13,7 @@ use Rattle.point_core.specs.Reach.{value_at, IsAtLeast}
 use Rattle.point_core.specs.Agreement.{applies, AppliesAt, later, top, IsPut, NoneIsLater, NoneApplies, pending, pending_top, AgreesAbove, as_entry, as_entries, contexts, point_of, listing, HasContexts, HasRisingContexts, AllAbove, IsReached}
 use Rattle.point_core.specs.Latest.{raised_to}
 use Rattle.point_core.proofs.Latest.{raised_to-top-append, applies-true, applies-other}
+use Rattle.point_core.proofs.Values.{IsAtLeast-refl}
 use Rattle.point_core.proofs.Listings.{filter_map-contexts, filter_map-range_same}
 
 -- the value that is raised to a point says whether the point is pending, and which it is
@@ -216,6 +217,15 @@ top-same es fs there back usage ctx =
 pub top-permutation : (es fs : List Entry) → IsPermutation es fs → (usage ctx : ℕ) → top es usage ctx ≡ top fs usage ctx
 top-permutation es fs moved = top-same es fs (λ e. Contains-permutation es fs e moved) (λ e. Contains-permutation fs es e (IsPermutation-sym es fs moved))
 
+-- an entry that is there already
+pub top-repeated : (es : List Entry) (e : Entry) → Contains es e → (usage ctx : ℕ) → top (es ++ e ∷ []) usage ctx ≡ top es usage ctx
+top-repeated es e among = top-same (es ++ e ∷ []) es
+    (λ f there. elim (Contains-push_cases es e f there) [
+      | inl before ↦ before
+      | inr is ↦ subst (Contains es) is among
+    ])
+    (λ f here. Contains-append_left es (e ∷ []) f here)
+
 pub AgreesAbove-same_entries : (reach : List ℕ) (es fs : List Entry) → ((e : Entry) → Contains es e → Contains fs e) → ((e : Entry) → Contains fs e → Contains es e) → AgreesAbove reach es fs
 AgreesAbove-same_entries reach es fs there back = record { tops = λ usage ctx. ap (pending (value_at reach ctx)) (top-same es fs there back usage ctx) }
 
@@ -398,9 +408,6 @@ pending_top-listing {later} {reach} es usage at ctx within high = elim (cases_co
       (ap (raised_to (value_at later ctx)) (top-listing es usage reach at ctx both.0 both.1) ∙ raised_to-pending (high.values ctx) (top es usage ctx))
   | inr outside ↦ ap (pending (value_at later ctx)) (top-listing_outside es usage reach at ctx outside ∙ sym (top-outside es usage ctx within outside))
 ]
-
-IsAtLeast-refl : (reach : List ℕ) → IsAtLeast reach reach
-IsAtLeast-refl reach = record { values = λ ctx. omega arith }
 
 -- a listing of points agrees with them
 pub AgreesAbove-listing : (reach : List ℕ) (ps : List Point) → HasContexts (as_entries ps) → AgreesAbove reach (as_entries (listing (as_entries ps) 0 reach)) (as_entries ps)

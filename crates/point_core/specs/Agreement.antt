@@ -1,5 +1,5 @@
 -- What a set of entries says of each context, and when two sets say the same above a reach.
-use Rattle.std.specs.Prelude.{◌≡◌, ℕ, ◌==◌, ◌<◌, ◌≤◌, Bool, ◌&&◌, nat_lt, nat_le, max, if◌then◌else◌, List, [], ◌∷◌, Option, None, Some, option_map, map, All, Contains}
+use Rattle.std.specs.Prelude.{◌≡◌, ℕ, ◌==◌, ◌<◌, ◌≤◌, Bool, ◌&&◌, nat_lt, nat_le, max, if◌then◌else◌, List, [], ◌∷◌, ◌++◌, Option, None, Some, option_map, map, All, Contains}
 use Rattle.std.specs.List.{filter_map, range_with_len}
 use Rattle.std.specs.List.Sorted.{IsStrictlyIncreasing}
 use Rattle.point_core.specs.declared.entry.Point.{Point}
@@ -68,6 +68,10 @@ point_of ctx value = record { ctx = ctx; value = value }
 -- the latest pending point of each context, by rising context
 abbrev pub listing : List Entry → ℕ → List ℕ → List Point
 listing es usage reach = filter_map (λ ctx. option_map (point_of ctx) (pending_top reach es usage ctx)) contexts
+
+-- what a merge of two files' points lists above a reach
+abbrev pub merged : List ℕ → List Point → List Point → List Point
+merged reach ps qs = listing (as_entries (ps ++ qs)) 0 reach
 
 -- each entry is of a context that there can be
 abbrev pub HasContexts : List Entry → Type 0
