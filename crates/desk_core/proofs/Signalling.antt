@@ -46,7 +46,8 @@ All-list_all p (e ∷ es) all = and_from (p e) (list_all p es) (All-head (λ (e 
 pub all_reached-IsReached : (reach : List ℕ) (usage : ℕ) (es : List Entry) → (all_reached reach usage es ≡ true) ↔ IsReached es usage reach
 all_reached-IsReached reach usage es = (
   λ is e among strong. passes-reached reach usage e (All-contains (λ (e : Entry). passes reach usage e ≡ true) es e (list_all-All (passes reach usage) es is) among) strong,
-  λ h. All-list_all (passes reach usage) es (All-weaker (Contains es) (λ (e : Entry). passes reach usage e ≡ true) (λ e among. reached-passes reach usage e (h e among)) es (All-contains_itself es)))
+  λ h. All-list_all (passes reach usage) es (All-weaker (Contains es) (λ (e : Entry). passes reach usage e ≡ true) (λ e among. reached-passes reach usage e (h e among)) es (All-contains_itself es)),
+)
 
 same_Bool : (a b : Bool) → (a ≡ true → b ≡ true) → (b ≡ true → a ≡ true) → a ≡ b
 same_Bool true b there back = sym (there refl)

@@ -1,15 +1,21 @@
 -- What a desk keeps, and the histories that it stands for.
-use Rattle.std.specs.Prelude.{◌≡◌, ℕ, ◌≤◌, List, map, length, All}
+use Rattle.std.specs.Prelude.{◌≡◌, ℕ, ◌≤◌, ◌&&◌, nat_lt, if◌then◌else◌, List, map, length, All, Option, None, Some, Result, Ok, Err}
 use Rattle.point_core.specs.declared.entry.Point.{Point}
 use Rattle.point_core.specs.declared.entry.Entry.{Entry}
 use Rattle.point_core.specs.declared.entry.Usage.TheVariants.{Kernel}
 use Rattle.point_core.specs.declared.context.TheConstants.{CONTEXTS}
+use Rattle.point_core.specs.declared.refusal.Refusal.{Refusal}
+use Rattle.point_core.specs.declared.refusal.Refusal.TheVariants.{NoEntry, Exists, Limit}
+use Rattle.point_core.specs.declared.refusal.LimitKind.TheVariants.{Timelines}
 use Rattle.point_core.specs.Reach.{IsAtLeast}
-use Rattle.desk_core.specs.Timeline.{Timeline, reach_of}
-use Rattle.desk_core.specs.Files.{SyncFile}
-use Rattle.desk_core.specs.World.{File, World}
-use Rattle.desk_core.specs.Answer.{points_of}
+use Rattle.desk_core.specs.Timeline.{Timeline, has_timeline, reach_of}
+use Rattle.desk_core.specs.Files.{SyncFile, has_sync_file, cause_to_refuse, cause_to_refuse_merge}
+use Rattle.desk_core.specs.World.{File, World, after}
+use Rattle.desk_core.specs.Answer.{points_of, told}
+use Rattle.desk_core.specs.declared.answer.Answer.{Answer}
+use Rattle.desk_core.specs.declared.answer.Answer.TheVariants as answer
 use Rattle.desk_core.specs.declared.command.Command.{Command}
+use Rattle.desk_core.specs.declared.command.Command.TheVariants as command
 use Rattle.desk_core.specs.History.{world_of}
 
 pub record DeskState : Type 0 where
@@ -41,3 +47,20 @@ pub record Keeps (desk : DeskState) (world : World) : Type 0 where
 -- the desk stands for a history whose world it keeps
 abbrev pub StandsFor : DeskState → List Command → Type 0
 StandsFor desk history = Keeps desk (world_of history)
+
+-- why the desk refuses a command, by what it keeps
+abbrev pub cause_of : DeskState → Command → Option Refusal
+cause_of d (command.Timeline t) = if has_timeline d.timelines t then Some Exists else if nat_lt (length d.timelines) CONTEXTS then None else Some (Limit Timelines)
+cause_of d (command.Fence f t p) = if has_timeline d.timelines t then cause_to_refuse d.files f else Some NoEntry
+cause_of d (command.Merge f a b) = cause_to_refuse_merge d.files f a b
+cause_of d (command.Info f) = if has_sync_file d.files f then None else Some NoEntry
+
+-- the command was done in each world that the desk keeps
+pub record IsDone (old : DeskState) (c : Command) (given : Answer) (new : DeskState) : Type 0 where
+  pub told : (world : World) → Keeps old world → given ≡ told world c
+  pub kept : (world : World) → Keeps old world → Keeps new (after world c)
+
+-- what is answered: what was told, or the refusal
+abbrev pub answer_of : Result Answer Refusal → Answer
+answer_of (Ok given) = given
+answer_of (Err refusal) = answer.Refused refusal
