@@ -61,18 +61,20 @@ sync_file_at-points (k ∷ ks) (f ∷ fs) name is points =
     ap (λ n. option_map (λ (x : SyncFile). x.points) (cond (same_name n name) (Some k) (sync_file_at ks name))) same
     ∙ points-cond (same_name f.name name) k f (sync_file_at ks name) (file_named fs name) same' (sync_file_at-points ks fs name rest rest')
 
-find-All : (P : File → Type 0) (fs : List File) (name : List ℕ) → All P fs → (f : File) → file_named fs name ≡ Some f → P f
-find-All P [] name all f is = absurd (cc)
-find-All P (g ∷ fs) name all f is =
-    found (same_name g.name name) is (All-head P g fs all) (λ rest. find-All P fs name (All-tail P g fs all) f rest)
-  where
-    found : (b : Bool) → cond b (Some g) (file_named fs name) ≡ Some f → P g → (file_named fs name ≡ Some f → P f) → P f
-    found true h here later = subst P (same_Some g f h) here
-    found false h here later = later h
+found-All : {X : Type 0} (P : X → Type 0) (b : Bool) (x y : X) (rest : Option X) → cond b (Some x) rest ≡ Some y → P x → (rest ≡ Some y → P y) → P y
+found-All P true x y rest is here later = subst P (same_Some x y is) here
+found-All P false x y rest is here later = later is
 
--- what holds of each file holds of the one that is found
+-- what holds of each element holds of the one that is found
+pub find-All : {X : Type 0} (P : X → Type 0) (test : X → Bool) (xs : List X) (x : X) → All P xs → find test xs ≡ Some x → P x
+find-All P test [] x all is = absurd (cc)
+find-All P test (y ∷ ys) x all is = found-All P (test y) y x (find test ys) is (All-head P y ys all) (λ rest. find-All P test ys x (All-tail P y ys all) rest)
+
 pub file_named-All : (P : File → Type 0) (fs : List File) (name : List ℕ) (f : File) → All P fs → file_named fs name ≡ Some f → P f
-file_named-All P fs name f all is = find-All P fs name all f is
+file_named-All P fs name f all is = find-All P (λ (g : File). same_name g.name name) fs f all is
+
+pub sync_file_at-All : (P : SyncFile → Type 0) (fs : List SyncFile) (name : List ℕ) (f : SyncFile) → All P fs → sync_file_at fs name ≡ Some f → P f
+sync_file_at-All P fs name f all is = find-All P (λ (g : SyncFile). same_name g.name name) fs f all is
 
 -- a file's points and what was put into it
 

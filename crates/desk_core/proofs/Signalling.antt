@@ -3,6 +3,7 @@ use Rattle.std.proofs.Common.{◌≡◌, ℕ, ◌+◌, ◌<◌, ◌≤◌, Bool,
 use Rattle.std.specs.Prelude.{◌↔◌, if◌then◌else◌}
 use Rattle.std.specs.List.{list_all}
 use Rattle.std.proofs.lemmas.Bool.{and_parts, and_from, leb-true, le-leb, lt-leb, cases_lt, cases_Bool, false≢true, iff_false, false_from_ne_true}
+use Rattle.std.proofs.lemmas.List.Folds.{list_all-map}
 use Rattle.std.proofs.lemmas.List.Elements.{All-nil, All-cons, All-head, All-tail, All-weaker, All-contains, All-contains_itself}
 use Rattle.point_core.specs.declared.context.TheConstants.{CONTEXTS}
 use Rattle.point_core.specs.declared.entry.Point.{Point}
@@ -89,3 +90,6 @@ all_reached-keeps {desk} {world} k name =
 pub status_if-Signalled : (b : Bool) (P : Type 0) → ((b ≡ true) ↔ P) → (status_if b ≡ Signalled) ↔ P
 status_if-Signalled true P h = (λ _. h.0 refl, λ _. refl)
 status_if-Signalled false P h = (λ is. absurd (cc), λ p. absurd (false≢true (h.1 p)))
+
+pub all_reached-points : (reach : List ℕ) (ps : List Point) → all_reached reach 0 (as_entries ps) ≡ list_all (λ (p : Point). nat_le p.value (value_at reach p.ctx)) ps
+all_reached-points reach ps = list_all-map (passes reach 0) as_entry ps

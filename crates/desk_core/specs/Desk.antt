@@ -1,5 +1,5 @@
 -- What a desk keeps, and the histories that it stands for.
-use Rattle.std.specs.Prelude.{◌≡◌, ℕ, ◌≤◌, ◌&&◌, nat_lt, if◌then◌else◌, List, map, length, All, Option, None, Some, Result, Ok, Err}
+use Rattle.std.specs.Prelude.{◌≡◌, ℕ, ◌≤◌, ◌&&◌, false, nat_lt, if◌then◌else◌, List, map, length, All, Option, None, Some, Result, Ok, Err}
 use Rattle.point_core.specs.declared.entry.Point.{Point}
 use Rattle.point_core.specs.declared.entry.Entry.{Entry}
 use Rattle.point_core.specs.declared.entry.Usage.TheVariants.{Kernel}
@@ -11,7 +11,10 @@ use Rattle.point_core.specs.Reach.{IsAtLeast}
 use Rattle.desk_core.specs.Timeline.{Timeline, has_timeline, reach_of}
 use Rattle.desk_core.specs.Files.{SyncFile, has_sync_file, cause_to_refuse, cause_to_refuse_merge}
 use Rattle.desk_core.specs.World.{File, World, after}
-use Rattle.desk_core.specs.Answer.{points_of, told}
+use Rattle.point_core.specs.Agreement.{as_entries}
+use Rattle.point_core.specs.Status.{status_if}
+use Rattle.desk_core.specs.Answer.{points_of, told, is_refused, all_reached, fence_row, or_stub}
+use Rattle.desk_core.specs.declared.answer.Info.{Info}
 use Rattle.desk_core.specs.declared.answer.Answer.{Answer}
 use Rattle.desk_core.specs.declared.answer.Answer.TheVariants as answer
 use Rattle.desk_core.specs.declared.command.Command.{Command}
@@ -22,9 +25,17 @@ pub record DeskState : Type 0 where
   pub timelines : List Timeline
   pub files : List SyncFile
 
--- each listed point is of a timeline that was made
+-- each point is of a timeline that was made
+abbrev pub AreMade : ℕ → List Point → Type 0
+AreMade made ps = All (λ (p : Point). p.ctx ≤ made) ps
+
+-- each listed point is
 abbrev pub HaveTimelines : ℕ → List SyncFile → Type 0
-HaveTimelines made fs = All (λ (f : SyncFile). All (λ (p : Point). p.ctx ≤ made) f.points) fs
+HaveTimelines made fs = All (λ (f : SyncFile). AreMade made f.points) fs
+
+-- what is told of a file that lists the points
+abbrev pub info_at : List Timeline → List ℕ → List Point → Info
+info_at ts name ps = record { name = name; status = status_if (all_reached (reach_of ts) 0 (as_entries ps)); fences = or_stub (map (fence_row ts) ps) }
 
 -- an entry of a file: its timeline was made
 pub record IsFilePoint (made : ℕ) (e : Entry) : Type 0 where
@@ -57,6 +68,7 @@ cause_of d (command.Info f) = if has_sync_file d.files f then None else Some NoE
 
 -- the command was done in each world that the desk keeps
 pub record IsDone (old : DeskState) (c : Command) (given : Answer) (new : DeskState) : Type 0 where
+  pub accepted : is_refused given ≡ false
   pub told : (world : World) → Keeps old world → given ≡ told world c
   pub kept : (world : World) → Keeps old world → Keeps new (after world c)
 
