@@ -1,5 +1,5 @@
 -- The answer of each command in a world: the first refusal whose cause holds, else what the accepted command tells.
-use Rattle.std.specs.Prelude.{ℕ, ◌+◌, Bool, true, false, not, ◌&&◌, ◌||◌, nat_le, if◌then◌else◌, List, [], ◌∷◌, length, map, Option, None, Some, codes}
+use Rattle.std.specs.Prelude.{ℕ, ◌+◌, Bool, true, false, not, ◌&&◌, ◌||◌, nat_le, if◌then◌else◌, List, [], ◌∷◌, length, map, Option, None, Some, codes, ⊤}
 use Rattle.std.specs.List.{list_all}
 use Rattle.point_core.specs.declared.context.TheConstants.{CONTEXTS}
 use Rattle.point_core.specs.declared.entry.Point.{Point}
@@ -94,3 +94,10 @@ is_refused (answer.Refused r) = true
 is_refused answer.Done = false
 is_refused (answer.Value n) = false
 is_refused (answer.Info i) = false
+
+-- a fact that holds where the answer is a refusal
+abbrev pub OnRefused : Answer → Type 0 → Type 0
+OnRefused (answer.Refused r) fact = fact
+OnRefused answer.Done fact = ⊤
+OnRefused (answer.Value n) fact = ⊤
+OnRefused (answer.Info i) fact = ⊤

@@ -1,4 +1,7 @@
 pub mod Answer
+pub mod Desk
+pub mod Files
+pub mod Headline
 pub mod History
 pub mod Timeline
 pub mod World

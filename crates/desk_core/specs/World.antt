@@ -5,7 +5,7 @@ use Rattle.point_core.specs.declared.entry.Entry.{Entry}
 use Rattle.point_core.specs.Agreement.{as_entry, point_of}
 use Rattle.desk_core.specs.declared.command.Command.{Command}
 use Rattle.desk_core.specs.declared.command.Command.TheVariants as command
-use Rattle.desk_core.specs.Timeline.{Timeline, same_name, has_timeline, context_of, reach_of}
+use Rattle.desk_core.specs.Timeline.{Timeline, new_timeline, same_name, has_timeline, context_of, reach_of}
 
 -- a sync file, with all that was put into it. A file made of one point lists it whether or not it is signalled
 pub record File : Type 0 where
@@ -32,7 +32,7 @@ abbrev pub put_set : List File → List ℕ → List Entry
 put_set fs name = unwrap_or (option_map (λ f. f.put) (file_named fs name)) []
 
 abbrev pub with_timeline : World → List ℕ → World
-with_timeline w name = record w { timelines = w.timelines ++ record { name = name; value = 0 } ∷ [] }
+with_timeline w name = record w { timelines = w.timelines ++ new_timeline name ∷ [] }
 
 abbrev pub with_file : World → List ℕ → List Entry → Bool → World
 with_file w name put is_one_point = record w { files = w.files ++ record { name = name; put = put; is_one_point = is_one_point; made_at = reach_of w.timelines } ∷ [] }

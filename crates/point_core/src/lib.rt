@@ -7,6 +7,7 @@
 mod context;
 mod entry;
 mod items;
+pub mod laws;
 mod listing;
 mod name;
 mod reach;
@@ -21,3 +22,6 @@ pub use name::{NAME_BYTES, Name};
 pub use reach::{Reach, is_signalled};
 pub use refusal::{LimitKind, Refusal};
 pub use status::Status;
+
+#[cfg(test)]
+mod tests;
