@@ -5,10 +5,12 @@
 
 mod line;
 mod number;
+mod reading;
 mod script;
 mod table;
 mod text;
 mod words;
+mod writing;
 
 pub use line::{Body, LINE_BYTES, Line};
 pub use number::DIGITS;
