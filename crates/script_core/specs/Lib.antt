@@ -2,6 +2,7 @@ pub mod Bytes
 pub mod Line
 pub mod Lines
 pub mod Number
+pub mod Output
 pub mod Script
 pub mod Table
 pub mod Text

@@ -3,12 +3,14 @@
 //! Lines, words, names and numbers are told as functions of the bytes (`specs/`), and so are the texts of answers.
 #![tactic(auto)]
 
+mod engine;
 mod line;
 mod number;
 mod reading;
 mod script;
 mod table;
 mod text;
+mod totals;
 mod words;
 mod writing;
 
@@ -16,3 +18,4 @@ pub use line::{Body, LINE_BYTES, Line};
 pub use number::DIGITS;
 pub use script::{SCRIPT_BYTES, read_script};
 pub use text::print;
+pub use totals::Totals;
