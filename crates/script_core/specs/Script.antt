@@ -40,6 +40,10 @@ numbered end number (line ∷ next ∷ more) = answered number (body_of line) (n
 abbrev pub lines_until : Ending → List ℕ → List Line
 lines_until end bytes = numbered end 1 (lines_of bytes)
 
+-- whether a script goes on past its limit
+abbrev pub ending_of : List ℕ → Ending
+ending_of script = if nat_le (length script) SCRIPT_BYTES then ending.Whole else ending.TooLong
+
 -- the lines of a script that have an answer
 abbrev pub script_of : List ℕ → List Line
-script_of bytes = if nat_le (length bytes) SCRIPT_BYTES then lines_until ending.Whole bytes else lines_until ending.TooLong (take SCRIPT_BYTES bytes)
+script_of script = lines_until (ending_of script) (take SCRIPT_BYTES script)

@@ -1,7 +1,7 @@
 // The lines of a script.
-ghost use Rattle.std.specs.Prelude.{◌≡◌, ◌+◌, ◌^◌, ◌<◌, ◌∷◌, ◌++◌, [], length, option_to_list, MatchOption, IfSome, position, IfOk, IfErr};
+ghost use Rattle.std.specs.Prelude.{◌≡◌, ◌+◌, ◌^◌, ◌<◌, ◌∷◌, ◌++◌, [], length, take, option_to_list, MatchOption, IfSome, position, IfOk, IfErr};
 ghost use Rattle.point_core.specs.declared.refusal.Refusal.TheVariants.{Memory};
-ghost use Rattle.script_core.specs.Script.{is_line_feed, lines_of, lines_until, script_of, last_body, answered};
+ghost use Rattle.script_core.specs.Script.{is_line_feed, lines_of, lines_until, script_of, ending_of, last_body, answered};
 
 use crate::line::{Body, Line, body_of};
 use point_core::{LimitKind, Refusal};
@@ -47,26 +47,23 @@ pub(crate) struct Lines<'a> {
 impl<'a> Lines<'a> {
     ghost use Rattle.script_core.specs.Lines.{lines_left, turns_left};
 
+    /// The lines of the first `SCRIPT_BYTES` bytes, which end so.
     pub(crate) fn new(bytes: &'a [u8], ending: Ending) -> Self
-        requires { length bytes.now + 1 < 2 ^ 32 }
-        ensures { lines_left result ≡ lines_until ending bytes.now }
+        ensures lines { lines_left result ≡ lines_until ending (take SCRIPT_BYTES bytes.now) }
+        ensures few { length (lines_left result) < 2 ^ 32 }
     {
         Lines {
-            rest: bytes,
+            rest: &bytes[..SCRIPT_BYTES.min(bytes.len())],
             number: 1,
             ending: Some(ending),
         }
     }
 
     /// The lines of a script.
-    pub(crate) fn of(bytes: &'a [u8]) -> Self
+    fn of(bytes: &'a [u8]) -> Self
         ensures { lines_left result ≡ script_of bytes.now }
     {
-        if bytes.len() <= SCRIPT_BYTES {
-            Lines::new(bytes, Ending::Whole)
-        } else {
-            Lines::new(&bytes[..SCRIPT_BYTES], Ending::TooLong)
-        }
+        Lines::new(bytes, ending_of(bytes))
     }
 
     /// Goes on by one line, and gives it where it has an answer.
@@ -96,6 +93,16 @@ impl<'a> Lines<'a> {
                 last_body(ending, self.rest)
             }
         }
+    }
+}
+
+fn ending_of(script: &[u8]) -> Ending
+    ensures { result ≡ ending_of script.now }
+{
+    if script.len() <= SCRIPT_BYTES {
+        Ending::Whole
+    } else {
+        Ending::TooLong
     }
 }
 
