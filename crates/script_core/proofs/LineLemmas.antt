@@ -10,7 +10,7 @@ use Rattle.script_core.specs.Line.{body_of}
 use Rattle.script_core.specs.Lines.{lines_before}
 use Rattle.script_core.specs.Script.{is_line_feed, lines_of, lines_until, answered, last_body, numbered}
 
-numbered-cons : (end : Ending) (number : ℕ) (line : List ℕ) (more : List (List ℕ)) → 0 < length more → numbered end number (line ∷ more) ≡ answered number (body_of line) (numbered end (number + 1) more)
+pub numbered-cons : (end : Ending) (number : ℕ) (line : List ℕ) (more : List (List ℕ)) → 0 < length more → numbered end number (line ∷ more) ≡ answered number (body_of line) (numbered end (number + 1) more)
 numbered-cons end number line [] h = absurd (omega arith)
 numbered-cons end number line (next ∷ more) h = refl
 

@@ -70,11 +70,19 @@ pub record WritesFront (lines : List Line) (old new : Option (List ℕ)) : Type 
   pub each : AreLineAnswers [] first given
   pub written : AppendsFront old new (texts_of first given)
 
+-- the script is what the reader had, where that is known
+abbrev pub IsInput : Option (List ℕ) → List ℕ → Type 0
+IsInput known script = IfSome known (λ input. script ≡ input)
+
 -- how many answers there were, and how many of them refusals
 pub record Counts (totals : Totals) (given : List Answer) : Type 0 where
   pub lines : totals.lines ≡ length given
   pub refused : totals.refused ≡ count_by is_refused given
 
--- the script is what the reader had, where that is known
-abbrev pub IsInput : Option (List ℕ) → List ℕ → Type 0
-IsInput known script = IfSome known (λ input. script ≡ input)
+-- The script was answered: each of its lines has its answer, in order, and the texts of these were written, and nothing
+-- else. Where no answer is Memory, that is the output of the script.
+pub record AnswersScript (script : List ℕ) (totals : Totals) (old new : Option (List ℕ)) : Type 0 where
+  pub given : List Answer
+  pub answers : WritesAnswers (script_of script) given old new
+  pub output : NoneIsMemory given → Appends old new (output_of script)
+  pub counts : Counts totals given

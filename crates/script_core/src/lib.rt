@@ -3,7 +3,7 @@
 //! Lines, words, names and numbers are told as functions of the bytes (`specs/`), and so are the texts of answers.
 #![tactic(auto)]
 
-mod engine;
+mod answering;
 mod line;
 mod number;
 mod reading;
@@ -14,6 +14,7 @@ mod totals;
 mod words;
 mod writing;
 
+pub use answering::engine;
 pub use line::{Body, LINE_BYTES, Line};
 pub use number::DIGITS;
 pub use script::{SCRIPT_BYTES, read_script};
