@@ -1,5 +1,5 @@
 -- Answers, and the histories after them.
-use Rattle.std.proofs.Common.{◌≡◌, Bool, true, false, refl, sym, ap, subst, ◌∙◌, List, [], ◌∷◌, ◌++◌, length, Option, None, Some, inl, inr, arith}
+use Rattle.std.proofs.Common.{◌≡◌, Bool, true, false, refl, sym, ap, subst, ◌∙◌, List, [], ◌∷◌, ◌++◌, length, Option, None, Some, inl, inr, arith, length-append}
 use Rattle.std.specs.Prelude.{if◌then◌else◌, Result, Ok, Err, IfOk, OnErr}
 use Rattle.point_core.specs.declared.refusal.Refusal.{Refusal}
 use Rattle.point_core.specs.declared.refusal.Refusal.TheVariants.{Memory}
@@ -74,3 +74,18 @@ AreAnswers-push history [] [] c a are is = (is, tt)
 AreAnswers-push history [] (b ∷ given) c a are is = absurd are
 AreAnswers-push history (d ∷ cs) [] c a are is = absurd are
 AreAnswers-push history (d ∷ cs) (b ∷ given) c a are is = (are.0, AreAnswers-push (history_after history d b) cs given c a are.1 is)
+
+-- the desk and the answers after those commands
+pub record HasRun (desk : DeskState) (cs : List Command) (given : List Answer) : Type 0 where
+  pub answers : AreAnswers [] cs given
+  pub stands : StandsFor desk (history_of [] cs given)
+  pub each : length cs ≡ length given
+
+pub HasRun-push : {desk : DeskState} {cs : List Command} {given : List Answer} (new : DeskState) (c : Command) (a : Answer) → HasRun desk cs given → ((history : List Command) → StandsFor desk history → IsAnswer history c a) → ((history : List Command) → StandsFor desk history → StandsFor new (history_after history c a)) → HasRun new (cs ++ c ∷ []) (given ++ a ∷ [])
+HasRun-push {desk} {cs} {given} new c a run answer stands = record {
+  answers = AreAnswers-push [] cs given c a run.answers (answer (history_of [] cs given) run.stands);
+  stands =
+      let P : List Command → Type 0 = λ history. StandsFor new history in
+      subst P (sym (history_of-push [] cs given c a run.each)) (stands (history_of [] cs given) run.stands);
+  each = omega (arith, run.each, length-append {A = Command}, length-append {A = Answer});
+}
