@@ -1,0 +1,4 @@
+pub mod Files
+pub mod Rising
+pub mod Status
+pub mod SyncFile
