@@ -1,13 +1,15 @@
 // The files by name.
-ghost use Rattle.std.specs.Prelude.{◌≡◌, ◌++◌, [], ◌∷◌, ◌<◌, length, OnOk, OnErr, IfOk, IfErr, IsOk, None, option_copied, MatchOption, MatchBool, Err};
+ghost use Rattle.std.specs.Prelude.{◌≡◌, ◌++◌, [], ◌∷◌, ◌<◌, length, OnOk, OnErr, IfOk, IfErr, IsOk, None, option_copied, MatchOption, MatchBool, MatchResult, Ok, Err, IsOkAnd};
 ghost use Rattle.point_core.specs.declared.refusal.Refusal.TheVariants.{Memory, NoEntry};
 ghost use Rattle.syncfile_core.specs.declared.files.TheConstants.{FILES};
 ghost use Rattle.syncfile_core.specs.SyncFile.{plain_file};
+ghost use Rattle.syncfile_core.specs.Status.{status_of, info_of};
 ghost use Rattle.syncfile_core.specs.Files.{has_file, file_at, without_file, names_of, cause_to_refuse, IsRefusedFor};
 
+use crate::status::{self, FileInfo, Status};
 use crate::sync_file::SyncFile;
 use indexmap::IndexMap;
-use point_core::{LimitKind, Name, Point, Refusal};
+use point_core::{Items, LimitKind, Name, Point, Reach, Refusal};
 use std::alloc::Global;
 use std::marker::Model;
 
@@ -55,6 +57,43 @@ impl Files {
         }
     }
 
+    /// The names, by the order of making.
+    ///
+    /// Refuses as `Memory` alone.
+    pub fn names(&self) -> Result<Vec<Name>, Refusal>
+        ensures names { IfOk result (λ names. names.items ≡ names_of self.now) }
+        ensures memory { IfErr result (λ e. e ≡ Memory) }
+    {
+        Ok(self.by_name.keys().copied().collect(self.allocator())?)
+    }
+
+    /// Whether each of the file's points is signalled. A file without points is.
+    ///
+    /// Refuses as `NoEntry`. Takes no memory.
+    pub fn status(&self, name: &Name, reach: &Reach) -> Result<Status, Refusal>
+        ensures { MatchOption (file_at self.now name.now) (result ≡ Err NoEntry) (λ f. result ≡ Ok (status_of f.points reach.now)) }
+    {
+        let file = self.known(name)?;
+        Ok(status::status_of(file.points.as_slice(), reach))
+    }
+
+    /// The file's name, its status, and a fence for each of its points. A file without points is told as one fence,
+    /// the stub, as the kernel does.
+    ///
+    /// Refuses as `NoEntry`, then as `Memory`.
+    pub fn info(&self, name: &Name, reach: &Reach) -> Result<FileInfo, Refusal>
+        ensures { MatchOption (file_at self.now name.now) (result ≡ Err NoEntry) (λ f. MatchResult result (λ info. info ≡ info_of f reach.now) (λ e. e ≡ Memory)) }
+    {
+        let file = self.known(name)?;
+        let points = file.points.as_slice();
+        let fences = status::fences_of(self.allocator(), points, reach)?;
+        Ok(FileInfo {
+            name: file.name,
+            status: status::status_of(points, reach),
+            fences: Items::of(fences),
+        })
+    }
+
     /// Whether a file of that name may be made: `Exists` where there is one, `Limit` where there are `FILES` files.
     ///
     /// Takes no memory.
@@ -94,6 +133,12 @@ impl Files {
             Some(_file) => Ok(()),
             None => Err(Refusal::NoEntry),
         }
+    }
+
+    fn known(&self, name: &Name) -> Result<&SyncFile, Refusal>
+        ensures { MatchOption (file_at self.now name.now) (result ≡ Err NoEntry) (λ f. IsOkAnd result (λ known. known.now ≡ f)) }
+    {
+        self.get(name).ok_or(Refusal::NoEntry)
     }
 
     fn allocator(&self) -> Global {

@@ -8,5 +8,5 @@ mod status;
 mod sync_file;
 
 pub use files::{FILES, Files};
-pub use status::Status;
+pub use status::{FenceInfo, FileInfo, Status};
 pub use sync_file::SyncFile;
