@@ -1,8 +1,7 @@
 -- A table of latest points, as points are put into it one by one.
-use Rattle.std.proofs.Common.{◌≡◌, ◌≢◌, ℕ, ◌+◌, ◌-◌, ◌<◌, ◌≤◌, max, refl, sym, ap, ◌∙◌, List, [], ◌∷◌, ◌++◌, length, Option, None, Some, arith, Bool, true, false, ◌==◌, nat_le, nat_lt, ◌&&◌, if◌then◌else◌, inl, inr}
+use Rattle.std.proofs.Common.{◌≡◌, ◌≢◌, ℕ, ◌<◌, ◌≤◌, max, refl, sym, ap, ◌∙◌, List, [], ◌∷◌, ◌++◌, length, Option, None, Some, arith, Bool, true, false, nat_le, if◌then◌else◌, inl, inr}
 use Rattle.std.proofs.lemmas.Bool.{cases_eq, eq-eqb, ne_eqb, le-leb, lt-leb}
 use Rattle.std.proofs.Math.Bool.{and-false}
-use Rattle.point_core.specs.declared.context.TheConstants.{CONTEXTS}
 use Rattle.point_core.specs.declared.entry.Entry.{Entry}
 use Rattle.point_core.specs.Usage.{number_of}
 use Rattle.point_core.specs.Reach.{value_at, with_value}
@@ -45,13 +44,13 @@ raised_to-top-last value es e usage ctx =
     raised_to-top-append value es (e ∷ []) usage ctx
     ∙ raised_to-if (applies e usage ctx) (raised_to value (top es usage ctx)) e.point.value None
 
-applies-true : (e : Entry) (usage ctx : ℕ) → number_of e.usage ≤ usage → e.point.ctx ≡ ctx → applies e usage ctx ≡ true
+pub applies-true : (e : Entry) (usage ctx : ℕ) → number_of e.usage ≤ usage → e.point.ctx ≡ ctx → applies e usage ctx ≡ true
 applies-true e usage ctx strong is = rw (le-leb _ _ strong) (eq-eqb _ _ is)
 
-applies-other : (e : Entry) (usage ctx : ℕ) → e.point.ctx ≢ ctx → applies e usage ctx ≡ false
+pub applies-other : (e : Entry) (usage ctx : ℕ) → e.point.ctx ≢ ctx → applies e usage ctx ≡ false
 applies-other e usage ctx apart = rw (ne_eqb _ _ apart) (and-false (nat_le (number_of e.usage) usage))
 
-applies-weak : (e : Entry) (usage ctx : ℕ) → usage < number_of e.usage → applies e usage ctx ≡ false
+pub applies-weak : (e : Entry) (usage ctx : ℕ) → usage < number_of e.usage → applies e usage ctx ≡ false
 applies-weak e usage ctx weak = rw (lt-leb _ _ weak) refl
 
 -- an entry of the usage or a stronger one is put into the table

@@ -1,4 +1,6 @@
+pub mod Agreement
 pub mod Latest
 pub mod Listings
+pub mod Merges
 pub mod Names
 pub mod Values

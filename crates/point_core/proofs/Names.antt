@@ -1,5 +1,5 @@
 -- A name as it is stored.
-use Rattle.std.proofs.Common.{◌≡◌, ℕ, ◌≤◌, ◌-◌, refl, sym, ap, ◌∙◌, List, ◌++◌, length, take, drop, replicate, arith}
+use Rattle.std.proofs.Common.{◌≡◌, ℕ, ◌-◌, refl, ap, List, ◌++◌, length, drop, replicate}
 use Rattle.std.proofs.Math.Seq.{take-append_seam}
 use Rattle.std.proofs.lemmas.List.{drop-replicate}
 use Rattle.point_core.specs.declared.name.TheConstants.{NAME_BYTES}

@@ -1,8 +1,7 @@
 -- Tables by context, and the greater value of each context.
-use Rattle.std.proofs.Common.{◌≡◌, ◌≢◌, ℕ, ◌+◌, ◌-◌, ◌<◌, ◌≤◌, max, refl, sym, ap, ◌∙◌, List, [], ◌∷◌, ◌++◌, length, get_or, set, map, arith, get_or-set_same, get_or-set_other, suc, inl, inr}
+use Rattle.std.proofs.Common.{◌≡◌, ◌≢◌, ℕ, ◌+◌, ◌-◌, ◌<◌, ◌≤◌, max, refl, ap, ◌∙◌, List, [], ◌∷◌, length, get_or, set, arith, get_or-set_same, get_or-set_other, zero, suc, le_trans, inl, inr}
 use Rattle.std.proofs.lemmas.Bool.{cases_lt}
 use Rattle.std.proofs.lemmas.List.{get_or_past}
-use Rattle.std.specs.List.{zip}
 use Rattle.point_core.specs.Reach.{value_at, with_value, later_values, IsAtLeast}
 
 pub value_at-with_value_same : (reach : List ℕ) (ctx value : ℕ) → 1 ≤ ctx → ctx ≤ length reach → value_at (with_value reach ctx value) ctx ≡ value
@@ -31,3 +30,40 @@ IsAtLeast-below reach other n short short' below = record {
 
 pub IsAtLeast-at : {reach other : List ℕ} → IsAtLeast reach other → (k : ℕ) → get_or other k 0 ≤ get_or reach k 0
 IsAtLeast-at {reach} {other} h k = let back : k + 1 - 1 ≡ k = omega arith in rw back at (h.values (k + 1))
+
+pub IsAtLeast-refl : (reach : List ℕ) → IsAtLeast reach reach
+IsAtLeast-refl reach = record { values = λ ctx. omega arith }
+
+pub IsAtLeast-trans : {third second first : List ℕ} → IsAtLeast third second → IsAtLeast second first → IsAtLeast third first
+IsAtLeast-trans h k = record { values = λ ctx. le_trans (k.values ctx) (h.values ctx) }
+
+pub get_or-set_at_least : (xs : List ℕ) (i v k : ℕ) → get_or xs i 0 ≤ v → get_or xs k 0 ≤ get_or (set xs i v) k 0
+get_or-set_at_least [] i v k low = omega arith
+get_or-set_at_least (x ∷ xs) zero v zero low = low
+get_or-set_at_least (x ∷ xs) zero v (suc k) low = omega arith
+get_or-set_at_least (x ∷ xs) (suc i) v zero low = omega arith
+get_or-set_at_least (x ∷ xs) (suc i) v (suc k) low = get_or-set_at_least xs i v k low
+
+-- a context's value that rises leaves no value lower
+pub IsAtLeast-with_value : (reach : List ℕ) (ctx value : ℕ) → value_at reach ctx ≤ value → IsAtLeast (with_value reach ctx value) reach
+IsAtLeast-with_value reach ctx value low = record { values = λ other. get_or-set_at_least reach (ctx - 1) value (other - 1) low }
+
+get_or-later_values : (xs ys : List ℕ) (k : ℕ) → length xs ≡ length ys → get_or (later_values xs ys) k 0 ≡ max (get_or xs k 0) (get_or ys k 0)
+get_or-later_values [] [] k e = refl
+get_or-later_values [] (y ∷ ys) k e = absurd (omega (arith, e))
+get_or-later_values (x ∷ xs) [] k e = absurd (omega (arith, e))
+get_or-later_values (x ∷ xs) (y ∷ ys) zero e = refl
+get_or-later_values (x ∷ xs) (y ∷ ys) (suc k) e = get_or-later_values xs ys k (omega arith)
+
+pub value_at-later_values : (reach other : List ℕ) (ctx : ℕ) → length reach ≡ length other → value_at (later_values reach other) ctx ≡ max (value_at reach ctx) (value_at other ctx)
+value_at-later_values reach other ctx e = get_or-later_values reach other (ctx - 1) e
+
+pub IsAtLeast-later_values_left : (reach other : List ℕ) → length reach ≡ length other → IsAtLeast (later_values reach other) reach
+IsAtLeast-later_values_left reach other e = record { values = λ ctx. let is = value_at-later_values reach other ctx e in omega arith }
+
+pub IsAtLeast-later_values_right : (reach other : List ℕ) → length reach ≡ length other → IsAtLeast (later_values reach other) other
+IsAtLeast-later_values_right reach other e = record { values = λ ctx. let is = value_at-later_values reach other ctx e in omega arith }
+
+-- and no reach below it is at least both
+pub IsAtLeast-later_values : {reach other higher : List ℕ} → length reach ≡ length other → IsAtLeast higher reach → IsAtLeast higher other → IsAtLeast higher (later_values reach other)
+IsAtLeast-later_values {reach} {other} {higher} e h k = record { values = λ ctx. let is = value_at-later_values reach other ctx e in let left = h.values ctx in let right = k.values ctx in omega arith }

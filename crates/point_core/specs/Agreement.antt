@@ -1,6 +1,7 @@
 -- What a set of entries says of each context, and when two sets say the same above a reach.
-use Rattle.std.specs.Prelude.{◌≡◌, ℕ, ◌==◌, Bool, ◌&&◌, nat_lt, nat_le, max, if◌then◌else◌, List, [], ◌∷◌, Option, None, Some, option_map, map}
+use Rattle.std.specs.Prelude.{◌≡◌, ℕ, ◌==◌, ◌<◌, ◌≤◌, Bool, ◌&&◌, nat_lt, nat_le, max, if◌then◌else◌, List, [], ◌∷◌, ◌++◌, Option, None, Some, option_map, map, All, Contains}
 use Rattle.std.specs.List.{filter_map, range_with_len}
+use Rattle.std.specs.List.Sorted.{IsStrictlyIncreasing}
 use Rattle.point_core.specs.declared.entry.Point.{Point}
 use Rattle.point_core.specs.declared.entry.Entry.{Entry}
 use Rattle.point_core.specs.declared.entry.Usage.TheVariants.{Kernel}
@@ -20,6 +21,22 @@ later p (Some q) = Some (max p q)
 abbrev pub top : List Entry → ℕ → ℕ → Option ℕ
 top [] usage ctx = None
 top (e ∷ es) usage ctx = if applies e usage ctx then later e.point.value (top es usage ctx) else top es usage ctx
+
+-- the same as a fact
+abbrev pub AppliesAt : Entry → ℕ → ℕ → Type 0
+AppliesAt e usage ctx = (number_of e.usage ≤ usage) × (e.point.ctx ≡ ctx)
+
+-- the point was put for the context, at the usage or a stronger one
+abbrev pub IsPut : List Entry → ℕ → ℕ → ℕ → Type 0
+IsPut es usage ctx p = (e : Entry) × Contains es e × AppliesAt e usage ctx × (e.point.value ≡ p)
+
+-- no point that was put for the context, at the usage or a stronger one, is later
+abbrev pub NoneIsLater : List Entry → ℕ → ℕ → ℕ → Type 0
+NoneIsLater es usage ctx p = (e : Entry) → Contains es e → AppliesAt e usage ctx → e.point.value ≤ p
+
+-- no entry is of the context, at the usage or a stronger one
+abbrev pub NoneApplies : List Entry → ℕ → ℕ → Type 0
+NoneApplies es usage ctx = (e : Entry) → Contains es e → ¬ AppliesAt e usage ctx
 
 -- a point that has been reached counts as none
 abbrev pub pending : ℕ → Option ℕ → Option ℕ
@@ -51,3 +68,23 @@ point_of ctx value = record { ctx = ctx; value = value }
 -- the latest pending point of each context, by rising context
 abbrev pub listing : List Entry → ℕ → List ℕ → List Point
 listing es usage reach = filter_map (λ ctx. option_map (point_of ctx) (pending_top reach es usage ctx)) contexts
+
+-- what a merge of two files' points lists above a reach
+abbrev pub merged : List ℕ → List Point → List Point → List Point
+merged reach ps qs = listing (as_entries (ps ++ qs)) 0 reach
+
+-- each entry is of a context that there can be
+abbrev pub HasContexts : List Entry → Type 0
+HasContexts es = All (λ e. (1 ≤ e.point.ctx) × (e.point.ctx ≤ CONTEXTS)) es
+
+-- no context comes twice, and they stand by rising number
+abbrev pub HasRisingContexts : List Point → Type 0
+HasRisingContexts ps = IsStrictlyIncreasing (map (λ (p : Point). p.ctx) ps)
+
+-- each point is pending
+abbrev pub AllAbove : List ℕ → List Point → Type 0
+AllAbove reach ps = All (λ p. value_at reach p.ctx < p.value) ps
+
+-- each entry at the usage or a stronger one is reached
+abbrev pub IsReached : List Entry → ℕ → List ℕ → Type 0
+IsReached es usage reach = (e : Entry) → Contains es e → number_of e.usage ≤ usage → e.point.value ≤ value_at reach e.point.ctx

@@ -1,5 +1,5 @@
 -- A name is got back from its bytes.
-use Rattle.std.specs.Prelude.{◌≡◌, ℕ, refl, List, length, take}
+use Rattle.std.specs.Prelude.{◌≡◌, ℕ, List, length, take}
 use Rattle.std.proofs.Common.{ap, ◌∙◌}
 use Rattle.point_core.specs.declared.name.Name.TheInside.{Inside}
 use Rattle.point_core.specs.Name.{IsStored, padded}

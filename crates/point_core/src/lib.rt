@@ -7,6 +7,7 @@
 mod context;
 mod entry;
 mod items;
+pub mod laws;
 mod listing;
 mod name;
 mod reach;
@@ -19,3 +20,6 @@ pub use listing::{Listing, TopRow, canon, points_above};
 pub use name::{NAME_BYTES, Name};
 pub use reach::{Reach, is_signalled};
 pub use refusal::{LimitKind, Refusal};
+
+#[cfg(test)]
+mod tests;

@@ -12,7 +12,7 @@ use std::alloc::Global;
 
 /// What a reservation or a merge hands to a new file: the pending points by rising context, and the reach that they
 /// were taken above.
-#[derive(Debug, Drop)]
+#[derive(Debug, PartialEq, Eq, Drop)]
 pub struct Listing {
     pub points: Items<Point>,
     pub floor: Reach,

@@ -1,4 +1,3 @@
-use Rattle.std.proofs.Common.{◌≡◌}
 use Rattle.point_core.proofs.Listings.{points_above-IsLatest}
 use Rattle.point_core.proofs.listing.canon.Goals as goal
 

@@ -1,5 +1,4 @@
-use Rattle.std.proofs.Common.{◌≡◌, ◌+◌, ◌≤◌, ◌<◌, arith, ◌∙◌}
-use Rattle.point_core.specs.Reach.{value_at}
+use Rattle.std.proofs.Common.{arith, ◌∙◌}
 use Rattle.point_core.proofs.Listings.{filter_map-contexts, push_above, skip_above}
 use Rattle.point_core.proofs.listing.points_above.Goals as goal
 use Rattle.point_core.proofs.listing.points_above.Goals.{then-value-get, else-value-get}

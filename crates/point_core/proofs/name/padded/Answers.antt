@@ -1,4 +1,3 @@
-use Rattle.std.proofs.Common.{◌≡◌}
 use Rattle.point_core.proofs.Names.{padded-zeros}
 use Rattle.point_core.proofs.name.padded.Goals as goal
 

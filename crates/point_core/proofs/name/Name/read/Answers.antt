@@ -1,4 +1,3 @@
-use Rattle.std.proofs.Common.{◌≡◌, refl}
 use Rattle.point_core.proofs.Names.{IsStored-padded}
 use Rattle.point_core.proofs.name.Name.read.Goals as goal
 

@@ -1,4 +1,4 @@
-use Rattle.std.proofs.Common.{◌≡◌, ◌<◌, ◌≤◌, arith, refl, false}
+use Rattle.std.proofs.Common.{arith, refl}
 use Rattle.std.proofs.lemmas.Bool.{false≢true}
 use Rattle.point_core.proofs.Values.{IsAtLeast-below, IsAtLeast-at}
 use Rattle.point_core.proofs.reach.Reach.at_least.Goals as goal

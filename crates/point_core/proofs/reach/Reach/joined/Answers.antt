@@ -1,4 +1,4 @@
-use Rattle.std.proofs.Common.{◌≡◌, ◌<◌, arith}
+use Rattle.std.proofs.Common.{arith}
 use Rattle.point_core.proofs.Values.{later_values-is}
 use Rattle.point_core.proofs.reach.Reach.joined.Goals as goal
 

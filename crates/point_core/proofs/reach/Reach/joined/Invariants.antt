@@ -1,4 +1,4 @@
-use Rattle.std.proofs.Common.{◌≡◌, ℕ, ◌<◌, ◌≤◌, max, length, get_or}
+use Rattle.std.proofs.Common.{◌≡◌, ℕ, ◌<◌, ◌≤◌, max, get_or}
 use Rattle.point_core.proofs.reach.Reach.joined.Given as goal
 
 abbrev pub invariant-loop-index : goal.invariant-loop-index

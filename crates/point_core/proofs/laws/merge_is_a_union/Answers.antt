@@ -1,0 +1,14 @@
+use Rattle.point_core.proofs.Merges.{merged-comm, merged-assoc, AgreesAbove-merged, AgreesAbove-merged_idem}
+use Rattle.point_core.proofs.laws.merge_is_a_union.Goals as goal
+
+pub returns-clause-commutative : goal.returns-clause-commutative
+returns-clause-commutative c = merged-comm
+
+pub returns-clause-associative : goal.returns-clause-associative
+returns-clause-associative c = merged-assoc
+
+pub returns-clause-idempotent : goal.returns-clause-idempotent
+returns-clause-idempotent c = AgreesAbove-merged_idem
+
+pub returns-clause-union : goal.returns-clause-union
+returns-clause-union c = AgreesAbove-merged

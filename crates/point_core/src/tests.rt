@@ -1,0 +1,239 @@
+// Values that people worked out.
+use crate::{
+    CONTEXTS, Context, Entry, Items, LimitKind, Listing, NAME_BYTES, Name, Point, Reach, Refusal,
+    Usage, canon, covers, is_signalled,
+};
+use std::test::Fail;
+
+fn point(number: u16, value: u64) -> Result<Point, Fail> {
+    let ctx = Context::new(number).ok_or("no such context")?;
+    Ok(Point { ctx, value })
+}
+
+fn entry(number: u16, value: u64, usage: Usage) -> Result<Entry, Fail> {
+    let point = point(number, value)?;
+    Ok(Entry { point, usage })
+}
+
+#[test]
+fn canon_rows(rt: HostRuntime) -> Result<(), Fail> {
+    let zero = Reach::zero();
+    let points = [point(1, 5)?, point(1, 3)?, point(2, 2)?];
+    let latest = canon(rt.alloc(), &points, &zero)?;
+    assert_eq!(rt; latest.as_slice(), [point(1, 5)?, point(2, 2)?].as_slice());
+
+    let reach = zero.raised(point(1, 5)?.ctx, 5).ok_or("wraps")?;
+    let pending = canon(rt.alloc(), &points, &reach)?;
+    assert_eq!(rt; pending.as_slice(), [point(2, 2)?].as_slice());
+
+    let none = canon(rt.alloc(), &[], &zero)?;
+    assert_eq!(rt; none.len(), 0);
+    Ok(())
+}
+
+#[test]
+fn canon_goes_by_rising_context(rt: HostRuntime) -> Result<(), Fail> {
+    let last = CONTEXTS as u16;
+    let points = [point(last, 1)?, point(2, 9)?, point(1, 4)?, point(2, 7)?];
+    let listed = canon(rt.alloc(), &points, &Reach::zero())?;
+    assert_eq!(rt;
+        listed.as_slice(),
+        [point(1, 4)?, point(2, 9)?, point(last, 1)?].as_slice()
+    );
+    Ok(())
+}
+
+#[test]
+fn contexts_are_from_one_to_the_limit(rt: HostRuntime) -> Result<(), Fail> {
+    let limit = CONTEXTS as u16;
+    for (number, valid) in [
+        (0, false),
+        (1, true),
+        (limit, true),
+        (limit + 1, false),
+        (65535, false),
+    ] {
+        assert_eq!(rt; Context::new(number).is_some(), valid, "at {number}");
+    }
+    let last = Context::new(limit).ok_or("refused")?;
+    assert_eq!(rt; last.number(), limit);
+    assert_eq!(rt; last.index(), CONTEXTS - 1);
+    assert_eq!(rt; last, Context::at(CONTEXTS - 1));
+    Ok(())
+}
+
+fn is_allowed(byte: u8) -> bool {
+    b"ABCDEFGHIJKLMNOPQRSTUVWXYZabcdefghijklmnopqrstuvwxyz0123456789_.-".contains(&byte)
+}
+
+#[test]
+fn names_of_one_byte(rt: HostRuntime) {
+    for byte in 0..=255 {
+        let read = Name::read(&[byte]);
+        assert_eq!(rt; read.is_some(), is_allowed(byte), "at {byte}");
+        if let Some(name) = read {
+            assert_eq!(rt; name.as_bytes(), [byte].as_slice());
+        }
+    }
+}
+
+#[test]
+fn names_by_length(rt: HostRuntime) -> Result<(), Fail> {
+    let bytes = b"gpu-0.render_pass-17.frame_00042";
+    assert_eq!(rt; bytes.len(), 32);
+    assert_eq!(rt; Name::read(bytes), None);
+    assert_eq!(rt; Name::read(b""), None);
+    assert_eq!(rt; Name::read(b"a name"), None);
+    for length in [1, 30, 31] {
+        let name = Name::read(&bytes[..length]).ok_or("refused")?;
+        assert_eq!(rt; name.as_bytes(), &bytes[..length]);
+    }
+    assert_eq!(rt; NAME_BYTES, 31);
+    Ok(())
+}
+
+#[test]
+fn reaches_do_not_wrap(rt: HostRuntime) -> Result<(), Fail> {
+    let first = point(1, 0)?.ctx;
+    let second = point(2, 0)?.ctx;
+    let high = Reach::zero().raised(first, u64::MAX - 1).ok_or("wraps")?;
+    assert_eq!(rt; high.raised(first, 2), None);
+    let top = high.raised(first, 1).ok_or("wraps")?;
+    assert_eq!(rt; top.get(first), u64::MAX);
+    assert_eq!(rt; top.get(second), 0);
+    assert_eq!(rt; top.raised(first, 0), Some(top));
+    assert_eq!(rt; top.raised(first, 1), None);
+    Ok(())
+}
+
+#[test]
+fn reaches_join(rt: HostRuntime) -> Result<(), Fail> {
+    let first = point(1, 0)?.ctx;
+    let second = point(2, 0)?.ctx;
+    let left = Reach::zero().raised(first, 5).ok_or("wraps")?;
+    let right = Reach::zero()
+        .raised(first, 3)
+        .ok_or("wraps")?
+        .raised(second, 2)
+        .ok_or("wraps")?;
+    let both = left.joined(&right);
+    assert_eq!(rt; both.get(first), 5);
+    assert_eq!(rt; both.get(second), 2);
+    assert!(rt; both.at_least(&left) && both.at_least(&right) && both.at_least(&both));
+    assert!(rt; !left.at_least(&right) && !right.at_least(&left));
+    let mut raised = right;
+    raised.raise_to(point(1, 4)?);
+    raised.raise_to(point(2, 1)?);
+    assert_eq!(rt; raised.get(first), 4);
+    assert_eq!(rt; raised.get(second), 2);
+    Ok(())
+}
+
+#[test]
+fn a_point_is_signalled_from_its_value_on(rt: HostRuntime) -> Result<(), Fail> {
+    let reach = Reach::zero().raised(point(1, 0)?.ctx, 5).ok_or("wraps")?;
+    for (number, value, signalled) in [
+        (1, 0, true),
+        (1, 5, true),
+        (1, 6, false),
+        (2, 0, true),
+        (2, 1, false),
+    ] {
+        assert_eq!(rt;
+            is_signalled(point(number, value)?, &reach),
+            signalled,
+            "at {number} {value}"
+        );
+    }
+    Ok(())
+}
+
+#[test]
+fn covering_entries(rt: HostRuntime) -> Result<(), Fail> {
+    let by = entry(1, 5, Usage::Write)?;
+    let cases = [
+        (entry(1, 5, Usage::Write)?, true),
+        (entry(1, 4, Usage::Bookkeep)?, true),
+        (entry(1, 0, Usage::Read)?, true),
+        (entry(1, 6, Usage::Read)?, false),
+        (entry(1, 5, Usage::Kernel)?, false),
+        (entry(2, 5, Usage::Write)?, false),
+    ];
+    for (other, covered) in cases {
+        assert_eq!(rt; covers(by, other), covered, "{other:?}");
+    }
+    Ok(())
+}
+
+#[test]
+fn usages_have_the_kernels_numbers(rt: HostRuntime) {
+    let usages = [Usage::Kernel, Usage::Write, Usage::Read, Usage::Bookkeep];
+    for (number, usage) in usages.iter().enumerate() {
+        assert_eq!(rt; usize::from(usage.number()), number);
+    }
+}
+
+#[test]
+fn the_table_of_refusals(rt: HostRuntime) {
+    let table = [
+        (Refusal::Syntax, 1, "Syntax"),
+        (Refusal::NoEntry, 2, "NoEntry"),
+        (Refusal::Exists, 3, "Exists"),
+        (Refusal::Overflow, 4, "Overflow"),
+        (Refusal::Flags, 5, "Flags"),
+        (Refusal::Limit(LimitKind::Files), 6, "Limit"),
+        (Refusal::Signalled, 7, "Signalled"),
+        (Refusal::TimedOut, 8, "TimedOut"),
+        (Refusal::Foreign, 9, "Foreign"),
+        (Refusal::Torn, 10, "Torn"),
+        (Refusal::NotAll, 11, "NotAll"),
+        (Refusal::LongLine, 12, "LongLine"),
+        (Refusal::Read, 13, "Read"),
+        (Refusal::Write, 14, "Write"),
+        (Refusal::Cancelled, 15, "Cancelled"),
+        (Refusal::Memory, 16, "Memory"),
+    ];
+    for (refusal, number, name) in table {
+        assert_eq!(rt; refusal.number(), number);
+        assert_eq!(rt; refusal.name(), name);
+    }
+}
+
+#[test]
+fn the_words_of_limits(rt: HostRuntime) {
+    let table = [
+        (LimitKind::Timelines, "timelines"),
+        (LimitKind::Buffers, "buffers"),
+        (LimitKind::Files, "files"),
+        (LimitKind::Watches, "watches"),
+        (LimitKind::Flags, "flags"),
+        (LimitKind::Clients, "clients"),
+        (LimitKind::Plan, "plan"),
+        (LimitKind::Script, "script"),
+    ];
+    for (kind, word) in table {
+        assert_eq!(rt; kind.word(), word);
+    }
+}
+
+#[test]
+fn a_listing_keeps_its_points(rt: HostRuntime) -> Result<(), Fail> {
+    let floor = Reach::zero();
+    let points = [point(1, 5)?, point(2, 2)?];
+    let listing = Listing {
+        points: Items::of(canon(rt.alloc(), &points, &floor)?),
+        floor,
+    };
+    let same = Listing {
+        points: Items::of(canon(rt.alloc(), &points, &floor)?),
+        floor,
+    };
+    assert_eq!(rt; listing, same);
+    assert_eq!(rt; listing.points.as_slice(), points.as_slice());
+    let Listing {
+        points: kept,
+        floor: _,
+    } = same;
+    assert_eq!(rt; kept.into_vec().as_slice(), points.as_slice());
+    Ok(())
+}
