@@ -1,4 +1,4 @@
 pub mod Files
-pub mod Rising
+pub mod Merge
 pub mod Status
 pub mod SyncFile

@@ -4,6 +4,7 @@
 #![tactic(auto)]
 
 mod files;
+mod merge;
 mod status;
 mod sync_file;
 

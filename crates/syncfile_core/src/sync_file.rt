@@ -18,7 +18,7 @@ pub struct SyncFile {
 
 impl Model for SyncFile {
     ghost use Rattle.syncfile_core.specs.SyncFile.{File};
-    ghost use Rattle.syncfile_core.specs.Rising.{HasRisingContexts};
+    ghost use Rattle.point_core.specs.Agreement.{HasRisingContexts};
 
     ghost Value = { File };
 
