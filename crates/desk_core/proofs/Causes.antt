@@ -8,7 +8,7 @@ use Rattle.point_core.specs.declared.refusal.LimitKind.TheVariants.{Files}
 use Rattle.desk_core.specs.declared.TheConstants.{FILES}
 use Rattle.std.specs.Option.{ok_or}
 use denote.Bor.{Bor}
-use Rattle.desk_core.specs.Timeline.{same_name}
+use Rattle.desk_core.specs.World.{same_name}
 use Rattle.desk_core.specs.Files.{SyncFile, has_sync_file, sync_file_at, cause_to_refuse, cause_to_refuse_merge, IsRefusedFor}
 
 is_some-found : {X : Type 0} (b : Bool) (x : X) (o : Option X) → (b || is_some o) ≡ is_some (cond b (Some x) o)

@@ -12,9 +12,9 @@ use Rattle.point_core.specs.declared.entry.Usage.TheVariants.{Kernel}
 use Rattle.point_core.specs.Agreement.{AgreesAbove, as_entry, as_entries, listing, HasContexts, IsReached, pending, pending_top}
 use Rattle.point_core.specs.Reach.{value_at, IsAtLeast}
 use Rattle.point_core.proofs.Agreement.{AgreesAbove-refl, AgreesAbove-sym, AgreesAbove-trans, AgreesAbove-append, AgreesAbove-same, listing-AgreesAbove, pending_top-listing, top-as_entries, as_entries-append, listing-empty}
-use Rattle.desk_core.specs.Timeline.{Timeline, same_name, reach_of}
+use Rattle.timeline_core.specs.Timeline.{Timeline, reach_of}
 use Rattle.desk_core.specs.Files.{SyncFile, has_sync_file, sync_file_at, points_at}
-use Rattle.desk_core.specs.World.{World, File, has_file, file_named, put_set}
+use Rattle.desk_core.specs.World.{World, File, same_name, has_file, file_named, put_set}
 use Rattle.desk_core.specs.Answer.{points_of}
 use Rattle.desk_core.specs.Desk.{DeskState, Keeps, WasMade, IsFilePoint}
 

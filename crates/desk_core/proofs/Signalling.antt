@@ -15,7 +15,7 @@ use Rattle.point_core.specs.Usage.{number_of}
 use Rattle.point_core.specs.Agreement.{AgreesAbove, as_entry, as_entries, listing, HasContexts, IsReached}
 use Rattle.point_core.specs.Reach.{value_at}
 use Rattle.point_core.proofs.Agreement.{AgreesAbove-sym, listing-AgreesAbove, listing-empty, listing-contexts}
-use Rattle.desk_core.specs.Timeline.{Timeline, reach_of}
+use Rattle.timeline_core.specs.Timeline.{Timeline, reach_of}
 use Rattle.desk_core.specs.Files.{points_at}
 use Rattle.desk_core.specs.World.{World, File, file_named, put_set}
 use Rattle.desk_core.specs.Answer.{is_reached, all_reached, points_of}

@@ -16,7 +16,7 @@ use Rattle.point_core.proofs.Values.{IsAtLeast-refl}
 use Rattle.desk_core.specs.declared.TheConstants.{FILES}
 use Rattle.desk_core.specs.declared.command.Command.{Command}
 use Rattle.desk_core.specs.declared.command.Command.TheVariants as command
-use Rattle.desk_core.specs.Timeline.{Timeline, new_timeline, has_timeline, context_of, reach_of}
+use Rattle.timeline_core.specs.Timeline.{Timeline, new_timeline, has_timeline, context_of, reach_of}
 use Rattle.desk_core.specs.Files.{SyncFile, has_sync_file, plain_file, merged_file, cause_to_refuse, cause_to_refuse_merge}
 use Rattle.desk_core.specs.World.{World, File, has_file, put_set, with_timeline, after}
 use Rattle.desk_core.specs.Answer.{first_of, causes, making_file, points_of}

@@ -7,7 +7,7 @@ use Rattle.point_core.specs.Agreement.{AgreesAbove, as_entries, IsReached}
 use Rattle.point_core.proofs.Agreement.{AgreesAbove-trans, AgreesAbove-sym, AgreesAbove-same_entries}
 use Rattle.desk_core.specs.declared.answer.Answer.TheVariants as answer
 use Rattle.desk_core.specs.declared.answer.Info.{Info}
-use Rattle.desk_core.specs.Timeline.{reach_of}
+use Rattle.timeline_core.specs.Timeline.{reach_of}
 use Rattle.desk_core.specs.Files.{SyncFile, sync_file_at, points_at}
 use Rattle.desk_core.specs.World.{World, File, has_file, file_named, put_set}
 use Rattle.desk_core.specs.Answer.{refused_or, all_reached, points_of, info_of}

@@ -1,5 +1,5 @@
 -- The answer of each command in a world: the first refusal whose cause holds, else what the accepted command tells.
-use Rattle.std.specs.Prelude.{ℕ, ◌+◌, Bool, true, false, not, ◌&&◌, ◌||◌, nat_le, if◌then◌else◌, List, [], ◌∷◌, length, map, Option, None, Some, codes, ⊤}
+use Rattle.std.specs.Prelude.{ℕ, ◌+◌, Bool, true, false, not, ◌&&◌, ◌||◌, nat_le, if◌then◌else◌, List, [], ◌∷◌, length, map, Option, None, Some, unwrap_or, codes, ⊤}
 use Rattle.std.specs.List.{list_all}
 use Rattle.point_core.specs.declared.context.TheConstants.{CONTEXTS}
 use Rattle.point_core.specs.declared.entry.Point.{Point}
@@ -20,7 +20,7 @@ use Rattle.desk_core.specs.declared.answer.Answer.TheVariants as answer
 use Rattle.desk_core.specs.declared.answer.Info.{Info}
 use Rattle.desk_core.specs.declared.answer.FenceRow.{FenceRow}
 use Rattle.desk_core.specs.declared.answer.Maker.TheVariants.{SwSync, Stub}
-use Rattle.desk_core.specs.Timeline.{Timeline, has_timeline, name_of, reach_of}
+use Rattle.timeline_core.specs.Timeline.{Timeline, has_timeline, name_at, reach_of}
 use Rattle.desk_core.specs.World.{File, World, has_file, file_named}
 use Rattle.desk_core.specs.declared.TheConstants.{FILES}
 
@@ -58,6 +58,10 @@ status_of w f = status_if (all_reached (reach_of w.timelines) 0 f.put)
 -- a file made of one point lists it, any other what was pending when it was made
 abbrev pub points_of : File → List Point
 points_of f = if f.is_one_point then map (λ e. e.point) f.put else listing f.put 0 f.made_at
+
+-- the name of a context that was made
+abbrev pub name_of : List Timeline → ℕ → List ℕ
+name_of ts ctx = unwrap_or (name_at ts ctx) []
 
 abbrev pub fence_row : List Timeline → Point → FenceRow
 fence_row ts p = record { timeline = name_of ts p.ctx; driver = SwSync; point = p.value; status = status_if (nat_le p.value (value_at (reach_of ts) p.ctx)) }

@@ -8,7 +8,7 @@ use Rattle.point_core.specs.declared.refusal.Refusal.{Refusal}
 use Rattle.point_core.specs.declared.refusal.Refusal.TheVariants.{NoEntry, Exists, Limit}
 use Rattle.point_core.specs.declared.refusal.LimitKind.TheVariants.{Timelines}
 use Rattle.point_core.specs.Reach.{IsAtLeast}
-use Rattle.desk_core.specs.Timeline.{Timeline, has_timeline, reach_of}
+use Rattle.timeline_core.specs.Timeline.{Timeline, has_timeline, reach_of}
 use Rattle.desk_core.specs.Files.{SyncFile, has_sync_file, cause_to_refuse, cause_to_refuse_merge}
 use Rattle.desk_core.specs.World.{File, World, after}
 use Rattle.point_core.specs.Agreement.{as_entries}

@@ -9,7 +9,7 @@ use Rattle.point_core.specs.declared.refusal.LimitKind.TheVariants.{Files}
 use Rattle.point_core.specs.Agreement.{as_entries, listing}
 use Rattle.point_core.specs.Reach.{later_values}
 use Rattle.desk_core.specs.declared.TheConstants.{FILES}
-use Rattle.desk_core.specs.Timeline.{same_name}
+use Rattle.desk_core.specs.World.{same_name}
 
 -- a file as it is kept: the points that it lists, and the reach that they were taken above
 pub record SyncFile : Type 0 where

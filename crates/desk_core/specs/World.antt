@@ -1,11 +1,12 @@
 -- What the accepted commands so far mean, object by object: all that was ever put into it, whatever was dropped since.
-use Rattle.std.specs.Prelude.{ℕ, Bool, true, false, List, [], ◌∷◌, ◌++◌, map, find, Option, option_map, unwrap_or}
+use Rattle.std.specs.Prelude.{ℕ, nat_eq, Bool, true, false, List, [], ◌∷◌, ◌++◌, map, find, Option, option_map, unwrap_or}
 use Rattle.std.specs.List.{list_any}
+use lib.Pointwise.{pointwise}
 use Rattle.point_core.specs.declared.entry.Entry.{Entry}
 use Rattle.point_core.specs.Agreement.{as_entry, point_of}
 use Rattle.desk_core.specs.declared.command.Command.{Command}
 use Rattle.desk_core.specs.declared.command.Command.TheVariants as command
-use Rattle.desk_core.specs.Timeline.{Timeline, new_timeline, same_name, has_timeline, context_of, reach_of}
+use Rattle.timeline_core.specs.Timeline.{Timeline, new_timeline, context_of, reach_of}
 
 -- a sync file, with all that was put into it. A file made of one point lists it whether or not it is signalled
 pub record File : Type 0 where
@@ -20,6 +21,9 @@ pub record World : Type 0 where
 
 abbrev pub empty_world : World
 empty_world = record { timelines = []; files = [] }
+
+abbrev pub same_name : List ℕ → List ℕ → Bool
+same_name = pointwise nat_eq
 
 abbrev pub has_file : List File → List ℕ → Bool
 has_file fs name = list_any (λ f. same_name f.name name) fs

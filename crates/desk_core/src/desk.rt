@@ -6,10 +6,10 @@ use crate::answer::Answer;
 use crate::command::Command;
 use crate::files::Files;
 use crate::info;
-use crate::timelines::Timelines;
 use point_core::{Name, Point, Refusal};
 use std::alloc::Global;
 use std::marker::Model;
+use timeline_core::Timelines;
 
 /// All timelines and files of a service. It keeps of each file what was pending when it was made, and its answers are
 /// those of all that was ever put into it.

@@ -10,7 +10,6 @@ mod desk;
 mod files;
 mod info;
 mod runs;
-mod timelines;
 
 pub use answer::{Answer, FenceRow, Info, Maker};
 pub use command::Command;
