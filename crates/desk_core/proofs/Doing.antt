@@ -1,27 +1,26 @@
 -- What each command does and tells.
-use Rattle.std.proofs.Common.{◌≡◌, ℕ, ◌+◌, ◌-◌, ◌<◌, ◌≤◌, Bool, true, false, refl, sym, ap, subst, ◌∙◌, List, [], ◌∷◌, ◌++◌, length, map, Option, None, Some, option_map, unwrap_or, arith, All, nat_lt, inl, inr, length-append}
-use Rattle.std.specs.Prelude.{if◌then◌else◌, IfOk, OnErr, IfErr, Result, Ok, Err}
-use Rattle.std.proofs.lemmas.List.Elements.{All-nil, All-push, All-weaker, All-append, All-contains, All-map}
+use Rattle.std.proofs.Common.{◌≡◌, ℕ, ◌+◌, ◌<◌, ◌≤◌, Bool, true, false, refl, sym, ap, ◌∙◌, List, [], ◌∷◌, ◌++◌, length, map, Option, None, Some, option_map, unwrap_or, arith, nat_lt, length-append}
+use Rattle.std.specs.Prelude.{if◌then◌else◌}
+use Rattle.std.proofs.lemmas.List.Elements.{All-nil, All-push, All-append, All-contains, All-map}
 use Rattle.point_core.specs.declared.context.TheConstants.{CONTEXTS}
 use Rattle.point_core.specs.declared.entry.Point.{Point}
 use Rattle.point_core.specs.declared.entry.Entry.{Entry}
-use Rattle.point_core.specs.declared.status.Status.{Status}
 use Rattle.point_core.specs.Status.{status_if}
-use Rattle.point_core.specs.Agreement.{as_entry, as_entries, point_of, listing, pending, pending_top, top}
-use Rattle.point_core.specs.Reach.{value_at}
+use Rattle.point_core.specs.Agreement.{as_entry, as_entries, point_of, listing, pending, top}
+use Rattle.point_core.specs.Reach.{value_at, IsAtLeast}
 use Rattle.point_core.proofs.Agreement.{listing-All, top-Some}
 use Rattle.desk_core.specs.declared.command.Command.TheVariants as command
 use Rattle.desk_core.specs.declared.answer.Answer.TheVariants as answer
 use Rattle.desk_core.specs.declared.answer.Info.{Info}
 use Rattle.desk_core.specs.declared.answer.FenceRow.{FenceRow}
-use Rattle.timeline_core.specs.Timeline.{Timeline, new_timeline, has_timeline, context_of, reach_of}
+use Rattle.timeline_core.specs.Timeline.{Timeline, new_timeline, context_of, reach_of, value_of, raised}
 use Rattle.desk_core.specs.Files.{SyncFile, sync_file_at, points_at, plain_file, merged_file}
 use Rattle.desk_core.specs.World.{World, File, file_named, put_set}
 use Rattle.desk_core.specs.Answer.{points_of, all_reached, fence_row, or_stub, info_of}
 use Rattle.desk_core.specs.Desk.{DeskState, Keeps, IsDone, AreMade, HaveTimelines, info_at}
 use Rattle.desk_core.proofs.Keeping.{sync_file_at-points, sync_file_at-All}
 use Rattle.desk_core.proofs.Signalling.{all_reached-keeps}
-use Rattle.desk_core.proofs.Stepping.{Keeps-timeline, Keeps-fence, Keeps-merge}
+use Rattle.desk_core.proofs.Stepping.{Keeps-timeline, Keeps-raised, Keeps-fence, Keeps-merge}
 
 pub IsDone-timeline : (desk : DeskState) (name : List ℕ) (made : List Timeline) (number : ℕ) → made ≡ desk.timelines ++ new_timeline name ∷ [] → length made ≤ CONTEXTS → number ≡ length desk.timelines + 1 → IsDone desk (command.Timeline name) (answer.Value number) (record { timelines = made; files = desk.files })
 IsDone-timeline desk name made number added room is =
@@ -31,6 +30,20 @@ IsDone-timeline desk name made number added room is =
       told = λ world k. ap answer.Value (is ∙ ap (λ ts. length ts + 1) k.timelines);
       kept = λ world k. rw added (Keeps-timeline k name low);
     }
+
+pub IsDone-inc : (desk : DeskState) (name : List ℕ) (n : ℕ) (timelines : List Timeline) (value : ℕ) (fired : List ℕ) → timelines ≡ raised desk.timelines name n → IsAtLeast (reach_of timelines) (reach_of desk.timelines) → value ≡ value_of desk.timelines name + n → fired ≡ [] → IsDone desk (command.Inc name n) (answer.Raised value fired) (record { timelines = timelines; files = desk.files })
+IsDone-inc desk name n timelines value fired risen rises is none = record {
+  accepted = refl;
+  told = λ world k. rw none (ap (λ v. answer.Raised v []) (is ∙ ap (λ ts. value_of ts name + n) k.timelines));
+  kept = λ world k. rw risen (Keeps-raised k name n (rw risen at rises));
+}
+
+pub IsDone-value : (desk : DeskState) (name : List ℕ) (value : ℕ) → value ≡ value_of desk.timelines name → IsDone desk (command.Value name) (answer.Value value) desk
+IsDone-value desk name value is = record {
+  accepted = refl;
+  told = λ world k. ap answer.Value (is ∙ ap (λ ts. value_of ts name) k.timelines);
+  kept = λ world k. k;
+}
 
 pub IsDone-fence : (desk : DeskState) (name t : List ℕ) (files : List SyncFile) (ctx p : ℕ) → files ≡ desk.files ++ plain_file name (point_of ctx p) ∷ [] → ctx ≡ context_of desk.timelines t → 1 ≤ ctx → ctx ≤ length desk.timelines → IsDone desk (command.Fence name t p) answer.Done (record { timelines = desk.timelines; files = files })
 IsDone-fence desk name t files ctx p added is low high = record {

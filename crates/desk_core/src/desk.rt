@@ -6,7 +6,7 @@ use crate::answer::Answer;
 use crate::command::Command;
 use crate::files::Files;
 use crate::info;
-use point_core::{Name, Point, Refusal};
+use point_core::{Items, Name, Point, Refusal};
 use std::alloc::Global;
 use std::marker::Model;
 use timeline_core::Timelines;
@@ -71,6 +71,8 @@ impl Desk {
     {
         match command {
             Command::Timeline(name) => self.timeline(name),
+            Command::Inc(name, n) => self.inc(&name, n),
+            Command::Value(name) => self.value(&name),
             Command::Fence(name, timeline, value) => self.fence(name, &timeline, value),
             Command::Merge(name, first, second) => self.merge(name, &first, &second),
             Command::Info(name) => self.info(name),
@@ -84,6 +86,22 @@ impl Desk {
     {
         let ctx = self.timelines.create(name)?;
         Ok(Answer::Value(u64::from(ctx.number())))
+    }
+
+    fn inc(&mut self, name: &Name, n: u64) -> Result<Answer, Refusal>
+        ensures refused { IsRefusedFor (cause_of self.old (Command.Inc name.now n)) result }
+        ensures done { IfOk result (λ given. IsDone self.old (Command.Inc name.now n) given self.new) }
+        ensures unchanged { OnErr result (self.new ≡ self.old) }
+    {
+        let value = self.timelines.inc(name, n)?;
+        Ok(Answer::Raised(value, Items::of(Vec::new(self.alloc))))
+    }
+
+    fn value(&self, name: &Name) -> Result<Answer, Refusal>
+        ensures refused { IsRefusedFor (cause_of self.now (Command.Value name.now)) result }
+        ensures done { IfOk result (λ given. IsDone self.now (Command.Value name.now) given self.now) }
+    {
+        Ok(Answer::Value(self.timelines.value(name)?))
     }
 
     fn fence(&mut self, name: Name, timeline: &Name, value: u64) -> Result<Answer, Refusal>
