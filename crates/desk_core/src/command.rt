@@ -3,7 +3,7 @@
 use point_core::Name;
 
 /// A command, with the words of its line in a script. Timelines and files have name spaces of their own.
-#[derive(Clone, Copy, Debug)]
+#[derive(Clone, Copy, Debug, PartialEq, Eq, Hash)]
 pub enum Command {
     /// `timeline T`: makes a timeline at 0, as libsync's `sw_sync_timeline_create`.
     Timeline(Name),

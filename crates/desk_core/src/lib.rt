@@ -18,3 +18,6 @@ pub use runs::run;
 
 /// How many files there can be at a time.
 pub const FILES: usize = 1024;
+
+#[cfg(test)]
+mod tests;
