@@ -1,13 +1,15 @@
 -- Why a call is refused.
-use Rattle.std.proofs.Common.{◌≡◌, ℕ, ◌<◌, ◌≤◌, Bool, true, false, refl, sym, ap, ◌∙◌, subst, List, length, Option, None, Some, inl, inr, is_some, nat_lt, if◌then◌else◌}
-use Rattle.std.specs.Prelude.{MatchOption, MatchBool}
+use Rattle.std.proofs.Common.{◌≡◌, ℕ, ◌<◌, ◌≤◌, Bool, true, false, refl, sym, ap, ◌∙◌, subst, List, length, Option, None, Some, Result, Ok, Err, inl, inr, is_some, nat_lt, if◌then◌else◌}
+use Rattle.std.specs.List.{list_all}
+use Rattle.syncfile_core.specs.Merge.{cause_to_refuse_merge}
+use Rattle.std.specs.Prelude.{IsErrAnd, OnOk, MatchOption, MatchBool}
 use Rattle.std.proofs.lemmas.Bool.{cases_Bool, cases_lt, lt-ltb, le-ltb, false≢true}
 use Rattle.point_core.specs.declared.refusal.Refusal.{Refusal}
-use Rattle.point_core.specs.declared.refusal.Refusal.TheVariants.{Exists, Limit}
+use Rattle.point_core.specs.declared.refusal.Refusal.TheVariants.{Exists, Limit, NoEntry}
 use Rattle.point_core.specs.declared.refusal.LimitKind.TheVariants.{Files as FilesKind}
 use Rattle.syncfile_core.specs.declared.files.TheConstants.{FILES}
 use Rattle.syncfile_core.specs.SyncFile.{File}
-use Rattle.syncfile_core.specs.Files.{has_file, cause_to_refuse}
+use Rattle.syncfile_core.specs.Files.{has_file, cause_to_refuse, IsRefusedFor}
 
 cause_of : Bool → Bool → Option Refusal
 cause_of there room = if there then Some Exists else if room then None else Some (Limit FilesKind)
@@ -55,3 +57,18 @@ MatchBool-true b P Q is h = subst (λ p. MatchBool p P Q) (sym is) h
 
 pub MatchBool-false : (b : Bool) (P Q : Type 0) → b ≡ false → Q → MatchBool b P Q
 MatchBool-false b P Q is h = subst (λ p. MatchBool p P Q) (sym is) h
+
+-- an error that is the cause
+pub IsRefusedFor-Err : {T : Type 0} (o : Option Refusal) (r : Result T Refusal) (cause e : Refusal) → o ≡ Some cause → e ≡ cause → IsErrAnd r (λ given. given ≡ e) → IsRefusedFor o r
+IsRefusedFor-Err {T} o (Ok v) cause e is same given = absurd given
+IsRefusedFor-Err {T} o (Err f) cause e is same given =
+    let r : Result T Refusal = Err f in
+    let told : r ≡ Err cause = cc in
+    subst (λ p. IsRefusedFor p r) (sym is) told
+
+pub cause_to_refuse_merge-absent : (fs : List File) (name : List ℕ) (inputs : List (List ℕ)) → list_all (has_file fs) inputs ≡ false → cause_to_refuse_merge fs name inputs ≡ Some NoEntry
+cause_to_refuse_merge-absent fs name inputs absent = ap (λ b. if b then cause_to_refuse fs name else Some NoEntry) absent
+
+pub OnOk-always : {T E : Type 0} (r : Result T E) (P : Type 0) → P → OnOk r P
+OnOk-always (Ok v) P h = h
+OnOk-always (Err e) P h = tt

@@ -1,10 +1,14 @@
 -- Files in a map by name: what a look-up, an insertion and a removal say of the list of files.
-use Rattle.std.proofs.Common.{◌≡◌, ℕ, ◌<◌, ◌≤◌, Bool, true, false, not, ◌||◌, cond, nat_eq, is_some, find, refl, sym, ap, ◌∙◌, subst, List, [], ◌∷◌, ◌++◌, length, map, Option, None, Some, option_map, arith, inl, inr, length-append}
-use Rattle.std.specs.List.{list_any, IsDistinct, AllByRecursion}
+use Rattle.std.proofs.Common.{◌≡◌, ℕ, ◌+◌, ◌<◌, ◌≤◌, Bool, true, false, not, ◌||◌, cond, nat_eq, is_some, find, refl, sym, ap, ◌∙◌, subst, List, [], ◌∷◌, ◌++◌, length, map, Option, None, Some, option_map, arith, inl, inr, length-append, ◌&&◌, get_or, take, zero, suc}
+use Rattle.std.specs.List.{list_any, list_all, cons_option, IsDistinct, AllByRecursion}
+use Rattle.std.proofs.Math.Bool.{and-false}
+use Rattle.std.proofs.lemmas.List.Elements.{filter_map-append}
+use Rattle.std.proofs.lemmas.List.Folds.{list_all-append}
+use Rattle.syncfile_core.specs.Merge.{files_at}
 use Rattle.std.specs.Map.{keys_of, values_of, lookup, remove_entry}
 use Rattle.std.specs.Cmp.Lexicographic.{nat_list_eq_equiv}
 use Rattle.std.proofs.lemmas.Bool.{cases_Bool}
-use Rattle.std.proofs.lemmas.List.{map-append, length-map}
+use Rattle.std.proofs.lemmas.List.{map-append, length-map, take_more}
 use Rattle.indexmap.specs.IndexMap.{IndexMap, insert_entry}
 use Rattle.indexmap.proofs.CallerLemmas.{insert_entry-new}
 use lib.Pointwise.{pointwise, bytes_decides}
@@ -139,3 +143,28 @@ module _ {X : Type 0} (file : X → File) where
         ap (files_in file) (inserted ∙ new_entries)
         ∙ files_in-append m.entries (((file x).name, x) ∷ [])
         ∙ ap (λ gs. gs ++ file x ∷ []) is
+
+-- files that are looked up by name, one after another
+pub files_at-take_more : (fs : List File) (names : List (List ℕ)) (i : ℕ) (name : List ℕ) (f : File) → i < length names → name ≡ get_or names i name → file_at fs name ≡ Some f → files_at fs (take (i + 1) names) ≡ files_at fs (take i names) ++ f ∷ []
+files_at-take_more fs names i name f low at found =
+    ap (files_at fs) (take_more names i name low ∙ ap (λ n. take i names ++ n ∷ []) (sym at))
+    ∙ filter_map-append (file_at fs) (take i names) (name ∷ [])
+    ∙ ap (λ o. files_at fs (take i names) ++ cons_option o []) found
+
+pub has_file-found : (fs : List File) (name : List ℕ) (f : File) → file_at fs name ≡ Some f → has_file fs name ≡ true
+has_file-found fs name f found = sym (is_some-find (is_named name) fs) ∙ ap is_some found
+
+pub has_file-absent : (fs : List File) (name : List ℕ) → file_at fs name ≡ None → has_file fs name ≡ false
+has_file-absent fs name absent = sym (is_some-find (is_named name) fs) ∙ ap is_some absent
+
+pub list_all-take_more : {X : Type 0} (test : X → Bool) (xs : List X) (i : ℕ) (x : X) → i < length xs → x ≡ get_or xs i x → list_all test (take i xs) ≡ true → test x ≡ true → list_all test (take (i + 1) xs) ≡ true
+list_all-take_more test xs i x low at before here =
+    ap (list_all test) (take_more xs i x low ∙ ap (λ y. take i xs ++ y ∷ []) (sym at))
+    ∙ list_all-append test (take i xs) (x ∷ [])
+    ∙ rw (before, here) refl
+
+-- one that fails is enough
+pub list_all-fails : {X : Type 0} (test : X → Bool) (xs : List X) (i : ℕ) (x : X) → i < length xs → x ≡ get_or xs i x → test x ≡ false → list_all test xs ≡ false
+list_all-fails test [] i x low at fails = absurd (omega arith)
+list_all-fails test (y ∷ ys) zero x low at fails = rw (sym (ap test at) ∙ fails) refl
+list_all-fails test (y ∷ ys) (suc i) x low at fails = ap (λ b. test y && b) (list_all-fails test ys i x (omega arith) at fails) ∙ and-false (test y)

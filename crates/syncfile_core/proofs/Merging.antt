@@ -12,7 +12,7 @@ use Rattle.point_core.specs.Reach.{value_at, with_value, later_values}
 use Rattle.point_core.proofs.Agreement.{as_entries-append, HasContexts-append}
 use Rattle.point_core.proofs.Latest.{IsLatest-put, IsLatest-empty}
 use Rattle.point_core.proofs.Listings.{as_entries-take_more, points_above-IsLatest}
-use Rattle.syncfile_core.specs.SyncFile.{File}
+use Rattle.syncfile_core.specs.SyncFile.{File, file_of}
 use Rattle.syncfile_core.specs.Merge.{points_of, merged_file, IsGathered}
 
 HasContexts-single : (p : Point) → (1 ≤ p.ctx) × (p.ctx ≤ CONTEXTS) → HasContexts (as_entry p ∷ [])
@@ -46,9 +46,6 @@ IsGathered-last {table} {least} {more} {higher} {reach} inputs f before latest w
   floor = joined ∙ ap (λ floor. later_values floor f.floor) before.floor ∙ sym (fold-append (λ floor (g : File). later_values floor g.floor) reach inputs (f ∷ []));
   contexts = subst HasContexts (sym (entries-last inputs f)) (HasContexts-append (as_entries (points_of inputs)) (as_entries f.points) before.contexts within);
 }
-
-abbrev file_of : List ℕ → List Point → List ℕ → File
-file_of name points floor = record { name = name; points = points; floor = floor }
 
 -- what was gathered is listed above the reach
 pub merged-is : {table least : List ℕ} {points : List Point} (name : List ℕ) (inputs : List File) (reach : List ℕ) → IsGathered table least reach inputs → points ≡ points_above table reach → file_of name points least ≡ merged_file name inputs reach

@@ -8,7 +8,7 @@ use Rattle.point_core.specs.declared.entry.Entry.{Entry}
 use Rattle.point_core.specs.Agreement.{as_entries, listing, HasContexts}
 use Rattle.point_core.specs.Latest.{IsLatest}
 use Rattle.point_core.specs.Reach.{later_values}
-use Rattle.syncfile_core.specs.SyncFile.{File, StandsFor}
+use Rattle.syncfile_core.specs.SyncFile.{File, file_of, StandsFor}
 use Rattle.syncfile_core.specs.Files.{has_file, file_at, cause_to_refuse}
 
 -- the files of these names, by the order of the names
@@ -28,7 +28,11 @@ floor_of reach inputs = fold (λ floor (f : File). later_values floor f.floor) r
 
 -- the pending points of all inputs, the latest of each context
 abbrev pub merged_file : List ℕ → List File → List ℕ → File
-merged_file name inputs reach = record { name = name; points = listing (as_entries (points_of inputs)) 0 reach; floor = floor_of reach inputs }
+merged_file name inputs reach = file_of name (listing (as_entries (points_of inputs)) 0 reach) (floor_of reach inputs)
+
+-- the merge of the files of these names
+abbrev pub merge_of : List File → List ℕ → List (List ℕ) → List ℕ → File
+merge_of fs name inputs reach = merged_file name (files_at fs inputs) reach
 
 -- where each input stands for a set, the file stands for all of these together
 abbrev pub StandsForUnion : List File → File → Type 0

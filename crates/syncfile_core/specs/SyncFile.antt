@@ -10,9 +10,12 @@ pub record File : Type 0 where
   pub points : List Point
   pub floor : List ℕ
 
+abbrev pub file_of : List ℕ → List Point → List ℕ → File
+file_of name points floor = record { name = name; points = points; floor = floor }
+
 -- a file of one point, signalled or not
 abbrev pub plain_file : List ℕ → Point → File
-plain_file name point = record { name = name; points = point ∷ []; floor = replicate CONTEXTS 0 }
+plain_file name point = file_of name (point ∷ []) (replicate CONTEXTS 0)
 
 -- above its floor the file says what the set says, and the floor has a value of every context
 pub record StandsFor (f : File) (set : List Entry) : Type 0 where

@@ -1,15 +1,19 @@
 // The files by name.
-ghost use Rattle.std.specs.Prelude.{◌≡◌, ◌++◌, [], ◌∷◌, ◌<◌, length, OnOk, OnErr, IfOk, IfErr, IsOk, None, option_copied, MatchOption, MatchBool, MatchResult, Ok, Err, IsOkAnd};
+ghost use Rattle.std.specs.Prelude.{◌≡◌, ◌++◌, [], ◌∷◌, ◌<◌, length, OnOk, OnErr, IfOk, IfErr, IsOk, None, option_copied, MatchOption, MatchBool, MatchResult, Some, Ok, Err};
 ghost use Rattle.point_core.specs.declared.refusal.Refusal.TheVariants.{Memory, NoEntry};
 ghost use Rattle.syncfile_core.specs.declared.files.TheConstants.{FILES};
-ghost use Rattle.syncfile_core.specs.SyncFile.{plain_file};
+ghost use Rattle.syncfile_core.specs.SyncFile.{file_of, plain_file};
+ghost use Rattle.syncfile_core.specs.Merge.{files_at, merge_of, cause_to_refuse_merge, StandsForUnion};
+ghost use Rattle.point_core.specs.Agreement.{HasRisingContexts};
+ghost use Rattle.point_core.specs.declared.context.TheConstants.{CONTEXTS};
 ghost use Rattle.syncfile_core.specs.Status.{status_of, info_of};
 ghost use Rattle.syncfile_core.specs.Files.{has_file, file_at, without_file, names_of, cause_to_refuse, IsRefusedFor};
 
+use crate::merge::Gathered;
 use crate::status::{self, FileInfo, Status};
 use crate::sync_file::SyncFile;
 use indexmap::IndexMap;
-use point_core::{Items, LimitKind, Name, Point, Reach, Refusal};
+use point_core::{Items, LimitKind, Listing, Name, Point, Reach, Refusal};
 use std::alloc::Global;
 use std::marker::Model;
 
@@ -122,6 +126,56 @@ impl Files {
         self.insert(file)
     }
 
+    /// Merges two files, which both stay: the latest pending point of each context of either, above a floor that is the
+    /// greatest of the reach and of both floors. Linux's `sync_file_merge` drops and keeps the same points.
+    ///
+    /// Refuses as `NoEntry` where a file to be merged is not there, then as `free` does, then as `Memory`; nothing is made
+    /// then.
+    pub fn merge(&mut self, name: Name, a: &Name, b: &Name, reach: &Reach) -> Result<(), Refusal>
+        ensures refused { IsRefusedFor (cause_to_refuse_merge self.old name (a.now ∷ b.now ∷ [])) result }
+        ensures last { OnOk result (self.new ≡ self.old ++ merge_of self.old name (a.now ∷ b.now ∷ []) reach.now ∷ []) }
+        ensures union { length reach.now ≡ CONTEXTS → OnOk result (StandsForUnion (files_at self.old (a.now ∷ b.now ∷ [])) (merge_of self.old name (a.now ∷ b.now ∷ []) reach.now)) }
+        ensures unchanged { OnErr result (self.new ≡ self.old) }
+    {
+        self.merge_many(name, &[*a, *b], reach)
+    }
+
+    /// Merges any number of files, as `merge` does two. Of no files, it makes a file without points.
+    ///
+    /// Refuses as `merge` does.
+    pub fn merge_many(&mut self, name: Name, inputs: &[Name], reach: &Reach) -> Result<(), Refusal>
+        ensures refused { IsRefusedFor (cause_to_refuse_merge self.old name inputs.now) result }
+        ensures last { OnOk result (self.new ≡ self.old ++ merge_of self.old name inputs.now reach.now ∷ []) }
+        ensures union { length reach.now ≡ CONTEXTS → OnOk result (StandsForUnion (files_at self.old inputs.now) (merge_of self.old name inputs.now reach.now)) }
+        ensures unchanged { OnErr result (self.new ≡ self.old) }
+    {
+        let mut gathered = Gathered::above(reach);
+        for input in inputs {
+            gathered.add(self.known(input)?);
+        }
+        self.free(&name)?;
+        let file = gathered.into_file(self.allocator(), name, reach)?;
+        self.insert(file)
+    }
+
+    /// Makes a file of a listing.
+    ///
+    /// Refuses as `free` does, then as `Memory`; nothing is made then.
+    pub fn adopt(&mut self, name: Name, listing: Listing) -> Result<(), Refusal>
+        requires rising { HasRisingContexts listing.points }
+        ensures refused { IsRefusedFor (cause_to_refuse self.old name) result }
+        ensures last { OnOk result (self.new ≡ self.old ++ file_of name listing.points listing.floor ∷ []) }
+        ensures unchanged { OnErr result (self.new ≡ self.old) }
+    {
+        self.free(&name)?;
+        let Listing { points, floor } = listing;
+        self.insert(SyncFile {
+            name,
+            points,
+            floor,
+        })
+    }
+
     /// Closes a file. The others keep their order.
     ///
     /// Refuses as `NoEntry`; nothing is closed then. Takes no memory.
@@ -136,7 +190,9 @@ impl Files {
     }
 
     fn known(&self, name: &Name) -> Result<&SyncFile, Refusal>
-        ensures { MatchOption (file_at self.now name.now) (result ≡ Err NoEntry) (λ f. IsOkAnd result (λ known. known.now ≡ f)) }
+        ensures found { IfOk result (λ file. file_at self.now name.now ≡ Some file.now) }
+        ensures unknown { IfErr result (λ e. e ≡ NoEntry) }
+        ensures absent { OnErr result (file_at self.now name.now ≡ None) }
     {
         self.get(name).ok_or(Refusal::NoEntry)
     }
