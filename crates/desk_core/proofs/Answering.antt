@@ -6,7 +6,7 @@ use Rattle.desk_core.specs.declared.command.Command.{Command}
 use Rattle.desk_core.specs.declared.command.Command.TheVariants as command
 use Rattle.desk_core.specs.declared.answer.Answer.{Answer}
 use Rattle.desk_core.specs.declared.answer.Answer.TheVariants as answer
-use Rattle.desk_core.specs.Files.{IsRefusedFor}
+use Rattle.syncfile_core.specs.Files.{IsRefusedFor}
 use Rattle.desk_core.specs.World.{World, empty_world, after}
 use Rattle.desk_core.specs.Answer.{first_of, causes, told, refused_or, is_refused, OnRefused}
 use Rattle.desk_core.specs.History.{world_from, world_of, IsAnswer, history_after, history_of, AreAnswers}

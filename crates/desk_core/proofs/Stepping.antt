@@ -9,18 +9,20 @@ use Rattle.point_core.specs.declared.entry.Entry.{Entry}
 use Rattle.point_core.specs.declared.refusal.Refusal.{Refusal}
 use Rattle.point_core.specs.declared.refusal.Refusal.TheVariants.{NoEntry, Exists, Overflow, Limit}
 use Rattle.point_core.specs.declared.refusal.LimitKind.TheVariants.{Timelines, Files}
-use Rattle.point_core.specs.Agreement.{as_entry, point_of}
+use Rattle.point_core.specs.Agreement.{as_entry, point_of, as_entries, listing}
 use Rattle.point_core.specs.Reach.{IsAtLeast}
 use Rattle.point_core.proofs.Values.{IsAtLeast-refl, IsAtLeast-trans}
-use Rattle.desk_core.specs.declared.TheConstants.{FILES}
+use Rattle.syncfile_core.specs.declared.files.TheConstants.{FILES}
 use Rattle.desk_core.specs.declared.command.Command.{Command}
 use Rattle.desk_core.specs.declared.command.Command.TheVariants as command
 use Rattle.timeline_core.specs.Timeline.{Timeline, new_timeline, has_timeline, context_of, reach_of, value_of, raised, is_named, raised_by}
-use Rattle.desk_core.specs.Files.{SyncFile, has_sync_file, plain_file, merged_file, cause_to_refuse}
+use Rattle.syncfile_core.specs.SyncFile.{File as SyncFile, plain_file}
+use Rattle.syncfile_core.specs.Files.{has_file as has_sync_file, cause_to_refuse}
+use Rattle.syncfile_core.specs.Merge.{merge_of}
 use Rattle.desk_core.specs.World.{World, File, has_file, put_set, after}
 use Rattle.desk_core.specs.Answer.{first_of, causes, making_file, points_of}
 use Rattle.desk_core.specs.Desk.{DeskState, Keeps, WasMade, IsFilePoint, cause_of}
-use Rattle.desk_core.proofs.Keeping.{has_sync_file-names, length-names, listing-keeps, put_set-keeps}
+use Rattle.desk_core.proofs.Keeping.{points_of-files_at, has_sync_file-names, length-names, listing-keeps, put_set-keeps}
 
 -- why a command is refused
 
@@ -42,6 +44,10 @@ making_file-keeps {desk} {world} k name =
     ∙ ap (λ o. if has_sync_file desk.files name then Some Exists else o)
     (limit_tests FILES (length world.files) (Limit Files) ∙ ap (λ n. if nat_lt n FILES then None else Some (Limit Files)) (sym (length-names desk.files world.files k.names)))
 
+and-true : (b : Bool) → (b && true) ≡ b
+and-true true = refl
+and-true false = refl
+
 -- the desk refuses what is refused in the worlds that it keeps, and for the same cause
 pub causes-keeps : {desk : DeskState} {world : World} → Keeps desk world → (c : Command) → first_of (causes world c) ≡ cause_of desk c
 causes-keeps {desk} {world} k (command.Timeline t) =
@@ -61,7 +67,7 @@ causes-keeps {desk} {world} k (command.Merge f a b) =
     if-not (has_file world.files a && has_file world.files b) (Some NoEntry) (first_of (making_file world f))
     ∙ ap (λ o. if has_file world.files a && has_file world.files b then o else Some NoEntry) (making_file-keeps k f)
     ∙ ap (λ h. if h && has_file world.files b then cause_to_refuse desk.files f else Some NoEntry) (sym (has_sync_file-names desk.files world.files a k.names))
-    ∙ ap (λ h. if has_sync_file desk.files a && h then cause_to_refuse desk.files f else Some NoEntry) (sym (has_sync_file-names desk.files world.files b k.names))
+    ∙ ap (λ h. if has_sync_file desk.files a && h then cause_to_refuse desk.files f else Some NoEntry) (sym (has_sync_file-names desk.files world.files b k.names) ∙ sym (and-true (has_sync_file desk.files b)))
 causes-keeps {desk} {world} k (command.Info f) =
     if-not (has_file world.files f) (Some NoEntry) None
     ∙ ap (λ h. if h then None else Some NoEntry) (sym (has_sync_file-names desk.files world.files f k.names))
@@ -154,12 +160,12 @@ Keeps-fence {desk} {world} k name t ctx p is low high =
       put = All-cons (IsFilePoint (length world.timelines)) (as_entry (point_of (context_of world.timelines t) p)) [] (record { usage = refl; timeline = rw (← is') (low, high') }) (All-nil (IsFilePoint (length world.timelines)));
     })
 
-pub Keeps-merge : {desk : DeskState} {world : World} → Keeps desk world → (name a b reach : List ℕ) → reach ≡ reach_of desk.timelines → Keeps (record { timelines = desk.timelines; files = desk.files ++ merged_file desk.files name a b reach ∷ [] }) (after world (command.Merge name a b))
+pub Keeps-merge : {desk : DeskState} {world : World} → Keeps desk world → (name a b reach : List ℕ) → reach ≡ reach_of desk.timelines → Keeps (record { timelines = desk.timelines; files = desk.files ++ merge_of desk.files name (a ∷ b ∷ []) reach ∷ [] }) (after world (command.Merge name a b))
 Keeps-merge {desk} {world} k name a b reach is =
     let same = k.timelines in
     let is' : reach ≡ reach_of world.timelines = rw same at is in
-    Keeps-file k (merged_file desk.files name a b reach) _ refl
-    (rw is' (listing-keeps k a b))
+    Keeps-file k (merge_of desk.files name (a ∷ b ∷ []) reach) _ refl
+    (ap (λ ps. listing (as_entries ps) 0 reach) (points_of-files_at desk.files a b) ∙ rw is' (listing-keeps k a b))
     (record {
       since = IsAtLeast-refl (reach_of world.timelines);
       put = All-append (IsFilePoint (length world.timelines)) (put_set world.files a) (put_set world.files b) (put_set-keeps k a) (put_set-keeps k b);

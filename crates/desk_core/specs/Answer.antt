@@ -22,7 +22,7 @@ use Rattle.desk_core.specs.declared.answer.FenceRow.{FenceRow}
 use Rattle.desk_core.specs.declared.answer.Maker.TheVariants.{SwSync, Stub}
 use Rattle.timeline_core.specs.Timeline.{Timeline, has_timeline, name_at, reach_of, value_of}
 use Rattle.desk_core.specs.World.{File, World, has_file, file_named}
-use Rattle.desk_core.specs.declared.TheConstants.{FILES}
+use Rattle.syncfile_core.specs.declared.files.TheConstants.{FILES}
 
 -- the first refusal whose cause holds
 abbrev pub first_of : List (Bool × Refusal) → Option Refusal

@@ -7,7 +7,8 @@ use Rattle.desk_core.specs.declared.command.Command.TheVariants as command
 use Rattle.desk_core.specs.declared.answer.Info.{Info}
 use Rattle.desk_core.specs.declared.answer.Answer.TheVariants as answer
 use Rattle.timeline_core.specs.Timeline.{reach_of}
-use Rattle.desk_core.specs.Files.{SyncFile, sync_file_at}
+use Rattle.syncfile_core.specs.SyncFile.{File as SyncFile}
+use Rattle.syncfile_core.specs.Files.{file_at as sync_file_at}
 use Rattle.desk_core.specs.World.{World, File, file_named, put_set}
 use Rattle.desk_core.specs.Answer.{answer_to, points_of}
 use Rattle.desk_core.specs.Desk.{DeskState}

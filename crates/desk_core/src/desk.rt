@@ -4,11 +4,11 @@ ghost use Rattle.desk_core.specs.declared.command.Command.{Command};
 
 use crate::answer::Answer;
 use crate::command::Command;
-use crate::files::Files;
 use crate::info;
 use point_core::{Items, Name, Point, Refusal};
 use std::alloc::Global;
 use std::marker::Model;
+use syncfile_core::Files;
 use timeline_core::Timelines;
 
 /// All timelines and files of a service. It keeps of each file what was pending when it was made, and its answers are
@@ -33,7 +33,7 @@ impl Model for Desk {
 
 impl Desk {
     ghost use Rattle.desk_core.specs.Answer.{OnRefused};
-    ghost use Rattle.desk_core.specs.Files.{IsRefusedFor};
+    ghost use Rattle.syncfile_core.specs.Files.{IsRefusedFor};
     ghost use Rattle.desk_core.specs.History.{IsAnswer, history_after};
     ghost use Rattle.desk_core.specs.Desk.{StandsFor, cause_of, IsDone};
 

@@ -7,7 +7,6 @@
 mod answer;
 mod command;
 mod desk;
-mod files;
 mod info;
 mod runs;
 
@@ -15,9 +14,6 @@ pub use answer::{Answer, FenceRow, Info, Maker};
 pub use command::Command;
 pub use desk::Desk;
 pub use runs::run;
-
-/// How many files there can be at a time.
-pub const FILES: usize = 1024;
 
 #[cfg(test)]
 mod tests;
