@@ -1,27 +1,28 @@
 -- What each command does and tells.
-use Rattle.std.proofs.Common.{◌≡◌, ℕ, ◌+◌, ◌-◌, ◌<◌, ◌≤◌, Bool, true, false, refl, sym, ap, subst, ◌∙◌, List, [], ◌∷◌, ◌++◌, length, map, Option, None, Some, option_map, unwrap_or, arith, All, nat_lt, inl, inr, length-append}
-use Rattle.std.specs.Prelude.{if◌then◌else◌, IfOk, OnErr, IfErr, Result, Ok, Err}
-use Rattle.std.proofs.lemmas.List.Elements.{All-nil, All-push, All-weaker, All-append, All-contains, All-map}
+use Rattle.std.proofs.Common.{◌≡◌, ℕ, ◌+◌, ◌<◌, ◌≤◌, Bool, true, false, refl, sym, ap, ◌∙◌, subst, List, [], ◌∷◌, ◌++◌, length, map, Option, None, Some, option_map, unwrap_or, arith, nat_lt, length-append}
+use Rattle.std.specs.Prelude.{if◌then◌else◌}
+use Rattle.std.proofs.lemmas.List.Elements.{All-nil, All-push, All-append, All-contains, All-map}
 use Rattle.point_core.specs.declared.context.TheConstants.{CONTEXTS}
 use Rattle.point_core.specs.declared.entry.Point.{Point}
 use Rattle.point_core.specs.declared.entry.Entry.{Entry}
-use Rattle.point_core.specs.declared.status.Status.{Status}
 use Rattle.point_core.specs.Status.{status_if}
-use Rattle.point_core.specs.Agreement.{as_entry, as_entries, point_of, listing, pending, pending_top, top}
-use Rattle.point_core.specs.Reach.{value_at}
+use Rattle.point_core.specs.Agreement.{as_entry, as_entries, point_of, listing, pending, top}
+use Rattle.point_core.specs.Reach.{value_at, IsAtLeast}
 use Rattle.point_core.proofs.Agreement.{listing-All, top-Some}
 use Rattle.desk_core.specs.declared.command.Command.TheVariants as command
 use Rattle.desk_core.specs.declared.answer.Answer.TheVariants as answer
 use Rattle.desk_core.specs.declared.answer.Info.{Info}
 use Rattle.desk_core.specs.declared.answer.FenceRow.{FenceRow}
-use Rattle.desk_core.specs.Timeline.{Timeline, new_timeline, has_timeline, context_of, reach_of}
-use Rattle.desk_core.specs.Files.{SyncFile, sync_file_at, points_at, plain_file, merged_file}
+use Rattle.timeline_core.specs.Timeline.{Timeline, new_timeline, context_of, reach_of, value_of, raised}
+use Rattle.syncfile_core.specs.SyncFile.{File as SyncFile, plain_file}
+use Rattle.syncfile_core.specs.Files.{file_at as sync_file_at}
+use Rattle.syncfile_core.specs.Merge.{merge_of}
 use Rattle.desk_core.specs.World.{World, File, file_named, put_set}
 use Rattle.desk_core.specs.Answer.{points_of, all_reached, fence_row, or_stub, info_of}
 use Rattle.desk_core.specs.Desk.{DeskState, Keeps, IsDone, AreMade, HaveTimelines, info_at}
-use Rattle.desk_core.proofs.Keeping.{sync_file_at-points, sync_file_at-All}
+use Rattle.desk_core.proofs.Keeping.{points_at, points_of-files_at, sync_file_at-points, sync_file_at-All}
 use Rattle.desk_core.proofs.Signalling.{all_reached-keeps}
-use Rattle.desk_core.proofs.Stepping.{Keeps-timeline, Keeps-fence, Keeps-merge}
+use Rattle.desk_core.proofs.Stepping.{Keeps-timeline, Keeps-raised, Keeps-fence, Keeps-merge}
 
 pub IsDone-timeline : (desk : DeskState) (name : List ℕ) (made : List Timeline) (number : ℕ) → made ≡ desk.timelines ++ new_timeline name ∷ [] → length made ≤ CONTEXTS → number ≡ length desk.timelines + 1 → IsDone desk (command.Timeline name) (answer.Value number) (record { timelines = made; files = desk.files })
 IsDone-timeline desk name made number added room is =
@@ -32,6 +33,20 @@ IsDone-timeline desk name made number added room is =
       kept = λ world k. rw added (Keeps-timeline k name low);
     }
 
+pub IsDone-inc : (desk : DeskState) (name : List ℕ) (n : ℕ) (timelines : List Timeline) (value : ℕ) (fired : List ℕ) → timelines ≡ raised desk.timelines name n → IsAtLeast (reach_of timelines) (reach_of desk.timelines) → value ≡ value_of desk.timelines name + n → fired ≡ [] → IsDone desk (command.Inc name n) (answer.Raised value fired) (record { timelines = timelines; files = desk.files })
+IsDone-inc desk name n timelines value fired risen rises is none = record {
+  accepted = refl;
+  told = λ world k. rw none (ap (λ v. answer.Raised v []) (is ∙ ap (λ ts. value_of ts name + n) k.timelines));
+  kept = λ world k. rw risen (Keeps-raised k name n (rw risen at rises));
+}
+
+pub IsDone-value : (desk : DeskState) (name : List ℕ) (value : ℕ) → value ≡ value_of desk.timelines name → IsDone desk (command.Value name) (answer.Value value) desk
+IsDone-value desk name value is = record {
+  accepted = refl;
+  told = λ world k. ap answer.Value (is ∙ ap (λ ts. value_of ts name) k.timelines);
+  kept = λ world k. k;
+}
+
 pub IsDone-fence : (desk : DeskState) (name t : List ℕ) (files : List SyncFile) (ctx p : ℕ) → files ≡ desk.files ++ plain_file name (point_of ctx p) ∷ [] → ctx ≡ context_of desk.timelines t → 1 ≤ ctx → ctx ≤ length desk.timelines → IsDone desk (command.Fence name t p) answer.Done (record { timelines = desk.timelines; files = files })
 IsDone-fence desk name t files ctx p added is low high = record {
   accepted = refl;
@@ -39,7 +54,7 @@ IsDone-fence desk name t files ctx p added is low high = record {
   kept = λ world k. rw added (Keeps-fence k name t ctx p is low high);
 }
 
-pub IsDone-merge : (desk : DeskState) (name a b reach : List ℕ) (files : List SyncFile) → files ≡ desk.files ++ merged_file desk.files name a b reach ∷ [] → reach ≡ reach_of desk.timelines → IsDone desk (command.Merge name a b) answer.Done (record { timelines = desk.timelines; files = files })
+pub IsDone-merge : (desk : DeskState) (name a b reach : List ℕ) (files : List SyncFile) → files ≡ desk.files ++ merge_of desk.files name (a ∷ b ∷ []) reach ∷ [] → reach ≡ reach_of desk.timelines → IsDone desk (command.Merge name a b) answer.Done (record { timelines = desk.timelines; files = files })
 IsDone-merge desk name a b reach files added is = record {
   accepted = refl;
   told = λ world k. refl;
@@ -98,7 +113,9 @@ AreMade-listing made ps reach all = listing-All (λ (p : Point). p.ctx ≤ made)
     let same : put.0.point.ctx ≡ ctx = put.2.1 in
     rw same at within)
 
-pub HaveTimelines-merge : (made : ℕ) (fs : List SyncFile) (name a b reach : List ℕ) → HaveTimelines made fs → HaveTimelines made (fs ++ merged_file fs name a b reach ∷ [])
+pub HaveTimelines-merge : (made : ℕ) (fs : List SyncFile) (name a b reach : List ℕ) → HaveTimelines made fs → HaveTimelines made (fs ++ merge_of fs name (a ∷ b ∷ []) reach ∷ [])
 HaveTimelines-merge made fs name a b reach all =
-    All-push (λ (f : SyncFile). AreMade made f.points) fs (merged_file fs name a b reach) all
-    (AreMade-listing made (points_at fs a ++ points_at fs b) reach (All-append (λ (p : Point). p.ctx ≤ made) (points_at fs a) (points_at fs b) (AreMade-points_at made fs a all) (AreMade-points_at made fs b all)))
+    let both = All-append (λ (p : Point). p.ctx ≤ made) (points_at fs a) (points_at fs b) (AreMade-points_at made fs a all) (AreMade-points_at made fs b all) in
+    let same = sym (ap (λ ps. listing (as_entries ps) 0 reach) (points_of-files_at fs a b)) in
+    All-push (λ (f : SyncFile). AreMade made f.points) fs (merge_of fs name (a ∷ b ∷ []) reach) all
+    (subst (AreMade made) same (AreMade-listing made (points_at fs a ++ points_at fs b) reach both))

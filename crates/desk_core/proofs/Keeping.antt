@@ -1,20 +1,21 @@
 -- What a desk finds by name is what the world has of that name.
-use Rattle.std.proofs.Common.{◌≡◌, ℕ, ◌+◌, ◌<◌, ◌≤◌, Bool, true, false, cond, ◌||◌, ◌&&◌, refl, sym, ap, subst, ◌∙◌, List, [], ◌∷◌, ◌++◌, length, map, find, Option, None, Some, option_map, unwrap_or, arith, All, Contains, nat_le, not, suc, if◌then◌else◌}
-use Rattle.std.specs.Prelude.{◌↔◌, is_some}
-use Rattle.std.specs.List.{list_any, list_all}
+use Rattle.std.proofs.Common.{◌≡◌, ℕ, ◌≤◌, Bool, true, false, cond, ◌||◌, refl, sym, ap, subst, ◌∙◌, append-nil, List, [], ◌∷◌, ◌++◌, length, map, find, Option, None, Some, option_map, unwrap_or, arith, All, if◌then◌else◌}
+use Rattle.std.specs.List.{cons_option}
 use Rattle.std.proofs.lemmas.List.{length-map}
 use Rattle.std.proofs.lemmas.Option.{same_Some}
-use Rattle.std.proofs.lemmas.List.Elements.{All-head, All-tail, All-nil, All-cons, All-weaker, All-append, All-push, All-map, All-contains}
+use Rattle.std.proofs.lemmas.List.Elements.{All-head, All-tail, All-nil, All-weaker}
 use Rattle.point_core.specs.declared.context.TheConstants.{CONTEXTS}
 use Rattle.point_core.specs.declared.entry.Point.{Point}
 use Rattle.point_core.specs.declared.entry.Entry.{Entry}
 use Rattle.point_core.specs.declared.entry.Usage.TheVariants.{Kernel}
-use Rattle.point_core.specs.Agreement.{AgreesAbove, as_entry, as_entries, listing, HasContexts, IsReached, pending, pending_top}
-use Rattle.point_core.specs.Reach.{value_at, IsAtLeast}
-use Rattle.point_core.proofs.Agreement.{AgreesAbove-refl, AgreesAbove-sym, AgreesAbove-trans, AgreesAbove-append, AgreesAbove-same, listing-AgreesAbove, pending_top-listing, top-as_entries, as_entries-append, listing-empty}
-use Rattle.desk_core.specs.Timeline.{Timeline, same_name, reach_of}
-use Rattle.desk_core.specs.Files.{SyncFile, has_sync_file, sync_file_at, points_at}
-use Rattle.desk_core.specs.World.{World, File, has_file, file_named, put_set}
+use Rattle.point_core.specs.Agreement.{AgreesAbove, as_entry, as_entries, listing, HasContexts, pending, pending_top}
+use Rattle.point_core.specs.Reach.{value_at}
+use Rattle.point_core.proofs.Agreement.{AgreesAbove-refl, AgreesAbove-append, AgreesAbove-same, listing-AgreesAbove, pending_top-listing, top-as_entries, as_entries-append}
+use Rattle.timeline_core.specs.Timeline.{Timeline, reach_of}
+use Rattle.syncfile_core.specs.SyncFile.{File as SyncFile}
+use Rattle.syncfile_core.specs.Files.{has_file as has_sync_file, file_at as sync_file_at}
+use Rattle.syncfile_core.specs.Merge.{files_at, points_of as points_of_files}
+use Rattle.desk_core.specs.World.{World, File, same_name, has_file, file_named, put_set}
 use Rattle.desk_core.specs.Answer.{points_of}
 use Rattle.desk_core.specs.Desk.{DeskState, Keeps, WasMade, IsFilePoint}
 
@@ -29,6 +30,20 @@ made_names fs = map (λ (f : File). f.name) fs
 
 abbrev pub made_points : List File → List (List Point)
 made_points fs = map points_of fs
+
+-- the points of the file of that name
+abbrev pub points_at : List SyncFile → List ℕ → List Point
+points_at fs name = unwrap_or (option_map (λ (f : SyncFile). f.points) (sync_file_at fs name)) []
+
+points_of-found : (o p : Option SyncFile) → points_of_files (cons_option o (cons_option p [])) ≡ unwrap_or (option_map (λ (f : SyncFile). f.points) o) [] ++ unwrap_or (option_map (λ (f : SyncFile). f.points) p) []
+points_of-found None None = refl
+points_of-found None (Some g) = append-nil g.points
+points_of-found (Some f) None = refl
+points_of-found (Some f) (Some g) = ap (λ ps. f.points ++ ps) (append-nil g.points)
+
+-- the points of two files, one after the other
+pub points_of-files_at : (fs : List SyncFile) (a b : List ℕ) → points_of_files (files_at fs (a ∷ b ∷ [])) ≡ points_at fs a ++ points_at fs b
+points_of-files_at fs a b = points_of-found (sync_file_at fs a) (sync_file_at fs b)
 
 -- by name
 

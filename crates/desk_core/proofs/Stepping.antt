@@ -1,27 +1,28 @@
 -- What a desk keeps after each command.
-use Rattle.std.proofs.Common.{◌≡◌, ℕ, ◌+◌, ◌-◌, ◌<◌, ◌≤◌, Bool, true, false, ◌||◌, ◌&&◌, refl, sym, ap, subst, ◌∙◌, List, [], ◌∷◌, ◌++◌, length, map, Option, None, Some, option_map, unwrap_or, arith, All, nat_le, nat_lt, not, inl, inr, replicate, append_assoc, length-append, suc, zero}
+use Rattle.std.proofs.Common.{◌≡◌, ℕ, ◌+◌, ◌-◌, ◌^◌, ◌<◌, ◌≤◌, Bool, true, false, ◌&&◌, refl, sym, ap, subst, ◌∙◌, List, [], ◌∷◌, ◌++◌, length, map, None, Some, arith, nat_le, nat_lt, not, replicate, length-append, suc, zero}
 use Rattle.std.specs.Prelude.{if◌then◌else◌}
 use Rattle.std.proofs.lemmas.Bool.{leb-true, leb-false, lt-ltb, le-ltb}
 use Rattle.std.proofs.lemmas.List.{length-map}
 use Rattle.std.proofs.lemmas.List.Elements.{All-nil, All-cons, All-push, All-weaker, All-append}
 use Rattle.point_core.specs.declared.context.TheConstants.{CONTEXTS}
-use Rattle.point_core.specs.declared.entry.Point.{Point}
 use Rattle.point_core.specs.declared.entry.Entry.{Entry}
 use Rattle.point_core.specs.declared.refusal.Refusal.{Refusal}
-use Rattle.point_core.specs.declared.refusal.Refusal.TheVariants.{NoEntry, Exists, Limit}
+use Rattle.point_core.specs.declared.refusal.Refusal.TheVariants.{NoEntry, Exists, Overflow, Limit}
 use Rattle.point_core.specs.declared.refusal.LimitKind.TheVariants.{Timelines, Files}
-use Rattle.point_core.specs.Agreement.{as_entry, as_entries, point_of, listing}
+use Rattle.point_core.specs.Agreement.{as_entry, point_of, as_entries, listing}
 use Rattle.point_core.specs.Reach.{IsAtLeast}
-use Rattle.point_core.proofs.Values.{IsAtLeast-refl}
-use Rattle.desk_core.specs.declared.TheConstants.{FILES}
+use Rattle.point_core.proofs.Values.{IsAtLeast-refl, IsAtLeast-trans}
+use Rattle.syncfile_core.specs.declared.files.TheConstants.{FILES}
 use Rattle.desk_core.specs.declared.command.Command.{Command}
 use Rattle.desk_core.specs.declared.command.Command.TheVariants as command
-use Rattle.desk_core.specs.Timeline.{Timeline, new_timeline, has_timeline, context_of, reach_of}
-use Rattle.desk_core.specs.Files.{SyncFile, has_sync_file, plain_file, merged_file, cause_to_refuse, cause_to_refuse_merge}
-use Rattle.desk_core.specs.World.{World, File, has_file, put_set, with_timeline, after}
+use Rattle.timeline_core.specs.Timeline.{Timeline, new_timeline, has_timeline, context_of, reach_of, value_of, raised, is_named, raised_by}
+use Rattle.syncfile_core.specs.SyncFile.{File as SyncFile, plain_file}
+use Rattle.syncfile_core.specs.Files.{has_file as has_sync_file, cause_to_refuse}
+use Rattle.syncfile_core.specs.Merge.{merge_of}
+use Rattle.desk_core.specs.World.{World, File, has_file, put_set, after}
 use Rattle.desk_core.specs.Answer.{first_of, causes, making_file, points_of}
 use Rattle.desk_core.specs.Desk.{DeskState, Keeps, WasMade, IsFilePoint, cause_of}
-use Rattle.desk_core.proofs.Keeping.{has_sync_file-names, length-names, listing-keeps, put_set-keeps}
+use Rattle.desk_core.proofs.Keeping.{points_of-files_at, has_sync_file-names, length-names, listing-keeps, put_set-keeps}
 
 -- why a command is refused
 
@@ -43,11 +44,21 @@ making_file-keeps {desk} {world} k name =
     ∙ ap (λ o. if has_sync_file desk.files name then Some Exists else o)
     (limit_tests FILES (length world.files) (Limit Files) ∙ ap (λ n. if nat_lt n FILES then None else Some (Limit Files)) (sym (length-names desk.files world.files k.names)))
 
+and-true : (b : Bool) → (b && true) ≡ b
+and-true true = refl
+and-true false = refl
+
 -- the desk refuses what is refused in the worlds that it keeps, and for the same cause
 pub causes-keeps : {desk : DeskState} {world : World} → Keeps desk world → (c : Command) → first_of (causes world c) ≡ cause_of desk c
 causes-keeps {desk} {world} k (command.Timeline t) =
     ap (λ o. if has_timeline world.timelines t then Some Exists else o) (limit_tests CONTEXTS (length world.timelines) (Limit Timelines))
     ∙ ap (λ ts. if has_timeline ts t then Some Exists else (if nat_lt (length ts) CONTEXTS then None else Some (Limit Timelines))) (sym k.timelines)
+causes-keeps {desk} {world} k (command.Inc t n) =
+    if-not (has_timeline world.timelines t) (Some NoEntry) (if nat_le (2 ^ 64) (value_of world.timelines t + n) then Some Overflow else None)
+    ∙ ap (λ ts. if has_timeline ts t then (if nat_le (2 ^ 64) (value_of ts t + n) then Some Overflow else None) else Some NoEntry) (sym k.timelines)
+causes-keeps {desk} {world} k (command.Value t) =
+    if-not (has_timeline world.timelines t) (Some NoEntry) None
+    ∙ ap (λ ts. if has_timeline ts t then None else Some NoEntry) (sym k.timelines)
 causes-keeps {desk} {world} k (command.Fence f t p) =
     if-not (has_timeline world.timelines t) (Some NoEntry) (first_of (making_file world f))
     ∙ ap (λ o. if has_timeline world.timelines t then o else Some NoEntry) (making_file-keeps k f)
@@ -56,7 +67,7 @@ causes-keeps {desk} {world} k (command.Merge f a b) =
     if-not (has_file world.files a && has_file world.files b) (Some NoEntry) (first_of (making_file world f))
     ∙ ap (λ o. if has_file world.files a && has_file world.files b then o else Some NoEntry) (making_file-keeps k f)
     ∙ ap (λ h. if h && has_file world.files b then cause_to_refuse desk.files f else Some NoEntry) (sym (has_sync_file-names desk.files world.files a k.names))
-    ∙ ap (λ h. if has_sync_file desk.files a && h then cause_to_refuse desk.files f else Some NoEntry) (sym (has_sync_file-names desk.files world.files b k.names))
+    ∙ ap (λ h. if has_sync_file desk.files a && h then cause_to_refuse desk.files f else Some NoEntry) (sym (has_sync_file-names desk.files world.files b k.names) ∙ sym (and-true (has_sync_file desk.files b)))
 causes-keeps {desk} {world} k (command.Info f) =
     if-not (has_file world.files f) (Some NoEntry) None
     ∙ ap (λ h. if h then None else Some NoEntry) (sym (has_sync_file-names desk.files world.files f k.names))
@@ -90,6 +101,30 @@ WasMade-new_timeline ts name low f h = record {
   since = let P : List ℕ → Type 0 = λ reach. IsAtLeast reach f.made_at in subst P (sym (reach_of-new_timeline ts name low)) h.since;
   put = All-weaker (IsFilePoint (length ts)) (IsFilePoint (length (ts ++ new_timeline name ∷ []))) (IsFilePoint-more (length ts) (length (ts ++ new_timeline name ∷ [])) (omega (arith, length-append {A = Timeline}))) f.put h.put;
 }
+
+-- as many timelines as before
+pub length-raised : (ts : List Timeline) (name : List ℕ) (n : ℕ) → length (raised ts name n) ≡ length ts
+length-raised ts name n = length-map ts (λ t. if is_named name t then raised_by n t else t)
+
+-- a file stays made while no value falls
+WasMade-later : (ts later : List Timeline) → length later ≡ length ts → IsAtLeast (reach_of later) (reach_of ts) → (f : File) → WasMade ts f → WasMade later f
+WasMade-later ts later same rises f h = record {
+  since = IsAtLeast-trans rises h.since;
+  put = rw same h.put;
+}
+
+-- a timeline rises, and the files stay
+pub Keeps-raised : {desk : DeskState} {world : World} → Keeps desk world → (name : List ℕ) (n : ℕ) → IsAtLeast (reach_of (raised desk.timelines name n)) (reach_of desk.timelines) → Keeps (record { timelines = raised desk.timelines name n; files = desk.files }) (after world (command.Inc name n))
+Keeps-raised {desk} {world} k name n rises =
+    let same = k.timelines in
+    let rises' : IsAtLeast (reach_of (raised world.timelines name n)) (reach_of world.timelines) = rw same at rises in
+    record {
+      timelines = ap (λ ts. raised ts name n) same;
+      names = k.names;
+      points = k.points;
+      made = All-weaker (WasMade world.timelines) (WasMade (raised world.timelines name n)) (WasMade-later world.timelines (raised world.timelines name n) (length-raised world.timelines name n) rises') world.files k.made;
+      room = rw (length-raised world.timelines name n) k.room;
+    }
 
 pub Keeps-timeline : {desk : DeskState} {world : World} → Keeps desk world → (name : List ℕ) → length desk.timelines < CONTEXTS → Keeps (record { timelines = desk.timelines ++ new_timeline name ∷ []; files = desk.files }) (after world (command.Timeline name))
 Keeps-timeline {desk} {world} k name low =
@@ -125,12 +160,12 @@ Keeps-fence {desk} {world} k name t ctx p is low high =
       put = All-cons (IsFilePoint (length world.timelines)) (as_entry (point_of (context_of world.timelines t) p)) [] (record { usage = refl; timeline = rw (← is') (low, high') }) (All-nil (IsFilePoint (length world.timelines)));
     })
 
-pub Keeps-merge : {desk : DeskState} {world : World} → Keeps desk world → (name a b reach : List ℕ) → reach ≡ reach_of desk.timelines → Keeps (record { timelines = desk.timelines; files = desk.files ++ merged_file desk.files name a b reach ∷ [] }) (after world (command.Merge name a b))
+pub Keeps-merge : {desk : DeskState} {world : World} → Keeps desk world → (name a b reach : List ℕ) → reach ≡ reach_of desk.timelines → Keeps (record { timelines = desk.timelines; files = desk.files ++ merge_of desk.files name (a ∷ b ∷ []) reach ∷ [] }) (after world (command.Merge name a b))
 Keeps-merge {desk} {world} k name a b reach is =
     let same = k.timelines in
     let is' : reach ≡ reach_of world.timelines = rw same at is in
-    Keeps-file k (merged_file desk.files name a b reach) _ refl
-    (rw is' (listing-keeps k a b))
+    Keeps-file k (merge_of desk.files name (a ∷ b ∷ []) reach) _ refl
+    (ap (λ ps. listing (as_entries ps) 0 reach) (points_of-files_at desk.files a b) ∙ rw is' (listing-keeps k a b))
     (record {
       since = IsAtLeast-refl (reach_of world.timelines);
       put = All-append (IsFilePoint (length world.timelines)) (put_set world.files a) (put_set world.files b) (put_set-keeps k a) (put_set-keeps k b);

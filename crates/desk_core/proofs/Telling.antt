@@ -1,5 +1,5 @@
 -- A desk that keeps a world tells what was put into its files.
-use Rattle.std.proofs.Common.{◌≡◌, ℕ, ◌<◌, Bool, true, false, not, refl, sym, ap, subst, ◌∙◌, List, [], ◌∷◌, length, Option, None, Some, option_map, unwrap_or, arith, Contains}
+use Rattle.std.proofs.Common.{◌≡◌, ℕ, Bool, true, false, not, refl, sym, ap, ◌∙◌, List, [], Option, None, Some, option_map, unwrap_or, arith}
 use Rattle.std.specs.Prelude.{◌↔◌, if◌then◌else◌}
 use Rattle.point_core.specs.declared.refusal.Refusal.TheVariants.{NoEntry}
 use Rattle.point_core.specs.declared.status.Status.TheVariants.{Signalled}
@@ -7,13 +7,14 @@ use Rattle.point_core.specs.Agreement.{AgreesAbove, as_entries, IsReached}
 use Rattle.point_core.proofs.Agreement.{AgreesAbove-trans, AgreesAbove-sym, AgreesAbove-same_entries}
 use Rattle.desk_core.specs.declared.answer.Answer.TheVariants as answer
 use Rattle.desk_core.specs.declared.answer.Info.{Info}
-use Rattle.desk_core.specs.Timeline.{reach_of}
-use Rattle.desk_core.specs.Files.{SyncFile, sync_file_at, points_at}
+use Rattle.timeline_core.specs.Timeline.{reach_of}
+use Rattle.syncfile_core.specs.SyncFile.{File as SyncFile}
+use Rattle.syncfile_core.specs.Files.{file_at as sync_file_at}
 use Rattle.desk_core.specs.World.{World, File, has_file, file_named, put_set}
 use Rattle.desk_core.specs.Answer.{refused_or, all_reached, points_of, info_of}
 use Rattle.desk_core.specs.Desk.{DeskState, Keeps}
 use Rattle.desk_core.specs.Headline.{TellsWhatWasPut}
-use Rattle.desk_core.proofs.Keeping.{sync_file_at-points, AgreesAbove-keeps}
+use Rattle.desk_core.proofs.Keeping.{points_at, sync_file_at-points, AgreesAbove-keeps}
 use Rattle.desk_core.proofs.Signalling.{IsReached-keeps, all_reached-IsReached, status_if-Signalled}
 
 listed : (fs : List SyncFile) (name : List ℕ) (f : SyncFile) → sync_file_at fs name ≡ Some f → points_at fs name ≡ f.points

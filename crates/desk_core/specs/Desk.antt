@@ -1,15 +1,17 @@
 -- What a desk keeps, and the histories that it stands for.
-use Rattle.std.specs.Prelude.{◌≡◌, ℕ, ◌≤◌, ◌&&◌, false, nat_lt, if◌then◌else◌, List, map, length, All, Option, None, Some, Result, Ok, Err}
+use Rattle.std.specs.Prelude.{◌≡◌, ℕ, ◌+◌, ◌^◌, ◌≤◌, false, nat_lt, nat_le, if◌then◌else◌, List, [], ◌∷◌, map, length, All, Option, None, Some, Result, Ok, Err}
 use Rattle.point_core.specs.declared.entry.Point.{Point}
 use Rattle.point_core.specs.declared.entry.Entry.{Entry}
 use Rattle.point_core.specs.declared.entry.Usage.TheVariants.{Kernel}
 use Rattle.point_core.specs.declared.context.TheConstants.{CONTEXTS}
 use Rattle.point_core.specs.declared.refusal.Refusal.{Refusal}
-use Rattle.point_core.specs.declared.refusal.Refusal.TheVariants.{NoEntry, Exists, Limit}
+use Rattle.point_core.specs.declared.refusal.Refusal.TheVariants.{NoEntry, Exists, Overflow, Limit}
 use Rattle.point_core.specs.declared.refusal.LimitKind.TheVariants.{Timelines}
 use Rattle.point_core.specs.Reach.{IsAtLeast}
-use Rattle.desk_core.specs.Timeline.{Timeline, has_timeline, reach_of}
-use Rattle.desk_core.specs.Files.{SyncFile, has_sync_file, cause_to_refuse, cause_to_refuse_merge}
+use Rattle.timeline_core.specs.Timeline.{Timeline, has_timeline, reach_of, value_of}
+use Rattle.syncfile_core.specs.SyncFile.{File as SyncFile}
+use Rattle.syncfile_core.specs.Files.{has_file as has_sync_file, cause_to_refuse}
+use Rattle.syncfile_core.specs.Merge.{cause_to_refuse_merge}
 use Rattle.desk_core.specs.World.{File, World, after}
 use Rattle.point_core.specs.Agreement.{as_entries}
 use Rattle.point_core.specs.Status.{status_if}
@@ -62,8 +64,10 @@ StandsFor desk history = Keeps desk (world_of history)
 -- why the desk refuses a command, by what it keeps
 abbrev pub cause_of : DeskState → Command → Option Refusal
 cause_of d (command.Timeline t) = if has_timeline d.timelines t then Some Exists else if nat_lt (length d.timelines) CONTEXTS then None else Some (Limit Timelines)
+cause_of d (command.Inc t n) = if has_timeline d.timelines t then (if nat_le (2 ^ 64) (value_of d.timelines t + n) then Some Overflow else None) else Some NoEntry
+cause_of d (command.Value t) = if has_timeline d.timelines t then None else Some NoEntry
 cause_of d (command.Fence f t p) = if has_timeline d.timelines t then cause_to_refuse d.files f else Some NoEntry
-cause_of d (command.Merge f a b) = cause_to_refuse_merge d.files f a b
+cause_of d (command.Merge f a b) = cause_to_refuse_merge d.files f (a ∷ b ∷ [])
 cause_of d (command.Info f) = if has_sync_file d.files f then None else Some NoEntry
 
 -- the command was done in each world that the desk keeps

@@ -3,12 +3,12 @@ use Rattle.std.specs.Prelude.{◌≡◌, ℕ, ◌↔◌, List, Some, Contains}
 use Rattle.point_core.specs.declared.entry.Entry.{Entry}
 use Rattle.point_core.specs.declared.status.Status.TheVariants.{Signalled}
 use Rattle.point_core.specs.Agreement.{AgreesAbove, as_entries, IsReached}
-use Rattle.desk_core.specs.declared.command.Command.{Command}
 use Rattle.desk_core.specs.declared.command.Command.TheVariants as command
 use Rattle.desk_core.specs.declared.answer.Info.{Info}
 use Rattle.desk_core.specs.declared.answer.Answer.TheVariants as answer
-use Rattle.desk_core.specs.Timeline.{reach_of}
-use Rattle.desk_core.specs.Files.{SyncFile, sync_file_at}
+use Rattle.timeline_core.specs.Timeline.{reach_of}
+use Rattle.syncfile_core.specs.SyncFile.{File as SyncFile}
+use Rattle.syncfile_core.specs.Files.{file_at as sync_file_at}
 use Rattle.desk_core.specs.World.{World, File, file_named, put_set}
 use Rattle.desk_core.specs.Answer.{answer_to, points_of}
 use Rattle.desk_core.specs.Desk.{DeskState}

@@ -7,8 +7,10 @@ use point_core::{Items, Name, Refusal, Status};
 pub enum Answer {
     /// The command did what it says.
     Done,
-    /// The number that it asked for: a context.
+    /// The number that it asked for: a context, or a timeline's value.
     Value(u64),
+    /// The timeline's new value, and the cookies of the callbacks that it fires.
+    Raised(u64, Items<u64>),
     /// File information.
     Info(Info),
     /// The command changed nothing.

@@ -7,6 +7,11 @@ use point_core::Name;
 pub enum Command {
     /// `timeline T`: makes a timeline at 0, as libsync's `sw_sync_timeline_create`.
     Timeline(Name),
+    /// `inc T N`: adds N to a timeline's value, as libsync's `sw_sync_timeline_inc`. Past the greatest u64 it is refused,
+    /// where the kernel's 32-bit value wraps.
+    Inc(Name, u64),
+    /// `value T`: reads a timeline's value.
+    Value(Name),
     /// `fence F T P`: makes file F of point P on timeline T, as libsync's `sw_sync_fence_create`.
     Fence(Name, Name, u64),
     /// `merge F A B`: makes file F of files A and B, as libsync's `sync_merge`.

@@ -4,12 +4,12 @@ ghost use Rattle.desk_core.specs.declared.command.Command.{Command};
 
 use crate::answer::Answer;
 use crate::command::Command;
-use crate::files::Files;
 use crate::info;
-use crate::timelines::Timelines;
-use point_core::{Name, Point, Refusal};
+use point_core::{Items, Name, Point, Refusal};
 use std::alloc::Global;
 use std::marker::Model;
+use syncfile_core::Files;
+use timeline_core::Timelines;
 
 /// All timelines and files of a service. It keeps of each file what was pending when it was made, and its answers are
 /// those of all that was ever put into it.
@@ -33,7 +33,7 @@ impl Model for Desk {
 
 impl Desk {
     ghost use Rattle.desk_core.specs.Answer.{OnRefused};
-    ghost use Rattle.desk_core.specs.Files.{IsRefusedFor};
+    ghost use Rattle.syncfile_core.specs.Files.{IsRefusedFor};
     ghost use Rattle.desk_core.specs.History.{IsAnswer, history_after};
     ghost use Rattle.desk_core.specs.Desk.{StandsFor, cause_of, IsDone};
 
@@ -71,6 +71,8 @@ impl Desk {
     {
         match command {
             Command::Timeline(name) => self.timeline(name),
+            Command::Inc(name, n) => self.inc(&name, n),
+            Command::Value(name) => self.value(&name),
             Command::Fence(name, timeline, value) => self.fence(name, &timeline, value),
             Command::Merge(name, first, second) => self.merge(name, &first, &second),
             Command::Info(name) => self.info(name),
@@ -84,6 +86,22 @@ impl Desk {
     {
         let ctx = self.timelines.create(name)?;
         Ok(Answer::Value(u64::from(ctx.number())))
+    }
+
+    fn inc(&mut self, name: &Name, n: u64) -> Result<Answer, Refusal>
+        ensures refused { IsRefusedFor (cause_of self.old (Command.Inc name.now n)) result }
+        ensures done { IfOk result (λ given. IsDone self.old (Command.Inc name.now n) given self.new) }
+        ensures unchanged { OnErr result (self.new ≡ self.old) }
+    {
+        let value = self.timelines.inc(name, n)?;
+        Ok(Answer::Raised(value, Items::of(Vec::new(self.alloc))))
+    }
+
+    fn value(&self, name: &Name) -> Result<Answer, Refusal>
+        ensures refused { IsRefusedFor (cause_of self.now (Command.Value name.now)) result }
+        ensures done { IfOk result (λ given. IsDone self.now (Command.Value name.now) given self.now) }
+    {
+        Ok(Answer::Value(self.timelines.value(name)?))
     }
 
     fn fence(&mut self, name: Name, timeline: &Name, value: u64) -> Result<Answer, Refusal>

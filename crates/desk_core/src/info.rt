@@ -4,14 +4,14 @@ ghost use Rattle.std.specs.List.{list_all};
 ghost use Rattle.point_core.specs.Agreement.{as_entries};
 ghost use Rattle.point_core.specs.Reach.{value_at};
 ghost use Rattle.point_core.specs.Status.{status_if};
-ghost use Rattle.desk_core.specs.Timeline.{reach_of};
+ghost use Rattle.timeline_core.specs.Timeline.{reach_of};
 ghost use Rattle.desk_core.specs.Answer.{all_reached, fence_row, stub_row, or_stub};
 ghost use Rattle.desk_core.specs.Desk.{AreMade, info_at};
 
 use crate::answer::{FenceRow, Info, Maker};
-use crate::timelines::Timelines;
 use point_core::{Items, Name, Point, Reach, Refusal, Status, is_signalled};
 use std::alloc::Global;
+use timeline_core::Timelines;
 
 /// What is told of a file that lists those points, as Linux's `SYNC_IOC_FILE_INFO`. Without points it is shown as the
 /// stub.

@@ -7,18 +7,13 @@
 mod answer;
 mod command;
 mod desk;
-mod files;
 mod info;
 mod runs;
-mod timelines;
 
 pub use answer::{Answer, FenceRow, Info, Maker};
 pub use command::Command;
 pub use desk::Desk;
 pub use runs::run;
-
-/// How many files there can be at a time.
-pub const FILES: usize = 1024;
 
 #[cfg(test)]
 mod tests;

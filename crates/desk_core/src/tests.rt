@@ -1,9 +1,10 @@
 // Worked rows, and each refusal in its order.
-use crate::{Answer, Command, Desk, FILES, FenceRow, Info, Maker, run};
+use crate::{Answer, Command, Desk, FenceRow, Info, Maker, run};
 use point_core::{CONTEXTS, Items, LimitKind, Name, Refusal, Status};
 use std::alloc::Global;
 use std::process::Abort;
 use std::test::Fail;
+use syncfile_core::FILES;
 
 fn name(rt: &impl Abort, text: &str) -> Name {
     Name::read(text.as_bytes()).expect(rt, "a name")

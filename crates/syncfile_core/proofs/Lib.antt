@@ -1,0 +1,5 @@
+pub mod Causes
+pub mod Kept
+pub mod Merging
+pub mod Statuses
+pub mod Unions

@@ -1,0 +1,38 @@
+use Rattle.std.proofs.Common.{◌≡◌, ◌++◌, [], ◌∷◌, sym, subst}
+use Rattle.std.specs.Prelude.{OnOk}
+use Rattle.std.proofs.lemmas.List.{take_all}
+use Rattle.point_core.specs.declared.refusal.Refusal.TheVariants.{NoEntry}
+use Rattle.syncfile_core.specs.Files.{has_file}
+use Rattle.syncfile_core.specs.Merge.{files_at, IsGathered}
+use Rattle.syncfile_core.proofs.Causes.{OnOk-always, IsRefusedFor-Err, cause_to_refuse_merge-absent}
+use Rattle.syncfile_core.proofs.Kept.{files_at-take_more, has_file-found, has_file-absent, list_all-take_more, list_all-fails}
+use Rattle.syncfile_core.proofs.Unions.{StandsForUnion-merged_file}
+use Rattle.syncfile_core.proofs.files.Files.merge_many.Goals as goal
+
+pub returns-in_err-known-clause-refused : goal.returns-in_err-known-clause-refused
+returns-in_err-known-clause-refused c =
+    let absent = has_file-absent c.args.self.now c.input-item.result c.in_err-known.ensures.absent in
+    let fails = list_all-fails (has_file c.args.self.now) c.args.inputs.now c.loop-input.input-index c.input-item.result c.loop-input-test.true c.input-item.is absent in
+    IsRefusedFor-Err _ c.from_residual.result NoEntry c.in_err-known.field-0.0
+    (cause_to_refuse_merge-absent c.args.self.now c.args.name c.args.inputs.now fails) c.in_err-known.ensures.unknown c.from_residual.ensures.1
+
+pub loop-input-preserved : goal.loop-input-preserved
+loop-input-preserved c =
+    let found = c.in_ok-known.ensures.found in (
+      subst (λ files. IsGathered c.add.new.self.latest c.add.new.self.floor c.args.reach.now files)
+          (sym (files_at-take_more c.args.self.now c.args.inputs.now c.loop-input.input-index c.input-item.result c.in_ok-known.field-0.now c.loop-input-test.true c.input-item.is found))
+          (c.add.ensures c.args.reach.now _ c.loop-input.invariant.0),
+      list_all-take_more (has_file c.args.self.now) c.args.inputs.now c.loop-input.input-index c.input-item.result c.loop-input-test.true c.input-item.is c.loop-input.invariant.1 (has_file-found c.args.self.now c.input-item.result c.in_ok-known.field-0.now found),
+    )
+
+pub returns-clause-last : goal.returns-clause-last
+returns-clause-last c =
+    let all = take_all c.loop-input.input-index c.args.inputs.now c.loop-input-test.false in
+    let file = c.in_ok-file.ensures.file (files_at c.args.self.now c.args.inputs.now) (subst (λ names. IsGathered c.loop-input.gathered.latest c.loop-input.gathered.floor c.args.reach.now (files_at c.args.self.now names)) all c.loop-input.invariant.0) in
+    subst (λ f. OnOk c.insert.result (c.insert.new.self ≡ c.args.self.now ++ f ∷ [])) file c.insert.ensures.last
+
+pub returns-clause-union : goal.returns-clause-union
+returns-clause-union c = λ full.
+    let all = take_all c.loop-input.input-index c.args.inputs.now c.loop-input-test.false in
+    let gathered = subst (λ names. IsGathered c.loop-input.gathered.latest c.loop-input.gathered.floor c.args.reach.now (files_at c.args.self.now names)) all c.loop-input.invariant.0 in
+    OnOk-always c.insert.result _ (StandsForUnion-merged_file c.args.name (files_at c.args.self.now c.args.inputs.now) c.args.reach.now gathered.contexts full)

@@ -1,0 +1,4 @@
+pub mod Files
+pub mod Merge
+pub mod Status
+pub mod SyncFile

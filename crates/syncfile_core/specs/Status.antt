@@ -1,0 +1,40 @@
+-- What is told of a file at a reach.
+use Rattle.std.specs.Prelude.{ℕ, List, [], ◌∷◌, Bool, nat_le, if◌then◌else◌, map, None, Some}
+use Rattle.std.specs.List.{list_all}
+use Rattle.point_core.specs.declared.entry.Point.{Point}
+use Rattle.point_core.specs.Reach.{value_at}
+use Rattle.syncfile_core.specs.declared.status.Status.{Status}
+use Rattle.syncfile_core.specs.declared.status.Status.TheVariants.{Active, Signalled}
+use Rattle.syncfile_core.specs.declared.status.FenceInfo.{FenceInfo}
+use Rattle.syncfile_core.specs.declared.status.FileInfo.{FileInfo}
+use Rattle.syncfile_core.specs.SyncFile.{File}
+
+abbrev pub number_of : Status → ℕ
+number_of Active = 0
+number_of Signalled = 1
+
+abbrev pub status_if : Bool → Status
+status_if signalled = if signalled then Signalled else Active
+
+-- the value of the point's context has reached it
+abbrev pub is_reached : List ℕ → Point → Bool
+is_reached reach p = nat_le p.value (value_at reach p.ctx)
+
+-- signalled where each point is, so also where there is none
+abbrev pub status_of : List Point → List ℕ → Status
+status_of points reach = status_if (list_all (is_reached reach) points)
+
+abbrev pub fence_of : List ℕ → Point → FenceInfo
+fence_of reach p = record { ctx = Some p.ctx; point = p.value; status = status_if (is_reached reach p) }
+
+-- the fence that was signalled from the start
+abbrev pub stub : FenceInfo
+stub = record { ctx = None; point = 0; status = Signalled }
+
+-- a fence for each point, and the stub where there is none
+abbrev pub fences_of : List Point → List ℕ → List FenceInfo
+fences_of [] reach = stub ∷ []
+fences_of (p ∷ ps) reach = map (fence_of reach) (p ∷ ps)
+
+abbrev pub info_of : File → List ℕ → FileInfo
+info_of f reach = record { name = f.name; status = status_of f.points reach; fences = fences_of f.points reach }

@@ -1,0 +1,23 @@
+use Rattle.std.specs.Prelude.{◌≡◌, ℕ, List, [], ◌∷◌, length, replicate}
+use Rattle.point_core.specs.declared.entry.Point.{Point}
+use Rattle.point_core.specs.declared.entry.Entry.{Entry}
+use Rattle.point_core.specs.declared.context.TheConstants.{CONTEXTS}
+use Rattle.point_core.specs.Agreement.{as_entries, AgreesAbove}
+
+-- a sync file: its name, its points by rising context, and the reach that they were taken above
+pub record File : Type 0 where
+  pub name : List ℕ
+  pub points : List Point
+  pub floor : List ℕ
+
+abbrev pub file_of : List ℕ → List Point → List ℕ → File
+file_of name points floor = record { name = name; points = points; floor = floor }
+
+-- a file of one point, signalled or not
+abbrev pub plain_file : List ℕ → Point → File
+plain_file name point = file_of name (point ∷ []) (replicate CONTEXTS 0)
+
+-- above its floor the file says what the set says, and the floor has a value of every context
+pub record StandsFor (f : File) (set : List Entry) : Type 0 where
+  pub full : length f.floor ≡ CONTEXTS
+  pub agrees : AgreesAbove f.floor (as_entries f.points) set

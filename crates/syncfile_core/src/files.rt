@@ -1,0 +1,220 @@
+// The files by name.
+ghost use Rattle.std.specs.Prelude.{◌≡◌, ◌++◌, [], ◌∷◌, ◌<◌, length, OnOk, OnErr, IfOk, IfErr, IsOk, None, option_copied, MatchOption, MatchBool, MatchResult, Some, Ok, Err};
+ghost use Rattle.point_core.specs.declared.refusal.Refusal.TheVariants.{Memory, NoEntry};
+ghost use Rattle.syncfile_core.specs.declared.files.TheConstants.{FILES};
+ghost use Rattle.syncfile_core.specs.SyncFile.{file_of, plain_file};
+ghost use Rattle.syncfile_core.specs.Merge.{files_at, merge_of, cause_to_refuse_merge, StandsForUnion};
+ghost use Rattle.point_core.specs.Agreement.{HasRisingContexts};
+ghost use Rattle.point_core.specs.declared.context.TheConstants.{CONTEXTS};
+ghost use Rattle.syncfile_core.specs.Status.{status_of, info_of};
+ghost use Rattle.syncfile_core.specs.Files.{has_file, file_at, without_file, names_of, cause_to_refuse, IsRefusedFor};
+
+use crate::merge::Gathered;
+use crate::status::{self, FileInfo, Status};
+use crate::sync_file::SyncFile;
+use indexmap::IndexMap;
+use point_core::{Items, LimitKind, Listing, Name, Point, Reach, Refusal};
+use std::alloc::Global;
+use std::marker::Model;
+
+/// How many files there can be at a time.
+pub const FILES: usize = 1024;
+
+/// The files that were made and not closed, by the order of making.
+#[derive(Drop)]
+pub struct Files {
+    by_name: IndexMap<Name, Box<SyncFile>>,
+}
+
+impl Model for Files {
+    ghost use Rattle.std.specs.Prelude.{List};
+    ghost use Rattle.syncfile_core.specs.SyncFile.{File};
+    ghost use Rattle.syncfile_core.specs.Files.{files_in, IsKept};
+
+    ghost Value = { List File };
+
+    ghost view = { λ fs. files_in (λ b. b.value) fs.by_name.entries };
+
+    ghost invariant = { λ fs. IsKept (λ b. b.value) fs.by_name.entries };
+}
+
+impl Files {
+    /// No files. Takes no memory before the first file.
+    pub fn new(alloc: Global) -> Result<Files, Refusal>
+        ensures empty { IfOk result (λ fs. fs ≡ []) }
+        ensures memory { IfErr result (λ e. e ≡ Memory) }
+    {
+        Ok(Files {
+            by_name: IndexMap::new(alloc),
+        })
+    }
+
+    /// The file of that name.
+    ///
+    /// Takes no memory.
+    pub fn get(&self, name: &Name) -> Option<&SyncFile>
+        ensures { option_copied result ≡ file_at self.now name.now }
+    {
+        match self.by_name.get(name) {
+            Some(file) => Some(&**file),
+            None => None,
+        }
+    }
+
+    /// The names, by the order of making.
+    ///
+    /// Refuses as `Memory` alone.
+    pub fn names(&self) -> Result<Vec<Name>, Refusal>
+        ensures names { IfOk result (λ names. names.items ≡ names_of self.now) }
+        ensures memory { IfErr result (λ e. e ≡ Memory) }
+    {
+        Ok(self.by_name.keys().copied().collect(self.allocator())?)
+    }
+
+    /// Whether each of the file's points is signalled. A file without points is.
+    ///
+    /// Refuses as `NoEntry`. Takes no memory.
+    pub fn status(&self, name: &Name, reach: &Reach) -> Result<Status, Refusal>
+        ensures { MatchOption (file_at self.now name.now) (result ≡ Err NoEntry) (λ f. result ≡ Ok (status_of f.points reach.now)) }
+    {
+        let file = self.known(name)?;
+        Ok(status::status_of(file.points.as_slice(), reach))
+    }
+
+    /// The file's name, its status, and a fence for each of its points. A file without points is told as one fence,
+    /// the stub, as the kernel does.
+    ///
+    /// Refuses as `NoEntry`, then as `Memory`.
+    pub fn info(&self, name: &Name, reach: &Reach) -> Result<FileInfo, Refusal>
+        ensures { MatchOption (file_at self.now name.now) (result ≡ Err NoEntry) (λ f. MatchResult result (λ info. info ≡ info_of f reach.now) (λ e. e ≡ Memory)) }
+    {
+        let file = self.known(name)?;
+        let points = file.points.as_slice();
+        let fences = status::fences_of(self.allocator(), points, reach)?;
+        Ok(FileInfo {
+            name: file.name,
+            status: status::status_of(points, reach),
+            fences: Items::of(fences),
+        })
+    }
+
+    /// Whether a file of that name may be made: `Exists` where there is one, `Limit` where there are `FILES` files.
+    ///
+    /// Takes no memory.
+    pub fn free(&self, name: &Name) -> Result<(), Refusal>
+        ensures { MatchOption (cause_to_refuse self.now name.now) (IsOk result) (λ cause. result ≡ Err cause) }
+    {
+        if self.by_name.contains_key(name) {
+            return Err(Refusal::Exists);
+        }
+        if self.by_name.len() >= FILES {
+            return Err(Refusal::Limit(LimitKind::Files));
+        }
+        Ok(())
+    }
+
+    /// Makes a file of one point, signalled or not, with a floor of 0 everywhere, as sw_sync's create-fence call does.
+    ///
+    /// Refuses as `free` does, then as `Memory`; nothing is made then.
+    pub fn create(&mut self, name: Name, point: Point) -> Result<(), Refusal>
+        ensures refused { IsRefusedFor (cause_to_refuse self.old name) result }
+        ensures last { OnOk result (self.new ≡ self.old ++ plain_file name point ∷ []) }
+        ensures unchanged { OnErr result (self.new ≡ self.old) }
+    {
+        self.free(&name)?;
+        let file = SyncFile::plain(self.allocator(), name, point)?;
+        self.insert(file)
+    }
+
+    /// Merges two files, which both stay: the latest pending point of each context of either, above a floor that is the
+    /// greatest of the reach and of both floors. Linux's `sync_file_merge` drops and keeps the same points.
+    ///
+    /// Refuses as `NoEntry` where a file to be merged is not there, then as `free` does, then as `Memory`; nothing is made
+    /// then.
+    pub fn merge(&mut self, name: Name, a: &Name, b: &Name, reach: &Reach) -> Result<(), Refusal>
+        ensures refused { IsRefusedFor (cause_to_refuse_merge self.old name (a.now ∷ b.now ∷ [])) result }
+        ensures last { OnOk result (self.new ≡ self.old ++ merge_of self.old name (a.now ∷ b.now ∷ []) reach.now ∷ []) }
+        ensures union { length reach.now ≡ CONTEXTS → OnOk result (StandsForUnion (files_at self.old (a.now ∷ b.now ∷ [])) (merge_of self.old name (a.now ∷ b.now ∷ []) reach.now)) }
+        ensures unchanged { OnErr result (self.new ≡ self.old) }
+    {
+        self.merge_many(name, &[*a, *b], reach)
+    }
+
+    /// Merges any number of files, as `merge` does two. Of no files, it makes a file without points.
+    ///
+    /// Refuses as `merge` does.
+    pub fn merge_many(&mut self, name: Name, inputs: &[Name], reach: &Reach) -> Result<(), Refusal>
+        ensures refused { IsRefusedFor (cause_to_refuse_merge self.old name inputs.now) result }
+        ensures last { OnOk result (self.new ≡ self.old ++ merge_of self.old name inputs.now reach.now ∷ []) }
+        ensures union { length reach.now ≡ CONTEXTS → OnOk result (StandsForUnion (files_at self.old inputs.now) (merge_of self.old name inputs.now reach.now)) }
+        ensures unchanged { OnErr result (self.new ≡ self.old) }
+    {
+        let mut gathered = Gathered::above(reach);
+        for input in inputs {
+            gathered.add(self.known(input)?);
+        }
+        self.free(&name)?;
+        let file = gathered.into_file(self.allocator(), name, reach)?;
+        self.insert(file)
+    }
+
+    /// Makes a file of a listing.
+    ///
+    /// Refuses as `free` does, then as `Memory`; nothing is made then.
+    pub fn adopt(&mut self, name: Name, listing: Listing) -> Result<(), Refusal>
+        requires rising { HasRisingContexts listing.points }
+        ensures refused { IsRefusedFor (cause_to_refuse self.old name) result }
+        ensures last { OnOk result (self.new ≡ self.old ++ file_of name listing.points listing.floor ∷ []) }
+        ensures unchanged { OnErr result (self.new ≡ self.old) }
+    {
+        self.free(&name)?;
+        let Listing { points, floor } = listing;
+        self.insert(SyncFile {
+            name,
+            points,
+            floor,
+        })
+    }
+
+    /// Closes a file. The others keep their order.
+    ///
+    /// Refuses as `NoEntry`; nothing is closed then. Takes no memory.
+    pub fn close(&mut self, name: &Name) -> Result<(), Refusal>
+        ensures known { MatchBool (has_file self.old name.now) (IsOk result) (result ≡ Err NoEntry) }
+        ensures without { self.new ≡ without_file self.old name.now }
+    {
+        match self.by_name.shift_remove(name) {
+            Some(_file) => Ok(()),
+            None => Err(Refusal::NoEntry),
+        }
+    }
+
+    fn known(&self, name: &Name) -> Result<&SyncFile, Refusal>
+        ensures found { IfOk result (λ file. file_at self.now name.now ≡ Some file.now) }
+        ensures unknown { IfErr result (λ e. e ≡ NoEntry) }
+        ensures absent { OnErr result (file_at self.now name.now ≡ None) }
+    {
+        self.get(name).ok_or(Refusal::NoEntry)
+    }
+
+    fn allocator(&self) -> Global {
+        *self.by_name.allocator()
+    }
+
+    // Puts a new file last.
+    fn insert(&mut self, file: SyncFile) -> Result<(), Refusal>
+        requires { cause_to_refuse self.old file.name ≡ None }
+        ensures last { OnOk result (self.new ≡ self.old ++ file ∷ []) }
+        ensures unchanged { OnErr result (self.new ≡ self.old) }
+        ensures memory { IfErr result (λ e. e ≡ Memory) }
+    {
+        let name = file.name;
+        let Ok(file) = Box::new(self.allocator(), file) else {
+            return Err(Refusal::Memory);
+        };
+        match self.by_name.insert(name, file) {
+            Ok(_) => Ok(()),
+            Err(_) => Err(Refusal::Memory),
+        }
+    }
+}

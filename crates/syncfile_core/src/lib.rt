@@ -1,0 +1,15 @@
+//! Sync files by name, as Linux's `struct sync_file` and its merge.
+//!
+//! A file lists points by rising context, and stands for all that was ever put into it above its floor.
+#![tactic(auto)]
+
+mod files;
+mod merge;
+mod status;
+mod sync_file;
+#[cfg(test)]
+mod tests;
+
+pub use files::{FILES, Files};
+pub use status::{FenceInfo, FileInfo, Status};
+pub use sync_file::SyncFile;

@@ -1,0 +1,72 @@
+// What a merge gathers of its inputs.
+ghost use Rattle.std.specs.Prelude.{◌≡◌, ℕ, List, [], ◌∷◌, ◌++◌, length, IfOk, IfErr};
+ghost use Rattle.point_core.specs.declared.entry.Entry.{Entry};
+ghost use Rattle.point_core.specs.declared.context.TheConstants.{CONTEXTS};
+ghost use Rattle.point_core.specs.declared.refusal.Refusal.TheVariants.{Memory};
+ghost use Rattle.point_core.specs.Agreement.{as_entries, HasContexts};
+ghost use Rattle.point_core.specs.Latest.{IsLatest};
+ghost use Rattle.syncfile_core.specs.SyncFile.{File};
+ghost use Rattle.syncfile_core.specs.Merge.{IsGathered, IsGatheredAbove, StandsForUnion, merged_file};
+
+use crate::sync_file::SyncFile;
+use point_core::{Items, Name, Point, Reach, Refusal, points_above};
+use std::alloc::Global;
+
+/// The latest point of each context among a reach and the inputs so far, and the greatest of their floors.
+#[derive(Drop)]
+pub(crate) struct Gathered {
+    latest: Reach,
+    floor: Reach,
+}
+
+impl Gathered {
+    /// No input yet.
+    pub(crate) fn above(reach: &Reach) -> Gathered
+        ensures { IsGathered result.latest result.floor reach.now [] }
+    {
+        Gathered {
+            latest: *reach,
+            floor: *reach,
+        }
+    }
+
+    /// One more input.
+    pub(crate) fn add(&mut self, file: &SyncFile)
+        ensures { (reach : List ℕ) (inputs : List File) → IsGathered self.old.latest self.old.floor reach inputs → IsGathered self.new.latest self.new.floor reach (inputs ++ file.now ∷ []) }
+    {
+        raise_to_all(&mut self.latest, file.points.as_slice());
+        self.floor = self.floor.joined(&file.floor);
+    }
+
+    /// The file of the points that are above the reach.
+    ///
+    /// Refuses as `Memory` alone.
+    pub(crate) fn into_file(
+        self,
+        alloc: Global,
+        name: Name,
+        reach: &Reach,
+    ) -> Result<SyncFile, Refusal>
+        requires { IsGatheredAbove self.latest self.floor reach.now }
+        ensures file { (inputs : List File) → IsGathered self.latest self.floor reach.now inputs → IfOk result (λ f. f ≡ merged_file name inputs reach.now) }
+        ensures union { (inputs : List File) → IsGathered self.latest self.floor reach.now inputs → length reach.now ≡ CONTEXTS → IfOk result (StandsForUnion inputs) }
+        ensures memory { IfErr result (λ e. e ≡ Memory) }
+    {
+        let points = points_above(alloc, &self.latest, reach)?;
+        Ok(SyncFile {
+            name,
+            points: Items::of(points),
+            floor: self.floor,
+        })
+    }
+}
+
+/// Raises the latest point of each context to the points, one after another.
+fn raise_to_all(latest: &mut Reach, points: &[Point])
+    ensures latest { (reach : List ℕ) (es : List Entry) → IsLatest latest.old reach es 0 → IsLatest latest.new reach (es ++ as_entries points.now) 0 }
+    ensures contexts { HasContexts (as_entries points.now) }
+{
+    for point in points {
+        latest.raise_to(*point);
+    }
+}

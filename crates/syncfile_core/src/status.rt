@@ -1,0 +1,98 @@
+// Whether a file and its fences are signalled.
+ghost use Rattle.std.specs.Prelude.{◌≡◌, IfOk};
+ghost use Rattle.syncfile_core.specs.Status.{number_of, status_if, status_of, fence_of, fences_of, stub};
+
+use point_core::{Context, Items, Name, Point, Reach, is_signalled};
+use std::alloc::{AllocError, Global};
+
+/// Whether a fence or a file is signalled.
+#[derive(Clone, Copy, Debug, PartialEq, Eq, Hash)]
+pub enum Status {
+    Active,
+    Signalled,
+}
+
+/// What is told of a file, as Linux's `struct sync_file_info`.
+#[derive(Debug, Drop)]
+pub struct FileInfo {
+    pub name: Name,
+    pub status: Status,
+    pub fences: Items<FenceInfo>,
+}
+
+/// What is told of a fence, as Linux's `struct sync_fence_info`. The stub, which stands for a file without points, has
+/// no context and the point 0.
+#[derive(Clone, Copy, Debug, PartialEq, Eq, Hash)]
+pub struct FenceInfo {
+    pub ctx: Option<Context>,
+    pub point: u64,
+    pub status: Status,
+}
+
+impl Status {
+    /// The kernel's status of a fence: 0 while it is active, 1 once it is signalled.
+    pub fn number(self) -> u8
+        ensures { result ≡ number_of self }
+    {
+        match self {
+            Status::Active => 0,
+            Status::Signalled => 1,
+        }
+    }
+
+    fn of(signalled: bool) -> Status
+        ensures { result ≡ status_if signalled }
+    {
+        if signalled {
+            Status::Signalled
+        } else {
+            Status::Active
+        }
+    }
+}
+
+impl FenceInfo {
+    fn of(point: &Point, reach: &Reach) -> FenceInfo
+        ensures { result ≡ fence_of reach.now point.now }
+    {
+        FenceInfo {
+            ctx: Some(point.ctx),
+            point: point.value,
+            status: Status::of(is_signalled(*point, reach)),
+        }
+    }
+
+    fn stub() -> FenceInfo
+        ensures { result ≡ stub }
+    {
+        FenceInfo {
+            ctx: None,
+            point: 0,
+            status: Status::Signalled,
+        }
+    }
+}
+
+/// Signalled once each of the points is.
+pub(crate) fn status_of(points: &[Point], reach: &Reach) -> Status
+    ensures { result ≡ status_of points.now reach.now }
+{
+    Status::of(points.iter().all(|point| is_signalled(*point, reach)))
+}
+
+/// A fence for each of the points, or the stub.
+pub(crate) fn fences_of(
+    alloc: Global,
+    points: &[Point],
+    reach: &Reach,
+) -> Result<Vec<FenceInfo>, AllocError>
+    ensures { IfOk result (λ fences. fences.items ≡ fences_of points.now reach.now) }
+{
+    if points.is_empty() {
+        return Vec::from_slice(alloc, &[FenceInfo::stub()]);
+    }
+    points
+        .iter()
+        .map(|point| FenceInfo::of(point, reach))
+        .collect(alloc)
+}

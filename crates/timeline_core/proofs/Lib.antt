@@ -1,0 +1,5 @@
+pub mod Lookups
+pub mod Places
+pub mod Raising
+pub mod Rows
+pub mod Storing

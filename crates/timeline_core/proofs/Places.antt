@@ -1,0 +1,69 @@
+-- The place of the timeline of a name.
+use Rattle.std.proofs.Common.{◌≡◌, ℕ, ◌+◌, ◌-◌, ◌<◌, suc, Bool, true, false, cond, ◌||◌, refl, sym, ap, subst, ◌∙◌, List, [], ◌∷◌, length, get_or, replicate, Option, None, Some, arith, true≢false}
+use Rattle.std.specs.Prelude.{option_map, unwrap_or}
+use Rattle.std.specs.List.{position_from}
+use Rattle.std.specs.Cmp.Lexicographic.{same_text}
+use Rattle.std.proofs.Math.ListN.{get_or-append}
+use Rattle.std.proofs.lemmas.List.{length-map}
+use Rattle.std.proofs.lemmas.Option.{none-some, same_Some}
+use Rattle.point_core.specs.declared.context.TheConstants.{CONTEXTS}
+use Rattle.timeline_core.specs.Timeline.{Timeline, timeline_of, is_named, values_of, has_timeline, timeline_at, context_of, reach_of, value_of}
+use Rattle.timeline_core.proofs.Lookups.{position_from-more}
+
+-- the first timeline of that name stands at the place
+abbrev pub IsPlace : List Timeline → List ℕ → ℕ → Type 0
+IsPlace ts name k = position_from (is_named name) 0 ts ≡ Some k
+
+place_before : (o : Option ℕ) (k : ℕ) → option_map (λ j. j + 1) o ≡ Some k → (j : ℕ) × (o ≡ Some j) × (k ≡ suc j)
+place_before None k e = absurd (none-some k e)
+place_before (Some j) k e = (j, refl, omega (arith, same_Some (j + 1) k e))
+
+module _ (name : List ℕ) (P : List Timeline → ℕ → Type 0)
+    (here : (t : Timeline) (ts : List Timeline) → is_named name t ≡ true → P (t ∷ ts) 0)
+    (there : (t : Timeline) (ts : List Timeline) (k : ℕ) → is_named name t ≡ false → IsPlace ts name k → P ts k → P (t ∷ ts) (suc k)) where
+  -- what holds of the first of them, and stays as others stand before it
+  pub at_place : (ts : List Timeline) (k : ℕ) → IsPlace ts name k → P ts k
+  at_place [] k e = absurd (none-some k e)
+  at_place (t ∷ ts) k e = by (at_place ts) (is_named name t) refl
+    where
+      by : ((j : ℕ) → IsPlace ts name j → P ts j) → (b : Bool) → is_named name t ≡ b → P (t ∷ ts) k
+      by rest true is = subst (P (t ∷ ts)) (same_Some 0 k (sym (ap (λ b. cond b (Some 0) (position_from (is_named name) 1 ts)) is) ∙ e)) (here t ts is)
+      by rest false isnt =
+          let before = place_before (position_from (is_named name) 0 ts) k (sym (position_from-more (is_named name) 0 ts) ∙ sym (ap (λ b. cond b (Some 0) (position_from (is_named name) 1 ts)) isnt) ∙ e) in
+          subst (P (t ∷ ts)) (sym before.2) (there t ts before.0 isnt before.1 (rest before.0 before.1))
+
+pub place-within : (ts : List Timeline) (name : List ℕ) (k : ℕ) → IsPlace ts name k → k < length ts
+place-within ts name k place =
+    at_place name (λ us j. j < length us) (λ t us is. omega arith) (λ t us j isnt after low. omega arith) ts k place
+
+-- a timeline of that name has a place
+place_if : (b : Bool) (i : ℕ) (o : Option ℕ) → (b ≡ false → (k : ℕ) × (o ≡ Some k)) → (k : ℕ) × (cond b (Some i) o ≡ Some k)
+place_if true i o rest = (i, refl)
+place_if false i o rest = rest refl
+
+pub place_from-has_timeline : (ts : List Timeline) (name : List ℕ) (i : ℕ) → has_timeline ts name ≡ true → (k : ℕ) × (position_from (is_named name) i ts ≡ Some k)
+place_from-has_timeline [] name i has = absurd (true≢false (sym has))
+place_from-has_timeline (t ∷ ts) name i has =
+    place_if (is_named name t) i (position_from (is_named name) (i + 1) ts)
+    (λ isnt. place_from-has_timeline ts name (i + 1) (sym (ap (λ b. b || has_timeline ts name) isnt) ∙ has))
+
+pub context_of-place : (ts : List Timeline) (name : List ℕ) (k : ℕ) → IsPlace ts name k → context_of ts name ≡ k + 1
+context_of-place ts name k place = ap (λ o. unwrap_or o 0) (position_from-more (is_named name) 0 ts ∙ ap (option_map (λ j. j + 1)) place)
+
+pub value_of-place : (ts : List Timeline) (name : List ℕ) (k : ℕ) → IsPlace ts name k → value_of ts name ≡ get_or (values_of ts) k 0
+value_of-place ts name k place =
+    let at : context_of ts name - 1 ≡ k = omega (arith, context_of-place ts name k place) in
+    let low : k < length (values_of ts) = rw length-map (place-within ts name k place) in
+    ap (λ j. get_or (reach_of ts) j 0) at ∙ get_or-append (values_of ts) (replicate (CONTEXTS - length ts) 0) 0 k low
+
+timeline_at-place : (ts : List Timeline) (name : List ℕ) (k : ℕ) → IsPlace ts name k → timeline_at ts name ≡ Some (timeline_of name (get_or (values_of ts) k 0))
+timeline_at-place ts name k place =
+    at_place name (λ us j. timeline_at us name ≡ Some (timeline_of name (get_or (values_of us) j 0)))
+    (λ t us is. ap (λ b. cond b (Some t) (timeline_at us name)) is ∙ ap (λ n. Some (timeline_of n t.value)) (same_text t.name name (sym is)))
+    (λ t us j isnt after rest. ap (λ b. cond b (Some t) (timeline_at us name)) isnt ∙ rest) ts k place
+
+-- the reach has the value of the timeline of that name
+pub timeline_at-value_of : (ts : List Timeline) (name : List ℕ) → has_timeline ts name ≡ true → timeline_at ts name ≡ Some (timeline_of name (value_of ts name))
+timeline_at-value_of ts name has =
+    let k = place_from-has_timeline ts name 0 has in
+    timeline_at-place ts name k.0 k.1 ∙ ap (λ v. Some (timeline_of name v)) (sym (value_of-place ts name k.0 k.1))

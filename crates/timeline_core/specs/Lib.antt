@@ -1,0 +1,3 @@
+pub mod Stored
+pub mod Timeline
+pub use Rattle.point_core.specs.Reach
