@@ -6,9 +6,9 @@ use Rattle.std.specs.Str.{bytes_eq}
 use Rattle.point_core.specs.declared.name.TheConstants.{NAME_BYTES}
 use Rattle.point_core.specs.Name.{is_name_byte}
 use Rattle.desk_core.specs.declared.command.Command.{Command}
-use Rattle.desk_core.specs.declared.command.Command.TheVariants.{Timeline, Fence, Merge, Info}
+use Rattle.desk_core.specs.declared.command.Command.TheVariants.{Timeline, Inc, Value, Fence, Merge, Info}
 use Rattle.script_core.specs.Number.{number_of}
-use Rattle.script_core.specs.Words.{one_of, three_of}
+use Rattle.script_core.specs.Words.{one_of, two_of, three_of}
 
 -- 1 to NAME_BYTES letters, digits, `_`, `.` or `-`
 abbrev pub is_name : List ℕ → Bool
@@ -32,6 +32,9 @@ all_three (Some a) (Some b) (Some c) = Some (a, b, c)
 abbrev pub one_name : List (List ℕ) → Option (List ℕ)
 one_name words = option_and_then name_of (one_of words)
 
+abbrev pub name_and_number : List (List ℕ) → Option (List ℕ × ℕ)
+name_and_number words = option_and_then (λ w. both (name_of w.0) (number_of w.1)) (two_of words)
+
 abbrev pub two_names_and_number : List (List ℕ) → Option (List ℕ × List ℕ × ℕ)
 two_names_and_number words = option_and_then (λ w. all_three (name_of w.0) (name_of w.1) (number_of w.2)) (three_of words)
 
@@ -42,6 +45,8 @@ three_names words = option_and_then (λ w. all_three (name_of w.0) (name_of w.1)
 abbrev pub command_from : List ℕ → List (List ℕ) → Option Command
 command_from word words =
     if bytes_eq word (codes "timeline") then option_map Timeline (one_name words)
+    else if bytes_eq word (codes "inc") then option_map (λ w. Inc w.0 w.1) (name_and_number words)
+    else if bytes_eq word (codes "value") then option_map Value (one_name words)
     else if bytes_eq word (codes "fence") then option_map (λ w. Fence w.0 w.1 w.2) (two_names_and_number words)
     else if bytes_eq word (codes "merge") then option_map (λ w. Merge w.0 w.1 w.2) (three_names words)
     else if bytes_eq word (codes "info") then option_map Info (one_name words)

@@ -29,6 +29,16 @@ info_line info = line_text (codes "ok" ∷ info.name ∷ decimal (status.number_
 abbrev pub info_text : Info → List ℕ
 info_text info = info_line info ++ flat_map fence_text info.fences
 
+abbrev pub fired_text : ℕ → List ℕ
+fired_text cookie = line_text (codes "fired" ∷ decimal cookie ∷ [])
+
+abbrev pub value_line : ℕ → List ℕ
+value_line value = line_text (codes "ok" ∷ decimal value ∷ [])
+
+-- a timeline's new value, and the callbacks that it fired
+abbrev pub raised_text : ℕ → List ℕ → List ℕ
+raised_text value fired = value_line value ++ flat_map fired_text fired
+
 -- what follows the name of a refusal on a line of that number
 abbrev pub details : ℕ → Refusal → List (List ℕ)
 details number Syntax = codes "line" ∷ decimal number ∷ []
@@ -54,6 +64,7 @@ refusal_text number r = line_text (codes "err" ∷ decimal (refusal.number_of r)
 -- the text of the answer of the line of that number
 abbrev pub text_of : ℕ → Answer → List ℕ
 text_of number answer.Done = line_text (codes "ok" ∷ [])
-text_of number (answer.Value n) = line_text (codes "ok" ∷ decimal n ∷ [])
+text_of number (answer.Value n) = value_line n
+text_of number (answer.Raised value fired) = raised_text value fired
 text_of number (answer.Info info) = info_text info
 text_of number (answer.Refused r) = refusal_text number r

@@ -72,6 +72,7 @@ fn answer_lines<W: Write>(
         let answer = answer_line(&mut desk, line.body);
         print(line.number, &answer, &mut out)?;
         totals = totals.with(&answer);
+        drop(answer);
         write_many(writer, &mut out)?;
     }
     write_whole(writer, &out)?;

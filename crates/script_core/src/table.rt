@@ -2,10 +2,10 @@
 ghost use Rattle.std.specs.Prelude.{◌≡◌};
 ghost use Rattle.std.specs.Str.{bytes_eq};
 ghost use Rattle.script_core.specs.Words.{words_of};
-ghost use Rattle.script_core.specs.Table.{name_of, one_name, two_names_and_number, three_names, command_from};
+ghost use Rattle.script_core.specs.Table.{name_of, one_name, name_and_number, two_names_and_number, three_names, command_from};
 
 use crate::number::number;
-use crate::words::{one, three};
+use crate::words::{one, three, two};
 use desk_core::Command;
 use point_core::Name;
 
@@ -15,6 +15,11 @@ pub(crate) fn command(word: &[u8], rest: &[u8]) -> Option<Command>
 {
     if is(word, "timeline") {
         Some(Command::Timeline(one_name(rest)?))
+    } else if is(word, "inc") {
+        let (timeline, count) = name_and_number(rest)?;
+        Some(Command::Inc(timeline, count))
+    } else if is(word, "value") {
+        Some(Command::Value(one_name(rest)?))
     } else if is(word, "fence") {
         let (file, timeline, point) = two_names_and_number(rest)?;
         Some(Command::Fence(file, timeline, point))
@@ -38,6 +43,13 @@ fn one_name(rest: &[u8]) -> Option<Name>
     ensures { result ≡ one_name (words_of rest.now) }
 {
     name(one(rest)?)
+}
+
+fn name_and_number(rest: &[u8]) -> Option<(Name, u64)>
+    ensures { result ≡ name_and_number (words_of rest.now) }
+{
+    let (first, second) = two(rest)?;
+    Some((name(first)?, number(second)?))
 }
 
 fn two_names_and_number(rest: &[u8]) -> Option<(Name, Name, u64)>

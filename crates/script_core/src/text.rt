@@ -3,7 +3,7 @@ ghost use Rattle.std.specs.Prelude.{◌≡◌, ◌∷◌, ◌++◌, map, OnOk, O
 ghost use Rattle.std.specs.List.{flat_map};
 ghost use Rattle.std.specs.Io.{StartsWith};
 ghost use Rattle.point_core.specs.declared.refusal.Refusal.TheVariants.{Memory};
-ghost use Rattle.script_core.specs.Text.{line_text, fence_text, info_text, refusal_text, text_of};
+ghost use Rattle.script_core.specs.Text.{line_text, fired_text, raised_text, fence_text, info_text, refusal_text, text_of};
 ghost use Rattle.script_core.specs.Word.{word_text};
 
 use desk_core::{Answer, FenceRow, Info, Maker};
@@ -32,9 +32,28 @@ fn push_answer(line: u32, answer: &Answer, out: &mut Vec<u8>) -> Result<(), Refu
     match answer {
         Answer::Done => push_line(out, "ok", &[]),
         Answer::Value(value) => push_line(out, "ok", &[Word::Number(*value)]),
+        Answer::Raised(value, fired) => push_raised(*value, fired.as_slice(), out),
         Answer::Info(info) => push_info(info, out),
         Answer::Refused(refusal) => push_refusal(line, *refusal, out),
     }
+}
+
+fn push_raised(value: u64, fired: &[u64], out: &mut Vec<u8>) -> Result<(), Refusal>
+    ensures ok { OnOk result (out.new.items ≡ out.old.items ++ raised_text value fired.now) }
+    ensures err { OnErr result ((result ≡ Err Memory) × StartsWith out.new.items out.old.items) }
+{
+    push_line(out, "ok", &[Word::Number(value)])?;
+    for cookie in fired {
+        push_fired(*cookie, out)?;
+    }
+    Ok(())
+}
+
+fn push_fired(cookie: u64, out: &mut Vec<u8>) -> Result<(), Refusal>
+    ensures ok { OnOk result (out.new.items ≡ out.old.items ++ fired_text cookie) }
+    ensures err { OnErr result ((result ≡ Err Memory) × StartsWith out.new.items out.old.items) }
+{
+    push_line(out, "fired", &[Word::Number(cookie)])
 }
 
 fn push_info(info: &Info, out: &mut Vec<u8>) -> Result<(), Refusal>

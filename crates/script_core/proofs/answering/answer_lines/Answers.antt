@@ -23,12 +23,6 @@ returns-in_err-write_many-clause-err g c =
     let p = Progress-line _ _ _ _ _ _ c.with-totals.result _ _ _ _ c.loop-line.invariant.1 c.answer_line-answer.ensures.answer c.answer_line-answer.ensures.stands c.in_ok-print.ensures.ok c.with-totals.ensures.lines c.with-totals.ensures.refused in
     rw q.1 (Progress-front _ _ _ _ _ _ _ _ _ p e c.in_err-write_many.ensures.err.1)
 
-pub loop-line-preserved-in_ok-write_many : goal.loop-line-preserved-in_ok-write_many
-loop-line-preserved-in_ok-write_many g c =
-    let e = lines-next _ _ _ _ _ c.loop-line.invariant.0 c.in-Some.ensures.steps in
-    let p = Progress-line _ _ _ _ _ _ c.with-totals.result _ _ _ _ c.loop-line.invariant.1 c.answer_line-answer.ensures.answer c.answer_line-answer.ensures.stands c.in_ok-print.ensures.ok c.with-totals.ensures.lines c.with-totals.ensures.refused in
-    (e, Progress-write _ _ _ _ _ _ _ _ p c.in_ok-write_many.ensures.ok)
-
 pub loop-line-preserved : goal.loop-line-preserved
 loop-line-preserved g c =
     let e = lines-next _ _ _ _ _ c.loop-line.invariant.0 c.in-Some.ensures.steps in
