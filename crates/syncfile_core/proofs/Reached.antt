@@ -9,9 +9,10 @@ use Rattle.point_core.specs.Reach.{value_at}
 use Rattle.point_core.specs.Agreement.{top, AgreesAbove, as_entry, as_entries, IsReached}
 use Rattle.point_core.specs.Latest.{raised_to}
 use Rattle.point_core.proofs.Agreement.{AgreesAbove-raised, AgreesAbove-later, AgreesAbove-sym, raised_to-top-above, top-Some}
-use Rattle.syncfile_core.specs.declared.status.Status.TheVariants.{Signalled}
+use Rattle.point_core.specs.declared.status.Status.TheVariants.{Signalled}
 use Rattle.syncfile_core.specs.SyncFile.{File}
-use Rattle.syncfile_core.specs.Status.{status_if, is_reached, TellsSetsOf}
+use Rattle.point_core.specs.Status.{status_if}
+use Rattle.syncfile_core.specs.Status.{is_reached, TellsSetsOf}
 
 -- where each entry is reached, no top is above the reach
 raised_to-reached : (es : List Entry) (usage ctx : ℕ) (reach : List ℕ) (t : Option ℕ) → top es usage ctx ≡ t → IsReached es usage reach → raised_to (value_at reach ctx) t ≤ value_at reach ctx

@@ -10,10 +10,10 @@ ghost use Rattle.syncfile_core.specs.Status.{status_of, info_of, TellsSetsOf};
 ghost use Rattle.syncfile_core.specs.Files.{has_file, file_at, without_file, names_of, HasDistinctNames, cause_to_refuse, IsRefusedFor};
 
 use crate::merge::Gathered;
-use crate::status::{self, FileInfo, Status};
+use crate::status::{self, FileInfo};
 use crate::sync_file::SyncFile;
 use indexmap::IndexMap;
-use point_core::{Items, LimitKind, Listing, Name, Point, Reach, Refusal};
+use point_core::{Items, LimitKind, Listing, Name, Point, Reach, Refusal, Status};
 use std::alloc::Global;
 use std::marker::Model;
 
