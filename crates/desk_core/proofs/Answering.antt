@@ -25,6 +25,8 @@ is_refused-told w (command.Inc t n) = refl
 is_refused-told w (command.Value t) = refl
 is_refused-told w (command.Fence f t p) = refl
 is_refused-told w (command.Merge f a b) = refl
+is_refused-told w (command.Close f) = refl
+is_refused-told w (command.Wait f) = refl
 is_refused-told w (command.Info f) = refl
 
 answered : (old new : DeskState) (c : Command) (r : Result Answer Refusal) (cause : Option Refusal) (history : List Command) → IsRefusedFor cause r → IfOk r (λ a. IsDone old c a new) → StandsFor old history → first_of (causes (world_of history) c) ≡ cause → IsAnswer history c (answer_of r)

@@ -15,14 +15,14 @@ use Rattle.desk_core.specs.declared.answer.Info.{Info}
 use Rattle.desk_core.specs.declared.answer.FenceRow.{FenceRow}
 use Rattle.timeline_core.specs.Timeline.{Timeline, new_timeline, context_of, reach_of, value_of, raised}
 use Rattle.syncfile_core.specs.SyncFile.{File as SyncFile, plain_file}
-use Rattle.syncfile_core.specs.Files.{file_at as sync_file_at}
+use Rattle.syncfile_core.specs.Files.{file_at as sync_file_at, without_file}
 use Rattle.syncfile_core.specs.Merge.{merge_of}
 use Rattle.desk_core.specs.World.{World, File, file_named, put_set}
 use Rattle.desk_core.specs.Answer.{points_of, all_reached, fence_row, or_stub, info_of}
-use Rattle.desk_core.specs.Desk.{DeskState, Keeps, IsDone, AreMade, HaveTimelines, info_at}
-use Rattle.desk_core.proofs.Keeping.{points_at, points_of-files_at, sync_file_at-points, sync_file_at-All}
+use Rattle.desk_core.specs.Desk.{DeskState, points_at, Keeps, IsDone, AreMade, HaveTimelines, info_at}
+use Rattle.desk_core.proofs.Keeping.{points_of-files_at, sync_file_at-points, sync_file_at-All}
 use Rattle.desk_core.proofs.Signalling.{all_reached-keeps}
-use Rattle.desk_core.proofs.Stepping.{Keeps-timeline, Keeps-raised, Keeps-fence, Keeps-merge}
+use Rattle.desk_core.proofs.Stepping.{Keeps-timeline, Keeps-raised, Keeps-fence, Keeps-close, Keeps-merge}
 
 pub IsDone-timeline : (desk : DeskState) (name : List ℕ) (made : List Timeline) (number : ℕ) → made ≡ desk.timelines ++ new_timeline name ∷ [] → length made ≤ CONTEXTS → number ≡ length desk.timelines + 1 → IsDone desk (command.Timeline name) (answer.Value number) (record { timelines = made; files = desk.files })
 IsDone-timeline desk name made number added room is =
@@ -59,6 +59,13 @@ IsDone-merge desk name a b reach files added is = record {
   accepted = refl;
   told = λ world k. refl;
   kept = λ world k. rw added (Keeps-merge k name a b reach is);
+}
+
+pub IsDone-close : (desk : DeskState) (name : List ℕ) (files : List SyncFile) → files ≡ without_file desk.files name → IsDone desk (command.Close name) answer.Done (record { timelines = desk.timelines; files = files })
+IsDone-close desk name files is = record {
+  accepted = refl;
+  told = λ world k. refl;
+  kept = λ world k. rw is (Keeps-close k name);
 }
 
 -- what is told of a file

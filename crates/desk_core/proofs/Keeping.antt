@@ -1,5 +1,5 @@
 -- What a desk finds by name is what the world has of that name.
-use Rattle.std.proofs.Common.{◌≡◌, ℕ, ◌≤◌, Bool, true, false, cond, ◌||◌, refl, sym, ap, subst, ◌∙◌, append-nil, List, [], ◌∷◌, ◌++◌, length, map, find, Option, None, Some, option_map, unwrap_or, arith, All, if◌then◌else◌}
+use Rattle.std.proofs.Common.{◌≡◌, ℕ, ◌≤◌, Bool, true, false, cond, ◌||◌, refl, sym, ap, subst, ◌∙◌, append-nil, List, [], ◌∷◌, ◌++◌, length, map, find, Option, None, Some, option_map, unwrap_or, arith, All, not, if◌then◌else◌}
 use Rattle.std.specs.List.{cons_option}
 use Rattle.std.proofs.lemmas.List.{length-map}
 use Rattle.std.proofs.lemmas.Option.{same_Some}
@@ -13,11 +13,11 @@ use Rattle.point_core.specs.Reach.{value_at}
 use Rattle.point_core.proofs.Agreement.{AgreesAbove-refl, AgreesAbove-append, AgreesAbove-same, listing-AgreesAbove, pending_top-listing, top-as_entries, as_entries-append}
 use Rattle.timeline_core.specs.Timeline.{Timeline, reach_of}
 use Rattle.syncfile_core.specs.SyncFile.{File as SyncFile}
-use Rattle.syncfile_core.specs.Files.{has_file as has_sync_file, file_at as sync_file_at}
+use Rattle.syncfile_core.specs.Files.{has_file as has_sync_file, without_file, file_at as sync_file_at}
 use Rattle.syncfile_core.specs.Merge.{files_at, points_of as points_of_files}
-use Rattle.desk_core.specs.World.{World, File, same_name, has_file, file_named, put_set}
+use Rattle.desk_core.specs.World.{World, File, files_without, same_name, has_file, file_named, put_set}
 use Rattle.desk_core.specs.Answer.{points_of}
-use Rattle.desk_core.specs.Desk.{DeskState, Keeps, WasMade, IsFilePoint}
+use Rattle.desk_core.specs.Desk.{DeskState, points_at, Keeps, WasMade, IsFilePoint}
 
 abbrev pub kept_names : List SyncFile → List (List ℕ)
 kept_names fs = map (λ (f : SyncFile). f.name) fs
@@ -30,10 +30,6 @@ made_names fs = map (λ (f : File). f.name) fs
 
 abbrev pub made_points : List File → List (List Point)
 made_points fs = map points_of fs
-
--- the points of the file of that name
-abbrev pub points_at : List SyncFile → List ℕ → List Point
-points_at fs name = unwrap_or (option_map (λ (f : SyncFile). f.points) (sync_file_at fs name)) []
 
 points_of-found : (o p : Option SyncFile) → points_of_files (cons_option o (cons_option p [])) ≡ unwrap_or (option_map (λ (f : SyncFile). f.points) o) [] ++ unwrap_or (option_map (λ (f : SyncFile). f.points) p) []
 points_of-found None None = refl
@@ -59,6 +55,37 @@ has_sync_file-names (k ∷ ks) (f ∷ fs) name is =
 
 pub length-names : (ks : List SyncFile) (fs : List File) → kept_names ks ≡ made_names fs → length ks ≡ length fs
 length-names ks fs is = sym (length-map ks (λ (f : SyncFile). f.name)) ∙ ap length is ∙ length-map fs (λ (f : File). f.name)
+
+names-cond : (b : Bool) (k : SyncFile) (f : File) (ks : List SyncFile) (fs : List File) → k.name ≡ f.name → kept_names ks ≡ made_names fs → kept_names (cond (not b) (k ∷ ks) ks) ≡ made_names (cond (not b) (f ∷ fs) fs)
+names-cond true k f ks fs same rest = rest
+names-cond false k f ks fs same rest = rw (same, rest) refl
+
+-- without the file of a name the others keep theirs
+pub without_file-names : (ks : List SyncFile) (fs : List File) (name : List ℕ) → kept_names ks ≡ made_names fs → kept_names (without_file ks name) ≡ made_names (files_without fs name)
+without_file-names [] [] name is = refl
+without_file-names [] (f ∷ fs) name is = absurd (cc)
+without_file-names (k ∷ ks) [] name is = absurd (cc)
+without_file-names (k ∷ ks) (f ∷ fs) name is =
+    let same : k.name ≡ f.name = cc in
+    let rest : kept_names ks ≡ made_names fs = cc in
+    ap (λ n. kept_names (cond (not (same_name n name)) (k ∷ without_file ks name) (without_file ks name))) same
+    ∙ names-cond (same_name f.name name) k f (without_file ks name) (files_without fs name) same (without_file-names ks fs name rest)
+
+kept-points-cond : (b : Bool) (k : SyncFile) (f : File) (ks : List SyncFile) (fs : List File) → k.points ≡ points_of f → kept_points ks ≡ made_points fs → kept_points (cond (not b) (k ∷ ks) ks) ≡ made_points (cond (not b) (f ∷ fs) fs)
+kept-points-cond true k f ks fs same rest = rest
+kept-points-cond false k f ks fs same rest = rw (same, rest) refl
+
+pub without_file-points : (ks : List SyncFile) (fs : List File) (name : List ℕ) → kept_names ks ≡ made_names fs → kept_points ks ≡ made_points fs → kept_points (without_file ks name) ≡ made_points (files_without fs name)
+without_file-points [] [] name is points = refl
+without_file-points [] (f ∷ fs) name is points = absurd (cc)
+without_file-points (k ∷ ks) [] name is points = absurd (cc)
+without_file-points (k ∷ ks) (f ∷ fs) name is points =
+    let same : k.name ≡ f.name = cc in
+    let rest : kept_names ks ≡ made_names fs = cc in
+    let same' : k.points ≡ points_of f = cc in
+    let rest' : kept_points ks ≡ made_points fs = cc in
+    ap (λ n. kept_points (cond (not (same_name n name)) (k ∷ without_file ks name) (without_file ks name))) same
+    ∙ kept-points-cond (same_name f.name name) k f (without_file ks name) (files_without fs name) same' (without_file-points ks fs name rest rest')
 
 points-cond : (b : Bool) (k : SyncFile) (f : File) (o : Option SyncFile) (p : Option File) → k.points ≡ points_of f → option_map (λ (x : SyncFile). x.points) o ≡ option_map points_of p → option_map (λ (x : SyncFile). x.points) (cond b (Some k) o) ≡ option_map points_of (cond b (Some f) p)
 points-cond true k f o p same rest = ap Some same

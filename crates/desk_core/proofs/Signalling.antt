@@ -17,8 +17,8 @@ use Rattle.point_core.proofs.Agreement.{AgreesAbove-sym, listing-AgreesAbove, li
 use Rattle.timeline_core.specs.Timeline.{Timeline, reach_of}
 use Rattle.desk_core.specs.World.{World, File, file_named, put_set}
 use Rattle.desk_core.specs.Answer.{is_reached, all_reached, points_of}
-use Rattle.desk_core.specs.Desk.{DeskState, Keeps, WasMade, IsFilePoint}
-use Rattle.desk_core.proofs.Keeping.{points_at, as_entries-points, HasContexts-put, AgreesAbove-keeps, points_at-keeps, put_set-keeps, file_named-All}
+use Rattle.desk_core.specs.Desk.{DeskState, points_at, Keeps, WasMade, IsFilePoint}
+use Rattle.desk_core.proofs.Keeping.{as_entries-points, HasContexts-put, AgreesAbove-keeps, points_at-keeps, put_set-keeps, file_named-All}
 
 -- tests and facts
 

@@ -3,11 +3,11 @@ use Rattle.std.proofs.Common.{◌≡◌, ℕ, ◌+◌, ◌-◌, ◌^◌, ◌<◌
 use Rattle.std.specs.Prelude.{if◌then◌else◌}
 use Rattle.std.proofs.lemmas.Bool.{leb-true, leb-false, lt-ltb, le-ltb}
 use Rattle.std.proofs.lemmas.List.{length-map}
-use Rattle.std.proofs.lemmas.List.Elements.{All-nil, All-cons, All-push, All-weaker, All-append}
+use Rattle.std.proofs.lemmas.List.Elements.{All-nil, All-cons, All-push, All-weaker, All-append, All-filter}
 use Rattle.point_core.specs.declared.context.TheConstants.{CONTEXTS}
 use Rattle.point_core.specs.declared.entry.Entry.{Entry}
 use Rattle.point_core.specs.declared.refusal.Refusal.{Refusal}
-use Rattle.point_core.specs.declared.refusal.Refusal.TheVariants.{NoEntry, Exists, Overflow, Limit}
+use Rattle.point_core.specs.declared.refusal.Refusal.TheVariants.{NoEntry, Exists, Overflow, Limit, TimedOut}
 use Rattle.point_core.specs.declared.refusal.LimitKind.TheVariants.{Timelines, Files}
 use Rattle.point_core.specs.Agreement.{as_entry, point_of, as_entries, listing}
 use Rattle.point_core.specs.Reach.{IsAtLeast}
@@ -17,12 +17,13 @@ use Rattle.desk_core.specs.declared.command.Command.{Command}
 use Rattle.desk_core.specs.declared.command.Command.TheVariants as command
 use Rattle.timeline_core.specs.Timeline.{Timeline, new_timeline, has_timeline, context_of, reach_of, value_of, raised, is_named, raised_by}
 use Rattle.syncfile_core.specs.SyncFile.{File as SyncFile, plain_file}
-use Rattle.syncfile_core.specs.Files.{has_file as has_sync_file, cause_to_refuse}
+use Rattle.syncfile_core.specs.Files.{has_file as has_sync_file, without_file, cause_to_refuse}
 use Rattle.syncfile_core.specs.Merge.{merge_of}
-use Rattle.desk_core.specs.World.{World, File, has_file, put_set, after}
-use Rattle.desk_core.specs.Answer.{first_of, causes, making_file, points_of}
-use Rattle.desk_core.specs.Desk.{DeskState, Keeps, WasMade, IsFilePoint, cause_of}
-use Rattle.desk_core.proofs.Keeping.{points_of-files_at, has_sync_file-names, length-names, listing-keeps, put_set-keeps}
+use Rattle.desk_core.specs.World.{World, File, same_name, has_file, put_set, after}
+use Rattle.desk_core.specs.Answer.{first_of, is_signalled, all_reached, causes, making_file, points_of}
+use Rattle.desk_core.specs.Desk.{DeskState, points_at, Keeps, WasMade, IsFilePoint, cause_of}
+use Rattle.desk_core.proofs.Signalling.{all_reached-keeps}
+use Rattle.desk_core.proofs.Keeping.{points_of-files_at, has_sync_file-names, length-names, without_file-names, without_file-points, listing-keeps, put_set-keeps}
 
 -- why a command is refused
 
@@ -68,6 +69,14 @@ causes-keeps {desk} {world} k (command.Merge f a b) =
     ∙ ap (λ o. if has_file world.files a && has_file world.files b then o else Some NoEntry) (making_file-keeps k f)
     ∙ ap (λ h. if h && has_file world.files b then cause_to_refuse desk.files f else Some NoEntry) (sym (has_sync_file-names desk.files world.files a k.names))
     ∙ ap (λ h. if has_sync_file desk.files a && h then cause_to_refuse desk.files f else Some NoEntry) (sym (has_sync_file-names desk.files world.files b k.names) ∙ sym (and-true (has_sync_file desk.files b)))
+causes-keeps {desk} {world} k (command.Close f) =
+    if-not (has_file world.files f) (Some NoEntry) None
+    ∙ ap (λ h. if h then None else Some NoEntry) (sym (has_sync_file-names desk.files world.files f k.names))
+causes-keeps {desk} {world} k (command.Wait f) =
+    let listed = ap (λ ts. all_reached (reach_of ts) 0 (as_entries (points_at desk.files f))) k.timelines ∙ all_reached-keeps k f in
+    if-not (has_file world.files f) (Some NoEntry) (if not (is_signalled world f) then Some TimedOut else None)
+    ∙ ap (λ o. if has_file world.files f then o else Some NoEntry) (if-not (is_signalled world f) (Some TimedOut) None ∙ ap (λ b. if b then None else Some TimedOut) (sym listed))
+    ∙ ap (λ h. if h then (if all_reached (reach_of desk.timelines) 0 (as_entries (points_at desk.files f)) then None else Some TimedOut) else Some NoEntry) (sym (has_sync_file-names desk.files world.files f k.names))
 causes-keeps {desk} {world} k (command.Info f) =
     if-not (has_file world.files f) (Some NoEntry) None
     ∙ ap (λ h. if h then None else Some NoEntry) (sym (has_sync_file-names desk.files world.files f k.names))
@@ -145,6 +154,16 @@ Keeps-file {desk} {world} k kept f name points made = record {
   names = map-push (λ (g : SyncFile). g.name) desk.files kept ∙ ap (λ ns. ns ++ kept.name ∷ []) k.names ∙ ap (λ n. map (λ (g : File). g.name) world.files ++ n ∷ []) name ∙ sym (map-push (λ (g : File). g.name) world.files f);
   points = map-push (λ (g : SyncFile). g.points) desk.files kept ∙ ap (λ ps. ps ++ kept.points ∷ []) k.points ∙ ap (λ p. map points_of world.files ++ p ∷ []) points ∙ sym (map-push points_of world.files f);
   made = All-push (WasMade world.timelines) world.files f k.made made;
+  room = k.room;
+}
+
+-- a file is taken out
+pub Keeps-close : {desk : DeskState} {world : World} → Keeps desk world → (name : List ℕ) → Keeps (record { timelines = desk.timelines; files = without_file desk.files name }) (after world (command.Close name))
+Keeps-close {desk} {world} k name = record {
+  timelines = k.timelines;
+  names = without_file-names desk.files world.files name k.names;
+  points = without_file-points desk.files world.files name k.names k.points;
+  made = All-filter (λ (f : File). not (same_name f.name name)) (WasMade world.timelines) world.files k.made;
   room = k.room;
 }
 

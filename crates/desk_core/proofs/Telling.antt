@@ -12,9 +12,9 @@ use Rattle.syncfile_core.specs.SyncFile.{File as SyncFile}
 use Rattle.syncfile_core.specs.Files.{file_at as sync_file_at}
 use Rattle.desk_core.specs.World.{World, File, has_file, file_named, put_set}
 use Rattle.desk_core.specs.Answer.{refused_or, all_reached, points_of, info_of}
-use Rattle.desk_core.specs.Desk.{DeskState, Keeps}
+use Rattle.desk_core.specs.Desk.{DeskState, points_at, Keeps}
 use Rattle.desk_core.specs.Headline.{TellsWhatWasPut}
-use Rattle.desk_core.proofs.Keeping.{points_at, sync_file_at-points, AgreesAbove-keeps}
+use Rattle.desk_core.proofs.Keeping.{sync_file_at-points, AgreesAbove-keeps}
 use Rattle.desk_core.proofs.Signalling.{IsReached-keeps, all_reached-IsReached, status_if-Signalled}
 
 listed : (fs : List SyncFile) (name : List ℕ) (f : SyncFile) → sync_file_at fs name ≡ Some f → points_at fs name ≡ f.points

@@ -5,7 +5,7 @@ use Rattle.point_core.specs.declared.context.TheConstants.{CONTEXTS}
 use Rattle.point_core.specs.declared.entry.Point.{Point}
 use Rattle.point_core.specs.declared.entry.Entry.{Entry}
 use Rattle.point_core.specs.declared.refusal.Refusal.{Refusal}
-use Rattle.point_core.specs.declared.refusal.Refusal.TheVariants.{NoEntry, Exists, Overflow, Limit}
+use Rattle.point_core.specs.declared.refusal.Refusal.TheVariants.{NoEntry, Exists, Overflow, Limit, TimedOut}
 use Rattle.point_core.specs.declared.refusal.LimitKind.TheVariants.{Timelines, Files}
 use Rattle.point_core.specs.declared.status.Status.{Status}
 use Rattle.point_core.specs.declared.status.Status.TheVariants.{Signalled}
@@ -21,7 +21,7 @@ use Rattle.desk_core.specs.declared.answer.Info.{Info}
 use Rattle.desk_core.specs.declared.answer.FenceRow.{FenceRow}
 use Rattle.desk_core.specs.declared.answer.Maker.TheVariants.{SwSync, Stub}
 use Rattle.timeline_core.specs.Timeline.{Timeline, has_timeline, name_at, reach_of, value_of}
-use Rattle.desk_core.specs.World.{File, World, has_file, file_named}
+use Rattle.desk_core.specs.World.{File, World, has_file, file_named, put_set}
 use Rattle.syncfile_core.specs.declared.files.TheConstants.{FILES}
 
 -- the first refusal whose cause holds
@@ -36,15 +36,6 @@ cause holds refusal = (holds, refusal)
 abbrev pub making_file : World → List ℕ → List (Bool × Refusal)
 making_file w name = cause (has_file w.files name) Exists ∷ cause (nat_le FILES (length w.files)) (Limit Files) ∷ []
 
--- the causes, in the order in which they are told
-abbrev pub causes : World → Command → List (Bool × Refusal)
-causes w (command.Timeline t) = cause (has_timeline w.timelines t) Exists ∷ cause (nat_le CONTEXTS (length w.timelines)) (Limit Timelines) ∷ []
-causes w (command.Inc t n) = cause (not (has_timeline w.timelines t)) NoEntry ∷ cause (nat_le (2 ^ 64) (value_of w.timelines t + n)) Overflow ∷ []
-causes w (command.Value t) = cause (not (has_timeline w.timelines t)) NoEntry ∷ []
-causes w (command.Fence f t p) = cause (not (has_timeline w.timelines t)) NoEntry ∷ making_file w f
-causes w (command.Merge f a b) = cause (not (has_file w.files a && has_file w.files b)) NoEntry ∷ making_file w f
-causes w (command.Info f) = cause (not (has_file w.files f)) NoEntry ∷ []
-
 -- the entry has been reached
 abbrev pub is_reached : List ℕ → Entry → Bool
 is_reached reach e = nat_le e.point.value (value_at reach e.point.ctx)
@@ -52,6 +43,21 @@ is_reached reach e = nat_le e.point.value (value_at reach e.point.ctx)
 -- each put entry of the usage or a stronger one has been reached
 abbrev pub all_reached : List ℕ → ℕ → List Entry → Bool
 all_reached reach usage es = list_all (λ e. not (nat_le (number_of e.usage) usage) || is_reached reach e) es
+
+-- all that was put into the file of that name is reached
+abbrev pub is_signalled : World → List ℕ → Bool
+is_signalled w name = all_reached (reach_of w.timelines) 0 (put_set w.files name)
+
+-- the causes, in the order in which they are told
+abbrev pub causes : World → Command → List (Bool × Refusal)
+causes w (command.Timeline t) = cause (has_timeline w.timelines t) Exists ∷ cause (nat_le CONTEXTS (length w.timelines)) (Limit Timelines) ∷ []
+causes w (command.Inc t n) = cause (not (has_timeline w.timelines t)) NoEntry ∷ cause (nat_le (2 ^ 64) (value_of w.timelines t + n)) Overflow ∷ []
+causes w (command.Value t) = cause (not (has_timeline w.timelines t)) NoEntry ∷ []
+causes w (command.Fence f t p) = cause (not (has_timeline w.timelines t)) NoEntry ∷ making_file w f
+causes w (command.Merge f a b) = cause (not (has_file w.files a && has_file w.files b)) NoEntry ∷ making_file w f
+causes w (command.Close f) = cause (not (has_file w.files f)) NoEntry ∷ []
+causes w (command.Wait f) = cause (not (has_file w.files f)) NoEntry ∷ cause (not (is_signalled w f)) TimedOut ∷ []
+causes w (command.Info f) = cause (not (has_file w.files f)) NoEntry ∷ []
 
 -- a file is signalled exactly where all that was put into it is
 abbrev pub status_of : World → File → Status
@@ -87,6 +93,8 @@ told w (command.Inc t n) = answer.Raised (value_of w.timelines t + n) []
 told w (command.Value t) = answer.Value (value_of w.timelines t)
 told w (command.Fence f t p) = answer.Done
 told w (command.Merge f a b) = answer.Done
+told w (command.Close f) = answer.Done
+told w (command.Wait f) = answer.Done
 told w (command.Info f) = answer.Info (info_of w f (file_named w.files f))
 
 abbrev pub refused_or : Option Refusal → Answer → Answer

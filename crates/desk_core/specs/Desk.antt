@@ -1,16 +1,16 @@
 -- What a desk keeps, and the histories that it stands for.
-use Rattle.std.specs.Prelude.{◌≡◌, ℕ, ◌+◌, ◌^◌, ◌≤◌, false, nat_lt, nat_le, if◌then◌else◌, List, [], ◌∷◌, map, length, All, Option, None, Some, Result, Ok, Err}
+use Rattle.std.specs.Prelude.{◌≡◌, ℕ, ◌+◌, ◌^◌, ◌≤◌, false, nat_lt, nat_le, if◌then◌else◌, List, [], ◌∷◌, map, length, All, Option, None, Some, option_map, unwrap_or, Result, Ok, Err}
 use Rattle.point_core.specs.declared.entry.Point.{Point}
 use Rattle.point_core.specs.declared.entry.Entry.{Entry}
 use Rattle.point_core.specs.declared.entry.Usage.TheVariants.{Kernel}
 use Rattle.point_core.specs.declared.context.TheConstants.{CONTEXTS}
 use Rattle.point_core.specs.declared.refusal.Refusal.{Refusal}
-use Rattle.point_core.specs.declared.refusal.Refusal.TheVariants.{NoEntry, Exists, Overflow, Limit}
+use Rattle.point_core.specs.declared.refusal.Refusal.TheVariants.{NoEntry, Exists, Overflow, Limit, TimedOut}
 use Rattle.point_core.specs.declared.refusal.LimitKind.TheVariants.{Timelines}
 use Rattle.point_core.specs.Reach.{IsAtLeast}
 use Rattle.timeline_core.specs.Timeline.{Timeline, has_timeline, reach_of, value_of}
 use Rattle.syncfile_core.specs.SyncFile.{File as SyncFile}
-use Rattle.syncfile_core.specs.Files.{has_file as has_sync_file, cause_to_refuse}
+use Rattle.syncfile_core.specs.Files.{has_file as has_sync_file, file_at as sync_file_at, cause_to_refuse}
 use Rattle.syncfile_core.specs.Merge.{cause_to_refuse_merge}
 use Rattle.desk_core.specs.World.{File, World, after}
 use Rattle.point_core.specs.Agreement.{as_entries}
@@ -61,6 +61,10 @@ pub record Keeps (desk : DeskState) (world : World) : Type 0 where
 abbrev pub StandsFor : DeskState → List Command → Type 0
 StandsFor desk history = Keeps desk (world_of history)
 
+-- the points of the file of that name
+abbrev pub points_at : List SyncFile → List ℕ → List Point
+points_at fs name = unwrap_or (option_map (λ (f : SyncFile). f.points) (sync_file_at fs name)) []
+
 -- why the desk refuses a command, by what it keeps
 abbrev pub cause_of : DeskState → Command → Option Refusal
 cause_of d (command.Timeline t) = if has_timeline d.timelines t then Some Exists else if nat_lt (length d.timelines) CONTEXTS then None else Some (Limit Timelines)
@@ -68,6 +72,8 @@ cause_of d (command.Inc t n) = if has_timeline d.timelines t then (if nat_le (2 
 cause_of d (command.Value t) = if has_timeline d.timelines t then None else Some NoEntry
 cause_of d (command.Fence f t p) = if has_timeline d.timelines t then cause_to_refuse d.files f else Some NoEntry
 cause_of d (command.Merge f a b) = cause_to_refuse_merge d.files f (a ∷ b ∷ [])
+cause_of d (command.Close f) = if has_sync_file d.files f then None else Some NoEntry
+cause_of d (command.Wait f) = if has_sync_file d.files f then (if all_reached (reach_of d.timelines) 0 (as_entries (points_at d.files f)) then None else Some TimedOut) else Some NoEntry
 cause_of d (command.Info f) = if has_sync_file d.files f then None else Some NoEntry
 
 -- the command was done in each world that the desk keeps

@@ -1,5 +1,5 @@
 -- What the accepted commands so far mean, object by object: all that was ever put into it, whatever was dropped since.
-use Rattle.std.specs.Prelude.{ℕ, nat_eq, Bool, true, false, List, [], ◌∷◌, ◌++◌, find, Option, option_map, unwrap_or}
+use Rattle.std.specs.Prelude.{ℕ, nat_eq, Bool, true, false, not, List, [], ◌∷◌, ◌++◌, filter, find, Option, option_map, unwrap_or}
 use Rattle.std.specs.List.{list_any}
 use lib.Pointwise.{pointwise}
 use Rattle.point_core.specs.declared.entry.Entry.{Entry}
@@ -31,6 +31,10 @@ has_file fs name = list_any (λ f. same_name f.name name) fs
 abbrev pub file_named : List File → List ℕ → Option File
 file_named fs name = find (λ f. same_name f.name name) fs
 
+-- the files but the one of that name
+abbrev pub files_without : List File → List ℕ → List File
+files_without fs name = filter (λ f. not (same_name f.name name)) fs
+
 -- all that was put into the file of that name
 abbrev pub put_set : List File → List ℕ → List Entry
 put_set fs name = unwrap_or (option_map (λ f. f.put) (file_named fs name)) []
@@ -52,4 +56,6 @@ after w (command.Inc t n) = with_raised w t n
 after w (command.Value t) = w
 after w (command.Fence f t p) = with_file w f (as_entry (point_of (context_of w.timelines t) p) ∷ []) true
 after w (command.Merge f a b) = with_file w f (put_set w.files a ++ put_set w.files b) false
+after w (command.Close f) = record w { files = files_without w.files f }
+after w (command.Wait f) = w
 after w (command.Info f) = w

@@ -16,6 +16,11 @@ pub enum Command {
     Fence(Name, Name, u64),
     /// `merge F A B`: makes file F of files A and B, as libsync's `sync_merge`.
     Merge(Name, Name, Name),
+    /// `close F`: closes file F, whose name is free again, as the close of a sync file's last descriptor. Other files keep
+    /// what was merged into them.
+    Close(Name),
+    /// `wait F`: one check whether file F is signalled, as libsync's `sync_wait` with a timeout of 0.
+    Wait(Name),
     /// `info F`: file information, as libsync's `sync_file_info`.
     Info(Name),
 }

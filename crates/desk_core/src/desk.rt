@@ -8,7 +8,7 @@ use crate::info;
 use point_core::{Items, Name, Point, Refusal};
 use std::alloc::Global;
 use std::marker::Model;
-use syncfile_core::Files;
+use syncfile_core::{Files, Status};
 use timeline_core::Timelines;
 
 /// All timelines and files of a service. It keeps of each file what was pending when it was made, and its answers are
@@ -75,6 +75,8 @@ impl Desk {
             Command::Value(name) => self.value(&name),
             Command::Fence(name, timeline, value) => self.fence(name, &timeline, value),
             Command::Merge(name, first, second) => self.merge(name, &first, &second),
+            Command::Close(name) => self.close(&name),
+            Command::Wait(name) => self.wait(&name),
             Command::Info(name) => self.info(name),
         }
     }
@@ -122,6 +124,25 @@ impl Desk {
         let reach = self.timelines.reach();
         self.files.merge(name, first, second, &reach)?;
         Ok(Answer::Done)
+    }
+
+    fn close(&mut self, name: &Name) -> Result<Answer, Refusal>
+        ensures refused { IsRefusedFor (cause_of self.old (Command.Close name.now)) result }
+        ensures done { IfOk result (λ given. IsDone self.old (Command.Close name.now) given self.new) }
+        ensures unchanged { OnErr result (self.new ≡ self.old) }
+    {
+        self.files.close(name)?;
+        Ok(Answer::Done)
+    }
+
+    fn wait(&self, name: &Name) -> Result<Answer, Refusal>
+        ensures refused { IsRefusedFor (cause_of self.now (Command.Wait name.now)) result }
+        ensures done { IfOk result (λ given. IsDone self.now (Command.Wait name.now) given self.now) }
+    {
+        match self.files.status(name, &self.timelines.reach())? {
+            Status::Signalled => Ok(Answer::Done),
+            Status::Active => Err(Refusal::TimedOut),
+        }
     }
 
     fn info(&self, name: Name) -> Result<Answer, Refusal>

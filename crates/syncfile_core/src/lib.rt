@@ -11,5 +11,6 @@ mod sync_file;
 mod tests;
 
 pub use files::{FILES, Files};
-pub use status::{FenceInfo, FileInfo, Status};
+pub use point_core::Status;
+pub use status::{FenceInfo, FileInfo};
 pub use sync_file::SyncFile;

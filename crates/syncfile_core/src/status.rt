@@ -1,16 +1,10 @@
 // Whether a file and its fences are signalled.
 ghost use Rattle.std.specs.Prelude.{◌≡◌, IfOk};
-ghost use Rattle.syncfile_core.specs.Status.{number_of, status_if, status_of, fence_of, fences_of, stub};
+ghost use Rattle.point_core.specs.Status.{status_if};
+ghost use Rattle.syncfile_core.specs.Status.{status_of, fence_of, fences_of, stub};
 
-use point_core::{Context, Items, Name, Point, Reach, is_signalled};
+use point_core::{Context, Items, Name, Point, Reach, Status, is_signalled};
 use std::alloc::{AllocError, Global};
-
-/// Whether a fence or a file is signalled.
-#[derive(Clone, Copy, Debug, PartialEq, Eq, Hash)]
-pub enum Status {
-    Active,
-    Signalled,
-}
 
 /// What is told of a file, as Linux's `struct sync_file_info`.
 #[derive(Debug, Drop)]
@@ -29,28 +23,6 @@ pub struct FenceInfo {
     pub status: Status,
 }
 
-impl Status {
-    /// The kernel's status of a fence: 0 while it is active, 1 once it is signalled.
-    pub fn number(self) -> u8
-        ensures { result ≡ number_of self }
-    {
-        match self {
-            Status::Active => 0,
-            Status::Signalled => 1,
-        }
-    }
-
-    fn of(signalled: bool) -> Status
-        ensures { result ≡ status_if signalled }
-    {
-        if signalled {
-            Status::Signalled
-        } else {
-            Status::Active
-        }
-    }
-}
-
 impl FenceInfo {
     fn of(point: &Point, reach: &Reach) -> FenceInfo
         ensures { result ≡ fence_of reach.now point.now }
@@ -58,7 +30,7 @@ impl FenceInfo {
         FenceInfo {
             ctx: Some(point.ctx),
             point: point.value,
-            status: Status::of(is_signalled(*point, reach)),
+            status: status_if(is_signalled(*point, reach)),
         }
     }
 
@@ -77,7 +49,17 @@ impl FenceInfo {
 pub(crate) fn status_of(points: &[Point], reach: &Reach) -> Status
     ensures { result ≡ status_of points.now reach.now }
 {
-    Status::of(points.iter().all(|point| is_signalled(*point, reach)))
+    status_if(points.iter().all(|point| is_signalled(*point, reach)))
+}
+
+fn status_if(signalled: bool) -> Status
+    ensures { result ≡ status_if signalled }
+{
+    if signalled {
+        Status::Signalled
+    } else {
+        Status::Active
+    }
 }
 
 /// A fence for each of the points, or the stub.
