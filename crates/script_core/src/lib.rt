@@ -9,6 +9,8 @@ mod number;
 mod reading;
 mod script;
 mod table;
+#[cfg(test)]
+mod tests;
 mod text;
 mod totals;
 mod words;
