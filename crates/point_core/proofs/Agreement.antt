@@ -10,9 +10,9 @@ use Rattle.point_core.specs.declared.entry.Point.{Point}
 use Rattle.point_core.specs.declared.entry.Entry.{Entry}
 use Rattle.point_core.specs.Usage.{number_of}
 use Rattle.point_core.specs.Reach.{value_at, IsAtLeast}
-use Rattle.point_core.specs.Agreement.{applies, AppliesAt, later, top, IsPut, NoneIsLater, NoneApplies, pending, pending_top, AgreesAbove, as_entry, as_entries, contexts, point_of, listing, HasContexts, HasRisingContexts, AllAbove, IsReached}
+use Rattle.point_core.specs.Agreement.{applies, AppliesAt, later, top, IsPut, NoneIsLater, NoneApplies, pending, pending_top, AgreesAbove, as_entry, as_entries, contexts, point_of, listing, Covers, HasContexts, HasRisingContexts, AllAbove, IsReached}
 use Rattle.point_core.specs.Latest.{raised_to}
-use Rattle.point_core.proofs.Latest.{raised_to-top-append, applies-true, applies-other}
+use Rattle.point_core.proofs.Latest.{raised_to-later, raised_to-top-append, applies-true, applies-other}
 use Rattle.point_core.proofs.Values.{IsAtLeast-refl}
 use Rattle.point_core.proofs.Listings.{filter_map-contexts, filter_map-range_same}
 
@@ -466,3 +466,45 @@ listing-empty es usage reach within = (
       omega arith,
   λ reached. listing-same es [] usage usage reach reach (λ ctx low high. pending_top-IsReached es usage reach ctx (top es usage ctx) reached refl) ∙ listing-nil usage reach,
 )
+
+-- what may be dropped
+
+-- an entry that is signalled
+pub AgreesAbove-signalled : (reach : List ℕ) (e : Entry) (es : List Entry) → e.point.value ≤ value_at reach e.point.ctx → AgreesAbove reach (e ∷ es) es
+AgreesAbove-signalled reach e es reached = AgreesAbove-from_raised (λ usage ctx. elim (cases_Bool (applies e usage ctx)) [
+  | inl is ↦
+      let same : e.point.ctx ≡ ctx = (AppliesAt-from_true e usage ctx is).1 in
+      let low : e.point.value ≤ value_at reach ctx = rw same at reached in
+      let above = raised_to-above (value_at reach ctx) (top es usage ctx) in
+      ap (raised_to (value_at reach ctx)) (top-cons_true e es usage ctx is) ∙ raised_to-later (value_at reach ctx) e.point.value (top es usage ctx) ∙ (omega arith)
+  | inr not ↦ ap (raised_to (value_at reach ctx)) (top-cons_false e es usage ctx not)
+])
+
+AppliesAt-covered : (by other : Entry) (usage ctx : ℕ) → Covers by other → AppliesAt other usage ctx → AppliesAt by usage ctx
+AppliesAt-covered by other usage ctx h at = (omega arith, h.0 ∙ at.1)
+
+IsTop-covered : (by other : Entry) (es : List Entry) (usage ctx : ℕ) (t : Option ℕ) → Contains es by → Covers by other → IsTop es usage ctx t → IsTop (other ∷ es) usage ctx t
+IsTop-covered by other es usage ctx None among h none = λ f there at. elim (Contains-cons_cases other es f there) [
+  | inl is ↦ none by among (AppliesAt-covered by other usage ctx h (rw is at))
+  | inr rest ↦ none f rest at
+]
+IsTop-covered by other es usage ctx (Some p) among h latest = (
+  IsPut-tail other es usage ctx p latest.0,
+  λ f there at. elim (Contains-cons_cases other es f there) [
+    | inl is ↦
+        let same : other.point.value ≡ f.point.value = ap (λ (g : Entry). g.point.value) is in
+        let below = latest.1 by among (AppliesAt-covered by other usage ctx h (rw is at)) in
+        omega arith
+    | inr rest ↦ latest.1 f rest at
+  ],
+)
+
+-- an entry that another one covers
+pub top-covered : (by other : Entry) (es : List Entry) → Contains es by → Covers by other → (usage ctx : ℕ) → top (other ∷ es) usage ctx ≡ top es usage ctx
+top-covered by other es among h usage ctx =
+    IsTop-unique (other ∷ es) usage ctx (top (other ∷ es) usage ctx) (top es usage ctx)
+    (IsTop-top (other ∷ es) usage ctx)
+    (IsTop-covered by other es usage ctx (top es usage ctx) among h (IsTop-top es usage ctx))
+
+pub AgreesAbove-covered : (reach : List ℕ) (by other : Entry) (es : List Entry) → Contains es by → Covers by other → AgreesAbove reach (other ∷ es) es
+AgreesAbove-covered reach by other es among h = record { tops = λ usage ctx. ap (pending (value_at reach ctx)) (top-covered by other es among h usage ctx) }

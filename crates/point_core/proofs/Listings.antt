@@ -4,15 +4,23 @@ use Rattle.std.specs.Prelude.{option_map}
 use Rattle.std.specs.List.{filter_map, cons_option, range_with_len}
 use Rattle.std.proofs.lemmas.List.{map_more}
 use Rattle.std.proofs.lemmas.Bool.{lt-ltb, le-ltb, cases_lt}
+use Rattle.std.proofs.lemmas.List.Elements.{All-nil, All-push}
 use Rattle.point_core.specs.declared.context.TheConstants.{CONTEXTS}
 use Rattle.point_core.specs.declared.entry.Point.{Point}
 use Rattle.point_core.specs.declared.entry.Entry.{Entry}
 use Rattle.point_core.specs.Reach.{value_at}
-use Rattle.point_core.specs.Agreement.{top, pending, pending_top, point_of, as_entry, as_entries, contexts, listing}
+use Rattle.point_core.specs.Agreement.{top, pending, pending_top, point_of, as_entry, as_entries, contexts, listing, HasContexts}
 use Rattle.point_core.specs.Latest.{raised_to, IsLatest, point_above, points_above}
 
 pub as_entries-take_more : (ps : List Point) (i : ℕ) (p : Point) → i < length ps → p ≡ get_or ps i p → as_entries (take (i + 1) ps) ≡ as_entries (take i ps) ++ as_entry p ∷ []
 as_entries-take_more ps i p low is = map_more as_entry ps i p low ∙ ap (λ q. as_entries (take i ps) ++ as_entry q ∷ []) (sym is)
+
+pub HasContexts-nil : HasContexts []
+HasContexts-nil = All-nil (λ (e : Entry). (1 ≤ e.point.ctx) × (e.point.ctx ≤ CONTEXTS))
+
+-- one more entry, of a context that there can be
+pub HasContexts-put : (es : List Entry) (p : Point) → HasContexts es → 1 ≤ p.ctx → p.ctx ≤ CONTEXTS → HasContexts (es ++ as_entry p ∷ [])
+HasContexts-put es p within low high = All-push (λ (e : Entry). (1 ≤ e.point.ctx) × (e.point.ctx ≤ CONTEXTS)) es (as_entry p) within (low, high)
 
 cons_option-append : {X : Type 0} (o : Option X) (xs ys : List X) → cons_option o (xs ++ ys) ≡ cons_option o xs ++ ys
 cons_option-append None xs ys = refl

@@ -1,10 +1,11 @@
 -- Merges of files' points.
-use Rattle.std.proofs.Common.{◌≡◌, ℕ, refl, sym, ap, ◌∙◌, List, ◌++◌, append_assoc}
+use Rattle.std.proofs.Common.{◌≡◌, ℕ, sym, ap, ◌∙◌, List, ◌++◌, append_assoc}
 use Rattle.std.proofs.Common.{subst}
 use Rattle.point_core.specs.declared.entry.Point.{Point}
 use Rattle.point_core.specs.declared.entry.Entry.{Entry}
-use Rattle.point_core.specs.Agreement.{AgreesAbove, as_entries, listing, merged, HasContexts}
+use Rattle.point_core.specs.Agreement.{AgreesAbove, as_entries, listing, merged, HasContexts, HasRisingContexts, AllAbove}
 use Rattle.point_core.proofs.Values.{IsAtLeast-refl}
+use Rattle.point_core.proofs.Canonical.{listing-itself}
 use Rattle.point_core.proofs.Agreement.{AgreesAbove-trans, AgreesAbove-same, AgreesAbove-comm, AgreesAbove-idem, AgreesAbove-listing, as_entries-append, listing-AgreesAbove, listing-merge, HasContexts-append}
 
 HasContexts-points : (ps qs : List Point) → HasContexts (as_entries ps) → HasContexts (as_entries qs) → HasContexts (as_entries (ps ++ qs))
@@ -41,3 +42,9 @@ AgreesAbove-merged reach ps qs left right = AgreesAbove-trans (AgreesAbove-listi
 
 pub AgreesAbove-merged_idem : (reach : List ℕ) (ps : List Point) → HasContexts (as_entries ps) → AgreesAbove reach (as_entries (merged reach ps ps)) (as_entries ps)
 AgreesAbove-merged_idem reach ps within = AgreesAbove-trans (AgreesAbove-merged reach ps ps within within) (AgreesAbove-idem reach (as_entries ps))
+
+-- a merge of a listing with itself lists the same
+pub merged-idem : (reach : List ℕ) (ps : List Point) → HasRisingContexts ps → HasContexts (as_entries ps) → AllAbove reach ps → merged reach ps ps ≡ ps
+merged-idem reach ps rising within high =
+    listing-AgreesAbove 0 (AgreesAbove-trans (AgreesAbove-same reach (as_entries-append ps ps)) (AgreesAbove-idem reach (as_entries ps)))
+    ∙ listing-itself reach ps rising within high

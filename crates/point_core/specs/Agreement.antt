@@ -13,6 +13,7 @@ use Rattle.point_core.specs.Reach.{value_at}
 abbrev pub applies : Entry → ℕ → ℕ → Bool
 applies e usage ctx = nat_le (number_of e.usage) usage && (e.point.ctx == ctx)
 
+-- the later of a point and another, if there is another
 abbrev pub later : ℕ → Option ℕ → Option ℕ
 later p None = Some p
 later p (Some q) = Some (max p q)
@@ -22,7 +23,7 @@ abbrev pub top : List Entry → ℕ → ℕ → Option ℕ
 top [] usage ctx = None
 top (e ∷ es) usage ctx = if applies e usage ctx then later e.point.value (top es usage ctx) else top es usage ctx
 
--- the same as a fact
+-- that it applies, as a fact
 abbrev pub AppliesAt : Entry → ℕ → ℕ → Type 0
 AppliesAt e usage ctx = (number_of e.usage ≤ usage) × (e.point.ctx ≡ ctx)
 
@@ -55,6 +56,7 @@ pub record AgreesAbove (reach : List ℕ) (es fs : List Entry) : Type 0 where
 abbrev pub as_entry : Point → Entry
 as_entry p = record { point = p; usage = Kernel }
 
+-- so are the points of a file
 abbrev pub as_entries : List Point → List Entry
 as_entries ps = map as_entry ps
 
@@ -62,6 +64,7 @@ as_entries ps = map as_entry ps
 unfoldable pub contexts : List ℕ
 contexts = range_with_len 1 CONTEXTS
 
+-- the point of a context at a value
 abbrev pub point_of : ℕ → ℕ → Point
 point_of ctx value = record { ctx = ctx; value = value }
 
@@ -72,6 +75,10 @@ listing es usage reach = filter_map (λ ctx. option_map (point_of ctx) (pending_
 -- what a merge of two files' points lists above a reach
 abbrev pub merged : List ℕ → List Point → List Point → List Point
 merged reach ps qs = listing (as_entries (ps ++ qs)) 0 reach
+
+-- the first entry makes the second needless
+abbrev pub Covers : Entry → Entry → Type 0
+Covers by other = (by.point.ctx ≡ other.point.ctx) × (number_of by.usage ≤ number_of other.usage) × (other.point.value ≤ by.point.value)
 
 -- each entry is of a context that there can be
 abbrev pub HasContexts : List Entry → Type 0

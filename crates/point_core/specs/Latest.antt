@@ -16,6 +16,7 @@ raised_to value (Some p) = max value p
 pub record IsLatest (latest reach : List ℕ) (es : List Entry) (usage : ℕ) : Type 0 where
   pub values : (ctx : ℕ) → 1 ≤ ctx → ctx ≤ CONTEXTS → value_at latest ctx ≡ raised_to (value_at reach ctx) (top es usage ctx)
 
+-- the table's point of the context, if it is above the reach
 abbrev pub point_above : List ℕ → List ℕ → ℕ → Option Point
 point_above latest reach ctx = if nat_lt (value_at reach ctx) (value_at latest ctx) then Some (point_of ctx (value_at latest ctx)) else None
 

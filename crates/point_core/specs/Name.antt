@@ -2,6 +2,7 @@ use Rattle.std.specs.Prelude.{◌≡◌, ℕ, ◌-◌, ◌≤◌, Bool, true, na
 use Rattle.std.specs.List.{list_all}
 use Rattle.point_core.specs.declared.name.TheConstants.{NAME_BYTES}
 
+-- both ends belong to the range
 abbrev pub between : ℕ → ℕ → ℕ → Bool
 between low high b = nat_le low b && nat_le b high
 
@@ -9,6 +10,7 @@ between low high b = nat_le low b && nat_le b high
 abbrev pub is_name_byte : ℕ → Bool
 is_name_byte b = between 65 90 b || between 97 122 b || between 48 57 b || (b == 95) || (b == 46) || (b == 45)
 
+-- 1 to `NAME_BYTES` such bytes
 abbrev pub IsName : List ℕ → Type 0
 IsName bytes = (1 ≤ length bytes) × (length bytes ≤ NAME_BYTES) × (list_all is_name_byte bytes ≡ true)
 

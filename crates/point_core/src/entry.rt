@@ -1,5 +1,6 @@
 // A point of a timeline, and a point with the usage that it was added for.
-ghost use Rattle.std.specs.Prelude.{◌≡◌, ◌≤◌, ◌↔◌, IsTrue};
+ghost use Rattle.std.specs.Prelude.{◌≡◌, ◌↔◌, IsTrue};
+ghost use Rattle.point_core.specs.Agreement.{Covers};
 ghost use Rattle.point_core.specs.Usage.{number_of};
 
 use crate::context::Context;
@@ -45,7 +46,7 @@ impl Usage {
 /// Whether the first entry makes the second needless: the same context, a usage at least as strong, a point at
 /// least as late.
 pub fn covers(by: Entry, other: Entry) -> bool
-    ensures { IsTrue result ↔ ((by.point.ctx ≡ other.point.ctx) × (number_of by.usage ≤ number_of other.usage) × (other.point.value ≤ by.point.value)) }
+    ensures { IsTrue result ↔ Covers by other }
 {
     by.point.ctx == other.point.ctx
         && by.usage.number() <= other.usage.number()

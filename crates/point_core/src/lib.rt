@@ -1,7 +1,8 @@
 //! Points of timelines, usages, reaches, and what a set of fences says above a reach.
 //!
 //! Everything above this crate speaks in its words: a `Point` of a `Context`, an `Entry` of a reservation, the
-//! `Reach` of all timelines, the listing of what is pending, and the one list of refusals.
+//! `Reach` of all timelines, the listing of what is pending, and the one list of refusals. `laws` says what holds of
+//! them.
 #![tactic(auto)]
 
 mod context;

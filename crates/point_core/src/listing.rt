@@ -1,6 +1,6 @@
 // What is pending: the latest point of each context above a reach.
 ghost use Rattle.std.specs.Prelude.{◌≡◌, IfOk, IfErr};
-ghost use Rattle.point_core.specs.Agreement.{as_entries, listing};
+ghost use Rattle.point_core.specs.Agreement.{as_entries, listing, HasContexts};
 ghost use Rattle.point_core.specs.Latest.{IsLatest, points_above};
 
 use crate::context::{CONTEXTS, Context};
@@ -33,13 +33,17 @@ pub struct TopRow {
 pub fn canon(alloc: Global, points: &[Point], reach: &Reach) -> Result<Vec<Point>, Refusal>
     ensures listing { IfOk result (λ ps. ps.items ≡ listing (as_entries points.now) 0 reach.now) }
     ensures memory { IfErr result (λ e. e ≡ Refusal.Memory) }
+
+    // What the type of a context says of each point.
+    ensures contexts { HasContexts (as_entries points.now) }
 {
     points_above(alloc, &latest_of(points, reach), reach)
 }
 
 /// The greatest point of each context, or its value where no point is above that.
 fn latest_of(points: &[Point], reach: &Reach) -> Reach
-    ensures { IsLatest result reach.now (as_entries points.now) 0 }
+    ensures latest { IsLatest result reach.now (as_entries points.now) 0 }
+    ensures contexts { HasContexts (as_entries points.now) }
 {
     let mut latest = *reach;
     for point in points {

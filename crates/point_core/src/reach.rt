@@ -44,6 +44,7 @@ impl Reach {
     pub fn get(&self, ctx: Context) -> u64
         ensures value { result ≡ value_at self.now ctx }
         ensures full { length self.now ≡ CONTEXTS }
+        ensures context { (1 ≤ ctx) × (ctx ≤ CONTEXTS) }
     {
         self.values[ctx.index()]
     }

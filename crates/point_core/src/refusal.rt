@@ -27,26 +27,26 @@ pub enum LimitKind {
 }
 
 /// Every refusal of the service. A refused command changes nothing.
+///
+/// `NoEntry` is the kernel's `ENOENT`, `Flags` its `EINVAL` of `DMA_BUF_IOCTL_EXPORT_SYNC_FILE`, `Signalled` the
+/// `ENOENT` of its `dma_fence_add_callback`, and `TimedOut` its `ETIME`. `Memory` is answered only where a growth was
+/// really refused.
 #[derive(Clone, Copy, Debug, PartialEq, Eq, Hash, Error)]
 pub enum Refusal {
     #[error("the line is no command")]
     Syntax,
-    /// The kernel's `ENOENT`.
     #[error("there is no such name, buffer or context")]
     NoEntry,
     #[error("there is such a name, cookie or driver already")]
     Exists,
     #[error("an increment past the greatest value")]
     Overflow,
-    /// The kernel's `EINVAL` of `DMA_BUF_IOCTL_EXPORT_SYNC_FILE`.
     #[error("these are no sync flags")]
     Flags,
     #[error("the limit of {0} is met")]
     Limit(LimitKind),
-    /// The kernel's `ENOENT` of `dma_fence_add_callback`.
     #[error("it is signalled already")]
     Signalled,
-    /// The kernel's `ETIME`.
     #[error("it is still active")]
     TimedOut,
     #[error("these words do not bear the file or point out")]
@@ -63,7 +63,6 @@ pub enum Refusal {
     Write,
     #[error("the timeline is closed")]
     Cancelled,
-    /// A growth was really refused.
     #[error("out of memory")]
     Memory,
 }

@@ -1,4 +1,4 @@
-use Rattle.point_core.proofs.Merges.{merged-comm, merged-assoc, AgreesAbove-merged, AgreesAbove-merged_idem}
+use Rattle.point_core.proofs.Merges.{merged-comm, merged-assoc, merged-idem, AgreesAbove-merged, AgreesAbove-merged_idem}
 use Rattle.point_core.proofs.laws.merge_is_a_union.Goals as goal
 
 pub returns-clause-commutative : goal.returns-clause-commutative
@@ -12,3 +12,6 @@ returns-clause-idempotent c = AgreesAbove-merged_idem
 
 pub returns-clause-union : goal.returns-clause-union
 returns-clause-union c = AgreesAbove-merged
+
+pub returns-clause-same : goal.returns-clause-same
+returns-clause-same c = merged-idem
