@@ -6,7 +6,7 @@ use Rattle.std.specs.Str.{bytes_eq}
 use Rattle.point_core.specs.declared.name.TheConstants.{NAME_BYTES}
 use Rattle.point_core.specs.Name.{is_name_byte}
 use Rattle.desk_core.specs.declared.command.Command.{Command}
-use Rattle.desk_core.specs.declared.command.Command.TheVariants.{Timeline, Inc, Value, Fence, Merge, Info}
+use Rattle.desk_core.specs.declared.command.Command.TheVariants.{Timeline, Inc, Value, Fence, Merge, Close, Wait, Info}
 use Rattle.script_core.specs.Number.{number_of}
 use Rattle.script_core.specs.Words.{one_of, two_of, three_of}
 
@@ -49,5 +49,7 @@ command_from word words =
     else if bytes_eq word (codes "value") then option_map Value (one_name words)
     else if bytes_eq word (codes "fence") then option_map (λ w. Fence w.0 w.1 w.2) (two_names_and_number words)
     else if bytes_eq word (codes "merge") then option_map (λ w. Merge w.0 w.1 w.2) (three_names words)
+    else if bytes_eq word (codes "close") then option_map Close (one_name words)
+    else if bytes_eq word (codes "wait") then option_map Wait (one_name words)
     else if bytes_eq word (codes "info") then option_map Info (one_name words)
     else None

@@ -26,6 +26,10 @@ pub(crate) fn command(word: &[u8], rest: &[u8]) -> Option<Command>
     } else if is(word, "merge") {
         let (file, first, second) = three_names(rest)?;
         Some(Command::Merge(file, first, second))
+    } else if is(word, "close") {
+        Some(Command::Close(one_name(rest)?))
+    } else if is(word, "wait") {
+        Some(Command::Wait(one_name(rest)?))
     } else if is(word, "info") {
         Some(Command::Info(one_name(rest)?))
     } else {
