@@ -1,11 +1,11 @@
 -- The answer of each command in a world: the first refusal whose cause holds, else what the accepted command tells.
-use Rattle.std.specs.Prelude.{ℕ, ◌+◌, Bool, true, false, not, ◌&&◌, ◌||◌, nat_le, if◌then◌else◌, List, [], ◌∷◌, length, map, Option, None, Some, codes}
+use Rattle.std.specs.Prelude.{ℕ, ◌+◌, ◌^◌, Bool, true, false, not, ◌&&◌, ◌||◌, nat_le, if◌then◌else◌, List, [], ◌∷◌, length, map, Option, None, Some, unwrap_or, codes, ⊤}
 use Rattle.std.specs.List.{list_all}
 use Rattle.point_core.specs.declared.context.TheConstants.{CONTEXTS}
 use Rattle.point_core.specs.declared.entry.Point.{Point}
 use Rattle.point_core.specs.declared.entry.Entry.{Entry}
 use Rattle.point_core.specs.declared.refusal.Refusal.{Refusal}
-use Rattle.point_core.specs.declared.refusal.Refusal.TheVariants.{NoEntry, Exists, Limit, Memory}
+use Rattle.point_core.specs.declared.refusal.Refusal.TheVariants.{NoEntry, Exists, Overflow, Limit, TimedOut}
 use Rattle.point_core.specs.declared.refusal.LimitKind.TheVariants.{Timelines, Files}
 use Rattle.point_core.specs.declared.status.Status.{Status}
 use Rattle.point_core.specs.declared.status.Status.TheVariants.{Signalled}
@@ -20,9 +20,9 @@ use Rattle.desk_core.specs.declared.answer.Answer.TheVariants as answer
 use Rattle.desk_core.specs.declared.answer.Info.{Info}
 use Rattle.desk_core.specs.declared.answer.FenceRow.{FenceRow}
 use Rattle.desk_core.specs.declared.answer.Maker.TheVariants.{SwSync, Stub}
-use Rattle.desk_core.specs.Timeline.{Timeline, has_timeline, name_of, reach_of}
-use Rattle.desk_core.specs.World.{File, World, has_file, file_named}
-use Rattle.desk_core.specs.declared.TheConstants.{FILES}
+use Rattle.timeline_core.specs.Timeline.{Timeline, has_timeline, name_at, reach_of, value_of}
+use Rattle.desk_core.specs.World.{File, World, has_file, file_named, put_set}
+use Rattle.syncfile_core.specs.declared.files.TheConstants.{FILES}
 
 -- the first refusal whose cause holds
 abbrev pub first_of : List (Bool × Refusal) → Option Refusal
@@ -36,13 +36,6 @@ cause holds refusal = (holds, refusal)
 abbrev pub making_file : World → List ℕ → List (Bool × Refusal)
 making_file w name = cause (has_file w.files name) Exists ∷ cause (nat_le FILES (length w.files)) (Limit Files) ∷ []
 
--- the causes, in the order in which they are told
-abbrev pub causes : World → Command → List (Bool × Refusal)
-causes w (command.Timeline t) = cause (has_timeline w.timelines t) Exists ∷ cause (nat_le CONTEXTS (length w.timelines)) (Limit Timelines) ∷ []
-causes w (command.Fence f t p) = cause (not (has_timeline w.timelines t)) NoEntry ∷ making_file w f
-causes w (command.Merge f a b) = cause (not (has_file w.files a && has_file w.files b)) NoEntry ∷ making_file w f
-causes w (command.Info f) = cause (not (has_file w.files f)) NoEntry ∷ []
-
 -- the entry has been reached
 abbrev pub is_reached : List ℕ → Entry → Bool
 is_reached reach e = nat_le e.point.value (value_at reach e.point.ctx)
@@ -51,6 +44,21 @@ is_reached reach e = nat_le e.point.value (value_at reach e.point.ctx)
 abbrev pub all_reached : List ℕ → ℕ → List Entry → Bool
 all_reached reach usage es = list_all (λ e. not (nat_le (number_of e.usage) usage) || is_reached reach e) es
 
+-- all that was put into the file of that name is reached
+abbrev pub is_signalled : World → List ℕ → Bool
+is_signalled w name = all_reached (reach_of w.timelines) 0 (put_set w.files name)
+
+-- the causes, in the order in which they are told
+abbrev pub causes : World → Command → List (Bool × Refusal)
+causes w (command.Timeline t) = cause (has_timeline w.timelines t) Exists ∷ cause (nat_le CONTEXTS (length w.timelines)) (Limit Timelines) ∷ []
+causes w (command.Inc t n) = cause (not (has_timeline w.timelines t)) NoEntry ∷ cause (nat_le (2 ^ 64) (value_of w.timelines t + n)) Overflow ∷ []
+causes w (command.Value t) = cause (not (has_timeline w.timelines t)) NoEntry ∷ []
+causes w (command.Fence f t p) = cause (not (has_timeline w.timelines t)) NoEntry ∷ making_file w f
+causes w (command.Merge f a b) = cause (not (has_file w.files a && has_file w.files b)) NoEntry ∷ making_file w f
+causes w (command.Close f) = cause (not (has_file w.files f)) NoEntry ∷ []
+causes w (command.Wait f) = cause (not (has_file w.files f)) NoEntry ∷ cause (not (is_signalled w f)) TimedOut ∷ []
+causes w (command.Info f) = cause (not (has_file w.files f)) NoEntry ∷ []
+
 -- a file is signalled exactly where all that was put into it is
 abbrev pub status_of : World → File → Status
 status_of w f = status_if (all_reached (reach_of w.timelines) 0 f.put)
@@ -58,6 +66,10 @@ status_of w f = status_if (all_reached (reach_of w.timelines) 0 f.put)
 -- a file made of one point lists it, any other what was pending when it was made
 abbrev pub points_of : File → List Point
 points_of f = if f.is_one_point then map (λ e. e.point) f.put else listing f.put 0 f.made_at
+
+-- the name of a context that was made
+abbrev pub name_of : List Timeline → ℕ → List ℕ
+name_of ts ctx = unwrap_or (name_at ts ctx) []
 
 abbrev pub fence_row : List Timeline → Point → FenceRow
 fence_row ts p = record { timeline = name_of ts p.ctx; driver = SwSync; point = p.value; status = status_if (nat_le p.value (value_at (reach_of ts) p.ctx)) }
@@ -77,8 +89,12 @@ info_of w name (Some f) = record { name = name; status = status_of w f; fences =
 -- what the accepted command tells
 abbrev pub told : World → Command → Answer
 told w (command.Timeline t) = answer.Value (length w.timelines + 1)
+told w (command.Inc t n) = answer.Raised (value_of w.timelines t + n) []
+told w (command.Value t) = answer.Value (value_of w.timelines t)
 told w (command.Fence f t p) = answer.Done
 told w (command.Merge f a b) = answer.Done
+told w (command.Close f) = answer.Done
+told w (command.Wait f) = answer.Done
 told w (command.Info f) = answer.Info (info_of w f (file_named w.files f))
 
 abbrev pub refused_or : Option Refusal → Answer → Answer
@@ -93,4 +109,13 @@ abbrev pub is_refused : Answer → Bool
 is_refused (answer.Refused r) = true
 is_refused answer.Done = false
 is_refused (answer.Value n) = false
+is_refused (answer.Raised n fired) = false
 is_refused (answer.Info i) = false
+
+-- a fact that holds where the answer is a refusal
+abbrev pub OnRefused : Answer → Type 0 → Type 0
+OnRefused (answer.Refused r) fact = fact
+OnRefused answer.Done fact = ⊤
+OnRefused (answer.Value n) fact = ⊤
+OnRefused (answer.Raised n fired) fact = ⊤
+OnRefused (answer.Info i) fact = ⊤

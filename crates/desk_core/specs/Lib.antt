@@ -1,7 +1,11 @@
 pub mod Answer
+pub mod Desk
+pub mod Headline
 pub mod History
-pub mod Timeline
 pub mod World
 pub use Rattle.point_core.specs.Agreement
 pub use Rattle.point_core.specs.Reach
 pub use Rattle.point_core.specs.Status
+pub use Rattle.syncfile_core.specs.Files
+pub use Rattle.syncfile_core.specs.SyncFile
+pub use Rattle.timeline_core.specs.Timeline

@@ -3,12 +3,14 @@
 use point_core::{Items, Name, Refusal, Status};
 
 /// The answer of one command.
-#[derive(Debug, Drop)]
+#[derive(Debug, Drop, PartialEq, Eq)]
 pub enum Answer {
     /// The command did what it says.
     Done,
-    /// The number that it asked for: a context.
+    /// The number that it asked for: a context, or a timeline's value.
     Value(u64),
+    /// The timeline's new value, and the cookies of the callbacks that it fires.
+    Raised(u64, Items<u64>),
     /// File information.
     Info(Info),
     /// The command changed nothing.
@@ -16,7 +18,7 @@ pub enum Answer {
 }
 
 /// What Linux's `SYNC_IOC_FILE_INFO` tells of a file.
-#[derive(Debug, Drop)]
+#[derive(Debug, Drop, PartialEq, Eq)]
 pub struct Info {
     pub name: Name,
     pub status: Status,
@@ -25,7 +27,7 @@ pub struct Info {
 }
 
 /// A fence of a file. Its timeline's name and its driver's stay the same once it is signalled.
-#[derive(Clone, Copy, Debug)]
+#[derive(Clone, Copy, Debug, PartialEq, Eq, Hash)]
 pub struct FenceRow {
     pub timeline: Name,
     pub driver: Maker,

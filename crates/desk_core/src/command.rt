@@ -3,14 +3,24 @@
 use point_core::Name;
 
 /// A command, with the words of its line in a script. Timelines and files have name spaces of their own.
-#[derive(Clone, Copy, Debug)]
+#[derive(Clone, Copy, Debug, PartialEq, Eq, Hash)]
 pub enum Command {
     /// `timeline T`: makes a timeline at 0, as libsync's `sw_sync_timeline_create`.
     Timeline(Name),
+    /// `inc T N`: adds N to a timeline's value, as libsync's `sw_sync_timeline_inc`. Past the greatest u64 it is refused,
+    /// where the kernel's 32-bit value wraps.
+    Inc(Name, u64),
+    /// `value T`: reads a timeline's value.
+    Value(Name),
     /// `fence F T P`: makes file F of point P on timeline T, as libsync's `sw_sync_fence_create`.
     Fence(Name, Name, u64),
     /// `merge F A B`: makes file F of files A and B, as libsync's `sync_merge`.
     Merge(Name, Name, Name),
+    /// `close F`: closes file F, whose name is free again, as the close of a sync file's last descriptor. Other files keep
+    /// what was merged into them.
+    Close(Name),
+    /// `wait F`: one check whether file F is signalled, as libsync's `sync_wait` with a timeout of 0.
+    Wait(Name),
     /// `info F`: file information, as libsync's `sync_file_info`.
     Info(Name),
 }

@@ -6,9 +6,14 @@
 
 mod answer;
 mod command;
+mod desk;
+mod info;
+mod runs;
 
 pub use answer::{Answer, FenceRow, Info, Maker};
 pub use command::Command;
+pub use desk::Desk;
+pub use runs::run;
 
-/// How many files there can be at a time.
-pub const FILES: usize = 1024;
+#[cfg(test)]
+mod tests;

@@ -1,6 +1,6 @@
 // Whether a fence is signalled.
 ghost use Rattle.std.specs.Prelude.{◌≡◌};
-ghost use Rattle.point_core.specs.Status.{number_of, status_if};
+ghost use Rattle.point_core.specs.Status.{number_of};
 
 /// The status of a point or a sync file, as Linux's `dma_fence_get_status` gives it.
 #[derive(Clone, Copy, Debug, PartialEq, Eq, Hash)]
@@ -12,17 +12,6 @@ pub enum Status {
 }
 
 impl Status {
-    /// `Signalled` where all that is asked about is, else `Active`.
-    pub fn of(signalled: bool) -> Status
-        ensures { result ≡ status_if signalled }
-    {
-        if signalled {
-            Status::Signalled
-        } else {
-            Status::Active
-        }
-    }
-
     /// The number that file information shows: 0 while active, 1 once signalled.
     pub fn number(self) -> u8
         ensures { result ≡ number_of self }

@@ -1,5 +1,6 @@
 pub mod Causes
 pub mod Kept
 pub mod Merging
+pub mod Reached
 pub mod Statuses
 pub mod Unions

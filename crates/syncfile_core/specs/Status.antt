@@ -1,14 +1,16 @@
 -- What is told of a file at a reach.
-use Rattle.std.specs.Prelude.{ℕ, List, [], ◌∷◌, Bool, nat_le, map, None, Some}
+use Rattle.std.specs.Prelude.{◌≡◌, ◌↔◌, ℕ, List, [], ◌∷◌, Bool, nat_le, map, None, Some}
 use Rattle.std.specs.List.{list_all}
 use Rattle.point_core.specs.declared.entry.Point.{Point}
-use Rattle.point_core.specs.Reach.{value_at}
+use Rattle.point_core.specs.Reach.{value_at, IsAtLeast}
+use Rattle.point_core.specs.Agreement.{IsReached}
+use Rattle.point_core.specs.declared.entry.Entry.{Entry}
 use Rattle.point_core.specs.declared.status.Status.{Status}
 use Rattle.point_core.specs.declared.status.Status.TheVariants.{Signalled}
 use Rattle.point_core.specs.Status.{status_if}
 use Rattle.syncfile_core.specs.declared.status.FenceInfo.{FenceInfo}
 use Rattle.syncfile_core.specs.declared.status.FileInfo.{FileInfo}
-use Rattle.syncfile_core.specs.SyncFile.{File}
+use Rattle.syncfile_core.specs.SyncFile.{File, StandsFor}
 
 -- the value of the point's context has reached it
 abbrev pub is_reached : List ℕ → Point → Bool
@@ -32,3 +34,7 @@ fences_of (p ∷ ps) reach = map (fence_of reach) (p ∷ ps)
 
 abbrev pub info_of : File → List ℕ → FileInfo
 info_of f reach = record { name = f.name; status = status_of f.points reach; fences = fences_of f.points reach }
+
+-- for a set that the file stands for, with a floor that has been reached: signalled exactly where each of its points is
+abbrev pub TellsSetsOf : File → List ℕ → Type 0
+TellsSetsOf f reach = (set : List Entry) → StandsFor f set → IsAtLeast reach f.floor → ((status_of f.points reach ≡ Signalled) ↔ IsReached set 0 reach)

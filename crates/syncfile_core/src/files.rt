@@ -1,13 +1,13 @@
 // The files by name.
-ghost use Rattle.std.specs.Prelude.{◌≡◌, ◌++◌, [], ◌∷◌, ◌<◌, length, OnOk, OnErr, IfOk, IfErr, IsOk, None, option_copied, MatchOption, MatchBool, MatchResult, Some, Ok, Err};
+ghost use Rattle.std.specs.Prelude.{◌≡◌, ◌++◌, [], ◌∷◌, ◌<◌, length, OnOk, OnErr, IfOk, IfErr, IsOk, None, option_copied, MatchOption, MatchBool, MatchResult, IfSome, Some, Ok, Err};
 ghost use Rattle.point_core.specs.declared.refusal.Refusal.TheVariants.{Memory, NoEntry};
 ghost use Rattle.syncfile_core.specs.declared.files.TheConstants.{FILES};
-ghost use Rattle.syncfile_core.specs.SyncFile.{file_of, plain_file};
+ghost use Rattle.syncfile_core.specs.SyncFile.{file_of, plain_file, StandsFor};
 ghost use Rattle.syncfile_core.specs.Merge.{files_at, merge_of, cause_to_refuse_merge, StandsForUnion};
-ghost use Rattle.point_core.specs.Agreement.{HasRisingContexts};
+ghost use Rattle.point_core.specs.Agreement.{as_entry, HasRisingContexts};
 ghost use Rattle.point_core.specs.declared.context.TheConstants.{CONTEXTS};
-ghost use Rattle.syncfile_core.specs.Status.{status_of, info_of};
-ghost use Rattle.syncfile_core.specs.Files.{has_file, file_at, without_file, names_of, cause_to_refuse, IsRefusedFor};
+ghost use Rattle.syncfile_core.specs.Status.{status_of, info_of, TellsSetsOf};
+ghost use Rattle.syncfile_core.specs.Files.{has_file, file_at, without_file, names_of, HasDistinctNames, cause_to_refuse, IsRefusedFor};
 
 use crate::merge::Gathered;
 use crate::status::{self, FileInfo};
@@ -39,10 +39,9 @@ impl Model for Files {
 }
 
 impl Files {
-    /// No files. Takes no memory before the first file.
+    /// No files. It takes no memory yet, so it is never refused.
     pub fn new(alloc: Global) -> Result<Files, Refusal>
-        ensures empty { IfOk result (λ fs. fs ≡ []) }
-        ensures memory { IfErr result (λ e. e ≡ Memory) }
+        ensures { result ≡ Ok [] }
     {
         Ok(Files {
             by_name: IndexMap::new(alloc),
@@ -66,6 +65,7 @@ impl Files {
     /// Refuses as `Memory` alone.
     pub fn names(&self) -> Result<Vec<Name>, Refusal>
         ensures names { IfOk result (λ names. names.items ≡ names_of self.now) }
+        ensures distinct { HasDistinctNames self.now }
         ensures memory { IfErr result (λ e. e ≡ Memory) }
     {
         Ok(self.by_name.keys().copied().collect(self.allocator())?)
@@ -75,7 +75,8 @@ impl Files {
     ///
     /// Refuses as `NoEntry`. Takes no memory.
     pub fn status(&self, name: &Name, reach: &Reach) -> Result<Status, Refusal>
-        ensures { MatchOption (file_at self.now name.now) (result ≡ Err NoEntry) (λ f. result ≡ Ok (status_of f.points reach.now)) }
+        ensures status { MatchOption (file_at self.now name.now) (result ≡ Err NoEntry) (λ f. result ≡ Ok (status_of f.points reach.now)) }
+        ensures stands { IfSome (file_at self.now name.now) (λ f. TellsSetsOf f reach.now) }
     {
         let file = self.known(name)?;
         Ok(status::status_of(file.points.as_slice(), reach))
@@ -119,6 +120,7 @@ impl Files {
     pub fn create(&mut self, name: Name, point: Point) -> Result<(), Refusal>
         ensures refused { IsRefusedFor (cause_to_refuse self.old name) result }
         ensures last { OnOk result (self.new ≡ self.old ++ plain_file name point ∷ []) }
+        ensures stands { StandsFor (plain_file name point) (as_entry point ∷ []) }
         ensures unchanged { OnErr result (self.new ≡ self.old) }
     {
         self.free(&name)?;

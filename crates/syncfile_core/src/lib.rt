@@ -7,6 +7,8 @@ mod files;
 mod merge;
 mod status;
 mod sync_file;
+#[cfg(test)]
+mod tests;
 
 pub use files::{FILES, Files};
 pub use point_core::Status;

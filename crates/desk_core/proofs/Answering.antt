@@ -1,0 +1,95 @@
+-- Answers, and the histories after them.
+use Rattle.std.proofs.Common.{◌≡◌, false, refl, sym, ap, subst, ◌∙◌, List, [], ◌∷◌, ◌++◌, length, Option, None, Some, inl, inr, arith, length-append}
+use Rattle.std.specs.Prelude.{Result, Ok, Err, IfOk, OnErr}
+use Rattle.point_core.specs.declared.refusal.Refusal.{Refusal}
+use Rattle.desk_core.specs.declared.command.Command.{Command}
+use Rattle.desk_core.specs.declared.command.Command.TheVariants as command
+use Rattle.desk_core.specs.declared.answer.Answer.{Answer}
+use Rattle.desk_core.specs.declared.answer.Answer.TheVariants as answer
+use Rattle.syncfile_core.specs.Files.{IsRefusedFor}
+use Rattle.desk_core.specs.World.{World, empty_world, after}
+use Rattle.desk_core.specs.Answer.{first_of, causes, told, refused_or, is_refused, OnRefused}
+use Rattle.desk_core.specs.History.{world_from, world_of, IsAnswer, history_after, history_of, AreAnswers}
+use Rattle.desk_core.specs.Desk.{DeskState, Keeps, StandsFor, cause_of, IsDone, answer_of}
+use Rattle.desk_core.proofs.Stepping.{causes-keeps}
+
+-- one more command
+
+world_from-push : (w : World) (history : List Command) (c : Command) → world_from w (history ++ c ∷ []) ≡ after (world_from w history) c
+world_from-push w [] c = refl
+world_from-push w (d ∷ history) c = world_from-push (after w d) history c
+
+is_refused-told : (w : World) (c : Command) → is_refused (told w c) ≡ false
+is_refused-told w (command.Timeline t) = refl
+is_refused-told w (command.Inc t n) = refl
+is_refused-told w (command.Value t) = refl
+is_refused-told w (command.Fence f t p) = refl
+is_refused-told w (command.Merge f a b) = refl
+is_refused-told w (command.Close f) = refl
+is_refused-told w (command.Wait f) = refl
+is_refused-told w (command.Info f) = refl
+
+answered : (old new : DeskState) (c : Command) (r : Result Answer Refusal) (cause : Option Refusal) (history : List Command) → IsRefusedFor cause r → IfOk r (λ a. IsDone old c a new) → StandsFor old history → first_of (causes (world_of history) c) ≡ cause → IsAnswer history c (answer_of r)
+answered old new c (Ok a) (Some e) history refused done stands is = absurd (cc)
+answered old new c (Ok a) None history refused done stands is = record { told = inl (done.told (world_of history) stands ∙ ap (λ o. refused_or o (told (world_of history) c)) (sym is)) }
+answered old new c (Err e') (Some e) history refused done stands is =
+    let same : e' ≡ e = cc in
+    record { told = inl (ap answer.Refused same ∙ ap (λ o. refused_or o (told (world_of history) c)) (sym is)) }
+answered old new c (Err e) None history refused done stands is = record {
+  told = inr (ap answer.Refused refused, ap (λ o. is_refused (refused_or o (told (world_of history) c))) is ∙ is_refused-told (world_of history) c);
+}
+
+-- the answer is the one of each history that the desk stands for
+pub IsAnswer-outcome : (old new : DeskState) (c : Command) (r : Result Answer Refusal) → IsRefusedFor (cause_of old c) r → IfOk r (λ a. IsDone old c a new) → (history : List Command) → StandsFor old history → IsAnswer history c (answer_of r)
+IsAnswer-outcome old new c r refused done history stands = answered old new c r (cause_of old c) history refused done stands (causes-keeps stands c)
+
+-- the desk stands for the history after it
+pub StandsFor-outcome : (old new : DeskState) (c : Command) (r : Result Answer Refusal) → OnErr r (new ≡ old) → IfOk r (λ a. IsDone old c a new) → (history : List Command) → StandsFor old history → StandsFor new (history_after history c (answer_of r))
+StandsFor-outcome old new c (Ok a) unchanged done history stands =
+    let P : World → Type 0 = λ w. Keeps new w in
+    let accepted = done.accepted in
+    rw accepted (subst P (sym (world_from-push empty_world history c)) (done.kept (world_of history) stands))
+StandsFor-outcome old new c (Err e) unchanged done history stands =
+    let P : DeskState → Type 0 = λ d. StandsFor d history in
+    subst P (sym unchanged) stands
+
+accepted_OnRefused : (given : Answer) (fact : Type 0) → is_refused given ≡ false → OnRefused given fact
+accepted_OnRefused (answer.Refused r) fact is = absurd (cc)
+accepted_OnRefused answer.Done fact is = tt
+accepted_OnRefused (answer.Value n) fact is = tt
+accepted_OnRefused (answer.Raised n fired) fact is = tt
+accepted_OnRefused (answer.Info i) fact is = tt
+
+-- a refused command leaves the desk as it was
+pub OnRefused-outcome : (old new : DeskState) (c : Command) (r : Result Answer Refusal) → OnErr r (new ≡ old) → IfOk r (λ a. IsDone old c a new) → OnRefused (answer_of r) (new ≡ old)
+OnRefused-outcome old new c (Ok a) unchanged done = accepted_OnRefused a (new ≡ old) done.accepted
+OnRefused-outcome old new c (Err e) unchanged done = unchanged
+
+-- a run
+
+pub history_of-push : (history cs : List Command) (given : List Answer) (c : Command) (a : Answer) → length cs ≡ length given → history_of history (cs ++ c ∷ []) (given ++ a ∷ []) ≡ history_after (history_of history cs given) c a
+history_of-push history [] [] c a same = refl
+history_of-push history [] (b ∷ given) c a same = absurd (omega (arith, same))
+history_of-push history (d ∷ cs) [] c a same = absurd (omega (arith, same))
+history_of-push history (d ∷ cs) (b ∷ given) c a same = history_of-push (history_after history d b) cs given c a (omega arith)
+
+pub AreAnswers-push : (history cs : List Command) (given : List Answer) (c : Command) (a : Answer) → AreAnswers history cs given → IsAnswer (history_of history cs given) c a → AreAnswers history (cs ++ c ∷ []) (given ++ a ∷ [])
+AreAnswers-push history [] [] c a are is = (is, tt)
+AreAnswers-push history [] (b ∷ given) c a are is = absurd are
+AreAnswers-push history (d ∷ cs) [] c a are is = absurd are
+AreAnswers-push history (d ∷ cs) (b ∷ given) c a are is = (are.0, AreAnswers-push (history_after history d b) cs given c a are.1 is)
+
+-- the desk and the answers after those commands
+pub record HasRun (desk : DeskState) (cs : List Command) (given : List Answer) : Type 0 where
+  pub answers : AreAnswers [] cs given
+  pub stands : StandsFor desk (history_of [] cs given)
+  pub each : length cs ≡ length given
+
+pub HasRun-push : {desk : DeskState} {cs : List Command} {given : List Answer} (new : DeskState) (c : Command) (a : Answer) → HasRun desk cs given → ((history : List Command) → StandsFor desk history → IsAnswer history c a) → ((history : List Command) → StandsFor desk history → StandsFor new (history_after history c a)) → HasRun new (cs ++ c ∷ []) (given ++ a ∷ [])
+HasRun-push {desk} {cs} {given} new c a run answer stands = record {
+  answers = AreAnswers-push [] cs given c a run.answers (answer (history_of [] cs given) run.stands);
+  stands =
+      let P : List Command → Type 0 = λ history. StandsFor new history in
+      subst P (sym (history_of-push [] cs given c a run.each)) (stands (history_of [] cs given) run.stands);
+  each = omega (arith, run.each, length-append {A = Command}, length-append {A = Answer});
+}

@@ -1,0 +1,156 @@
+// One command in, one answer out.
+ghost use Rattle.std.specs.Prelude.{◌≡◌, List, [], IfOk, IfErr, OnErr};
+ghost use Rattle.desk_core.specs.declared.command.Command.{Command};
+
+use crate::answer::Answer;
+use crate::command::Command;
+use crate::info;
+use point_core::{Items, Name, Point, Refusal};
+use std::alloc::Global;
+use std::marker::Model;
+use syncfile_core::{Files, Status};
+use timeline_core::Timelines;
+
+/// All timelines and files of a service. It keeps of each file what was pending when it was made, and its answers are
+/// those of all that was ever put into it.
+#[derive(Drop)]
+pub struct Desk {
+    alloc: Global,
+    timelines: Timelines,
+    files: Files,
+}
+
+impl Model for Desk {
+    ghost use Rattle.std.specs.Prelude.{length};
+    ghost use Rattle.desk_core.specs.Desk.{DeskState, HaveTimelines};
+
+    ghost Value = { DeskState };
+
+    ghost view = { λ d. record { timelines = d.timelines; files = d.files } };
+
+    ghost invariant = { λ d. HaveTimelines (length d.timelines) d.files };
+}
+
+impl Desk {
+    ghost use Rattle.desk_core.specs.Answer.{OnRefused};
+    ghost use Rattle.syncfile_core.specs.Files.{IsRefusedFor};
+    ghost use Rattle.desk_core.specs.History.{IsAnswer, history_after};
+    ghost use Rattle.desk_core.specs.Desk.{StandsFor, cause_of, IsDone};
+
+    /// A desk without timelines and files.
+    ///
+    /// Refuses as `Memory` alone.
+    pub fn new(alloc: Global) -> Result<Desk, Refusal>
+        ensures empty { IfOk result (λ desk. StandsFor desk []) }
+        ensures memory { IfErr result (λ e. e ≡ Refusal.Memory) }
+    {
+        Ok(Desk {
+            alloc,
+            timelines: Timelines::new(alloc)?,
+            files: Files::new(alloc)?,
+        })
+    }
+
+    /// The answer of one command: the first refusal whose cause holds, else what the command tells. `Memory` comes
+    /// last, where a growth was really refused. A refused command changes nothing.
+    pub fn step(&mut self, command: Command) -> Answer
+        ensures answer { (history : List Command) → StandsFor self.old history → IsAnswer history command result }
+        ensures stands { (history : List Command) → StandsFor self.old history → StandsFor self.new (history_after history command result) }
+        ensures unchanged { OnRefused result (self.new ≡ self.old) }
+    {
+        match self.outcome(command) {
+            Ok(answer) => answer,
+            Err(refusal) => Answer::Refused(refusal),
+        }
+    }
+
+    fn outcome(&mut self, command: Command) -> Result<Answer, Refusal>
+        ensures refused { IsRefusedFor (cause_of self.old command) result }
+        ensures done { IfOk result (λ given. IsDone self.old command given self.new) }
+        ensures unchanged { OnErr result (self.new ≡ self.old) }
+    {
+        match command {
+            Command::Timeline(name) => self.timeline(name),
+            Command::Inc(name, n) => self.inc(&name, n),
+            Command::Value(name) => self.value(&name),
+            Command::Fence(name, timeline, value) => self.fence(name, &timeline, value),
+            Command::Merge(name, first, second) => self.merge(name, &first, &second),
+            Command::Close(name) => self.close(&name),
+            Command::Wait(name) => self.wait(&name),
+            Command::Info(name) => self.info(name),
+        }
+    }
+
+    fn timeline(&mut self, name: Name) -> Result<Answer, Refusal>
+        ensures refused { IsRefusedFor (cause_of self.old (Command.Timeline name)) result }
+        ensures done { IfOk result (λ given. IsDone self.old (Command.Timeline name) given self.new) }
+        ensures unchanged { OnErr result (self.new ≡ self.old) }
+    {
+        let ctx = self.timelines.create(name)?;
+        Ok(Answer::Value(u64::from(ctx.number())))
+    }
+
+    fn inc(&mut self, name: &Name, n: u64) -> Result<Answer, Refusal>
+        ensures refused { IsRefusedFor (cause_of self.old (Command.Inc name.now n)) result }
+        ensures done { IfOk result (λ given. IsDone self.old (Command.Inc name.now n) given self.new) }
+        ensures unchanged { OnErr result (self.new ≡ self.old) }
+    {
+        let value = self.timelines.inc(name, n)?;
+        Ok(Answer::Raised(value, Items::of(Vec::new(self.alloc))))
+    }
+
+    fn value(&self, name: &Name) -> Result<Answer, Refusal>
+        ensures refused { IsRefusedFor (cause_of self.now (Command.Value name.now)) result }
+        ensures done { IfOk result (λ given. IsDone self.now (Command.Value name.now) given self.now) }
+    {
+        Ok(Answer::Value(self.timelines.value(name)?))
+    }
+
+    fn fence(&mut self, name: Name, timeline: &Name, value: u64) -> Result<Answer, Refusal>
+        ensures refused { IsRefusedFor (cause_of self.old (Command.Fence name timeline.now value)) result }
+        ensures done { IfOk result (λ given. IsDone self.old (Command.Fence name timeline.now value) given self.new) }
+        ensures unchanged { OnErr result (self.new ≡ self.old) }
+    {
+        let ctx = self.timelines.context(timeline).ok_or(Refusal::NoEntry)?;
+        self.files.create(name, Point { ctx, value })?;
+        Ok(Answer::Done)
+    }
+
+    fn merge(&mut self, name: Name, first: &Name, second: &Name) -> Result<Answer, Refusal>
+        ensures refused { IsRefusedFor (cause_of self.old (Command.Merge name first.now second.now)) result }
+        ensures done { IfOk result (λ given. IsDone self.old (Command.Merge name first.now second.now) given self.new) }
+        ensures unchanged { OnErr result (self.new ≡ self.old) }
+    {
+        let reach = self.timelines.reach();
+        self.files.merge(name, first, second, &reach)?;
+        Ok(Answer::Done)
+    }
+
+    fn close(&mut self, name: &Name) -> Result<Answer, Refusal>
+        ensures refused { IsRefusedFor (cause_of self.old (Command.Close name.now)) result }
+        ensures done { IfOk result (λ given. IsDone self.old (Command.Close name.now) given self.new) }
+        ensures unchanged { OnErr result (self.new ≡ self.old) }
+    {
+        self.files.close(name)?;
+        Ok(Answer::Done)
+    }
+
+    fn wait(&self, name: &Name) -> Result<Answer, Refusal>
+        ensures refused { IsRefusedFor (cause_of self.now (Command.Wait name.now)) result }
+        ensures done { IfOk result (λ given. IsDone self.now (Command.Wait name.now) given self.now) }
+    {
+        match self.files.status(name, &self.timelines.reach())? {
+            Status::Signalled => Ok(Answer::Done),
+            Status::Active => Err(Refusal::TimedOut),
+        }
+    }
+
+    fn info(&self, name: Name) -> Result<Answer, Refusal>
+        ensures refused { IsRefusedFor (cause_of self.now (Command.Info name)) result }
+        ensures done { IfOk result (λ given. IsDone self.now (Command.Info name) given self.now) }
+    {
+        let file = self.files.get(&name).ok_or(Refusal::NoEntry)?;
+        let info = info::of_points(self.alloc, name, file.points.as_slice(), &self.timelines)?;
+        Ok(Answer::Info(info))
+    }
+}

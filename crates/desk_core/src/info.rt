@@ -1,0 +1,109 @@
+// File information.
+ghost use Rattle.std.specs.Prelude.{◌≡◌, ◌≤◌, [], ◌∷◌, length, map, nat_le, IfOk, IfErr};
+ghost use Rattle.std.specs.List.{list_all};
+ghost use Rattle.point_core.specs.Agreement.{as_entries};
+ghost use Rattle.point_core.specs.Reach.{value_at};
+ghost use Rattle.point_core.specs.Status.{status_if};
+ghost use Rattle.timeline_core.specs.Timeline.{reach_of};
+ghost use Rattle.desk_core.specs.Answer.{all_reached, fence_row, stub_row, or_stub};
+ghost use Rattle.desk_core.specs.Desk.{AreMade, info_at};
+
+use crate::answer::{FenceRow, Info, Maker};
+use point_core::{Items, Name, Point, Reach, Refusal, Status, is_signalled};
+use std::alloc::Global;
+use timeline_core::Timelines;
+
+/// What is told of a file that lists those points, as Linux's `SYNC_IOC_FILE_INFO`. Without points it is shown as the
+/// stub.
+///
+/// Refuses as `Memory` alone.
+pub fn of_points(
+    alloc: Global,
+    name: Name,
+    points: &[Point],
+    timelines: &Timelines,
+) -> Result<Info, Refusal>
+    requires made { AreMade (length timelines.now) points.now }
+    ensures info { IfOk result (λ info. info ≡ info_at timelines.now name points.now) }
+    ensures memory { IfErr result (λ e. e ≡ Refusal.Memory) }
+{
+    let reach = timelines.reach();
+    Ok(Info {
+        name,
+        status: status_of(points, &reach),
+        fences: Items::of(rows_of(alloc, points, timelines, &reach)?),
+    })
+}
+
+/// Signalled where every point is.
+fn status_of(points: &[Point], reach: &Reach) -> Status
+    ensures { result ≡ status_if (all_reached reach.now 0 (as_entries points.now)) }
+{
+    status_if(are_signalled(points, reach))
+}
+
+fn are_signalled(points: &[Point], reach: &Reach) -> bool
+    ensures { result ≡ list_all (λ p. nat_le p.value (value_at reach.now p.ctx)) points.now }
+{
+    points.iter().all(|point| is_signalled(*point, reach))
+}
+
+fn status_if(signalled: bool) -> Status
+    ensures { result ≡ status_if signalled }
+{
+    if signalled {
+        Status::Signalled
+    } else {
+        Status::Active
+    }
+}
+
+/// A row for each point, or the stub's where there is none.
+fn rows_of(
+    alloc: Global,
+    points: &[Point],
+    timelines: &Timelines,
+    reach: &Reach,
+) -> Result<Vec<FenceRow>, Refusal>
+    requires made { AreMade (length timelines.now) points.now }
+    requires reach { reach.now ≡ reach_of timelines.now }
+    ensures rows { IfOk result (λ rows. rows.items ≡ or_stub (map (fence_row timelines.now) points.now)) }
+    ensures memory { IfErr result (λ e. e ≡ Refusal.Memory) }
+{
+    if points.is_empty() {
+        let mut rows = Vec::with_capacity(alloc, 1)?;
+        rows.push_reserved(stub_row());
+        return Ok(rows);
+    }
+    let mut rows = Vec::with_capacity(alloc, points.len())?;
+    for point in points {
+        rows.push_reserved(row_of(*point, timelines, reach));
+    }
+    Ok(rows)
+}
+
+fn row_of(point: Point, timelines: &Timelines, reach: &Reach) -> FenceRow
+    requires made { point.ctx ≤ length timelines.now }
+    requires reach { reach.now ≡ reach_of timelines.now }
+    ensures { result ≡ fence_row timelines.now point }
+{
+    let Point { ctx, value } = point;
+    FenceRow {
+        timeline: timelines.name(ctx).unwrap(),
+        driver: Maker::SwSync,
+        point: value,
+        status: status_if(is_signalled(point, reach)),
+    }
+}
+
+/// The kernel's stub fence.
+fn stub_row() -> FenceRow
+    ensures { result ≡ stub_row }
+{
+    FenceRow {
+        timeline: Name::read(b"stub").unwrap(),
+        driver: Maker::Stub,
+        point: 0,
+        status: Status::Signalled,
+    }
+}

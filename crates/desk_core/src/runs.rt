@@ -1,0 +1,28 @@
+// A run over a list of commands.
+ghost use Rattle.std.specs.Prelude.{◌≡◌, [], IfOk, IfErr};
+ghost use Rattle.desk_core.specs.History.{world_of, history_of, AreAnswers};
+ghost use Rattle.desk_core.specs.Desk.{StandsFor};
+ghost use Rattle.desk_core.specs.Headline.{TellsWhatWasPut};
+
+use crate::answer::Answer;
+use crate::command::Command;
+use crate::desk::Desk;
+use point_core::Refusal;
+use std::alloc::Global;
+
+/// Runs the commands one after another over a fresh desk. Gives the desk and one answer a command.
+///
+/// Refuses as `Memory` alone, where there is none for the desk or for the list of answers.
+pub fn run(alloc: Global, commands: &[Command]) -> Result<(Desk, Vec<Answer>), Refusal>
+    ensures answers { IfOk result (λ r. AreAnswers [] commands.now r.1.items) }
+    ensures stands { IfOk result (λ r. StandsFor r.0 (history_of [] commands.now r.1.items)) }
+    ensures files { IfOk result (λ r. TellsWhatWasPut r.0 (world_of (history_of [] commands.now r.1.items))) }
+    ensures memory { IfErr result (λ e. e ≡ Refusal.Memory) }
+{
+    let mut desk = Desk::new(alloc)?;
+    let mut answers = Vec::with_capacity(alloc, commands.len())?;
+    for command in commands {
+        answers.push_reserved(desk.step(*command));
+    }
+    Ok((desk, answers))
+}

@@ -1,0 +1,23 @@
+-- What is read of a script, and what is written of its answers.
+use Rattle.std.specs.Prelude.{◌≡◌, ℕ, ◌+◌, ◌≤◌, List, ◌++◌, length, Option}
+use Rattle.std.specs.Io.KnownBytes.{Appends, Consumes, IsAtEnd}
+use Rattle.script_core.specs.declared.script.Ending.{Ending}
+use Rattle.script_core.specs.declared.script.Ending.TheVariants as ending
+use Rattle.script_core.specs.declared.script.TheConstants.{SCRIPT_BYTES}
+
+-- those bytes were read: up to the reader's end, one past the limit, or up to a failed read
+abbrev pub EndsSo : Option (List ℕ) → List ℕ → Ending → Type 0
+EndsSo left bytes ending.Whole = (length bytes ≤ SCRIPT_BYTES) × IsAtEnd left
+EndsSo left bytes ending.TooLong = length bytes ≡ SCRIPT_BYTES + 1
+EndsSo left bytes ending.Failed = length bytes ≤ SCRIPT_BYTES
+
+pub record WasRead (old new : Option (List ℕ)) (bytes : List ℕ) (end : Ending) : Type 0 where
+  pub consumed : Consumes old new bytes
+  pub ends : EndsSo new bytes end
+
+-- a front of the bytes was written
+pub record AppendsFront (old new : Option (List ℕ)) (bytes : List ℕ) : Type 0 where
+  pub front : List ℕ
+  pub rest : List ℕ
+  pub whole : bytes ≡ front ++ rest
+  pub appended : Appends old new front

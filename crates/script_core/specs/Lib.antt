@@ -1,0 +1,10 @@
+pub mod Bytes
+pub mod Line
+pub mod Lines
+pub mod Number
+pub mod Output
+pub mod Script
+pub mod Table
+pub mod Text
+pub mod Word
+pub mod Words

@@ -1,0 +1,55 @@
+-- The table of commands: a first word, and the words that follow it.
+use Rattle.std.specs.Prelude.{ℕ, nat_le, Bool, ◌&&◌, if◌then◌else◌, List, [], ◌∷◌, length, Option, None, Some, option_map, codes}
+use Rattle.std.specs.Option.{option_and_then}
+use Rattle.std.specs.List.{list_all}
+use Rattle.std.specs.Str.{bytes_eq}
+use Rattle.point_core.specs.declared.name.TheConstants.{NAME_BYTES}
+use Rattle.point_core.specs.Name.{is_name_byte}
+use Rattle.desk_core.specs.declared.command.Command.{Command}
+use Rattle.desk_core.specs.declared.command.Command.TheVariants.{Timeline, Inc, Value, Fence, Merge, Close, Wait, Info}
+use Rattle.script_core.specs.Number.{number_of}
+use Rattle.script_core.specs.Words.{one_of, two_of, three_of}
+
+-- 1 to NAME_BYTES letters, digits, `_`, `.` or `-`
+abbrev pub is_name : List ℕ → Bool
+is_name word = nat_le 1 (length word) && nat_le (length word) NAME_BYTES && list_all is_name_byte word
+
+abbrev pub name_of : List ℕ → Option (List ℕ)
+name_of word = if is_name word then Some word else None
+
+abbrev pub both : {A B : Type 0} → Option A → Option B → Option (A × B)
+both None b = None
+both (Some a) None = None
+both (Some a) (Some b) = Some (a, b)
+
+abbrev pub all_three : {A B C : Type 0} → Option A → Option B → Option C → Option (A × B × C)
+all_three None b c = None
+all_three (Some a) None c = None
+all_three (Some a) (Some b) None = None
+all_three (Some a) (Some b) (Some c) = Some (a, b, c)
+
+-- the words behind the first: just so many, and each of its kind
+abbrev pub one_name : List (List ℕ) → Option (List ℕ)
+one_name words = option_and_then name_of (one_of words)
+
+abbrev pub name_and_number : List (List ℕ) → Option (List ℕ × ℕ)
+name_and_number words = option_and_then (λ w. both (name_of w.0) (number_of w.1)) (two_of words)
+
+abbrev pub two_names_and_number : List (List ℕ) → Option (List ℕ × List ℕ × ℕ)
+two_names_and_number words = option_and_then (λ w. all_three (name_of w.0) (name_of w.1) (number_of w.2)) (three_of words)
+
+abbrev pub three_names : List (List ℕ) → Option (List ℕ × List ℕ × List ℕ)
+three_names words = option_and_then (λ w. all_three (name_of w.0) (name_of w.1) (name_of w.2)) (three_of words)
+
+-- the command of a line whose first word is `word`
+abbrev pub command_from : List ℕ → List (List ℕ) → Option Command
+command_from word words =
+    if bytes_eq word (codes "timeline") then option_map Timeline (one_name words)
+    else if bytes_eq word (codes "inc") then option_map (λ w. Inc w.0 w.1) (name_and_number words)
+    else if bytes_eq word (codes "value") then option_map Value (one_name words)
+    else if bytes_eq word (codes "fence") then option_map (λ w. Fence w.0 w.1 w.2) (two_names_and_number words)
+    else if bytes_eq word (codes "merge") then option_map (λ w. Merge w.0 w.1 w.2) (three_names words)
+    else if bytes_eq word (codes "close") then option_map Close (one_name words)
+    else if bytes_eq word (codes "wait") then option_map Wait (one_name words)
+    else if bytes_eq word (codes "info") then option_map Info (one_name words)
+    else None

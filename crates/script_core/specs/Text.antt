@@ -1,0 +1,70 @@
+-- The texts of answers.
+use Rattle.std.specs.Prelude.{ℕ, List, [], ◌∷◌, ◌++◌, length, codes, decimal}
+use Rattle.std.specs.List.{join_with_byte, flat_map}
+use Rattle.point_core.specs.Refusal as refusal
+use Rattle.point_core.specs.Status as status
+use Rattle.point_core.specs.declared.refusal.Refusal.{Refusal}
+use Rattle.point_core.specs.declared.refusal.Refusal.TheVariants.{Syntax, NoEntry, Exists, Overflow, Flags, Limit, Signalled, TimedOut, Foreign, Torn, NotAll, LongLine, Read, Write, Cancelled, Memory}
+use Rattle.desk_core.specs.declared.answer.Answer.{Answer}
+use Rattle.desk_core.specs.declared.answer.Answer.TheVariants as answer
+use Rattle.desk_core.specs.declared.answer.Info.{Info}
+use Rattle.desk_core.specs.declared.answer.FenceRow.{FenceRow}
+use Rattle.desk_core.specs.declared.answer.Maker.{Maker}
+use Rattle.desk_core.specs.declared.answer.Maker.TheVariants.{SwSync, Stub}
+
+-- a line of output: words with a space between each two, and a line feed
+abbrev pub line_text : List (List ℕ) → List ℕ
+line_text words = join_with_byte 32 words ++ 10 ∷ []
+
+abbrev pub driver_of : Maker → List ℕ
+driver_of SwSync = codes "sw_sync"
+driver_of Stub = codes "stub"
+
+abbrev pub fence_text : FenceRow → List ℕ
+fence_text row = line_text (codes "fence" ∷ row.timeline ∷ driver_of row.driver ∷ decimal row.point ∷ decimal (status.number_of row.status) ∷ [])
+
+abbrev pub info_line : Info → List ℕ
+info_line info = line_text (codes "ok" ∷ info.name ∷ decimal (status.number_of info.status) ∷ decimal (length info.fences) ∷ [])
+
+abbrev pub info_text : Info → List ℕ
+info_text info = info_line info ++ flat_map fence_text info.fences
+
+abbrev pub fired_text : ℕ → List ℕ
+fired_text cookie = line_text (codes "fired" ∷ decimal cookie ∷ [])
+
+abbrev pub value_line : ℕ → List ℕ
+value_line value = line_text (codes "ok" ∷ decimal value ∷ [])
+
+-- a timeline's new value, and the callbacks that it fired
+abbrev pub raised_text : ℕ → List ℕ → List ℕ
+raised_text value fired = value_line value ++ flat_map fired_text fired
+
+-- what follows the name of a refusal on a line of that number
+abbrev pub details : ℕ → Refusal → List (List ℕ)
+details number Syntax = codes "line" ∷ decimal number ∷ []
+details number LongLine = codes "line" ∷ decimal number ∷ []
+details number (Limit kind) = refusal.word_of kind ∷ []
+details number NoEntry = []
+details number Exists = []
+details number Overflow = []
+details number Flags = []
+details number Signalled = []
+details number TimedOut = []
+details number Foreign = []
+details number Torn = []
+details number NotAll = []
+details number Read = []
+details number Write = []
+details number Cancelled = []
+details number Memory = []
+
+abbrev pub refusal_text : ℕ → Refusal → List ℕ
+refusal_text number r = line_text (codes "err" ∷ decimal (refusal.number_of r) ∷ refusal.name_of r ∷ details number r)
+
+-- the text of the answer of the line of that number
+abbrev pub text_of : ℕ → Answer → List ℕ
+text_of number answer.Done = line_text (codes "ok" ∷ [])
+text_of number (answer.Value n) = value_line n
+text_of number (answer.Raised value fired) = raised_text value fired
+text_of number (answer.Info info) = info_text info
+text_of number (answer.Refused r) = refusal_text number r

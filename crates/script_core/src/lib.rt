@@ -1,0 +1,24 @@
+//! A script's bytes to commands, answers to bytes, and the engine that turns the one into the other.
+//!
+//! Lines, words, names and numbers are told as functions of the bytes (`specs/`), and so are the texts of answers.
+#![tactic(auto)]
+
+mod answering;
+mod line;
+mod number;
+mod reading;
+mod script;
+mod table;
+#[cfg(test)]
+mod tests;
+mod text;
+mod totals;
+mod words;
+mod writing;
+
+pub use answering::engine;
+pub use line::{Body, LINE_BYTES, Line};
+pub use number::DIGITS;
+pub use script::{SCRIPT_BYTES, read_script};
+pub use text::print;
+pub use totals::Totals;

@@ -1,0 +1,77 @@
+// The table of commands.
+ghost use Rattle.std.specs.Prelude.{◌≡◌};
+ghost use Rattle.std.specs.Str.{bytes_eq};
+ghost use Rattle.script_core.specs.Words.{words_of};
+ghost use Rattle.script_core.specs.Table.{name_of, one_name, name_and_number, two_names_and_number, three_names, command_from};
+
+use crate::number::number;
+use crate::words::{one, three, two};
+use desk_core::Command;
+use point_core::Name;
+
+/// The command of a line, by its first word and the bytes behind it, or none where they fit no row.
+pub(crate) fn command(word: &[u8], rest: &[u8]) -> Option<Command>
+    ensures { result ≡ command_from word.now (words_of rest.now) }
+{
+    if is(word, "timeline") {
+        Some(Command::Timeline(one_name(rest)?))
+    } else if is(word, "inc") {
+        let (timeline, count) = name_and_number(rest)?;
+        Some(Command::Inc(timeline, count))
+    } else if is(word, "value") {
+        Some(Command::Value(one_name(rest)?))
+    } else if is(word, "fence") {
+        let (file, timeline, point) = two_names_and_number(rest)?;
+        Some(Command::Fence(file, timeline, point))
+    } else if is(word, "merge") {
+        let (file, first, second) = three_names(rest)?;
+        Some(Command::Merge(file, first, second))
+    } else if is(word, "close") {
+        Some(Command::Close(one_name(rest)?))
+    } else if is(word, "wait") {
+        Some(Command::Wait(one_name(rest)?))
+    } else if is(word, "info") {
+        Some(Command::Info(one_name(rest)?))
+    } else {
+        None
+    }
+}
+
+fn is(word: &[u8], text: &str) -> bool
+    ensures { result ≡ bytes_eq word.now text.now }
+{
+    word == text.as_bytes()
+}
+
+fn one_name(rest: &[u8]) -> Option<Name>
+    ensures { result ≡ one_name (words_of rest.now) }
+{
+    name(one(rest)?)
+}
+
+fn name_and_number(rest: &[u8]) -> Option<(Name, u64)>
+    ensures { result ≡ name_and_number (words_of rest.now) }
+{
+    let (first, second) = two(rest)?;
+    Some((name(first)?, number(second)?))
+}
+
+fn two_names_and_number(rest: &[u8]) -> Option<(Name, Name, u64)>
+    ensures { result ≡ two_names_and_number (words_of rest.now) }
+{
+    let (first, second, third) = three(rest)?;
+    Some((name(first)?, name(second)?, number(third)?))
+}
+
+fn three_names(rest: &[u8]) -> Option<(Name, Name, Name)>
+    ensures { result ≡ three_names (words_of rest.now) }
+{
+    let (first, second, third) = three(rest)?;
+    Some((name(first)?, name(second)?, name(third)?))
+}
+
+fn name(word: &[u8]) -> Option<Name>
+    ensures { result ≡ name_of word.now }
+{
+    Name::read(word)
+}

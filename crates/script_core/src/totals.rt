@@ -1,0 +1,50 @@
+// How many lines of a script were answered.
+ghost use Rattle.std.specs.Prelude.{◌≡◌, ◌+◌, ◌^◌, ◌<◌, [], if◌then◌else◌};
+ghost use Rattle.desk_core.specs.Answer.{is_refused};
+
+use desk_core::Answer;
+
+/// How many lines of a script were answered.
+#[derive(Clone, Copy, Debug)]
+pub struct Totals {
+    /// The lines that gave an answer or a fault. Rows that belong to an answer aren't counted.
+    pub lines: u64,
+    pub accepted: u64,
+    pub refused: u64,
+    ghost counted: { lines ≡ accepted + refused },
+}
+
+impl Totals {
+    ghost use Rattle.script_core.specs.Output.{Counts};
+
+    pub(crate) fn new() -> Self
+        ensures { Counts result [] }
+    {
+        Totals {
+            lines: 0,
+            accepted: 0,
+            refused: 0,
+        }
+    }
+
+    /// One answer more.
+    pub(crate) fn with(self, answer: &Answer) -> Self
+        requires { self.lines + 1 < 2 ^ 64 }
+        ensures lines { result.lines ≡ self.lines + 1 }
+        ensures refused { result.refused ≡ self.refused + (if is_refused answer.now then 1 else 0) }
+    {
+        let lines = self.lines + 1;
+        match answer {
+            Answer::Refused(_) => Totals {
+                lines,
+                accepted: self.accepted,
+                refused: self.refused + 1,
+            },
+            _ => Totals {
+                lines,
+                accepted: self.accepted + 1,
+                refused: self.refused,
+            },
+        }
+    }
+}

@@ -1,0 +1,43 @@
+// The texts of answers to a writer.
+ghost use Rattle.std.specs.Prelude.{◌≡◌, ◌++◌, Err, List, ℕ, OnOk, OnErr};
+ghost use Rattle.std.specs.Io.KnownBytes.{Appends};
+ghost use Rattle.point_core.specs.declared.refusal.Refusal.TheVariants.{Write};
+ghost use Rattle.script_core.specs.Bytes.{AppendsFront};
+
+use point_core::Refusal;
+use std::io::Write;
+
+/// Texts are gathered up to so many bytes before they are written.
+const WRITE_BYTES: usize = 8192;
+
+/// Writes the texts, where they are many, and takes them out.
+///
+/// Refused as `write_whole`.
+pub(crate) fn write_many<W: Write>(writer: &mut W, out: &mut Vec<u8>) -> Result<(), Refusal>
+    ensures ok { OnOk result ((written : List ℕ) × (out.old.items ≡ written ++ out.new.items) × Appends (W.contents writer.old) (W.contents writer.new) written) }
+    ensures err { OnErr result ((result ≡ Err Write) × AppendsFront (W.contents writer.old) (W.contents writer.new) out.old.items) }
+{
+    if out.len() >= WRITE_BYTES {
+        write_whole(writer, out)?;
+        out.clear();
+    }
+    Ok(())
+}
+
+/// Writes all of the bytes.
+///
+/// Refused as Write, where a front of the bytes was written: a write failed or took no byte. An interrupted write
+/// counts as failed.
+pub(crate) fn write_whole<W: Write>(writer: &mut W, bytes: &[u8]) -> Result<(), Refusal>
+    ensures ok { OnOk result (Appends (W.contents writer.old) (W.contents writer.new) bytes.now) }
+    ensures err { OnErr result ((result ≡ Err Write) × AppendsFront (W.contents writer.old) (W.contents writer.new) bytes.now) }
+{
+    let mut rest = bytes;
+    while !rest.is_empty() {
+        match writer.write(rest) {
+            Ok(0) | Err(_) => return Err(Refusal::Write),
+            Ok(count) => rest = &rest[count..],
+        }
+    }
+    Ok(())
+}
