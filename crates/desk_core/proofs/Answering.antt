@@ -1,15 +1,14 @@
 -- Answers, and the histories after them.
-use Rattle.std.proofs.Common.{◌≡◌, Bool, true, false, refl, sym, ap, subst, ◌∙◌, List, [], ◌∷◌, ◌++◌, length, Option, None, Some, inl, inr, arith, length-append}
-use Rattle.std.specs.Prelude.{if◌then◌else◌, Result, Ok, Err, IfOk, OnErr}
+use Rattle.std.proofs.Common.{◌≡◌, false, refl, sym, ap, subst, ◌∙◌, List, [], ◌∷◌, ◌++◌, length, Option, None, Some, inl, inr, arith, length-append}
+use Rattle.std.specs.Prelude.{Result, Ok, Err, IfOk, OnErr}
 use Rattle.point_core.specs.declared.refusal.Refusal.{Refusal}
-use Rattle.point_core.specs.declared.refusal.Refusal.TheVariants.{Memory}
 use Rattle.desk_core.specs.declared.command.Command.{Command}
 use Rattle.desk_core.specs.declared.command.Command.TheVariants as command
 use Rattle.desk_core.specs.declared.answer.Answer.{Answer}
 use Rattle.desk_core.specs.declared.answer.Answer.TheVariants as answer
 use Rattle.desk_core.specs.Files.{IsRefusedFor}
 use Rattle.desk_core.specs.World.{World, empty_world, after}
-use Rattle.desk_core.specs.Answer.{first_of, causes, told, refused_or, answer_to, is_refused, OnRefused}
+use Rattle.desk_core.specs.Answer.{first_of, causes, told, refused_or, is_refused, OnRefused}
 use Rattle.desk_core.specs.History.{world_from, world_of, IsAnswer, history_after, history_of, AreAnswers}
 use Rattle.desk_core.specs.Desk.{DeskState, Keeps, StandsFor, cause_of, IsDone, answer_of}
 use Rattle.desk_core.proofs.Stepping.{causes-keeps}

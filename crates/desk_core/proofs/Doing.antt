@@ -1,20 +1,19 @@
 -- What each command does and tells.
-use Rattle.std.proofs.Common.{◌≡◌, ℕ, ◌+◌, ◌-◌, ◌<◌, ◌≤◌, Bool, true, false, refl, sym, ap, subst, ◌∙◌, List, [], ◌∷◌, ◌++◌, length, map, Option, None, Some, option_map, unwrap_or, arith, All, nat_lt, inl, inr, length-append}
-use Rattle.std.specs.Prelude.{if◌then◌else◌, IfOk, OnErr, IfErr, Result, Ok, Err}
-use Rattle.std.proofs.lemmas.List.Elements.{All-nil, All-push, All-weaker, All-append, All-contains, All-map}
+use Rattle.std.proofs.Common.{◌≡◌, ℕ, ◌+◌, ◌<◌, ◌≤◌, Bool, true, false, refl, sym, ap, ◌∙◌, List, [], ◌∷◌, ◌++◌, length, map, Option, None, Some, option_map, unwrap_or, arith, nat_lt, length-append}
+use Rattle.std.specs.Prelude.{if◌then◌else◌}
+use Rattle.std.proofs.lemmas.List.Elements.{All-nil, All-push, All-append, All-contains, All-map}
 use Rattle.point_core.specs.declared.context.TheConstants.{CONTEXTS}
 use Rattle.point_core.specs.declared.entry.Point.{Point}
 use Rattle.point_core.specs.declared.entry.Entry.{Entry}
-use Rattle.point_core.specs.declared.status.Status.{Status}
 use Rattle.point_core.specs.Status.{status_if}
-use Rattle.point_core.specs.Agreement.{as_entry, as_entries, point_of, listing, pending, pending_top, top}
+use Rattle.point_core.specs.Agreement.{as_entry, as_entries, point_of, listing, pending, top}
 use Rattle.point_core.specs.Reach.{value_at}
 use Rattle.point_core.proofs.Agreement.{listing-All, top-Some}
 use Rattle.desk_core.specs.declared.command.Command.TheVariants as command
 use Rattle.desk_core.specs.declared.answer.Answer.TheVariants as answer
 use Rattle.desk_core.specs.declared.answer.Info.{Info}
 use Rattle.desk_core.specs.declared.answer.FenceRow.{FenceRow}
-use Rattle.desk_core.specs.Timeline.{Timeline, new_timeline, has_timeline, context_of, reach_of}
+use Rattle.desk_core.specs.Timeline.{Timeline, new_timeline, context_of, reach_of}
 use Rattle.desk_core.specs.Files.{SyncFile, sync_file_at, points_at, plain_file, merged_file}
 use Rattle.desk_core.specs.World.{World, File, file_named, put_set}
 use Rattle.desk_core.specs.Answer.{points_of, all_reached, fence_row, or_stub, info_of}

@@ -1,15 +1,14 @@
 -- A file is signalled where all that was put into it is.
-use Rattle.std.proofs.Common.{◌≡◌, ℕ, ◌+◌, ◌<◌, ◌≤◌, Bool, true, false, ◌||◌, ◌&&◌, refl, sym, ap, subst, ◌∙◌, List, [], ◌∷◌, ◌++◌, length, map, Option, None, Some, option_map, unwrap_or, arith, All, Contains, nat_le, not, inl, inr}
+use Rattle.std.proofs.Common.{◌≡◌, ℕ, ◌≤◌, Bool, true, false, ◌||◌, refl, sym, subst, ◌∙◌, List, [], ◌∷◌, length, map, Option, None, Some, option_map, unwrap_or, All, Contains, nat_le, not, inl, inr}
 use Rattle.std.specs.Prelude.{◌↔◌, if◌then◌else◌}
 use Rattle.std.specs.List.{list_all}
-use Rattle.std.proofs.lemmas.Bool.{and_parts, and_from, leb-true, le-leb, lt-leb, cases_lt, cases_Bool, false≢true, iff_false, false_from_ne_true}
+use Rattle.std.proofs.lemmas.Bool.{and_parts, and_from, leb-true, le-leb, lt-leb, cases_lt, false≢true}
 use Rattle.std.proofs.lemmas.List.Folds.{list_all-map}
 use Rattle.std.proofs.lemmas.List.Elements.{All-nil, All-cons, All-head, All-tail, All-weaker, All-contains, All-contains_itself}
 use Rattle.point_core.specs.declared.context.TheConstants.{CONTEXTS}
 use Rattle.point_core.specs.declared.entry.Point.{Point}
 use Rattle.point_core.specs.declared.entry.Entry.{Entry}
-use Rattle.point_core.specs.declared.status.Status.{Status}
-use Rattle.point_core.specs.declared.status.Status.TheVariants.{Active, Signalled}
+use Rattle.point_core.specs.declared.status.Status.TheVariants.{Signalled}
 use Rattle.point_core.specs.Status.{status_if}
 use Rattle.point_core.specs.Usage.{number_of}
 use Rattle.point_core.specs.Agreement.{AgreesAbove, as_entry, as_entries, listing, HasContexts, IsReached}

@@ -1,24 +1,22 @@
 -- What a desk keeps after each command.
-use Rattle.std.proofs.Common.{◌≡◌, ℕ, ◌+◌, ◌-◌, ◌<◌, ◌≤◌, Bool, true, false, ◌||◌, ◌&&◌, refl, sym, ap, subst, ◌∙◌, List, [], ◌∷◌, ◌++◌, length, map, Option, None, Some, option_map, unwrap_or, arith, All, nat_le, nat_lt, not, inl, inr, replicate, append_assoc, length-append, suc, zero}
+use Rattle.std.proofs.Common.{◌≡◌, ℕ, ◌-◌, ◌<◌, ◌≤◌, Bool, true, false, ◌&&◌, refl, sym, ap, subst, ◌∙◌, List, [], ◌∷◌, ◌++◌, length, map, None, Some, arith, nat_le, nat_lt, not, replicate, length-append, suc, zero}
 use Rattle.std.specs.Prelude.{if◌then◌else◌}
 use Rattle.std.proofs.lemmas.Bool.{leb-true, leb-false, lt-ltb, le-ltb}
-use Rattle.std.proofs.lemmas.List.{length-map}
 use Rattle.std.proofs.lemmas.List.Elements.{All-nil, All-cons, All-push, All-weaker, All-append}
 use Rattle.point_core.specs.declared.context.TheConstants.{CONTEXTS}
-use Rattle.point_core.specs.declared.entry.Point.{Point}
 use Rattle.point_core.specs.declared.entry.Entry.{Entry}
 use Rattle.point_core.specs.declared.refusal.Refusal.{Refusal}
 use Rattle.point_core.specs.declared.refusal.Refusal.TheVariants.{NoEntry, Exists, Limit}
 use Rattle.point_core.specs.declared.refusal.LimitKind.TheVariants.{Timelines, Files}
-use Rattle.point_core.specs.Agreement.{as_entry, as_entries, point_of, listing}
+use Rattle.point_core.specs.Agreement.{as_entry, point_of}
 use Rattle.point_core.specs.Reach.{IsAtLeast}
 use Rattle.point_core.proofs.Values.{IsAtLeast-refl}
 use Rattle.desk_core.specs.declared.TheConstants.{FILES}
 use Rattle.desk_core.specs.declared.command.Command.{Command}
 use Rattle.desk_core.specs.declared.command.Command.TheVariants as command
 use Rattle.desk_core.specs.Timeline.{Timeline, new_timeline, has_timeline, context_of, reach_of}
-use Rattle.desk_core.specs.Files.{SyncFile, has_sync_file, plain_file, merged_file, cause_to_refuse, cause_to_refuse_merge}
-use Rattle.desk_core.specs.World.{World, File, has_file, put_set, with_timeline, after}
+use Rattle.desk_core.specs.Files.{SyncFile, has_sync_file, plain_file, merged_file, cause_to_refuse}
+use Rattle.desk_core.specs.World.{World, File, has_file, put_set, after}
 use Rattle.desk_core.specs.Answer.{first_of, causes, making_file, points_of}
 use Rattle.desk_core.specs.Desk.{DeskState, Keeps, WasMade, IsFilePoint, cause_of}
 use Rattle.desk_core.proofs.Keeping.{has_sync_file-names, length-names, listing-keeps, put_set-keeps}

@@ -1,5 +1,5 @@
 -- A desk that keeps a world tells what was put into its files.
-use Rattle.std.proofs.Common.{◌≡◌, ℕ, ◌<◌, Bool, true, false, not, refl, sym, ap, subst, ◌∙◌, List, [], ◌∷◌, length, Option, None, Some, option_map, unwrap_or, arith, Contains}
+use Rattle.std.proofs.Common.{◌≡◌, ℕ, Bool, true, false, not, refl, sym, ap, ◌∙◌, List, [], Option, None, Some, option_map, unwrap_or, arith}
 use Rattle.std.specs.Prelude.{◌↔◌, if◌then◌else◌}
 use Rattle.point_core.specs.declared.refusal.Refusal.TheVariants.{NoEntry}
 use Rattle.point_core.specs.declared.status.Status.TheVariants.{Signalled}

@@ -1,11 +1,11 @@
 -- What the accepted commands so far mean, object by object: all that was ever put into it, whatever was dropped since.
-use Rattle.std.specs.Prelude.{ℕ, Bool, true, false, List, [], ◌∷◌, ◌++◌, map, find, Option, option_map, unwrap_or}
+use Rattle.std.specs.Prelude.{ℕ, Bool, true, false, List, [], ◌∷◌, ◌++◌, find, Option, option_map, unwrap_or}
 use Rattle.std.specs.List.{list_any}
 use Rattle.point_core.specs.declared.entry.Entry.{Entry}
 use Rattle.point_core.specs.Agreement.{as_entry, point_of}
 use Rattle.desk_core.specs.declared.command.Command.{Command}
 use Rattle.desk_core.specs.declared.command.Command.TheVariants as command
-use Rattle.desk_core.specs.Timeline.{Timeline, new_timeline, same_name, has_timeline, context_of, reach_of}
+use Rattle.desk_core.specs.Timeline.{Timeline, new_timeline, same_name, context_of, reach_of}
 
 -- a sync file, with all that was put into it. A file made of one point lists it whether or not it is signalled
 pub record File : Type 0 where

@@ -1,4 +1,4 @@
-use Rattle.std.proofs.Common.{◌≡◌, sym, ap, ◌∙◌}
+use Rattle.std.proofs.Common.{sym, ap, ◌∙◌}
 use Rattle.point_core.specs.Status.{status_if}
 use Rattle.desk_core.proofs.Signalling.{all_reached-points}
 use Rattle.desk_core.proofs.info.status_of.Goals as goal

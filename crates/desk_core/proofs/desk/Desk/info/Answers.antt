@@ -1,7 +1,7 @@
 use Rattle.std.proofs.Common.{◌≡◌, refl, sym, ap, ◌∙◌, length}
 use Rattle.std.specs.Prelude.{is_some}
 use Rattle.std.proofs.lemmas.Result.{err_from_is_err_and}
-use Rattle.desk_core.specs.Files.{SyncFile, sync_file_at}
+use Rattle.desk_core.specs.Files.{SyncFile}
 use Rattle.desk_core.specs.Desk.{AreMade, info_at}
 use Rattle.desk_core.proofs.Causes.{has_sync_file-found, refused_look_up, accepted_look_up}
 use Rattle.desk_core.proofs.Keeping.{sync_file_at-All}

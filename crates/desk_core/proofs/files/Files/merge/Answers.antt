@@ -1,7 +1,5 @@
-use Rattle.std.proofs.Common.{◌≡◌, refl, sym, ap, ◌∙◌, Some, Err}
+use Rattle.std.proofs.Common.{refl, sym, ◌∙◌}
 use Rattle.std.proofs.lemmas.Result.{err_from_is_err_and}
-use Rattle.point_core.specs.declared.refusal.Refusal.TheVariants.{NoEntry}
-use Rattle.desk_core.specs.Files.{sync_file_at, cause_to_refuse, cause_to_refuse_merge}
 use Rattle.desk_core.proofs.Causes.{cause_to_refuse_merge-first, cause_to_refuse_merge-second, cause_to_refuse_merge-both, refused_look_up, accepted_look_up, IsRefusedFor-free, IsRefusedFor-after}
 use Rattle.desk_core.proofs.files.Files.merge.Goals as goal
 

@@ -1,5 +1,5 @@
-use Rattle.std.proofs.Common.{◌≡◌, refl, sym, ap, ◌∙◌, arith, length, map}
-use Rattle.desk_core.proofs.Lookups.{has_timeline-None, has_timeline-Some, context_of-Some, place-Some}
+use Rattle.std.proofs.Common.{sym, ◌∙◌}
+use Rattle.desk_core.proofs.Lookups.{has_timeline-None, has_timeline-Some, context_of-Some}
 use Rattle.desk_core.proofs.timelines.Timelines.context.Goals as goal
 
 pub returns-in_err-index-clause-found : goal.returns-in_err-index-clause-found

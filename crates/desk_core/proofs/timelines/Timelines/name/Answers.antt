@@ -1,4 +1,3 @@
-use Rattle.std.proofs.Common.{◌≡◌, sym, ap, ◌∙◌, slice_get}
 use Rattle.desk_core.proofs.Lookups.{name_at-new}
 use Rattle.desk_core.proofs.timelines.Timelines.name.Goals as goal
 

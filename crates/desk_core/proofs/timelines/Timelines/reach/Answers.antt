@@ -1,4 +1,4 @@
-use Rattle.std.proofs.Common.{◌≡◌, sym, ◌∙◌}
+use Rattle.std.proofs.Common.{sym, ◌∙◌}
 use Rattle.desk_core.proofs.Lookups.{reach_of-new}
 use Rattle.desk_core.proofs.timelines.Timelines.reach.Goals as goal
 
