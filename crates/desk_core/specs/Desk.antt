@@ -31,7 +31,7 @@ pub record DeskState : Type 0 where
 abbrev pub AreMade : ℕ → List Point → Type 0
 AreMade made ps = All (λ (p : Point). p.ctx ≤ made) ps
 
--- each listed point is
+-- each file lists points of timelines that were made
 abbrev pub HaveTimelines : ℕ → List SyncFile → Type 0
 HaveTimelines made fs = All (λ (f : SyncFile). AreMade made f.points) fs
 
@@ -39,12 +39,12 @@ HaveTimelines made fs = All (λ (f : SyncFile). AreMade made f.points) fs
 abbrev pub info_at : List Timeline → List ℕ → List Point → Info
 info_at ts name ps = record { name = name; status = status_if (all_reached (reach_of ts) 0 (as_entries ps)); fences = or_stub (map (fence_row ts) ps) }
 
--- an entry of a file: its timeline was made
+-- an entry of a file has the strongest usage, and is of a timeline that was made
 pub record IsFilePoint (made : ℕ) (e : Entry) : Type 0 where
   pub usage : e.usage ≡ Kernel
   pub timeline : (1 ≤ e.point.ctx) × (e.point.ctx ≤ made)
 
--- the file was made, and no value has fallen since
+-- all that was put into the file is of timelines that were made, and no value has fallen since the file was made
 pub record WasMade (ts : List Timeline) (f : File) : Type 0 where
   pub since : IsAtLeast (reach_of ts) f.made_at
   pub put : All (IsFilePoint (length ts)) f.put

@@ -32,22 +32,74 @@ fn info(rt: &impl Abort, file: &str) -> Command {
     Command::Info(name(rt, file))
 }
 
-fn active_row(rt: &impl Abort, timeline: &str, point: u64) -> FenceRow {
+fn inc(rt: &impl Abort, timeline: &str, n: u64) -> Command {
+    Command::Inc(name(rt, timeline), n)
+}
+
+fn value(rt: &impl Abort, timeline: &str) -> Command {
+    Command::Value(name(rt, timeline))
+}
+
+fn close(rt: &impl Abort, file: &str) -> Command {
+    Command::Close(name(rt, file))
+}
+
+fn wait(rt: &impl Abort, file: &str) -> Command {
+    Command::Wait(name(rt, file))
+}
+
+fn row(rt: &impl Abort, timeline: &str, point: u64, status: Status) -> FenceRow {
     FenceRow {
         timeline: name(rt, timeline),
         driver: Maker::SwSync,
         point,
-        status: Status::Active,
+        status,
     }
 }
 
-fn active(rt: &impl Abort, alloc: Global, file: &str, rows: &[FenceRow]) -> Result<Answer, Fail> {
+fn active_row(rt: &impl Abort, timeline: &str, point: u64) -> FenceRow {
+    row(rt, timeline, point, Status::Active)
+}
+
+fn stub(rt: &impl Abort) -> FenceRow {
+    FenceRow {
+        timeline: name(rt, "stub"),
+        driver: Maker::Stub,
+        point: 0,
+        status: Status::Signalled,
+    }
+}
+
+fn told(
+    rt: &impl Abort,
+    alloc: Global,
+    file: &str,
+    status: Status,
+    rows: &[FenceRow],
+) -> Result<Answer, Fail> {
     let fences = Vec::from_slice(alloc, rows)?;
     Ok(Answer::Info(Info {
         name: name(rt, file),
-        status: Status::Active,
+        status,
         fences: Items::of(fences),
     }))
+}
+
+fn active(rt: &impl Abort, alloc: Global, file: &str, rows: &[FenceRow]) -> Result<Answer, Fail> {
+    told(rt, alloc, file, Status::Active, rows)
+}
+
+fn signalled(
+    rt: &impl Abort,
+    alloc: Global,
+    file: &str,
+    rows: &[FenceRow],
+) -> Result<Answer, Fail> {
+    told(rt, alloc, file, Status::Signalled, rows)
+}
+
+fn raised(alloc: Global, value: u64) -> Answer {
+    Answer::Raised(value, Items::of(Vec::new(alloc)))
 }
 
 #[test]
@@ -148,6 +200,13 @@ fn file_limit(rt: HostRuntime) -> Result<(), Fail> {
     ] {
         assert_eq!(rt; desk.step(command), Answer::Refused(refusal), "{command:?}");
     }
+    for (command, answer) in [
+        (close(&rt, "f5"), Answer::Done),
+        (fence(&rt, "g", "a", 1), Answer::Done),
+        (fence(&rt, "h", "a", 1), Answer::Refused(full)),
+    ] {
+        assert_eq!(rt; desk.step(command), answer);
+    }
     Ok(())
 }
 
@@ -161,24 +220,191 @@ fn a_point_that_is_reached(rt: HostRuntime) -> Result<(), Fail> {
         info(&rt, "m"),
     ];
     let (_, answers) = run(rt.alloc(), &commands)?;
-    let reached = FenceRow {
-        status: Status::Signalled,
-        ..active_row(&rt, "a", 0)
-    };
-    let stub = FenceRow {
-        timeline: name(&rt, "stub"),
-        driver: Maker::Stub,
-        point: 0,
-        status: Status::Signalled,
-    };
-    assert_eq!(rt; answers.len(), 5);
-    for (answer, file, fence) in [(&answers[3], "f", reached), (&answers[4], "m", stub)] {
-        let Answer::Info(told) = answer else {
-            return Err("this is no information".into());
-        };
-        assert_eq!(rt; told.name, name(&rt, file));
-        assert_eq!(rt; told.status, Status::Signalled);
-        assert_eq!(rt; told.fences.as_slice(), [fence].as_slice());
+    let reached = row(&rt, "a", 0, Status::Signalled);
+    let wanted = [
+        Answer::Value(1),
+        Answer::Done,
+        Answer::Done,
+        signalled(&rt, rt.alloc(), "f", &[reached])?,
+        signalled(&rt, rt.alloc(), "m", &[stub(&rt)])?,
+    ];
+    assert_eq!(rt; answers.as_slice(), wanted.as_slice());
+    Ok(())
+}
+
+#[test]
+fn merge_of_signalled(rt: HostRuntime) -> Result<(), Fail> {
+    let commands = [
+        timeline(&rt, "a"),
+        fence(&rt, "f", "a", 2),
+        inc(&rt, "a", 2),
+        merge(&rt, "m", "f", "f"),
+        info(&rt, "m"),
+        wait(&rt, "m"),
+    ];
+    let (_, answers) = run(rt.alloc(), &commands)?;
+    let wanted = [
+        Answer::Value(1),
+        Answer::Done,
+        raised(rt.alloc(), 2),
+        Answer::Done,
+        signalled(&rt, rt.alloc(), "m", &[stub(&rt)])?,
+        Answer::Done,
+    ];
+    assert_eq!(rt; answers.as_slice(), wanted.as_slice());
+    Ok(())
+}
+
+#[test]
+fn merge_after_advance(rt: HostRuntime) -> Result<(), Fail> {
+    let commands = [
+        timeline(&rt, "a"),
+        timeline(&rt, "b"),
+        fence(&rt, "f", "a", 5),
+        fence(&rt, "g", "b", 2),
+        merge(&rt, "m", "f", "g"),
+        inc(&rt, "a", 5),
+        info(&rt, "m"),
+        merge(&rt, "n", "m", "m"),
+        info(&rt, "n"),
+    ];
+    let (_, answers) = run(rt.alloc(), &commands)?;
+    let pending = active_row(&rt, "b", 2);
+    let wanted = [
+        Answer::Value(1),
+        Answer::Value(2),
+        Answer::Done,
+        Answer::Done,
+        Answer::Done,
+        raised(rt.alloc(), 5),
+        active(
+            &rt,
+            rt.alloc(),
+            "m",
+            &[row(&rt, "a", 5, Status::Signalled), pending],
+        )?,
+        Answer::Done,
+        active(&rt, rt.alloc(), "n", &[pending])?,
+    ];
+    assert_eq!(rt; answers.as_slice(), wanted.as_slice());
+    Ok(())
+}
+
+#[test]
+fn wait_then_advance(rt: HostRuntime) -> Result<(), Fail> {
+    let commands = [
+        timeline(&rt, "a"),
+        fence(&rt, "f", "a", 5),
+        inc(&rt, "a", 4),
+        wait(&rt, "f"),
+        inc(&rt, "a", 1),
+        wait(&rt, "f"),
+    ];
+    let (_, answers) = run(rt.alloc(), &commands)?;
+    let wanted = [
+        Answer::Value(1),
+        Answer::Done,
+        raised(rt.alloc(), 4),
+        Answer::Refused(Refusal::TimedOut),
+        raised(rt.alloc(), 5),
+        Answer::Done,
+    ];
+    assert_eq!(rt; answers.as_slice(), wanted.as_slice());
+    Ok(())
+}
+
+#[test]
+fn overflow(rt: HostRuntime) -> Result<(), Fail> {
+    let commands = [
+        timeline(&rt, "a"),
+        inc(&rt, "a", u64::MAX),
+        inc(&rt, "a", 1),
+        value(&rt, "a"),
+        inc(&rt, "a", 0),
+    ];
+    let (_, answers) = run(rt.alloc(), &commands)?;
+    let wanted = [
+        Answer::Value(1),
+        raised(rt.alloc(), u64::MAX),
+        Answer::Refused(Refusal::Overflow),
+        Answer::Value(u64::MAX),
+        raised(rt.alloc(), u64::MAX),
+    ];
+    assert_eq!(rt; answers.as_slice(), wanted.as_slice());
+    Ok(())
+}
+
+#[test]
+fn a_closed_name_is_free_again(rt: HostRuntime) -> Result<(), Fail> {
+    let commands = [
+        timeline(&rt, "a"),
+        fence(&rt, "f", "a", 1),
+        close(&rt, "f"),
+        wait(&rt, "f"),
+        fence(&rt, "f", "a", 9),
+        info(&rt, "f"),
+    ];
+    let (_, answers) = run(rt.alloc(), &commands)?;
+    let wanted = [
+        Answer::Value(1),
+        Answer::Done,
+        Answer::Done,
+        Answer::Refused(Refusal::NoEntry),
+        Answer::Done,
+        active(&rt, rt.alloc(), "f", &[active_row(&rt, "a", 9)])?,
+    ];
+    assert_eq!(rt; answers.as_slice(), wanted.as_slice());
+    Ok(())
+}
+
+#[test]
+fn the_file_in_the_middle_is_closed(rt: HostRuntime) -> Result<(), Fail> {
+    let commands = [
+        timeline(&rt, "a"),
+        fence(&rt, "f", "a", 1),
+        fence(&rt, "g", "a", 2),
+        fence(&rt, "h", "a", 3),
+        merge(&rt, "m", "f", "g"),
+        close(&rt, "g"),
+        fence(&rt, "g", "a", 8),
+        info(&rt, "f"),
+        info(&rt, "g"),
+        info(&rt, "h"),
+        info(&rt, "m"),
+    ];
+    let (_, answers) = run(rt.alloc(), &commands)?;
+    assert_eq!(rt; answers.len(), 11);
+    for (place, file, point) in [(7, "f", 1), (8, "g", 8), (9, "h", 3), (10, "m", 2)] {
+        let wanted = active(&rt, rt.alloc(), file, &[active_row(&rt, "a", point)])?;
+        assert_eq!(rt; answers[place], wanted, "{file}");
+    }
+    Ok(())
+}
+
+#[test]
+fn first_cause_is_told(rt: HostRuntime) -> Result<(), Fail> {
+    let mut desk = Desk::new(rt.alloc())?;
+    for command in [
+        timeline(&rt, "a"),
+        fence(&rt, "f", "a", 1),
+        inc(&rt, "a", u64::MAX),
+    ] {
+        desk.step(command);
+    }
+    for (command, refusal) in [
+        (timeline(&rt, "a"), Refusal::Exists),
+        (inc(&rt, "f", u64::MAX), Refusal::NoEntry),
+        (inc(&rt, "a", 1), Refusal::Overflow),
+        (value(&rt, "f"), Refusal::NoEntry),
+        (fence(&rt, "f", "b", 1), Refusal::NoEntry),
+        (fence(&rt, "f", "a", 1), Refusal::Exists),
+        (merge(&rt, "f", "f", "g"), Refusal::NoEntry),
+        (merge(&rt, "f", "f", "f"), Refusal::Exists),
+        (close(&rt, "g"), Refusal::NoEntry),
+        (wait(&rt, "g"), Refusal::NoEntry),
+        (info(&rt, "a"), Refusal::NoEntry),
+    ] {
+        assert_eq!(rt; desk.step(command), Answer::Refused(refusal), "{command:?}");
     }
     Ok(())
 }
