@@ -1,8 +1,8 @@
 -- What was read of a script, and the script as a whole.
-use Rattle.std.proofs.Common.{◌≡◌, ◌≢◌, ◌⊎◌, inl, inr, ℕ, ◌+◌, ◌-◌, ◌<◌, ◌≤◌, Bool, true, false, cond, List, [], ◌∷◌, ◌++◌, length, take, drop, Option, None, Some, refl, sym, ap, ◌∙◌, subst, append_assoc, append-nil, length-append, arith}
+use Rattle.std.proofs.Common.{◌≡◌, ◌≢◌, ◌⊎◌, inl, inr, ℕ, ◌+◌, ◌-◌, ◌<◌, ◌≤◌, Bool, true, false, cond, List, [], ◌∷◌, ◌++◌, length, take, drop, Option, None, Some, IfSome, refl, sym, ap, ◌∙◌, subst, append_assoc, append-nil, length-append, arith}
 use Rattle.std.specs.List.{AllByRecursion}
 use Rattle.std.specs.Io.KnownBytes.{Appends, Consumes, IsAtEnd}
-use Rattle.std.proofs.Math.Seq.{take-append-add}
+use Rattle.std.proofs.Math.Seq.{take-append-add, take-append_seam}
 use Rattle.std.proofs.lemmas.Bool.{le-leb, lt-leb}
 use Rattle.std.proofs.lemmas.List.{take-append-le, take_all}
 use Rattle.point_core.specs.declared.refusal.Refusal.TheVariants.{Memory}
@@ -141,3 +141,16 @@ module _ (known left : Option (List ℕ)) (bytes shown : List ℕ) (end : Ending
       let short : length bytes ≤ SCRIPT_BYTES = subst (EndsSo left bytes) e read.ends in
       let lines_are : lines ≡ lines_until ending.Failed bytes = among ∙ ap (λ x. lines_until x (take SCRIPT_BYTES bytes)) e ∙ lines_until-short ending.Failed bytes short in
       (bytes, w.0, read.consumed, subst (λ ls. WritesAnswers ls w.0 old new) lines_are w.1)
+
+-- what was read is all that the reader had, up to the byte behind the limit
+pub reads_front : (known left : Option (List ℕ)) (bytes : List ℕ) (end : Ending) → WasRead known left bytes end → (end ≡ ending.Whole) ⊎ (end ≡ ending.TooLong) → IfSome known (λ input. Consumes known left (take (SCRIPT_BYTES + 1) input))
+reads_front None left bytes end read ends = tt
+reads_front (Some input) None bytes end read ends = absurd read.consumed
+reads_front (Some input) (Some more) bytes end read ends =
+    let front : take (SCRIPT_BYTES + 1) input ≡ bytes = elim ends [
+      | inl e ↦ (let whole = subst (EndsSo (Some more) bytes) e read.ends in
+          ap (λ xs. take (SCRIPT_BYTES + 1) xs) (read.consumed ∙ ap (λ xs. bytes ++ xs) whole.1 ∙ append-nil bytes) ∙ take_all (SCRIPT_BYTES + 1) bytes (omega (arith, whole.0)))
+      | inr e ↦ (let long = subst (EndsSo (Some more) bytes) e read.ends in
+          ap (λ xs. take (SCRIPT_BYTES + 1) xs) read.consumed ∙ ap (λ n. take n (bytes ++ more)) (sym long) ∙ take-append_seam bytes more)
+    ] in
+    subst (Consumes (Some input) (Some more)) (sym front) read.consumed

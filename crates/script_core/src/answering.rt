@@ -1,5 +1,5 @@
 // A script from a reader, and its answers to a writer.
-ghost use Rattle.std.specs.Prelude.{◌≡◌, ◌+◌, ◌^◌, ◌<◌, ◌⊎◌, List, ℕ, [], length, Err, IfOk, OnOk, OnErr, IfErr};
+ghost use Rattle.std.specs.Prelude.{◌≡◌, ◌+◌, ◌^◌, ◌<◌, ◌⊎◌, List, ℕ, [], length, take, Err, IfOk, IfSome, OnOk, OnErr, IfErr};
 ghost use Rattle.std.specs.Io.KnownBytes.{Keeps, Consumes};
 ghost use Rattle.point_core.specs.declared.refusal.Refusal.TheVariants.{Read as ReadFault, Write as WriteFault, Memory};
 ghost use Rattle.desk_core.specs.declared.command.Command.{Command};
@@ -12,7 +12,7 @@ ghost use Rattle.script_core.specs.Script.{script_of, lines_until};
 
 use crate::line::Body;
 use crate::reading::read_whole;
-use crate::script::{Ending, Lines};
+use crate::script::{Ending, Lines, SCRIPT_BYTES};
 use crate::text::print;
 use crate::totals::Totals;
 use crate::writing::{write_many, write_whole};
@@ -34,6 +34,10 @@ pub fn engine<R: Read, W: Write>(
 ) -> Result<Totals, Refusal>
     ensures ok { IfOk result (λ totals. (script : List ℕ) × IsInput (R.remaining reader.old) script
         × AnswersScript script totals (W.contents writer.old) (W.contents writer.new)) }
+
+    // No byte is read past the one behind the limit.
+    ensures reads { IfOk result (λ _. IfSome (R.remaining reader.old) (λ input.
+        Consumes (R.remaining reader.old) (R.remaining reader.new) (take (SCRIPT_BYTES + 1) input))) }
 
     // The lines whose line feed was read are answered.
     ensures read { result ≡ Err ReadFault → (bytes : List ℕ) × (given : List Answer)

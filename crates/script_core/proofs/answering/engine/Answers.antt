@@ -1,7 +1,7 @@
 use Rattle.std.proofs.Common.{◌≡◌, ap, ◌∙◌}
 use Rattle.std.proofs.lemmas.Result.{err_from_is_err_and}
 use Rattle.script_core.specs.Script.{script_of}
-use Rattle.script_core.proofs.Inputs.{some_input, front_written, all_written, ended_written, WritesFront-all}
+use Rattle.script_core.proofs.Inputs.{some_input, front_written, all_written, ended_written, reads_front, WritesFront-all}
 use Rattle.script_core.proofs.Progress.{WritesFront-none}
 use Rattle.script_core.proofs.answering.engine.Goals as goal
 
@@ -28,6 +28,7 @@ returns-in-Failed-clause-err g c =
 pub returns : goal.returns
 returns g c = record {
   ok = all_written _ _ _ _ _ _ c.in_ok-bytes.ensures.read c.deref.ensures.value c.new.ensures.lines _ _ c.in_ok-totals.totals c.in-Whole.is c.in_ok-totals.ensures.ok;
+  reads = reads_front _ _ _ _ c.in_ok-bytes.ensures.read c.in-Whole.is;
   read = λ e. absurd (cc);
   err = tt;
   refusals = tt;
