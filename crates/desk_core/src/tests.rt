@@ -91,6 +91,17 @@ fn raised(alloc: Global, value: u64) -> Answer {
     Answer::Raised(value, Items::of(Vec::new(alloc)))
 }
 
+fn answers_are(
+    rt: &impl Abort,
+    alloc: Global,
+    commands: &[Command],
+    wanted: &[Answer],
+) -> Result<(), Fail> {
+    let (_, answers) = run(alloc, commands)?;
+    assert_eq!(rt; answers.as_slice(), wanted);
+    Ok(())
+}
+
 #[test]
 fn both_orders(rt: HostRuntime) -> Result<(), Fail> {
     let commands = [
@@ -102,7 +113,6 @@ fn both_orders(rt: HostRuntime) -> Result<(), Fail> {
         info(&rt, "m"),
         info(&rt, "n"),
     ];
-    let (_, answers) = run(rt.alloc(), &commands)?;
     let wanted = [
         Answer::Value(1),
         Answer::Done,
@@ -112,8 +122,7 @@ fn both_orders(rt: HostRuntime) -> Result<(), Fail> {
         active(&rt, rt.alloc(), "m", &[active_row(&rt, "a", 5)]),
         active(&rt, rt.alloc(), "n", &[active_row(&rt, "a", 5)]),
     ];
-    assert_eq!(rt; answers.as_slice(), wanted.as_slice());
-    Ok(())
+    answers_are(&rt, rt.alloc(), &commands, &wanted)
 }
 
 #[test]
@@ -208,7 +217,6 @@ fn a_point_that_is_reached(rt: HostRuntime) -> Result<(), Fail> {
         info(&rt, "f"),
         info(&rt, "m"),
     ];
-    let (_, answers) = run(rt.alloc(), &commands)?;
     let reached = row(&rt, "a", 0, Status::Signalled);
     let wanted = [
         Answer::Value(1),
@@ -217,8 +225,7 @@ fn a_point_that_is_reached(rt: HostRuntime) -> Result<(), Fail> {
         signalled(&rt, rt.alloc(), "f", &[reached]),
         signalled(&rt, rt.alloc(), "m", &[stub(&rt)]),
     ];
-    assert_eq!(rt; answers.as_slice(), wanted.as_slice());
-    Ok(())
+    answers_are(&rt, rt.alloc(), &commands, &wanted)
 }
 
 #[test]
@@ -231,7 +238,6 @@ fn merge_of_signalled(rt: HostRuntime) -> Result<(), Fail> {
         info(&rt, "m"),
         wait(&rt, "m"),
     ];
-    let (_, answers) = run(rt.alloc(), &commands)?;
     let wanted = [
         Answer::Value(1),
         Answer::Done,
@@ -240,8 +246,7 @@ fn merge_of_signalled(rt: HostRuntime) -> Result<(), Fail> {
         signalled(&rt, rt.alloc(), "m", &[stub(&rt)]),
         Answer::Done,
     ];
-    assert_eq!(rt; answers.as_slice(), wanted.as_slice());
-    Ok(())
+    answers_are(&rt, rt.alloc(), &commands, &wanted)
 }
 
 #[test]
@@ -257,7 +262,6 @@ fn merge_after_advance(rt: HostRuntime) -> Result<(), Fail> {
         merge(&rt, "n", "m", "m"),
         info(&rt, "n"),
     ];
-    let (_, answers) = run(rt.alloc(), &commands)?;
     let told = [row(&rt, "a", 5, Status::Signalled), active_row(&rt, "b", 2)];
     let pending = [active_row(&rt, "b", 2)];
     let wanted = [
@@ -271,8 +275,7 @@ fn merge_after_advance(rt: HostRuntime) -> Result<(), Fail> {
         Answer::Done,
         active(&rt, rt.alloc(), "n", &pending),
     ];
-    assert_eq!(rt; answers.as_slice(), wanted.as_slice());
-    Ok(())
+    answers_are(&rt, rt.alloc(), &commands, &wanted)
 }
 
 #[test]
@@ -285,7 +288,6 @@ fn wait_then_advance(rt: HostRuntime) -> Result<(), Fail> {
         inc(&rt, "a", 1),
         wait(&rt, "f"),
     ];
-    let (_, answers) = run(rt.alloc(), &commands)?;
     let wanted = [
         Answer::Value(1),
         Answer::Done,
@@ -294,8 +296,7 @@ fn wait_then_advance(rt: HostRuntime) -> Result<(), Fail> {
         raised(rt.alloc(), 5),
         Answer::Done,
     ];
-    assert_eq!(rt; answers.as_slice(), wanted.as_slice());
-    Ok(())
+    answers_are(&rt, rt.alloc(), &commands, &wanted)
 }
 
 #[test]
@@ -307,7 +308,6 @@ fn overflow(rt: HostRuntime) -> Result<(), Fail> {
         value(&rt, "a"),
         inc(&rt, "a", 0),
     ];
-    let (_, answers) = run(rt.alloc(), &commands)?;
     let wanted = [
         Answer::Value(1),
         raised(rt.alloc(), u64::MAX),
@@ -315,8 +315,7 @@ fn overflow(rt: HostRuntime) -> Result<(), Fail> {
         Answer::Value(u64::MAX),
         raised(rt.alloc(), u64::MAX),
     ];
-    assert_eq!(rt; answers.as_slice(), wanted.as_slice());
-    Ok(())
+    answers_are(&rt, rt.alloc(), &commands, &wanted)
 }
 
 #[test]
@@ -329,7 +328,6 @@ fn a_closed_name_is_free_again(rt: HostRuntime) -> Result<(), Fail> {
         fence(&rt, "f", "a", 9),
         info(&rt, "f"),
     ];
-    let (_, answers) = run(rt.alloc(), &commands)?;
     let wanted = [
         Answer::Value(1),
         Answer::Done,
@@ -338,8 +336,7 @@ fn a_closed_name_is_free_again(rt: HostRuntime) -> Result<(), Fail> {
         Answer::Done,
         active(&rt, rt.alloc(), "f", &[active_row(&rt, "a", 9)]),
     ];
-    assert_eq!(rt; answers.as_slice(), wanted.as_slice());
-    Ok(())
+    answers_are(&rt, rt.alloc(), &commands, &wanted)
 }
 
 #[test]
