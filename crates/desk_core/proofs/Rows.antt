@@ -1,7 +1,7 @@
 -- Worked rows: what the definitions answer to lists of commands.
 use Rattle.std.specs.Prelude.{◌≡◌, refl, List, [], ◌∷◌, if◌then◌else◌, codes}
-use Rattle.point_core.specs.declared.refusal.Refusal.TheVariants.{NoEntry, Exists}
-use Rattle.point_core.specs.declared.status.Status.TheVariants.{Active}
+use Rattle.point_core.specs.declared.refusal.Refusal.TheVariants.{NoEntry, Exists, Overflow, TimedOut}
+use Rattle.point_core.specs.declared.status.Status.TheVariants.{Active, Signalled}
 use Rattle.point_core.specs.Agreement.{contexts}
 use Rattle.desk_core.specs.declared.command.Command.{Command}
 use Rattle.desk_core.specs.declared.command.Command.TheVariants as command
@@ -74,3 +74,58 @@ refusals_in_order : answers_from empty_world (
     ∷ answer.Refused Exists
     ∷ answer.Refused NoEntry ∷ [])
 refusals_in_order = refl
+
+merge_after_advance : answers_from empty_world (
+    command.Timeline (codes "a")
+    ∷ command.Timeline (codes "b")
+    ∷ command.Fence (codes "f") (codes "a") 5
+    ∷ command.Fence (codes "g") (codes "b") 2
+    ∷ command.Merge (codes "m") (codes "f") (codes "g")
+    ∷ command.Inc (codes "a") 5
+    ∷ command.Info (codes "m")
+    ∷ command.Merge (codes "n") (codes "m") (codes "m")
+    ∷ command.Info (codes "n") ∷ [])
+    ≡ (answer.Value 1
+    ∷ answer.Value 2
+    ∷ answer.Done
+    ∷ answer.Done
+    ∷ answer.Done
+    ∷ answer.Raised 5 []
+    ∷ answer.Info record { name = codes "m"; status = Active; fences = record { timeline = codes "a"; driver = SwSync; point = 5; status = Signalled } ∷ record { timeline = codes "b"; driver = SwSync; point = 2; status = Active } ∷ [] }
+    ∷ answer.Done
+    ∷ answer.Info record { name = codes "n"; status = Active; fences = record { timeline = codes "b"; driver = SwSync; point = 2; status = Active } ∷ [] } ∷ [])
+unfolding contexts
+merge_after_advance = refl
+
+wait_then_advance : answers_from empty_world (
+    command.Timeline (codes "a")
+    ∷ command.Fence (codes "f") (codes "a") 5
+    ∷ command.Inc (codes "a") 4
+    ∷ command.Wait (codes "f")
+    ∷ command.Inc (codes "a") 1
+    ∷ command.Wait (codes "f")
+    ∷ command.Close (codes "f")
+    ∷ command.Wait (codes "f") ∷ [])
+    ≡ (answer.Value 1
+    ∷ answer.Done
+    ∷ answer.Raised 4 []
+    ∷ answer.Refused TimedOut
+    ∷ answer.Raised 5 []
+    ∷ answer.Done
+    ∷ answer.Done
+    ∷ answer.Refused NoEntry ∷ [])
+wait_then_advance = refl
+
+-- a refused increment leaves the value
+overflow : answers_from empty_world (
+    command.Timeline (codes "a")
+    ∷ command.Inc (codes "a") 18446744073709551615
+    ∷ command.Inc (codes "a") 1
+    ∷ command.Value (codes "a")
+    ∷ command.Inc (codes "a") 0 ∷ [])
+    ≡ (answer.Value 1
+    ∷ answer.Raised 18446744073709551615 []
+    ∷ answer.Refused Overflow
+    ∷ answer.Value 18446744073709551615
+    ∷ answer.Raised 18446744073709551615 [] ∷ [])
+overflow = refl

@@ -70,36 +70,36 @@ fn stub(rt: &impl Abort) -> FenceRow {
     }
 }
 
-fn told(
-    rt: &impl Abort,
-    alloc: Global,
-    file: &str,
-    status: Status,
-    rows: &[FenceRow],
-) -> Result<Answer, Fail> {
-    let fences = Vec::from_slice(alloc, rows)?;
-    Ok(Answer::Info(Info {
+fn told(rt: &impl Abort, alloc: Global, file: &str, status: Status, rows: &[FenceRow]) -> Answer {
+    let fences = Vec::from_slice(alloc, rows).expect(rt, "memory");
+    Answer::Info(Info {
         name: name(rt, file),
         status,
         fences: Items::of(fences),
-    }))
+    })
 }
 
-fn active(rt: &impl Abort, alloc: Global, file: &str, rows: &[FenceRow]) -> Result<Answer, Fail> {
+fn active(rt: &impl Abort, alloc: Global, file: &str, rows: &[FenceRow]) -> Answer {
     told(rt, alloc, file, Status::Active, rows)
 }
 
-fn signalled(
-    rt: &impl Abort,
-    alloc: Global,
-    file: &str,
-    rows: &[FenceRow],
-) -> Result<Answer, Fail> {
+fn signalled(rt: &impl Abort, alloc: Global, file: &str, rows: &[FenceRow]) -> Answer {
     told(rt, alloc, file, Status::Signalled, rows)
 }
 
 fn raised(alloc: Global, value: u64) -> Answer {
     Answer::Raised(value, Items::of(Vec::new(alloc)))
+}
+
+fn answers_are(
+    rt: &impl Abort,
+    alloc: Global,
+    commands: &[Command],
+    wanted: &[Answer],
+) -> Result<(), Fail> {
+    let (_, answers) = run(alloc, commands)?;
+    assert_eq!(rt; answers.as_slice(), wanted);
+    Ok(())
 }
 
 #[test]
@@ -113,18 +113,16 @@ fn both_orders(rt: HostRuntime) -> Result<(), Fail> {
         info(&rt, "m"),
         info(&rt, "n"),
     ];
-    let (_, answers) = run(rt.alloc(), &commands)?;
     let wanted = [
         Answer::Value(1),
         Answer::Done,
         Answer::Done,
         Answer::Done,
         Answer::Done,
-        active(&rt, rt.alloc(), "m", &[active_row(&rt, "a", 5)])?,
-        active(&rt, rt.alloc(), "n", &[active_row(&rt, "a", 5)])?,
+        active(&rt, rt.alloc(), "m", &[active_row(&rt, "a", 5)]),
+        active(&rt, rt.alloc(), "n", &[active_row(&rt, "a", 5)]),
     ];
-    assert_eq!(rt; answers.as_slice(), wanted.as_slice());
-    Ok(())
+    answers_are(&rt, rt.alloc(), &commands, &wanted)
 }
 
 #[test]
@@ -153,8 +151,8 @@ fn six_orders(rt: HostRuntime) -> Result<(), Fail> {
         let (_, answers) = run(rt.alloc(), &commands)?;
         let rows = [active_row(&rt, "a", 7), active_row(&rt, "b", 2)];
         let wanted = [
-            active(&rt, rt.alloc(), "r", &rows)?,
-            active(&rt, rt.alloc(), "s", &rows)?,
+            active(&rt, rt.alloc(), "r", &rows),
+            active(&rt, rt.alloc(), "s", &rows),
         ];
         assert_eq!(rt; answers.len(), 10);
         assert_eq!(rt; &answers.as_slice()[8..], wanted.as_slice(), "{x} {y} {z}");
@@ -219,17 +217,15 @@ fn a_point_that_is_reached(rt: HostRuntime) -> Result<(), Fail> {
         info(&rt, "f"),
         info(&rt, "m"),
     ];
-    let (_, answers) = run(rt.alloc(), &commands)?;
     let reached = row(&rt, "a", 0, Status::Signalled);
     let wanted = [
         Answer::Value(1),
         Answer::Done,
         Answer::Done,
-        signalled(&rt, rt.alloc(), "f", &[reached])?,
-        signalled(&rt, rt.alloc(), "m", &[stub(&rt)])?,
+        signalled(&rt, rt.alloc(), "f", &[reached]),
+        signalled(&rt, rt.alloc(), "m", &[stub(&rt)]),
     ];
-    assert_eq!(rt; answers.as_slice(), wanted.as_slice());
-    Ok(())
+    answers_are(&rt, rt.alloc(), &commands, &wanted)
 }
 
 #[test]
@@ -242,17 +238,15 @@ fn merge_of_signalled(rt: HostRuntime) -> Result<(), Fail> {
         info(&rt, "m"),
         wait(&rt, "m"),
     ];
-    let (_, answers) = run(rt.alloc(), &commands)?;
     let wanted = [
         Answer::Value(1),
         Answer::Done,
         raised(rt.alloc(), 2),
         Answer::Done,
-        signalled(&rt, rt.alloc(), "m", &[stub(&rt)])?,
+        signalled(&rt, rt.alloc(), "m", &[stub(&rt)]),
         Answer::Done,
     ];
-    assert_eq!(rt; answers.as_slice(), wanted.as_slice());
-    Ok(())
+    answers_are(&rt, rt.alloc(), &commands, &wanted)
 }
 
 #[test]
@@ -268,8 +262,8 @@ fn merge_after_advance(rt: HostRuntime) -> Result<(), Fail> {
         merge(&rt, "n", "m", "m"),
         info(&rt, "n"),
     ];
-    let (_, answers) = run(rt.alloc(), &commands)?;
-    let pending = active_row(&rt, "b", 2);
+    let told = [row(&rt, "a", 5, Status::Signalled), active_row(&rt, "b", 2)];
+    let pending = [active_row(&rt, "b", 2)];
     let wanted = [
         Answer::Value(1),
         Answer::Value(2),
@@ -277,17 +271,11 @@ fn merge_after_advance(rt: HostRuntime) -> Result<(), Fail> {
         Answer::Done,
         Answer::Done,
         raised(rt.alloc(), 5),
-        active(
-            &rt,
-            rt.alloc(),
-            "m",
-            &[row(&rt, "a", 5, Status::Signalled), pending],
-        )?,
+        active(&rt, rt.alloc(), "m", &told),
         Answer::Done,
-        active(&rt, rt.alloc(), "n", &[pending])?,
+        active(&rt, rt.alloc(), "n", &pending),
     ];
-    assert_eq!(rt; answers.as_slice(), wanted.as_slice());
-    Ok(())
+    answers_are(&rt, rt.alloc(), &commands, &wanted)
 }
 
 #[test]
@@ -300,7 +288,6 @@ fn wait_then_advance(rt: HostRuntime) -> Result<(), Fail> {
         inc(&rt, "a", 1),
         wait(&rt, "f"),
     ];
-    let (_, answers) = run(rt.alloc(), &commands)?;
     let wanted = [
         Answer::Value(1),
         Answer::Done,
@@ -309,8 +296,7 @@ fn wait_then_advance(rt: HostRuntime) -> Result<(), Fail> {
         raised(rt.alloc(), 5),
         Answer::Done,
     ];
-    assert_eq!(rt; answers.as_slice(), wanted.as_slice());
-    Ok(())
+    answers_are(&rt, rt.alloc(), &commands, &wanted)
 }
 
 #[test]
@@ -322,7 +308,6 @@ fn overflow(rt: HostRuntime) -> Result<(), Fail> {
         value(&rt, "a"),
         inc(&rt, "a", 0),
     ];
-    let (_, answers) = run(rt.alloc(), &commands)?;
     let wanted = [
         Answer::Value(1),
         raised(rt.alloc(), u64::MAX),
@@ -330,8 +315,7 @@ fn overflow(rt: HostRuntime) -> Result<(), Fail> {
         Answer::Value(u64::MAX),
         raised(rt.alloc(), u64::MAX),
     ];
-    assert_eq!(rt; answers.as_slice(), wanted.as_slice());
-    Ok(())
+    answers_are(&rt, rt.alloc(), &commands, &wanted)
 }
 
 #[test]
@@ -344,17 +328,15 @@ fn a_closed_name_is_free_again(rt: HostRuntime) -> Result<(), Fail> {
         fence(&rt, "f", "a", 9),
         info(&rt, "f"),
     ];
-    let (_, answers) = run(rt.alloc(), &commands)?;
     let wanted = [
         Answer::Value(1),
         Answer::Done,
         Answer::Done,
         Answer::Refused(Refusal::NoEntry),
         Answer::Done,
-        active(&rt, rt.alloc(), "f", &[active_row(&rt, "a", 9)])?,
+        active(&rt, rt.alloc(), "f", &[active_row(&rt, "a", 9)]),
     ];
-    assert_eq!(rt; answers.as_slice(), wanted.as_slice());
-    Ok(())
+    answers_are(&rt, rt.alloc(), &commands, &wanted)
 }
 
 #[test]
@@ -375,7 +357,7 @@ fn the_file_in_the_middle_is_closed(rt: HostRuntime) -> Result<(), Fail> {
     let (_, answers) = run(rt.alloc(), &commands)?;
     assert_eq!(rt; answers.len(), 11);
     for (place, file, point) in [(7, "f", 1), (8, "g", 8), (9, "h", 3), (10, "m", 2)] {
-        let wanted = active(&rt, rt.alloc(), file, &[active_row(&rt, "a", point)])?;
+        let wanted = active(&rt, rt.alloc(), file, &[active_row(&rt, "a", point)]);
         assert_eq!(rt; answers[place], wanted, "{file}");
     }
     Ok(())
