@@ -1,13 +1,13 @@
 -- The lines of a front of a script, and those of the whole of it.
-use Rattle.std.proofs.Common.{◌≡◌, ℕ, ◌+◌, ◌<◌, ◌≤◌, Bool, true, false, cond, List, [], ◌∷◌, ◌++◌, length, take, drop, Option, None, Some, refl, sym, ap, ◌∙◌, append_assoc, arith}
-use Rattle.std.specs.List.{slice_split, onto_first}
+use Rattle.std.proofs.Common.{◌≡◌, ℕ, ◌+◌, ◌<◌, Bool, true, false, cond, List, [], ◌∷◌, ◌++◌, length, Option, None, Some, refl, ap, ◌∙◌, arith}
+use Rattle.std.specs.List.{onto_first}
 use Rattle.std.proofs.lemmas.List.Splits.{length-slice_split}
 use Rattle.script_core.specs.declared.line.Body.{Body}
 use Rattle.script_core.specs.declared.line.Line.{Line}
 use Rattle.script_core.specs.declared.script.Ending.{Ending}
 use Rattle.script_core.specs.declared.script.Ending.TheVariants as ending
 use Rattle.script_core.specs.Line.{body_of}
-use Rattle.script_core.specs.Script.{is_line_feed, lines_of, answered, last_body, numbered, lines_until}
+use Rattle.script_core.specs.Script.{is_line_feed, lines_of, answered, numbered, lines_until}
 use Rattle.script_core.proofs.LineLemmas.{numbered-cons}
 
 -- the last of the first pieces goes on with the first of the second

@@ -1,6 +1,5 @@
 -- What was read of a script, and the script as a whole.
-use Rattle.std.proofs.Common.{◌≡◌, ◌≢◌, ◌⊎◌, inl, inr, ℕ, ◌+◌, ◌-◌, ◌<◌, ◌≤◌, Bool, true, false, cond, List, [], ◌∷◌, ◌++◌, length, take, drop, Option, None, Some, IfSome, refl, sym, ap, ◌∙◌, subst, append_assoc, append-nil, length-append, arith}
-use Rattle.std.specs.List.{AllByRecursion}
+use Rattle.std.proofs.Common.{◌≡◌, ◌≢◌, ◌⊎◌, inl, inr, ℕ, ◌+◌, ◌-◌, ◌<◌, ◌≤◌, cond, List, [], ◌∷◌, ◌++◌, length, take, Option, None, Some, IfSome, refl, sym, ap, ◌∙◌, subst, append_assoc, append-nil, length-append, arith}
 use Rattle.std.specs.Io.KnownBytes.{Appends, Consumes, IsAtEnd}
 use Rattle.std.proofs.Math.Seq.{take-append-add, take-append_seam}
 use Rattle.std.proofs.lemmas.Bool.{le-leb, lt-leb}
@@ -16,10 +15,10 @@ use Rattle.script_core.specs.declared.script.Ending.{Ending}
 use Rattle.script_core.specs.declared.script.Ending.TheVariants as ending
 use Rattle.script_core.specs.declared.script.TheConstants.{SCRIPT_BYTES}
 use Rattle.script_core.specs.declared.totals.Totals.{Totals}
-use Rattle.script_core.specs.Bytes.{WasRead, EndsSo, AppendsFront}
+use Rattle.script_core.specs.Bytes.{WasRead, EndsSo}
 use Rattle.script_core.specs.Script.{lines_until, ending_of, script_of}
 use Rattle.script_core.specs.Text.{text_of}
-use Rattle.script_core.specs.Output.{answer_of_line, history_after_line, output_from, output_of, IsLineAnswer, AreLineAnswers, texts_of, NoneIsMemory, WritesAnswers, WritesFront, IsInput, Counts, AnswersScript}
+use Rattle.script_core.specs.Output.{answer_of_line, history_after_line, output_from, IsLineAnswer, AreLineAnswers, texts_of, NoneIsMemory, WritesAnswers, WritesFront, IsInput, Counts, AnswersScript}
 use Rattle.script_core.proofs.Fronts.{lines_until-front}
 use Rattle.script_core.proofs.Progress.{AppendsFront-all}
 

@@ -1,14 +1,13 @@
 -- The runs of elements between those that pass a test, from the front of a list.
-use Rattle.std.proofs.Common.{◌≡◌, ◌≢◌, ℕ, ◌+◌, ◌-◌, ◌<◌, ◌≤◌, suc, Bool, true, false, not, cond, eqb, ltb, nat_lt, ◌⊎◌, List, [], ◌∷◌, ◌++◌, length, get_or, take, drop, filter, Option, None, Some, unwrap_or, option_map, refl, sym, ap, ◌∙◌, subst, arith, rules, drop-cons, add-one, one-add, add-zero, get_or-drop, length-take, length-drop}
+use Rattle.std.proofs.Common.{◌≡◌, ℕ, ◌+◌, ◌<◌, ◌≤◌, suc, Bool, true, false, not, cond, nat_lt, List, [], ◌∷◌, length, get_or, take, drop, filter, None, Some, unwrap_or, refl, sym, ap, ◌∙◌, arith, rules, drop-cons, add-one, one-add, add-zero, get_or-drop, length-take, length-drop}
 use Rattle.std.proofs.Math.Seq.{drop-length, take-length}
-use Rattle.std.proofs.lemmas.Grind.{common_steps}
-use Rattle.std.specs.List.{slice_split, onto_first, position_or_len, prefix_len, position, before_first, after_first}
-use Rattle.std.proofs.lemmas.List.Splits.{slice_split-cons_yes, slice_split-cons_no, slice_split_first, slice_split_none}
-use Rattle.std.proofs.lemmas.List.Sums.{passes_at_first, fails_before_first, prefix_len-le-length}
+use Rattle.std.specs.List.{slice_split, position_or_len, position, after_first}
+use Rattle.std.proofs.lemmas.List.Splits.{slice_split_first, slice_split_none}
+use Rattle.std.proofs.lemmas.List.Sums.{passes_at_first, fails_before_first}
 use Rattle.std.proofs.lemmas.Option.{cond_some}
 use Rattle.std.proofs.lemmas.Bool.Decides.{nat_tests}
 use Rattle.std.proofs.Math.ListN.{drop_of_length-le}
-use Rattle.script_core.specs.Words.{is_space, is_word, words_of}
+use Rattle.script_core.specs.Words.{is_word}
 
 module _ (p : ℕ → Bool) where
   abbrev runs : List ℕ → List (List ℕ)

@@ -202,41 +202,41 @@ fn timeline_limit(rt: HostRuntime) -> Result<(), Fail> {
 
 #[test]
 fn checks_of_a_line(rt: HostRuntime) -> Result<(), Fail> {
-    let cases: [(&str, &str); 19] = [
-        ("timeline a", "ok 1\n"),
-        ("  timeline   a  \n", "ok 1\n"),
-        ("\n \n   \n", ""),
-        ("# note\n#\n  #note\n##", ""),
-        ("timeline #\n", "err 1 Syntax line 1\n"),
-        ("timeline a # note\n", "err 1 Syntax line 1\n"),
-        ("\n\nxx", "err 1 Syntax line 3\n"),
-        ("timeline\n", "err 1 Syntax line 1\n"),
-        ("timeline a b\n", "err 1 Syntax line 1\n"),
+    let cases: [(&[u8], &[u8]); 19] = [
+        (b"timeline a", b"ok 1\n"),
+        (b"  timeline   a  \n", b"ok 1\n"),
+        (b"\n \n   \n", b""),
+        (b"# note\n#\n  #note\n##", b""),
+        (b"timeline #\n", b"err 1 Syntax line 1\n"),
+        (b"timeline a # note\n", b"err 1 Syntax line 1\n"),
+        (b"\n\nxx", b"err 1 Syntax line 3\n"),
+        (b"timeline\n", b"err 1 Syntax line 1\n"),
+        (b"timeline a b\n", b"err 1 Syntax line 1\n"),
         (
-            "timelines a\nTimeline a\ntime line a\n",
-            "err 1 Syntax line 1\nerr 1 Syntax line 2\nerr 1 Syntax line 3\n",
+            b"timelines a\nTimeline a\ntime line a\n",
+            b"err 1 Syntax line 1\nerr 1 Syntax line 2\nerr 1 Syntax line 3\n",
         ),
-        ("timeline\ta\n", "err 1 Syntax line 1\n"),
-        ("timeline a\r\n", "err 1 Syntax line 1\n"),
-        ("timeline a/b\n", "err 1 Syntax line 1\n"),
-        ("timeline A.b-c_9\n", "ok 1\n"),
-        ("timeline abcdefghijklmnopqrstuvwxyz01234\n", "ok 1\n"),
+        (b"timeline\ta\n", b"err 1 Syntax line 1\n"),
+        (b"timeline a\r\n", b"err 1 Syntax line 1\n"),
+        (b"timeline a/b\n", b"err 1 Syntax line 1\n"),
+        (b"timeline A.b-c_9\n", b"ok 1\n"),
+        (b"timeline abcdefghijklmnopqrstuvwxyz01234\n", b"ok 1\n"),
         (
-            "timeline abcdefghijklmnopqrstuvwxyz012345\n",
-            "err 1 Syntax line 1\n",
+            b"timeline abcdefghijklmnopqrstuvwxyz012345\n",
+            b"err 1 Syntax line 1\n",
         ),
-        ("info a\nfence f a 1\n", "err 2 NoEntry\nerr 2 NoEntry\n"),
-        ("timeline a\ntimeline a\n", "ok 1\nerr 3 Exists\n"),
+        (b"info a\nfence f a 1\n", b"err 2 NoEntry\nerr 2 NoEntry\n"),
+        (b"timeline a\ntimeline a\n", b"ok 1\nerr 3 Exists\n"),
         (
-            "timeline a\nfence f a 0\ninfo f\nmerge m f f\ninfo m\n",
-            "ok 1\nok\nok f 1 1\nfence a sw_sync 0 1\nok\nok m 1 1\nfence stub stub 0 1\n",
+            b"timeline a\nfence f a 0\ninfo f\nmerge m f f\ninfo m\n",
+            b"ok 1\nok\nok f 1 1\nfence a sw_sync 0 1\nok\nok m 1 1\nfence stub stub 0 1\n",
         ),
     ];
     for (script, wanted) in cases {
-        let mut reader = script.as_bytes();
+        let mut reader = script;
         let mut writer = Vec::new(rt.alloc());
         engine(rt.alloc(), &mut reader, &mut writer)?;
-        assert_eq!(rt; writer.as_slice(), wanted.as_bytes(), "{script}");
+        assert_eq!(rt; writer.as_slice(), wanted);
     }
     Ok(())
 }

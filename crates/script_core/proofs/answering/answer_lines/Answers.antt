@@ -1,9 +1,8 @@
 -- Each exit is told by how far the answers have come.
-use Rattle.std.proofs.Common.{◌≡◌, ◌∷◌, [], ◌++◌, sym, ap, ◌∙◌}
 use Rattle.std.proofs.lemmas.Result.{err_from_is_err_and}
 use Rattle.std.proofs.KnownBytes.{Appends-kept}
 use Rattle.script_core.specs.Lines.{lines_left}
-use Rattle.script_core.proofs.Progress.{Progress, Progress-none, Progress-line, Progress-write, Progress-front, Progress-all, Progress-room, WritesFront-none, AppendsFront-none, AppendsFront-all, lines-next}
+use Rattle.script_core.proofs.Progress.{Progress-line, Progress-write, Progress-front, Progress-all, Progress-room, WritesFront-none, AppendsFront-all, lines-next}
 use Rattle.script_core.proofs.answering.answer_lines.Goals as goal
 
 pub returns-in_err-desk-clause-err : goal.returns-in_err-desk-clause-err

@@ -1,4 +1,3 @@
-use Rattle.std.proofs.Common.{◌≡◌, ap, ◌∙◌}
 use Rattle.std.proofs.lemmas.Result.{err_from_is_err_and}
 use Rattle.script_core.specs.Script.{script_of}
 use Rattle.script_core.proofs.Inputs.{some_input, front_written, all_written, ended_written, reads_front, WritesFront-all}

@@ -1,4 +1,4 @@
-use Rattle.std.proofs.Common.{◌≡◌, ◌+◌, ◌≤◌, length}
+use Rattle.std.proofs.Common.{◌+◌, ◌≤◌, length}
 use Rattle.std.specs.Io.KnownBytes.{Consumes}
 use Rattle.script_core.specs.declared.script.TheConstants.{SCRIPT_BYTES}
 use Rattle.script_core.proofs.reading.read_whole.Given as goal

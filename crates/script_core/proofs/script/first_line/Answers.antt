@@ -1,6 +1,6 @@
-use Rattle.std.proofs.Common.{◌≡◌, ◌∷◌, ◌-◌, ◌+◌, length, take, drop, sym, ap}
+use Rattle.std.proofs.Common.{sym}
 use Rattle.std.proofs.lemmas.List.{take_rest}
-use Rattle.script_core.specs.Script.{is_line_feed, lines_of}
+use Rattle.script_core.specs.Script.{is_line_feed}
 use Rattle.script_core.proofs.Runs.{slice_split-some, slice_split-none}
 use Rattle.script_core.proofs.script.first_line.Goals as goal
 

@@ -1,7 +1,7 @@
-use Rattle.std.proofs.Common.{◌≡◌, ℕ, ◌∷◌, ◌-◌, length, drop, take, not, None, Some, unwrap_or, sym, ap, ◌∙◌}
+use Rattle.std.proofs.Common.{◌≡◌, ◌-◌, length, drop, take, unwrap_or, sym, ap, ◌∙◌}
 use Rattle.std.specs.List.{position}
 use Rattle.std.proofs.lemmas.List.{take_rest}
-use Rattle.script_core.specs.Words.{is_space, words_of}
+use Rattle.script_core.specs.Words.{is_space}
 use Rattle.script_core.proofs.Runs.{runs-none, runs-first}
 use Rattle.script_core.proofs.words.first_word.Goals as goal
 
