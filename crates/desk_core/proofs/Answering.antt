@@ -1,6 +1,8 @@
 -- Answers, and the histories after them.
-use Rattle.std.proofs.Common.{◌≡◌, false, refl, sym, ap, subst, ◌∙◌, List, [], ◌∷◌, ◌++◌, length, Option, None, Some, inl, inr, arith, length-append}
-use Rattle.std.specs.Prelude.{Result, Ok, Err, IfOk, OnErr}
+use Rattle.std.proofs.Common.{◌≡◌, ◌≢◌, true, false, refl, sym, ap, subst, ◌∙◌, List, [], ◌∷◌, ◌++◌, length, Option, None, Some, inl, inr, arith, length-append}
+use Rattle.std.specs.Prelude.{Result, Ok, Err, IfOk, IfErr, OnErr}
+use Rattle.std.proofs.lemmas.Bool.{cases_Bool}
+use Rattle.point_core.specs.declared.refusal.Refusal.TheVariants.{Memory}
 use Rattle.point_core.specs.declared.refusal.Refusal.{Refusal}
 use Rattle.desk_core.specs.declared.command.Command.{Command}
 use Rattle.desk_core.specs.declared.command.Command.TheVariants as command
@@ -8,7 +10,7 @@ use Rattle.desk_core.specs.declared.answer.Answer.{Answer}
 use Rattle.desk_core.specs.declared.answer.Answer.TheVariants as answer
 use Rattle.syncfile_core.specs.Files.{IsRefusedFor}
 use Rattle.desk_core.specs.World.{World, empty_world, after}
-use Rattle.desk_core.specs.Answer.{first_of, causes, told, refused_or, is_refused, OnRefused}
+use Rattle.desk_core.specs.Answer.{first_of, causes, told, refused_or, is_refused, takes_memory, OnRefused}
 use Rattle.desk_core.specs.History.{world_from, world_of, IsAnswer, history_after, history_of, AreAnswers}
 use Rattle.desk_core.specs.Desk.{DeskState, Keeps, StandsFor, cause_of, IsDone, answer_of}
 use Rattle.desk_core.proofs.Stepping.{causes-keeps}
@@ -29,19 +31,23 @@ is_refused-told w (command.Close f) = refl
 is_refused-told w (command.Wait f) = refl
 is_refused-told w (command.Info f) = refl
 
-answered : (old new : DeskState) (c : Command) (r : Result Answer Refusal) (cause : Option Refusal) (history : List Command) → IsRefusedFor cause r → IfOk r (λ a. IsDone old c a new) → StandsFor old history → first_of (causes (world_of history) c) ≡ cause → IsAnswer history c (answer_of r)
-answered old new c (Ok a) (Some e) history refused done stands is = absurd (cc)
-answered old new c (Ok a) None history refused done stands is = record { told = inl (done.told (world_of history) stands ∙ ap (λ o. refused_or o (told (world_of history) c)) (sym is)) }
-answered old new c (Err e') (Some e) history refused done stands is =
+answered : (old new : DeskState) (c : Command) (r : Result Answer Refusal) (cause : Option Refusal) (history : List Command) → IsRefusedFor cause r → (takes_memory c ≡ false → IfErr r (λ e. e ≢ Memory)) → IfOk r (λ a. IsDone old c a new) → StandsFor old history → first_of (causes (world_of history) c) ≡ cause → IsAnswer history c (answer_of r)
+answered old new c (Ok a) (Some e) history refused sure done stands is = absurd (cc)
+answered old new c (Ok a) None history refused sure done stands is = record { told = inl (done.told (world_of history) stands ∙ ap (λ o. refused_or o (told (world_of history) c)) (sym is)) }
+answered old new c (Err e') (Some e) history refused sure done stands is =
     let same : e' ≡ e = cc in
     record { told = inl (ap answer.Refused same ∙ ap (λ o. refused_or o (told (world_of history) c)) (sym is)) }
-answered old new c (Err e) None history refused done stands is = record {
-  told = inr (ap answer.Refused refused, ap (λ o. is_refused (refused_or o (told (world_of history) c))) is ∙ is_refused-told (world_of history) c);
-}
+answered old new c (Err e) None history refused sure done stands is =
+    elim (cases_Bool (takes_memory c)) [
+      | inl takes ↦ record {
+        told = inr (ap answer.Refused refused, takes, ap (λ o. is_refused (refused_or o (told (world_of history) c))) is ∙ is_refused-told (world_of history) c);
+      }
+      | inr takes_none ↦ absurd (sure takes_none refused)
+    ]
 
 -- the answer is the one of each history that the desk stands for
-pub IsAnswer-outcome : (old new : DeskState) (c : Command) (r : Result Answer Refusal) → IsRefusedFor (cause_of old c) r → IfOk r (λ a. IsDone old c a new) → (history : List Command) → StandsFor old history → IsAnswer history c (answer_of r)
-IsAnswer-outcome old new c r refused done history stands = answered old new c r (cause_of old c) history refused done stands (causes-keeps stands c)
+pub IsAnswer-outcome : (old new : DeskState) (c : Command) (r : Result Answer Refusal) → IsRefusedFor (cause_of old c) r → (takes_memory c ≡ false → IfErr r (λ e. e ≢ Memory)) → IfOk r (λ a. IsDone old c a new) → (history : List Command) → StandsFor old history → IsAnswer history c (answer_of r)
+IsAnswer-outcome old new c r refused sure done history stands = answered old new c r (cause_of old c) history refused sure done stands (causes-keeps stands c)
 
 -- the desk stands for the history after it
 pub StandsFor-outcome : (old new : DeskState) (c : Command) (r : Result Answer Refusal) → OnErr r (new ≡ old) → IfOk r (λ a. IsDone old c a new) → (history : List Command) → StandsFor old history → StandsFor new (history_after history c (answer_of r))

@@ -101,6 +101,17 @@ abbrev pub refused_or : Option Refusal → Answer → Answer
 refused_or None a = a
 refused_or (Some r) a = answer.Refused r
 
+-- the command makes something or tells a list, and so may find no memory; no other command does
+abbrev pub takes_memory : Command → Bool
+takes_memory (command.Timeline t) = true
+takes_memory (command.Inc t n) = true
+takes_memory (command.Value t) = false
+takes_memory (command.Fence f t p) = true
+takes_memory (command.Merge f a b) = true
+takes_memory (command.Close f) = false
+takes_memory (command.Wait f) = false
+takes_memory (command.Info f) = true
+
 -- the one answer of the command
 abbrev pub answer_to : World → Command → Answer
 answer_to w c = refused_or (first_of (causes w c)) (told w c)

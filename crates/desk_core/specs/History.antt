@@ -1,11 +1,11 @@
 -- A history is the list of the accepted commands, and means a world.
-use Rattle.std.specs.Prelude.{◌≡◌, ◌⊎◌, false, if◌then◌else◌, List, [], ◌∷◌, ◌++◌}
+use Rattle.std.specs.Prelude.{◌≡◌, ◌⊎◌, true, false, if◌then◌else◌, List, [], ◌∷◌, ◌++◌}
 use Rattle.point_core.specs.declared.refusal.Refusal.TheVariants.{Memory}
 use Rattle.desk_core.specs.declared.command.Command.{Command}
 use Rattle.desk_core.specs.declared.answer.Answer.{Answer}
 use Rattle.desk_core.specs.declared.answer.Answer.TheVariants as answer
 use Rattle.desk_core.specs.World.{World, empty_world, after}
-use Rattle.desk_core.specs.Answer.{answer_to, is_refused}
+use Rattle.desk_core.specs.Answer.{answer_to, is_refused, takes_memory}
 
 abbrev pub world_from : World → List Command → World
 world_from w [] = w
@@ -15,9 +15,9 @@ world_from w (c ∷ cs) = world_from (after w c) cs
 abbrev pub world_of : List Command → World
 world_of history = world_from empty_world history
 
--- the one answer of the command, or Memory where that is no refusal
+-- the one answer of the command, or Memory where that is no refusal and the command takes memory
 pub record IsAnswer (history : List Command) (command : Command) (given : Answer) : Type 0 where
-  pub told : (given ≡ answer_to (world_of history) command) ⊎ ((given ≡ answer.Refused Memory) × (is_refused (answer_to (world_of history) command) ≡ false))
+  pub told : (given ≡ answer_to (world_of history) command) ⊎ ((given ≡ answer.Refused Memory) × (takes_memory command ≡ true) × (is_refused (answer_to (world_of history) command) ≡ false))
 
 -- the history after a command that was answered so
 abbrev pub history_after : List Command → Command → Answer → List Command

@@ -1,5 +1,5 @@
 // One command in, one answer out.
-ghost use Rattle.std.specs.Prelude.{◌≡◌, List, [], IfOk, IfErr, OnErr};
+ghost use Rattle.std.specs.Prelude.{◌≡◌, ◌≢◌, false, List, [], IfOk, IfErr, OnErr};
 ghost use Rattle.desk_core.specs.declared.command.Command.{Command};
 
 use crate::answer::Answer;
@@ -32,7 +32,7 @@ impl Model for Desk {
 }
 
 impl Desk {
-    ghost use Rattle.desk_core.specs.Answer.{OnRefused};
+    ghost use Rattle.desk_core.specs.Answer.{OnRefused, takes_memory};
     ghost use Rattle.syncfile_core.specs.Files.{IsRefusedFor};
     ghost use Rattle.desk_core.specs.History.{IsAnswer, history_after};
     ghost use Rattle.desk_core.specs.Desk.{StandsFor, cause_of, IsDone};
@@ -52,7 +52,8 @@ impl Desk {
     }
 
     /// The answer of one command: the first refusal whose cause holds, else what the command tells. `Memory` comes
-    /// last, where a growth was really refused. A refused command changes nothing.
+    /// last, where a growth was really refused, and `value`, `close` and `wait` never answer it. A refused command changes
+    /// nothing.
     pub fn step(&mut self, command: Command) -> Answer
         ensures answer { (history : List Command) → StandsFor self.old history → IsAnswer history command result }
         ensures stands { (history : List Command) → StandsFor self.old history → StandsFor self.new (history_after history command result) }
@@ -66,6 +67,7 @@ impl Desk {
 
     fn outcome(&mut self, command: Command) -> Result<Answer, Refusal>
         ensures refused { IsRefusedFor (cause_of self.old command) result }
+        ensures sure { takes_memory command ≡ false → IfErr result (λ e. e ≢ Refusal.Memory) }
         ensures done { IfOk result (λ given. IsDone self.old command given self.new) }
         ensures unchanged { OnErr result (self.new ≡ self.old) }
     {
@@ -101,6 +103,7 @@ impl Desk {
 
     fn value(&self, name: &Name) -> Result<Answer, Refusal>
         ensures refused { IsRefusedFor (cause_of self.now (Command.Value name.now)) result }
+        ensures sure { IfErr result (λ e. e ≢ Refusal.Memory) }
         ensures done { IfOk result (λ given. IsDone self.now (Command.Value name.now) given self.now) }
     {
         Ok(Answer::Value(self.timelines.value(name)?))
@@ -128,6 +131,7 @@ impl Desk {
 
     fn close(&mut self, name: &Name) -> Result<Answer, Refusal>
         ensures refused { IsRefusedFor (cause_of self.old (Command.Close name.now)) result }
+        ensures sure { IfErr result (λ e. e ≢ Refusal.Memory) }
         ensures done { IfOk result (λ given. IsDone self.old (Command.Close name.now) given self.new) }
         ensures unchanged { OnErr result (self.new ≡ self.old) }
     {
@@ -137,6 +141,7 @@ impl Desk {
 
     fn wait(&self, name: &Name) -> Result<Answer, Refusal>
         ensures refused { IsRefusedFor (cause_of self.now (Command.Wait name.now)) result }
+        ensures sure { IfErr result (λ e. e ≢ Refusal.Memory) }
         ensures done { IfOk result (λ given. IsDone self.now (Command.Wait name.now) given self.now) }
     {
         match self.files.status(name, &self.timelines.reach())? {
