@@ -5,12 +5,13 @@ use Rattle.script_core.specs.declared.script.Ending.{Ending}
 use Rattle.script_core.specs.declared.script.Ending.TheVariants as ending
 use Rattle.script_core.specs.declared.script.TheConstants.{SCRIPT_BYTES}
 
--- those bytes were read: up to the reader's end, one past the limit, or up to a failed read
+-- how the bytes end that were read: at the reader's end, one past the limit, or at a failed read
 abbrev pub EndsSo : Option (List ℕ) → List ℕ → Ending → Type 0
 EndsSo left bytes ending.Whole = (length bytes ≤ SCRIPT_BYTES) × IsAtEnd left
 EndsSo left bytes ending.TooLong = length bytes ≡ SCRIPT_BYTES + 1
 EndsSo left bytes ending.Failed = length bytes ≤ SCRIPT_BYTES
 
+-- those bytes were read, and end so
 pub record WasRead (old new : Option (List ℕ)) (bytes : List ℕ) (end : Ending) : Type 0 where
   pub consumed : Consumes old new bytes
   pub ends : EndsSo new bytes end
