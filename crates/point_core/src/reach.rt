@@ -72,7 +72,8 @@ impl Reach {
 
     /// The greater value of each context.
     pub fn joined(&self, other: &Reach) -> Reach
-        ensures { result ≡ later_values self.now other.now }
+        ensures values { result ≡ later_values self.now other.now }
+        ensures full { (length self.now ≡ CONTEXTS) × (length other.now ≡ CONTEXTS) }
     {
         let mut values = self.values;
         for (index, value) in values.iter_mut().enumerate() {

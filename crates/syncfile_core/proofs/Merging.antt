@@ -1,6 +1,6 @@
 -- What a merge gathers, input by input.
 use Rattle.std.proofs.Common.{◌≡◌, ℕ, ◌+◌, ◌<◌, ◌≤◌, max, refl, sym, ap, ◌∙◌, subst, List, [], ◌∷◌, ◌++◌, length, get_or, take, arith, append_assoc, append-nil}
-use Rattle.std.proofs.lemmas.List.Elements.{All-cons, All-nil}
+use Rattle.std.proofs.lemmas.List.Elements.{All-cons, All-nil, All-push}
 use Rattle.std.proofs.lemmas.Grind.{flat_map-append}
 use Rattle.std.proofs.lemmas.List.Sums.{fold-append}
 use Rattle.point_core.specs.declared.context.TheConstants.{CONTEXTS}
@@ -14,6 +14,7 @@ use Rattle.point_core.proofs.Latest.{IsLatest-put, IsLatest-empty}
 use Rattle.point_core.proofs.Listings.{as_entries-take_more, points_above-IsLatest}
 use Rattle.syncfile_core.specs.SyncFile.{File, file_of}
 use Rattle.syncfile_core.specs.Merge.{points_of, merged_file, IsGathered}
+use Rattle.syncfile_core.proofs.Unions.{length-floor_of}
 
 HasContexts-single : (p : Point) → (1 ≤ p.ctx) × (p.ctx ≤ CONTEXTS) → HasContexts (as_entry p ∷ [])
 HasContexts-single p has = All-cons (λ (e : Entry). (1 ≤ e.point.ctx) × (e.point.ctx ≤ CONTEXTS)) (as_entry p) [] has (All-nil (λ (e : Entry). (1 ≤ e.point.ctx) × (e.point.ctx ≤ CONTEXTS)))
@@ -36,15 +37,17 @@ entries-last : (inputs : List File) (f : File) → as_entries (points_of (inputs
 entries-last inputs f = ap as_entries (points_of-last inputs f) ∙ as_entries-append (points_of inputs) f.points
 
 pub IsGathered-none : (reach : List ℕ) → IsGathered reach reach reach []
-IsGathered-none reach = record { latest = IsLatest-empty reach 0; floor = refl; contexts = All-nil (λ (e : Entry). (1 ≤ e.point.ctx) × (e.point.ctx ≤ CONTEXTS)) }
+IsGathered-none reach = record { latest = IsLatest-empty reach 0; floor = refl; contexts = All-nil (λ (e : Entry). (1 ≤ e.point.ctx) × (e.point.ctx ≤ CONTEXTS)); floors = All-nil (λ (f : File). length f.floor ≡ length reach) }
 
 -- one more input
 pub IsGathered-last : {table least more higher reach : List ℕ} (inputs : List File) (f : File) → IsGathered table least reach inputs
-    → IsLatest more reach (as_entries (points_of inputs) ++ as_entries f.points) 0 → HasContexts (as_entries f.points) → higher ≡ later_values least f.floor → IsGathered more higher reach (inputs ++ f ∷ [])
-IsGathered-last {table} {least} {more} {higher} {reach} inputs f before latest within joined = record {
+    → IsLatest more reach (as_entries (points_of inputs) ++ as_entries f.points) 0 → HasContexts (as_entries f.points) → higher ≡ later_values least f.floor → (length least ≡ CONTEXTS) × (length f.floor ≡ CONTEXTS)
+    → IsGathered more higher reach (inputs ++ f ∷ [])
+IsGathered-last {table} {least} {more} {higher} {reach} inputs f before latest within joined full = record {
   latest = subst (λ es. IsLatest more reach es 0) (sym (entries-last inputs f)) latest;
   floor = joined ∙ ap (λ floor. later_values floor f.floor) before.floor ∙ sym (fold-append (λ floor (g : File). later_values floor g.floor) reach inputs (f ∷ []));
   contexts = subst HasContexts (sym (entries-last inputs f)) (HasContexts-append (as_entries (points_of inputs)) (as_entries f.points) before.contexts within);
+  floors = All-push (λ (g : File). length g.floor ≡ length reach) inputs f before.floors (full.1 ∙ sym full.0 ∙ ap length before.floor ∙ length-floor_of reach inputs (length reach) refl before.floors);
 }
 
 -- what was gathered is listed above the reach

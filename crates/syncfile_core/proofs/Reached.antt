@@ -62,7 +62,7 @@ status_if-Signalled false is = absurd (cc)
 -- a file is signalled exactly where each point is that it stands for
 pub TellsSetsOf-always : (f : File) (reach : List ℕ) → TellsSetsOf f reach
 TellsSetsOf-always f reach = λ set stands above.
-    let agrees = AgreesAbove-later above stands.agrees in (
+    let agrees = AgreesAbove-later above stands in (
       λ signalled. IsReached-AgreesAbove 0 agrees (reached-list_all f.points reach (status_if-Signalled (list_all (is_reached reach) f.points) signalled)),
       λ reached. ap status_if (list_all-reached f.points reach (IsReached-AgreesAbove 0 (AgreesAbove-sym agrees) reached)),
     )

@@ -3,14 +3,14 @@ use Rattle.std.proofs.Common.{◌≡◌, ℕ, refl, sym, ◌∙◌, List, [], �
 use Rattle.std.specs.Prelude.{flat_map}
 use Rattle.std.specs.List.{AllZip, zip}
 use Rattle.std.proofs.lemmas.List.{length-map}
-use Rattle.point_core.specs.declared.context.TheConstants.{CONTEXTS}
+use Rattle.std.proofs.lemmas.List.Elements.{All-head, All-tail}
 use Rattle.point_core.specs.declared.entry.Entry.{Entry}
 use Rattle.point_core.specs.Agreement.{as_entries, AgreesAbove, HasContexts}
 use Rattle.point_core.specs.Reach.{later_values, IsAtLeast}
 use Rattle.point_core.proofs.Agreement.{as_entries-append, AgreesAbove-refl, AgreesAbove-trans, AgreesAbove-append, AgreesAbove-same, AgreesAbove-later, AgreesAbove-listing}
 use Rattle.point_core.proofs.Values.{IsAtLeast-refl, IsAtLeast-trans, IsAtLeast-later_values_left, IsAtLeast-later_values_right}
 use Rattle.syncfile_core.specs.SyncFile.{File, StandsFor}
-use Rattle.syncfile_core.specs.Merge.{points_of, floor_of, merged_file, StandsForUnion}
+use Rattle.syncfile_core.specs.Merge.{points_of, floor_of, merged_file, HaveFloors, StandsForUnion}
 
 length-zip_same : {A B : Type 0} (xs : List A) (ys : List B) → length xs ≡ length ys → length (zip xs ys) ≡ length xs
 length-zip_same [] ys same = refl
@@ -20,37 +20,43 @@ length-zip_same (x ∷ xs) (y ∷ ys) same = let rest = length-zip_same xs ys (o
 pub length-later_values : (reach other : List ℕ) → length reach ≡ length other → length (later_values reach other) ≡ length reach
 length-later_values reach other same = length-map (zip reach other) _ ∙ length-zip_same reach other same
 
--- the floor of a merge has a value of every context, and is at least the reach
-floor_of-high : (reach : List ℕ) (inputs : List File) (sets : List (List Entry)) → length reach ≡ CONTEXTS → AllZip StandsFor inputs sets → (length (floor_of reach inputs) ≡ CONTEXTS) × IsAtLeast (floor_of reach inputs) reach
-floor_of-high reach [] [] full stand = (full, IsAtLeast-refl reach)
-floor_of-high reach [] (s ∷ ss) full stand = absurd stand
-floor_of-high reach (f ∷ fs) [] full stand = absurd stand
-floor_of-high reach (f ∷ fs) (s ∷ ss) full stand =
-    let same : length reach ≡ length f.floor = full ∙ sym stand.0.full in
-    let rest = floor_of-high (later_values reach f.floor) fs ss (length-later_values reach f.floor same ∙ full) stand.1 in
-    (rest.0, IsAtLeast-trans rest.1 (IsAtLeast-later_values_left reach f.floor same))
+abbrev has_floor : ℕ → File → Type 0
+has_floor n f = length f.floor ≡ n
+
+-- the floor of a merge has as many values as the reach
+pub length-floor_of : (reach : List ℕ) (inputs : List File) (n : ℕ) → length reach ≡ n → HaveFloors n inputs → length (floor_of reach inputs) ≡ n
+length-floor_of reach [] n full floors = full
+length-floor_of reach (f ∷ fs) n full floors =
+    let same : length reach ≡ length f.floor = full ∙ sym (All-head (has_floor n) f fs floors) in
+    length-floor_of (later_values reach f.floor) fs n (length-later_values reach f.floor same ∙ full) (All-tail (has_floor n) f fs floors)
+
+-- and is at least the reach
+floor_of-high : (reach : List ℕ) (inputs : List File) (n : ℕ) → length reach ≡ n → HaveFloors n inputs → IsAtLeast (floor_of reach inputs) reach
+floor_of-high reach [] n full floors = IsAtLeast-refl reach
+floor_of-high reach (f ∷ fs) n full floors =
+    let same : length reach ≡ length f.floor = full ∙ sym (All-head (has_floor n) f fs floors) in
+    let rest = floor_of-high (later_values reach f.floor) fs n (length-later_values reach f.floor same ∙ full) (All-tail (has_floor n) f fs floors) in
+    IsAtLeast-trans rest (IsAtLeast-later_values_left reach f.floor same)
 
 -- above the merge's floor, the inputs' points say what their sets say together
-agrees-union : (high reach : List ℕ) (inputs : List File) (sets : List (List Entry)) → length reach ≡ CONTEXTS → AllZip StandsFor inputs sets → IsAtLeast high (floor_of reach inputs) → AgreesAbove high (as_entries (points_of inputs)) (flat_map (λ set. set) sets)
-agrees-union high reach [] [] full stand above = AgreesAbove-refl high []
-agrees-union high reach [] (s ∷ ss) full stand above = absurd stand
-agrees-union high reach (f ∷ fs) [] full stand above = absurd stand
-agrees-union high reach (f ∷ fs) (s ∷ ss) full stand above =
-    let same : length reach ≡ length f.floor = full ∙ sym stand.0.full in
+agrees-union : (high reach : List ℕ) (inputs : List File) (sets : List (List Entry)) (n : ℕ) → length reach ≡ n → HaveFloors n inputs → AllZip StandsFor inputs sets → IsAtLeast high (floor_of reach inputs)
+    → AgreesAbove high (as_entries (points_of inputs)) (flat_map (λ set. set) sets)
+agrees-union high reach [] [] n full floors stand above = AgreesAbove-refl high []
+agrees-union high reach [] (s ∷ ss) n full floors stand above = absurd stand
+agrees-union high reach (f ∷ fs) [] n full floors stand above = absurd stand
+agrees-union high reach (f ∷ fs) (s ∷ ss) n full floors stand above =
+    let same : length reach ≡ length f.floor = full ∙ sym (All-head (has_floor n) f fs floors) in
     let next = length-later_values reach f.floor same ∙ full in
-    let rest = floor_of-high (later_values reach f.floor) fs ss next stand.1 in
-    let own = IsAtLeast-trans above (IsAtLeast-trans rest.1 (IsAtLeast-later_values_right reach f.floor same)) in
+    let others = All-tail (has_floor n) f fs floors in
+    let rest = floor_of-high (later_values reach f.floor) fs n next others in
+    let own = IsAtLeast-trans above (IsAtLeast-trans rest (IsAtLeast-later_values_right reach f.floor same)) in
     AgreesAbove-trans
     (AgreesAbove-same high (as_entries-append f.points (points_of fs)))
-    (AgreesAbove-append (AgreesAbove-later own stand.0.agrees) (agrees-union high (later_values reach f.floor) fs ss next stand.1 above))
+    (AgreesAbove-append (AgreesAbove-later own stand.0) (agrees-union high (later_values reach f.floor) fs ss n next others stand.1 above))
 
 -- a merge stands for the union of what its inputs stand for
-pub StandsForUnion-merged_file : (name : List ℕ) (inputs : List File) (reach : List ℕ) → HasContexts (as_entries (points_of inputs)) → length reach ≡ CONTEXTS → StandsForUnion inputs (merged_file name inputs reach)
-StandsForUnion-merged_file name inputs reach within full = λ sets stand.
-    let high = floor_of-high reach inputs sets full stand in
-    record {
-      full = high.0;
-      agrees = AgreesAbove-trans
-          (AgreesAbove-later high.1 (AgreesAbove-listing reach (points_of inputs) within))
-          (agrees-union (floor_of reach inputs) reach inputs sets full stand (IsAtLeast-refl (floor_of reach inputs)));
-    }
+pub StandsForUnion-merged_file : (name : List ℕ) (inputs : List File) (reach : List ℕ) → HasContexts (as_entries (points_of inputs)) → HaveFloors (length reach) inputs → StandsForUnion inputs (merged_file name inputs reach)
+StandsForUnion-merged_file name inputs reach within floors = λ sets stand.
+    AgreesAbove-trans
+    (AgreesAbove-later (floor_of-high reach inputs (length reach) refl floors) (AgreesAbove-listing reach (points_of inputs) within))
+    (agrees-union (floor_of reach inputs) reach inputs sets (length reach) refl floors stand (IsAtLeast-refl (floor_of reach inputs)))

@@ -1,5 +1,5 @@
 -- What a merge of files is.
-use Rattle.std.specs.Prelude.{◌≡◌, ℕ, List, fold, flat_map, if◌then◌else◌, Option, Some}
+use Rattle.std.specs.Prelude.{◌≡◌, ℕ, List, fold, flat_map, length, All, if◌then◌else◌, Option, Some}
 use Rattle.std.specs.List.{filter_map, list_all, AllZip}
 use Rattle.point_core.specs.declared.refusal.Refusal.{Refusal}
 use Rattle.point_core.specs.declared.refusal.Refusal.TheVariants.{NoEntry}
@@ -38,11 +38,16 @@ merge_of fs name inputs reach = merged_file name (files_at fs inputs) reach
 abbrev pub StandsForUnion : List File → File → Type 0
 StandsForUnion inputs f = (sets : List (List Entry)) → AllZip StandsFor inputs sets → StandsFor f (flat_map (λ set. set) sets)
 
+-- the files' floors have a value of each of n contexts
+abbrev pub HaveFloors : ℕ → List File → Type 0
+HaveFloors n inputs = All (λ (f : File). length f.floor ≡ n) inputs
+
 -- the table has the latest point of each context among the reach and the files' points, and the floor is that of their merge
 pub record IsGathered (table least reach : List ℕ) (inputs : List File) : Type 0 where
   pub latest : IsLatest table reach (as_entries (points_of inputs)) 0
   pub floor : least ≡ floor_of reach inputs
   pub contexts : HasContexts (as_entries (points_of inputs))
+  pub floors : HaveFloors (length reach) inputs
 
 -- it was gathered of some files
 abbrev pub IsGatheredAbove : List ℕ → List ℕ → List ℕ → Type 0

@@ -1,4 +1,4 @@
-use Rattle.std.specs.Prelude.{◌≡◌, ℕ, List, [], ◌∷◌, length, replicate}
+use Rattle.std.specs.Prelude.{ℕ, List, [], ◌∷◌, replicate}
 use Rattle.point_core.specs.declared.entry.Point.{Point}
 use Rattle.point_core.specs.declared.entry.Entry.{Entry}
 use Rattle.point_core.specs.declared.context.TheConstants.{CONTEXTS}
@@ -17,7 +17,6 @@ file_of name points floor = record { name = name; points = points; floor = floor
 abbrev pub plain_file : List ℕ → Point → File
 plain_file name point = file_of name (point ∷ []) (replicate CONTEXTS 0)
 
--- above its floor the file says what the set says, and the floor has a value of every context
-pub record StandsFor (f : File) (set : List Entry) : Type 0 where
-  pub full : length f.floor ≡ CONTEXTS
-  pub agrees : AgreesAbove f.floor (as_entries f.points) set
+-- above its floor the file says what the set says
+abbrev pub StandsFor : File → List Entry → Type 0
+StandsFor f set = AgreesAbove f.floor (as_entries f.points) set

@@ -1,11 +1,10 @@
 // The files by name.
-ghost use Rattle.std.specs.Prelude.{◌≡◌, ◌++◌, [], ◌∷◌, ◌<◌, length, OnOk, OnErr, IfOk, IfErr, IsOk, None, option_copied, MatchOption, MatchBool, MatchResult, IfSome, Some, Ok, Err};
+ghost use Rattle.std.specs.Prelude.{◌≡◌, ◌++◌, [], ◌∷◌, OnOk, OnErr, IfOk, IfErr, IsOk, None, option_copied, MatchOption, MatchBool, MatchResult, IfSome, Some, Ok, Err};
 ghost use Rattle.point_core.specs.declared.refusal.Refusal.TheVariants.{Memory, NoEntry};
 ghost use Rattle.syncfile_core.specs.declared.files.TheConstants.{FILES};
 ghost use Rattle.syncfile_core.specs.SyncFile.{file_of, plain_file, StandsFor};
 ghost use Rattle.syncfile_core.specs.Merge.{files_at, merge_of, cause_to_refuse_merge, StandsForUnion};
 ghost use Rattle.point_core.specs.Agreement.{as_entry, HasRisingContexts};
-ghost use Rattle.point_core.specs.declared.context.TheConstants.{CONTEXTS};
 ghost use Rattle.syncfile_core.specs.Status.{status_of, info_of, TellsSetsOf};
 ghost use Rattle.syncfile_core.specs.Files.{has_file, file_at, without_file, names_of, HasDistinctNames, cause_to_refuse, IsRefusedFor};
 
@@ -19,6 +18,8 @@ use std::marker::Model;
 
 /// How many files there can be at a time.
 pub const FILES: usize = 1024;
+
+const _: () = prove!(FILES == 1024);
 
 /// The files that were made and not closed, by the order of making.
 #[derive(Drop)]
@@ -41,7 +42,7 @@ impl Model for Files {
 impl Files {
     /// No files. It takes no memory yet, so it is never refused.
     pub fn new(alloc: Global) -> Result<Files, Refusal>
-        ensures { result ≡ Ok [] }
+        ensures empty { result ≡ Ok [] }
     {
         Ok(Files {
             by_name: IndexMap::new(alloc),
@@ -52,7 +53,7 @@ impl Files {
     ///
     /// Takes no memory.
     pub fn get(&self, name: &Name) -> Option<&SyncFile>
-        ensures { option_copied result ≡ file_at self.now name.now }
+        ensures found { option_copied result ≡ file_at self.now name.now }
     {
         match self.by_name.get(name) {
             Some(file) => Some(&**file),
@@ -75,7 +76,9 @@ impl Files {
     ///
     /// Refuses as `NoEntry`. Takes no memory.
     pub fn status(&self, name: &Name, reach: &Reach) -> Result<Status, Refusal>
-        ensures status { MatchOption (file_at self.now name.now) (result ≡ Err NoEntry) (λ f. result ≡ Ok (status_of f.points reach.now)) }
+        ensures status { MatchOption (file_at self.now name.now)
+            (result ≡ Err NoEntry)
+            (λ f. result ≡ Ok (status_of f.points reach.now)) }
         ensures stands { IfSome (file_at self.now name.now) (λ f. TellsSetsOf f reach.now) }
     {
         let file = self.known(name)?;
@@ -87,7 +90,9 @@ impl Files {
     ///
     /// Refuses as `NoEntry`, then as `Memory`.
     pub fn info(&self, name: &Name, reach: &Reach) -> Result<FileInfo, Refusal>
-        ensures { MatchOption (file_at self.now name.now) (result ≡ Err NoEntry) (λ f. MatchResult result (λ info. info ≡ info_of f reach.now) (λ e. e ≡ Memory)) }
+        ensures info { MatchOption (file_at self.now name.now)
+            (result ≡ Err NoEntry)
+            (λ f. MatchResult result (λ info. info ≡ info_of f reach.now) (λ e. e ≡ Memory)) }
     {
         let file = self.known(name)?;
         let points = file.points.as_slice();
@@ -103,7 +108,7 @@ impl Files {
     ///
     /// Takes no memory.
     pub fn free(&self, name: &Name) -> Result<(), Refusal>
-        ensures { MatchOption (cause_to_refuse self.now name.now) (IsOk result) (λ cause. result ≡ Err cause) }
+        ensures free { MatchOption (cause_to_refuse self.now name.now) (IsOk result) (λ cause. result ≡ Err cause) }
     {
         if self.by_name.contains_key(name) {
             return Err(Refusal::Exists);
@@ -136,7 +141,9 @@ impl Files {
     pub fn merge(&mut self, name: Name, a: &Name, b: &Name, reach: &Reach) -> Result<(), Refusal>
         ensures refused { IsRefusedFor (cause_to_refuse_merge self.old name (a.now ∷ b.now ∷ [])) result }
         ensures last { OnOk result (self.new ≡ self.old ++ merge_of self.old name (a.now ∷ b.now ∷ []) reach.now ∷ []) }
-        ensures union { length reach.now ≡ CONTEXTS → OnOk result (StandsForUnion (files_at self.old (a.now ∷ b.now ∷ [])) (merge_of self.old name (a.now ∷ b.now ∷ []) reach.now)) }
+        ensures union { OnOk result
+            (StandsForUnion (files_at self.old (a.now ∷ b.now ∷ []))
+            (merge_of self.old name (a.now ∷ b.now ∷ []) reach.now)) }
         ensures unchanged { OnErr result (self.new ≡ self.old) }
     {
         self.merge_many(name, &[*a, *b], reach)
@@ -148,7 +155,8 @@ impl Files {
     pub fn merge_many(&mut self, name: Name, inputs: &[Name], reach: &Reach) -> Result<(), Refusal>
         ensures refused { IsRefusedFor (cause_to_refuse_merge self.old name inputs.now) result }
         ensures last { OnOk result (self.new ≡ self.old ++ merge_of self.old name inputs.now reach.now ∷ []) }
-        ensures union { length reach.now ≡ CONTEXTS → OnOk result (StandsForUnion (files_at self.old inputs.now) (merge_of self.old name inputs.now reach.now)) }
+        ensures union { OnOk result
+            (StandsForUnion (files_at self.old inputs.now) (merge_of self.old name inputs.now reach.now)) }
         ensures unchanged { OnErr result (self.new ≡ self.old) }
     {
         let mut gathered = Gathered::above(reach);
@@ -205,7 +213,7 @@ impl Files {
 
     // Puts a new file last.
     fn insert(&mut self, file: SyncFile) -> Result<(), Refusal>
-        requires { cause_to_refuse self.old file.name ≡ None }
+        requires free { cause_to_refuse self.old file.name ≡ None }
         ensures last { OnOk result (self.new ≡ self.old ++ file ∷ []) }
         ensures unchanged { OnErr result (self.new ≡ self.old) }
         ensures memory { IfErr result (λ e. e ≡ Memory) }

@@ -1,7 +1,6 @@
 // What a merge gathers of its inputs.
-ghost use Rattle.std.specs.Prelude.{◌≡◌, ℕ, List, [], ◌∷◌, ◌++◌, length, IfOk, IfErr};
+ghost use Rattle.std.specs.Prelude.{◌≡◌, ℕ, List, [], ◌∷◌, ◌++◌, IfOk, IfErr};
 ghost use Rattle.point_core.specs.declared.entry.Entry.{Entry};
-ghost use Rattle.point_core.specs.declared.context.TheConstants.{CONTEXTS};
 ghost use Rattle.point_core.specs.declared.refusal.Refusal.TheVariants.{Memory};
 ghost use Rattle.point_core.specs.Agreement.{as_entries, HasContexts};
 ghost use Rattle.point_core.specs.Latest.{IsLatest};
@@ -22,7 +21,7 @@ pub(crate) struct Gathered {
 impl Gathered {
     /// No input yet.
     pub(crate) fn above(reach: &Reach) -> Gathered
-        ensures { IsGathered result.latest result.floor reach.now [] }
+        ensures none { IsGathered result.latest result.floor reach.now [] }
     {
         Gathered {
             latest: *reach,
@@ -32,7 +31,9 @@ impl Gathered {
 
     /// One more input.
     pub(crate) fn add(&mut self, file: &SyncFile)
-        ensures { (reach : List ℕ) (inputs : List File) → IsGathered self.old.latest self.old.floor reach inputs → IsGathered self.new.latest self.new.floor reach (inputs ++ file.now ∷ []) }
+        ensures more { (reach : List ℕ) (inputs : List File) →
+            IsGathered self.old.latest self.old.floor reach inputs →
+            IsGathered self.new.latest self.new.floor reach (inputs ++ file.now ∷ []) }
     {
         raise_to_all(&mut self.latest, file.points.as_slice());
         self.floor = self.floor.joined(&file.floor);
@@ -47,9 +48,12 @@ impl Gathered {
         name: Name,
         reach: &Reach,
     ) -> Result<SyncFile, Refusal>
-        requires { IsGatheredAbove self.latest self.floor reach.now }
-        ensures file { (inputs : List File) → IsGathered self.latest self.floor reach.now inputs → IfOk result (λ f. f ≡ merged_file name inputs reach.now) }
-        ensures union { (inputs : List File) → IsGathered self.latest self.floor reach.now inputs → length reach.now ≡ CONTEXTS → IfOk result (StandsForUnion inputs) }
+        requires gathered { IsGatheredAbove self.latest self.floor reach.now }
+        ensures file { (inputs : List File) →
+            IsGathered self.latest self.floor reach.now inputs →
+            IfOk result (λ f. f ≡ merged_file name inputs reach.now) }
+        ensures union { (inputs : List File) →
+            IsGathered self.latest self.floor reach.now inputs → IfOk result (StandsForUnion inputs) }
         ensures memory { IfErr result (λ e. e ≡ Memory) }
     {
         let points = points_above(alloc, &self.latest, reach)?;
@@ -63,7 +67,8 @@ impl Gathered {
 
 /// Raises the latest point of each context to the points, one after another.
 fn raise_to_all(latest: &mut Reach, points: &[Point])
-    ensures latest { (reach : List ℕ) (es : List Entry) → IsLatest latest.old reach es 0 → IsLatest latest.new reach (es ++ as_entries points.now) 0 }
+    ensures latest { (reach : List ℕ) (es : List Entry) →
+        IsLatest latest.old reach es 0 → IsLatest latest.new reach (es ++ as_entries points.now) 0 }
     ensures contexts { HasContexts (as_entries points.now) }
 {
     for point in points {

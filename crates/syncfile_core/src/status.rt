@@ -25,7 +25,7 @@ pub struct FenceInfo {
 
 impl FenceInfo {
     fn of(point: &Point, reach: &Reach) -> FenceInfo
-        ensures { result ≡ fence_of reach.now point.now }
+        ensures fence { result ≡ fence_of reach.now point.now }
     {
         FenceInfo {
             ctx: Some(point.ctx),
@@ -35,7 +35,7 @@ impl FenceInfo {
     }
 
     fn stub() -> FenceInfo
-        ensures { result ≡ stub }
+        ensures stub { result ≡ stub }
     {
         FenceInfo {
             ctx: None,
@@ -47,13 +47,13 @@ impl FenceInfo {
 
 /// Signalled once each of the points is.
 pub(crate) fn status_of(points: &[Point], reach: &Reach) -> Status
-    ensures { result ≡ status_of points.now reach.now }
+    ensures status { result ≡ status_of points.now reach.now }
 {
     status_if(points.iter().all(|point| is_signalled(*point, reach)))
 }
 
 fn status_if(signalled: bool) -> Status
-    ensures { result ≡ status_if signalled }
+    ensures status { result ≡ status_if signalled }
 {
     if signalled {
         Status::Signalled
@@ -68,7 +68,7 @@ pub(crate) fn fences_of(
     points: &[Point],
     reach: &Reach,
 ) -> Result<Vec<FenceInfo>, AllocError>
-    ensures { IfOk result (λ fences. fences.items ≡ fences_of points.now reach.now) }
+    ensures fences { IfOk result (λ fences. fences.items ≡ fences_of points.now reach.now) }
 {
     if points.is_empty() {
         return Vec::from_slice(alloc, &[FenceInfo::stub()]);

@@ -9,4 +9,4 @@ use Rattle.syncfile_core.proofs.status.status_of.Goals as goal
 pub returns : goal.returns
 returns c =
     let all = all_from_yields_List (is_reached c.args.reach.now) _ _ c.all.result c.all.ensures.ran (YieldsList-from_slice c.args.points.now cc) (λ x b q k. search (rules, is_nat_le)) in
-    c.status_if.ensures ∙ ap status_if all
+    record { status = c.status_if.ensures.status ∙ ap status_if all }

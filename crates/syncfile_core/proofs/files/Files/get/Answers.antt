@@ -4,14 +4,18 @@ use Rattle.syncfile_core.proofs.Kept.{file_at-files_in}
 use Rattle.syncfile_core.proofs.files.Files.get.Goals as goal
 
 pub returns-in-Some : goal.returns-in-Some
-returns-in-Some c =
-    ap Some c.deref.ensures
-    ∙ ap (option_map (λ b. b.value)) c.in-Some.ensures.value
-    ∙ sym (file_at-files_in (λ b. b.value) c.args.name.now c.self.inside.by_name.entries c.self.invariant.keyed)
-    ∙ ap (λ fs. file_at fs c.args.name.now) c.self.view_is
+returns-in-Some c = record {
+  found =
+      ap Some c.deref.ensures
+      ∙ ap (option_map (λ b. b.value)) c.in-Some.ensures.value
+      ∙ sym (file_at-files_in (λ b. b.value) c.args.name.now c.self.inside.by_name.entries c.self.invariant.keyed)
+      ∙ ap (λ fs. file_at fs c.args.name.now) c.self.view_is;
+}
 
 pub returns-in-None : goal.returns-in-None
-returns-in-None c =
-    ap (option_map (λ b. b.value)) c.in-None.ensures.value
-    ∙ sym (file_at-files_in (λ b. b.value) c.args.name.now c.self.inside.by_name.entries c.self.invariant.keyed)
-    ∙ ap (λ fs. file_at fs c.args.name.now) c.self.view_is
+returns-in-None c = record {
+  found =
+      ap (option_map (λ b. b.value)) c.in-None.ensures.value
+      ∙ sym (file_at-files_in (λ b. b.value) c.args.name.now c.self.inside.by_name.entries c.self.invariant.keyed)
+      ∙ ap (λ fs. file_at fs c.args.name.now) c.self.view_is;
+}

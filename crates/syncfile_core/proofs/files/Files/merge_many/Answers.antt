@@ -21,7 +21,7 @@ loop-input-preserved c =
     let found = c.in_ok-known.ensures.found in (
       subst (λ files. IsGathered c.add.new.self.latest c.add.new.self.floor c.args.reach.now files)
           (sym (files_at-take_more c.args.self.now c.args.inputs.now c.loop-input.input-index c.input-item.result c.in_ok-known.field-0.now c.loop-input-test.true c.input-item.is found))
-          (c.add.ensures c.args.reach.now _ c.loop-input.invariant.0),
+          (c.add.ensures.more c.args.reach.now _ c.loop-input.invariant.0),
       list_all-take_more (has_file c.args.self.now) c.args.inputs.now c.loop-input.input-index c.input-item.result c.loop-input-test.true c.input-item.is c.loop-input.invariant.1 (has_file-found c.args.self.now c.input-item.result c.in_ok-known.field-0.now found),
     )
 
@@ -32,7 +32,7 @@ returns-clause-last c =
     subst (λ f. OnOk c.insert.result (c.insert.new.self ≡ c.args.self.now ++ f ∷ [])) file c.insert.ensures.last
 
 pub returns-clause-union : goal.returns-clause-union
-returns-clause-union c = λ full.
+returns-clause-union c =
     let all = take_all c.loop-input.input-index c.args.inputs.now c.loop-input-test.false in
     let gathered = subst (λ names. IsGathered c.loop-input.gathered.latest c.loop-input.gathered.floor c.args.reach.now (files_at c.args.self.now names)) all c.loop-input.invariant.0 in
-    OnOk-always c.insert.result _ (StandsForUnion-merged_file c.args.name (files_at c.args.self.now c.args.inputs.now) c.args.reach.now gathered.contexts full)
+    OnOk-always c.insert.result _ (StandsForUnion-merged_file c.args.name (files_at c.args.self.now c.args.inputs.now) c.args.reach.now gathered.contexts gathered.floors)

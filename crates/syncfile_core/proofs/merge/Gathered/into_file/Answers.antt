@@ -9,13 +9,13 @@ use Rattle.syncfile_core.proofs.merge.Gathered.into_file.Goals as goal
 
 pub invariant_of-result : goal.invariant_of-result
 invariant_of-result c =
-    let listed = c.of.ensures ∙ c.in_ok-points.ensures.points ∙ points_above-IsLatest c.requires.1.latest in
-    subst HasRisingContexts (sym listed) (listing-rising (as_entries (points_of c.requires.0)) 0 c.args.reach.now)
+    let listed = c.of.ensures ∙ c.in_ok-points.ensures.points ∙ points_above-IsLatest c.requires.gathered.1.latest in
+    subst HasRisingContexts (sym listed) (listing-rising (as_entries (points_of c.requires.gathered.0)) 0 c.args.reach.now)
 
 pub returns-clause-file : goal.returns-clause-file
 returns-clause-file c = λ inputs gathered. merged-is c.args.name inputs c.args.reach.now gathered (c.of.ensures ∙ c.in_ok-points.ensures.points)
 
 pub returns-clause-union : goal.returns-clause-union
-returns-clause-union c = λ inputs gathered full.
+returns-clause-union c = λ inputs gathered.
     subst (StandsForUnion inputs) (sym (merged-is c.args.name inputs c.args.reach.now gathered (c.of.ensures ∙ c.in_ok-points.ensures.points)))
-    (StandsForUnion-merged_file c.args.name inputs c.args.reach.now gathered.contexts full)
+    (StandsForUnion-merged_file c.args.name inputs c.args.reach.now gathered.contexts gathered.floors)

@@ -1,0 +1,15 @@
+use Rattle.std.proofs.Common.{◌≡◌, ap, ◌∙◌}
+use Rattle.syncfile_core.specs.SyncFile.{File}
+use Rattle.syncfile_core.proofs.Merging.{IsGathered-last}
+use Rattle.syncfile_core.proofs.merge.Gathered.add.Goals as goal
+
+pub returns : goal.returns
+returns c = record {
+  more = λ reach inputs before.
+      let points : c.as_slice.result.now ≡ c.args.file.now.points = c.as_slice.ensures ∙ ap (λ (f : File). f.points) c.file.view_is in
+      let floor : c.file.inside.floor ≡ c.args.file.now.floor = ap (λ (f : File). f.floor) c.file.view_is in
+      let added =
+      IsGathered-last inputs (record c.args.file.now { points = c.as_slice.result.now; floor = c.file.inside.floor }) before
+      (c.raise_to_all.ensures.latest reach _ before.latest) c.raise_to_all.ensures.contexts c.joined-self.ensures.values c.joined-self.ensures.full in
+      rw (points, floor) at added;
+}
