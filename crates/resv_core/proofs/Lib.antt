@@ -1,4 +1,5 @@
 pub mod Compaction
+pub mod Counting
 pub mod Replacing
 pub mod Rows
 pub mod Runs

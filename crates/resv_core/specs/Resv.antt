@@ -41,6 +41,14 @@ pub record IsTrimmed (reach : List ℕ) (es : List Entry) : Type 0 where
   pub pending : All (λ e. value_at reach e.point.ctx < e.point.value) es
   pub apart : AllPairs (λ e f. (covers e f ≡ false) × (covers f e ≡ false)) es
 
+-- the entry is of the context
+abbrev pub is_at : ℕ → Entry → Bool
+is_at ctx e = e.point.ctx == ctx
+
+-- the entry is of the context, and of that usage
+abbrev pub is_of : Usage → ℕ → Entry → Bool
+is_of usage ctx e = (number_of e.usage == number_of usage) && is_at ctx e
+
 abbrev pub row_of : Usage → Point → TopRow
 row_of usage point = record { usage = usage; ctx = point.ctx; point = point.value }
 

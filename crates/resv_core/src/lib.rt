@@ -7,7 +7,10 @@ mod laws;
 mod resv;
 mod tops;
 
-pub use laws::{a_table_agrees_with_all_that_was_added, tables_that_agree_tell_the_same};
+pub use laws::{
+    a_table_agrees_with_all_that_was_added, a_trimmed_table_has_one_entry_of_each_usage,
+    tables_that_agree_tell_the_same,
+};
 pub use resv::{PLACES, PLACES_PER_CONTEXT, Resv};
 
 #[cfg(test)]

@@ -1,13 +1,14 @@
 // The reservation of a buffer.
-ghost use Rattle.std.specs.Prelude.{◌≡◌, ◌+◌, ◌-◌, ◌<◌, ◌≤◌, ◌↔◌, ◌++◌, ◌∷◌, [], Ok, if◌then◌else◌, length, map, vec_len, IfErr, IfOk, IsTrue, OnErr, OnOk};
+ghost use Rattle.std.specs.Prelude.{◌≡◌, ◌+◌, ◌-◌, ◌<◌, ◌≤◌, ◌↔◌, ◌++◌, Ok, if◌then◌else◌, length, map, vec_len, IfErr, IfOk, IsTrue, OnErr, OnOk};
 ghost use Rattle.std.specs.List.{list_any};
 ghost use Rattle.std.specs.Vec.{vec_capacity};
 ghost use Rattle.point_core.specs.declared.context.TheConstants.{CONTEXTS};
-ghost use Rattle.point_core.specs.Agreement.{AgreesAbove, IsReached, listing};
+ghost use Rattle.point_core.specs.Agreement.{IsReached, listing};
 ghost use Rattle.point_core.specs.Latest.{points_above};
 ghost use Rattle.point_core.specs.Usage.{number_of};
 ghost use Rattle.resv_core.specs.declared.resv.TheConstants.{PLACES};
 ghost use Rattle.resv_core.specs.Resv.{IsTable, IsTrimmed, empty, entry_of, gives_way, row_of, rows_of};
+ghost use Rattle.resv_core.specs.Run.{Leaves, Reserve, Add, Trim};
 
 use crate::tops::{Tops, USAGES, compact, latest_of};
 use point_core::{
@@ -22,6 +23,10 @@ pub const PLACES_PER_CONTEXT: usize = USAGES + 1;
 
 /// How many entries a table can hold. Of a trimmed table one place for each context is free.
 pub const PLACES: usize = PLACES_PER_CONTEXT * CONTEXTS;
+
+const _: () = prove!(PLACES_PER_CONTEXT == 5);
+
+const _: () = prove!(PLACES == 320);
 
 /// The fences of a buffer, each with the usage that it was added for, as Linux's `struct dma_resv`.
 ///
@@ -48,12 +53,9 @@ impl Model for Resv {
 }
 
 impl Resv {
-    /// No entries and no room: the places are taken by the first `reserve`.
-    ///
-    /// Refuses as `Memory` alone.
+    /// No entries and no room: the places are taken by the first `reserve`. Takes no memory, so it is never refused.
     pub fn new(alloc: Global) -> Result<Self, Refusal>
-        ensures empty { IfOk result (λ r. r ≡ empty) }
-        ensures memory { IfErr result (λ e. e ≡ Refusal.Memory) }
+        ensures empty { result ≡ Ok empty }
     {
         Ok(Resv {
             entries: Vec::new(alloc),
@@ -70,11 +72,12 @@ impl Resv {
         requires few { n ≤ CONTEXTS }
         ensures table { IsTable self.new }
         ensures room { OnOk result (n ≤ self.new.room) }
-        ensures agrees { AgreesAbove reach.now self.old.entries self.new.entries }
+        ensures agrees { Leaves Reserve reach.now self.old.entries self.new.entries }
 
         // With enough room nothing changes; otherwise the table is trimmed, and has all its places.
         ensures enough { n ≤ self.old.room → (result ≡ Ok tt) × (self.new ≡ self.old) }
         ensures trimmed { OnOk result (self.old.room < n → IsTrimmed reach.now self.new.entries) }
+        ensures few { OnOk result (self.old.room < n → length self.new.entries + CONTEXTS ≤ PLACES) }
         ensures places { OnOk result (self.old.room < n → length self.new.entries + self.new.room ≡ PLACES) }
 
         ensures memory { IfErr result (λ e. e ≡ Refusal.Memory) }
@@ -100,17 +103,21 @@ impl Resv {
         self.entries.capacity() - self.entries.len()
     }
 
-    /// Adds a fence. It replaces, in place, the first entry that is signalled, or that the new one covers: the same
-    /// context, a usage number at least the new one's, a point not later. Otherwise it takes a free place, so `reserve`
+    /// Adds a fence. It replaces an entry that is signalled, or that the new one covers: the same context, a usage
+    /// number at least the new one's, a point not later. Where there is none it takes a free place, so `reserve`
     /// first.
     ///
     /// Linux's `dma_resv_add_fence` replaces in this manner; which entries it lets a new one replace differs between
-    /// kernels, and these conditions are our own. Takes no memory.
+    /// kernels, and these conditions are our own. As it works today, the first such entry is replaced, in place; which
+    /// one it is, and where an entry stands, is not promised. Takes no memory.
     pub fn add(&mut self, point: Point, usage: Usage, reach: &Reach)
         requires room { 1 ≤ self.old.room }
         ensures table { IsTable self.new }
-        ensures agrees { AgreesAbove reach.now self.new.entries (self.old.entries ++ entry_of point usage ∷ []) }
-        ensures room { self.new.room ≡ (if list_any (gives_way reach.now (entry_of point usage)) self.old.entries then self.old.room else self.old.room - 1) }
+        ensures agrees { Leaves (Add (entry_of point usage)) reach.now self.old.entries self.new.entries }
+        ensures room { self.new.room ≡
+            (if list_any (gives_way reach.now (entry_of point usage)) self.old.entries
+            then self.old.room
+            else self.old.room - 1) }
         ensures falls { self.old.room ≤ self.new.room + 1 }
         ensures places { length self.new.entries + self.new.room ≡ length self.old.entries + self.old.room }
     {
@@ -130,7 +137,7 @@ impl Resv {
     /// a table larger. Takes no memory.
     pub fn trim(&mut self, reach: &Reach)
         ensures table { IsTable self.new }
-        ensures agrees { AgreesAbove reach.now self.old.entries self.new.entries }
+        ensures agrees { Leaves Trim reach.now self.old.entries self.new.entries }
         ensures trimmed { IsTrimmed reach.now self.new.entries }
         ensures few { length self.new.entries + CONTEXTS ≤ PLACES }
         ensures places { length self.new.entries + self.new.room ≡ length self.old.entries + self.old.room }
@@ -174,7 +181,7 @@ impl Resv {
     /// Whether every entry of the usage or a stronger one is signalled, as Linux's `dma_resv_test_signaled`. Takes no
     /// memory.
     pub fn test(&self, usage: Usage, reach: &Reach) -> bool
-        ensures { IsTrue result ↔ IsReached self.now.entries (number_of usage) reach.now }
+        ensures reached { IsTrue result ↔ IsReached self.now.entries (number_of usage) reach.now }
     {
         self.entries.iter().all(|entry| entry.usage.number() > usage.number()
             || is_signalled(entry.point, reach))

@@ -84,6 +84,22 @@ fn four_hundred_falling_points(rt: HostRuntime) -> Result<(), Fail> {
     Ok(())
 }
 
+// The last place is taken by an entry that replaces none; for the next one the table is trimmed.
+#[test]
+fn three_hundred_and_twenty_places(rt: HostRuntime) -> Result<(), Fail> {
+    let none = reach_of(&[])?;
+    let mut resv = Resv::new(rt.alloc())?;
+    for value in (1..=320).rev() {
+        reserve_and_add(&mut resv, point(1, value)?, Usage::Bookkeep, &none)?;
+    }
+    assert_eq!(rt; resv.room(), 0);
+    reserve_and_add(&mut resv, point(2, 1)?, Usage::Bookkeep, &none)?;
+    assert_eq!(rt; resv.room(), 318);
+    let rows = [row(Usage::Bookkeep, 1, 320)?, row(Usage::Bookkeep, 2, 1)?];
+    assert_eq!(rt; resv.table(&none)?.as_slice(), rows.as_slice());
+    Ok(())
+}
+
 // Four usages of every context, and then three imports of a file with a point of every context. The first fills the
 // table to the last place.
 #[test]

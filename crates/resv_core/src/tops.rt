@@ -44,7 +44,8 @@ impl Tops {
 
     /// Puts an entry into the tables of its usage and of the weaker ones.
     fn put(&mut self, entry: &Entry)
-        ensures tops { (reach : List ℕ) (es : List Entry) → AreTops self.old reach es → AreTops self.new reach (es ++ entry.now ∷ []) }
+        ensures tops { (reach : List ℕ) (es : List Entry) →
+            AreTops self.old reach es → AreTops self.new reach (es ++ entry.now ∷ []) }
         ensures context { HasContexts (entry.now ∷ []) }
     {
         put_at(&mut self.kernel, Usage::Kernel, entry);
@@ -67,7 +68,9 @@ pub(crate) fn latest_of(entries: &[Entry], usage: Usage, reach: &Reach) -> Reach
 
 /// Puts an entry into the table of a usage, where it is of that usage or a stronger one.
 fn put_at(latest: &mut Reach, usage: Usage, entry: &Entry)
-    ensures latest { (reach : List ℕ) (es : List Entry) → IsLatest latest.old reach es (number_of usage) → IsLatest latest.new reach (es ++ entry.now ∷ []) (number_of usage) }
+    ensures latest { (reach : List ℕ) (es : List Entry) →
+        IsLatest latest.old reach es (number_of usage) →
+        IsLatest latest.new reach (es ++ entry.now ∷ []) (number_of usage) }
     ensures context { number_of entry.now.usage ≤ number_of usage → HasContexts (entry.now ∷ []) }
 {
     if entry.usage.number() <= usage.number() {
