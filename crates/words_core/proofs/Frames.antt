@@ -11,9 +11,9 @@ use Rattle.words_core.specs.declared.trace.View.{View}
 use Rattle.words_core.specs.declared.words.Sizes.{Sizes}
 use Rattle.words_core.specs.Layout.{value_at, claim_at, IsClaimOrFlag}
 use Rattle.words_core.specs.Trace.{on, total, is_win}
-use Rattle.words_core.specs.Rule.{Each, WordTrace, context_trace, set_once_trace, wins_on, parts_of, IsEmptyIfSpent, IsValue, IsSetOnce, IsKept}
+use Rattle.words_core.specs.Rule.{Each, WordTrace, context_trace, set_once_trace, wins_on, parts_of, IsEmptyIfSpent, KnowsSizes, IsValue, IsSetOnce, IsKept}
 use Rattle.words_core.specs.Plays.{view_with}
-use Rattle.words_core.proofs.Totals.{total-set, total-append, Each-set, map-set_same}
+use Rattle.words_core.proofs.Totals.{total-set, total-append, Each-set, Each-at, map-set_same}
 use Rattle.words_core.proofs.Traces.{on-append_here, on-append_other}
 use Rattle.words_core.proofs.ValueSteps.{grown, claimed, IsValue-claimed}
 
@@ -40,6 +40,9 @@ parts-view_with views id v s at = let a : total parts_of (set views id (view_wit
 spent-view_with : (views : List View) (id : ℕ) (v : View) (s : Step) → 0 < v.parts → Each IsEmptyIfSpent views → Each IsEmptyIfSpent (set views id (view_with v s))
 spent-view_with views id v s live h = Each-set IsEmptyIfSpent views id (view_with v s) h (λ bad. absurd (omega arith))
 
+sized-view_with : (z : Sizes) (views : List View) (id : ℕ) (v : View) (s : Step) → get_elem? views id ≡ some v → Each (KnowsSizes z) views → Each (KnowsSizes z) (set views id (view_with v s))
+sized-view_with z views id v s at h = Each-set (KnowsSizes z) views id (view_with v s) h (Each-at (KnowsSizes z) views id v h at)
+
 -- how often each word was won, where the step was on the word w
 won_once-view_with : (views : List View) (id : ℕ) (v : View) (s : Step) → get_elem? views id ≡ some v → total (wins_on s.word) views + is_win s ≤ 1 → ((k : ℕ) → total (wins_on k) views ≤ 1) → (k : ℕ) → total (wins_on k) (set views id (view_with v s)) ≤ 1
 won_once-view_with views id v s at here h k =
@@ -61,6 +64,7 @@ IsKept-value z words views id c m v s low live at on_c no_win h fits =
       counted = length-set words (value_at c) m ∙ h.counted;
       parts = parts-view_with views id v s at ∙ h.parts;
       spent = spent-view_with views id v s live h.spent;
+      sized = sized-view_with z views id v s at h.sized;
       won_once = won_once-view_with views id v s at (let few = h.won_once s.word in omega arith) h.won_once;
       values = λ b lower. dite (ℕ_discrete b c)
           (λ e. subst (λ (y : ℕ). IsValue (get_or (set words (value_at c) m) (value_at y) 0) (map (context_trace y) (set views id w))) (sym e)
@@ -82,6 +86,7 @@ IsKept-set_once z words views id k m v s named live at on_k few h fits =
       counted = length-set words k m ∙ h.counted;
       parts = parts-view_with views id v s at ∙ h.parts;
       spent = spent-view_with views id v s live h.spent;
+      sized = sized-view_with z views id v s at h.sized;
       won_once = won_once-view_with views id v s at few h.won_once;
       values = λ b lower. let was = h.values b lower in
           let word : get_or (set words k m) (value_at b) 0 ≡ get_or words (value_at b) 0 = get_or-set_other words k (value_at b) m 0 (λ bad. let i = claim (omega arith) in absurd (omega arith)) in

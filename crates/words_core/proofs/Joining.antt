@@ -12,8 +12,8 @@ use Rattle.words_core.specs.declared.trace.View.{View}
 use Rattle.words_core.specs.declared.words.Sizes.{Sizes}
 use Rattle.words_core.specs.Layout.{value_at, claim_at, IsClaimOrFlag}
 use Rattle.words_core.specs.Trace.{on, amount_of, total, added, is_add, is_win, is_loss, is_load_of, is_add_to, HasRunningSums}
-use Rattle.words_core.specs.Rule.{spent_view, WordTrace, context_trace, set_once_trace, made_in, known_in, wins_in, wins_on, IsAtMost, HasSums, AddsAsDriver, parts_of, IsEmptyIfSpent, IsTraced, IsValue, IsSetOnce, IsKept}
-use Rattle.words_core.specs.Plays.{Holder, counts_parts, joined_view}
+use Rattle.words_core.specs.Rule.{WordTrace, context_trace, set_once_trace, made_in, known_in, wins_in, wins_on, IsAtMost, HasSums, AddsAsDriver, parts_of, IsEmptyIfSpent, KnowsSizes, IsTraced, IsValue, IsSetOnce, IsKept}
+use Rattle.words_core.specs.Plays.{Holder, counts_parts, joined_view, joined_from}
 use Rattle.words_core.proofs.Totals.{total-append, total_at, Each-set, Each-at, total-joined, total_two, total-map}
 use Rattle.words_core.proofs.Traces.{on-append, greatest-append_le, HasRunningSums-append, added_none, HasRunningSums-none}
 use Rattle.words_core.proofs.Frames.{IsValue-same, IsSetOnce-same}
@@ -82,23 +82,24 @@ few_wins z words views c low h =
     let a : total wins_in (map (context_trace c) views) ≡ total (λ (v : View). total is_win (on (claim_at c) v.trace)) views = total-map wins_in (context_trace c) views in
     omega arith
 
-pub join-allowed : (z : Sizes) (id other : ℕ) (v w : View) → 0 < v.parts → Joins {S = Unit {0}} (λ s. IsKept z s.words s.views) id v other w (joined_view v w) spent_view
+pub join-allowed : (z : Sizes) (id other : ℕ) (v w : View) → 0 < v.parts → Joins {S = Unit {0}} (λ s. IsKept z s.words s.views) id v other w (joined_view v w) joined_from
 join-allowed z id other v w live s h at apart there =
     let b : View = joined_view v w in let views : List View = s.views in
     let at' : get_elem? views other ≡ some w = sym (set_else views id other b apart) ∙ there in
     record {
       counted = h.counted;
-      parts = total-joined parts_of views id other v w b spent_view at apart at' refl refl ∙ h.parts;
-      spent = Each-set IsEmptyIfSpent (set views id b) other spent_view (Each-set IsEmptyIfSpent views id b h.spent (λ bad. absurd (omega arith))) (λ _. (refl, refl));
+      parts = total-joined parts_of views id other v w b joined_from at apart at' refl refl ∙ h.parts;
+      spent = Each-set IsEmptyIfSpent (set views id b) other joined_from (Each-set IsEmptyIfSpent views id b h.spent (λ bad. absurd (omega arith))) (λ _. (refl, refl));
+      sized = let mine = Each-at (KnowsSizes z) views id v h.sized at live in Each-set (KnowsSizes z) (set views id b) other joined_from (Each-set (KnowsSizes z) views id b h.sized (λ _. mine)) (λ bad. absurd (omega arith));
       won_once = λ k. let few = h.won_once k in
-          let a : total (wins_on k) (set (set views id b) other spent_view) ≡ total (wins_on k) views = total-joined (wins_on k) views id other v w b spent_view at apart at'
+          let a : total (wins_on k) (set (set views id b) other joined_from) ≡ total (wins_on k) views = total-joined (wins_on k) views id other v w b joined_from at apart at'
           (ap (total is_win) (on-append k v.trace w.trace) ∙ total-append is_win (on k v.trace) (on k w.trace)) refl in omega arith;
       values = λ c low. IsValue-same _ _ _ _ refl
-          (map-set (context_trace c) (set views id b) other spent_view ∙ ap (λ (ts : List WordTrace). set ts other no_trace) (map-set (context_trace c) views id b)
+          (map-set (context_trace c) (set views id b) other joined_from ∙ ap (λ (ts : List WordTrace). set ts other no_trace) (map-set (context_trace c) views id b)
           ∙ (λ i. set (set (map (context_trace c) views) id record { start = on-append (value_at c) v.start w.start i; made = on-append (value_at c) v.trace w.trace i; claim = on-append (claim_at c) v.trace w.trace i }) other no_trace))
           (IsValue-joined (slice_index s.words (value_at c)) (map (context_trace c) views) id other (context_trace c v) (context_trace c w) (at_map (context_trace c) views id v at) apart (at_map (context_trace c) views other w at') (few_wins z s.words views c low h) (h.values c low));
       set_once = λ k is. IsSetOnce-same _ _ _ _ refl
-          (map-set (set_once_trace k) (set views id b) other spent_view ∙ ap (λ (ts : List (List Step)). set ts other []) (map-set (set_once_trace k) views id b) ∙ (λ i. set (set (map (set_once_trace k) views) id (on-append k v.trace w.trace i)) other []))
+          (map-set (set_once_trace k) (set views id b) other joined_from ∙ ap (λ (ts : List (List Step)). set ts other []) (map-set (set_once_trace k) views id b) ∙ (λ i. set (set (map (set_once_trace k) views) id (on-append k v.trace w.trace i)) other []))
           (IsSetOnce-joined (slice_index s.words k) (map (set_once_trace k) views) id other (set_once_trace k v) (set_once_trace k w) (at_map (set_once_trace k) views id v at) apart (at_map (set_once_trace k) views other w at') (h.set_once k is));
     }
 

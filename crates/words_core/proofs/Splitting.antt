@@ -10,7 +10,7 @@ use Rattle.words_core.specs.declared.trace.View.{View}
 use Rattle.words_core.specs.declared.words.Sizes.{Sizes}
 use Rattle.words_core.specs.Layout.{value_at}
 use Rattle.words_core.specs.Trace.{amount_of, total, greatest, is_win, is_loss, is_load_of, is_add_to}
-use Rattle.words_core.specs.Rule.{spent_view, WordTrace, context_trace, set_once_trace, made_in, known_in, wins_on, IsAtMost, HasSums, AddsAsDriver, parts_of, IsEmptyIfSpent, IsTraced, IsValue, IsSetOnce, IsKept}
+use Rattle.words_core.specs.Rule.{spent_view, WordTrace, context_trace, set_once_trace, made_in, known_in, wins_on, IsAtMost, HasSums, AddsAsDriver, parts_of, IsEmptyIfSpent, KnowsSizes, IsTraced, IsValue, IsSetOnce, IsKept}
 use Rattle.words_core.specs.Plays.{parent_view, child_view}
 use Rattle.words_core.proofs.Totals.{total-set, total-append, total_at, Each-set, Each-at, Each-last, map-set_same}
 use Rattle.words_core.proofs.Traces.{on-append, greatest-append_le}
@@ -71,6 +71,7 @@ split-allowed z id n v pos less s h at =
       counted = h.counted;
       parts = omega arith;
       spent = Each-last IsEmptyIfSpent vs r (Each-set IsEmptyIfSpent views id l h.spent (λ bad. absurd (omega arith))) (λ bad. absurd (omega arith));
+      sized = let mine = Each-at (KnowsSizes z) views id v h.sized at (omega arith) in Each-last (KnowsSizes z) vs r (Each-set (KnowsSizes z) views id l h.sized (λ _. mine)) (λ _. mine);
       won_once = λ w.
           let few = h.won_once w in
           let a : total (wins_on w) vs + wins_on w v ≡ total (wins_on w) views + wins_on w v = total-set (wins_on w) views id v l at in
@@ -83,18 +84,20 @@ split-allowed z id n v pos less s h at =
     }
 
 -- a spent seat may come at any time
-IsKept-spent : (z : Sizes) (words : List ℕ) (views : List View) → IsKept z words views → IsKept z words (views ++ spent_view ∷ [])
+IsKept-spent : (z : Sizes) (words : List ℕ) (views : List View) → IsKept z words views → IsKept z words (views ++ spent_view z ∷ [])
 IsKept-spent z words views h =
-    let two : total parts_of (views ++ spent_view ∷ []) ≡ total parts_of views + (0 + 0) = total-append parts_of views (spent_view ∷ []) in
+    let spent : View = spent_view z in
+    let two : total parts_of (views ++ spent ∷ []) ≡ total parts_of views + (0 + 0) = total-append parts_of views (spent ∷ []) in
     let all = h.parts in
     record {
       counted = h.counted;
       parts = omega arith;
-      spent = Each-last IsEmptyIfSpent views spent_view h.spent (λ _. (refl, refl));
-      won_once = λ w. let few = h.won_once w in let a : total (wins_on w) (views ++ spent_view ∷ []) ≡ total (wins_on w) views + (0 + 0) = total-append (wins_on w) views (spent_view ∷ []) in omega arith;
-      values = λ c low. IsValue-same _ _ _ _ refl (map-append (context_trace c) views (spent_view ∷ [])) (IsValue-started (slice_index words (value_at c)) (map (context_trace c) views) [] (omega arith) (λ x. omega arith) (h.values c low));
-      set_once = λ k is. IsSetOnce-same _ _ _ _ refl (map-append (set_once_trace k) views (spent_view ∷ [])) (IsSetOnce-started (slice_index words k) (map (set_once_trace k) views) (h.set_once k is));
+      spent = Each-last IsEmptyIfSpent views spent h.spent (λ _. (refl, refl));
+      sized = Each-last (KnowsSizes z) views spent h.sized (λ _. refl);
+      won_once = λ w. let few = h.won_once w in let a : total (wins_on w) (views ++ spent ∷ []) ≡ total (wins_on w) views + (0 + 0) = total-append (wins_on w) views (spent ∷ []) in omega arith;
+      values = λ c low. IsValue-same _ _ _ _ refl (map-append (context_trace c) views (spent ∷ [])) (IsValue-started (slice_index words (value_at c)) (map (context_trace c) views) [] (omega arith) (λ x. omega arith) (h.values c low));
+      set_once = λ k is. IsSetOnce-same _ _ _ _ refl (map-append (set_once_trace k) views (spent ∷ [])) (IsSetOnce-started (slice_index words k) (map (set_once_trace k) views) (h.set_once k is));
     }
 
-pub spent-allowed : (z : Sizes) (slots i : ℕ) → Enters {S = Unit {0}} (λ s. IsKept z s.words s.views) slots i (λ n w. Unit {0})
-spent-allowed z slots i s h homes small = (spent_view, IsKept-spent z s.words s.views h, tt)
+pub spent-allowed : (z : Sizes) (slots i : ℕ) → Enters {S = Unit {0}} (λ s. IsKept z s.words s.views) slots i (λ n w. w.sizes ≡ z)
+spent-allowed z slots i s h homes small = (spent_view z, IsKept-spent z s.words s.views h, refl)

@@ -5,7 +5,7 @@ use Rattle.words_core.specs.declared.seat.TheConstants.{PARTS}
 use Rattle.words_core.specs.declared.trace.Step.{Step}
 use Rattle.words_core.specs.declared.trace.View.{View}
 use Rattle.words_core.specs.Trace.{load, add, set_once_step, on, greatest, added, wins_of, LoadsWereLeft, IsDecided}
-use Rattle.words_core.specs.Rule.{view}
+use Rattle.words_core.specs.Rule.{view, spent_view}
 
 -- a seat's view, with no slots
 abbrev pub Holder : Type 0
@@ -13,7 +13,7 @@ Holder = Me (Unit {0}) View
 
 -- the view with one more step
 abbrev pub view_with : View → Step → View
-view_with v s = view v.parts v.start (v.trace ++ s ∷ [])
+view_with v s = view v.sizes v.parts v.start (v.trace ++ s ∷ [])
 
 -- the greatest value that is known of the word w
 abbrev pub seen_by : ℕ → View → ℕ
@@ -46,16 +46,21 @@ loads_total s me found after = (after ≡ (view_with me.0 (load s.word found), m
 abbrev pub loads_flag : TableStep (Unit {0}) → Holder → ℕ → Holder → Type 0
 loads_flag s me found after = (after ≡ (view_with me.0 (load s.word found), me.1)) × (found ≡ wins_of s.word me.0.trace) × IsDecided s.word me.0.trace
 
-abbrev pub tells_nothing : TableStep (Unit {0}) → Holder → ℕ → Holder → Type 0
-tells_nothing s me found after = Unit {0}
+-- a new seat knows how many words there are
+abbrev pub tells_sizes : TableStep (Unit {0}) → Holder → ℕ → Holder → Type 0
+tells_sizes s me found after = after.0.sizes ≡ me.0.sizes
 
 -- the parent's view when n parts go to a child
 abbrev pub parent_view : ℕ → View → View
-parent_view n v = view (v.parts - n) v.start v.trace
+parent_view n v = view v.sizes (v.parts - n) v.start v.trace
 
 -- the child's, which starts with all that was known
 abbrev pub child_view : ℕ → View → View
-child_view n v = view n (v.start ++ v.trace) []
+child_view n v = view v.sizes n (v.start ++ v.trace) []
 
 abbrev pub joined_view : View → View → View
-joined_view v w = view (v.parts + w.parts) (v.start ++ w.start) (v.trace ++ w.trace)
+joined_view v w = view v.sizes (v.parts + w.parts) (v.start ++ w.start) (v.trace ++ w.trace)
+
+-- of a seat that was joined to another
+abbrev pub joined_from : View
+joined_from = spent_view record { contexts = 0; buffers = 0; flags = 0 }

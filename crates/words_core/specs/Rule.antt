@@ -7,15 +7,15 @@ use Rattle.words_core.specs.declared.words.Sizes.{Sizes}
 use Rattle.words_core.specs.Layout.{value_at, claim_at, word_count, IsClaimOrFlag}
 use Rattle.words_core.specs.Trace.{is_add, is_win, is_loss, is_load_of, is_add_to, total, on, greatest, added, HasRunningSums, wins_of}
 
-abbrev pub view : ℕ → List Step → List Step → View
-view parts start trace = record { parts = parts; start = start; trace = trace }
+abbrev pub view : Sizes → ℕ → List Step → List Step → View
+view sizes parts start trace = record { sizes = sizes; parts = parts; start = start; trace = trace }
 
-abbrev pub first_view : View
-first_view = view PARTS [] []
+abbrev pub first_view : Sizes → View
+first_view sizes = view sizes PARTS [] []
 
 -- of a seat whose parts went to another
-abbrev pub spent_view : View
-spent_view = view 0 [] []
+abbrev pub spent_view : Sizes → View
+spent_view sizes = view sizes 0 [] []
 
 -- P holds of each element
 abbrev pub Each : {A : Type 0} → (A → Type 0) → List A → Type 0
@@ -69,6 +69,10 @@ AddsAsDriver t = wins_in t ≡ 0 → made_in is_add t ≡ 0
 abbrev pub IsEmptyIfSpent : View → Type 0
 IsEmptyIfSpent v = v.parts ≡ 0 → (v.start ≡ []) × (v.trace ≡ [])
 
+-- a seat that is not spent knows how many words there are
+abbrev pub KnowsSizes : Sizes → View → Type 0
+KnowsSizes sizes v = 0 < v.parts → v.sizes ≡ sizes
+
 -- a word that only rises, where `leaves x` is 1 at a step that left x, and `finds x` at one that found it
 pub record IsTraced (leaves finds : ℕ → Step → ℕ) (word : ℕ) (traces : List WordTrace) : Type 0 where
   -- each known value is at most the word
@@ -96,6 +100,7 @@ pub record IsKept (sizes : Sizes) (words : List ℕ) (views : List View) : Type 
   pub counted : length words ≡ word_count sizes
   pub parts : total parts_of views ≡ PARTS
   pub spent : Each IsEmptyIfSpent views
+  pub sized : Each (KnowsSizes sizes) views
   -- each word was won once at most, by all seats together
   pub won_once : (w : ℕ) → total (wins_on w) views ≤ 1
   pub values : (place : ℕ) → place < sizes.contexts → IsValue (slice_index words (value_at place)) (map (context_trace place) views)

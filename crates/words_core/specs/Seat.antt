@@ -1,14 +1,14 @@
 -- A seat, as contracts see it.
 use Rattle.std.specs.Prelude.{ℕ, zero, suc, ◌+◌, ◌-◌, List, [], ◌∷◌, ◌++◌}
-use Rattle.atomic_table.specs.Seated.{TableId}
 use Rattle.point_core.specs.Reach.{value_at}
 use Rattle.words_core.specs.declared.trace.Step.{Step}
 use Rattle.words_core.specs.Layout.{value_word}
 use Rattle.words_core.specs.Trace.{load, on, greatest, added}
+use Rattle.words_core.specs.Words.{WordsModel}
 
 -- the words that it is of, its parts, the steps that its parent knew when it was parted, and its own steps
 pub record SeatModel : Type 0 where
-  pub table : TableId
+  pub words : WordsModel
   pub parts : ℕ
   pub start : List Step
   pub trace : List Step
@@ -40,8 +40,8 @@ without_parts seat n = record seat { parts = seat.parts - n }
 
 -- the seat that they go to
 abbrev pub parted : SeatModel → ℕ → SeatModel
-parted seat n = record { table = seat.table; parts = n; start = seat.start ++ seat.trace; trace = [] }
+parted seat n = record { words = seat.words; parts = n; start = seat.start ++ seat.trace; trace = [] }
 
 -- two seats of the same words in one
 abbrev pub both_of : SeatModel → SeatModel → SeatModel
-both_of seat other = record { table = seat.table; parts = seat.parts + other.parts; start = seat.start ++ other.start; trace = seat.trace ++ other.trace }
+both_of seat other = record { words = seat.words; parts = seat.parts + other.parts; start = seat.start ++ other.start; trace = seat.trace ++ other.trace }

@@ -1,8 +1,8 @@
 -- That a flag was won, as contracts see it.
 use Rattle.std.specs.Prelude.{ℕ}
-use Rattle.atomic_table.specs.Seated.{TableId}
+use Rattle.words_core.specs.Words.{WordsModel}
 
 -- the words, and the flag
 pub record WonModel : Type 0 where
-  pub table : TableId
+  pub words : WordsModel
   pub flag : ℕ

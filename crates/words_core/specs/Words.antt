@@ -1,9 +1,14 @@
--- A set of words, as contracts see it.
+-- Which set of words it is, as contracts see it.
 use Rattle.std.specs.Prelude.{ℕ}
 use Rattle.atomic_table.specs.Seated.{TableId}
+use Rattle.words_core.specs.declared.words.Sizes.{Sizes}
 
+-- what no other set of words shares with it, and how many contexts, buffers and flags it has
 pub record WordsModel : Type 0 where
   pub table : TableId
   pub contexts : ℕ
   pub buffers : ℕ
   pub flags : ℕ
+
+abbrev pub words_of : TableId → Sizes → WordsModel
+words_of table sizes = record { table = table; contexts = sizes.contexts; buffers = sizes.buffers; flags = sizes.flags }

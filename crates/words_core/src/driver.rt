@@ -29,7 +29,7 @@ impl Model for Driver {
 
     ghost view = { λ d. record { seat = d.seat; ctx = d.ctx; value = d.value } };
 
-    ghost invariant = { λ d. (0 < wins_of (claim_word d.ctx) d.seat.trace) × (d.value ≡ added_to d.seat d.ctx) };
+    ghost invariant = { λ d. (0 < wins_of (claim_word d.ctx) d.seat.trace) × (d.value ≡ added_to d.seat d.ctx) × (d.ctx ≤ d.seat.words.contexts) };
 }
 
 impl Driver {
@@ -38,8 +38,7 @@ impl Driver {
     ///
     /// Refuses as `Overflow` alone, where the value would pass the greatest u64. No step is made then.
     pub fn inc(&mut self, words: &Words, n: u64) -> Result<u64, Refusal>
-        requires own { self.old.seat.table ≡ words.now.table }
-        requires context { self.old.ctx ≤ words.now.contexts }
+        requires own { self.old.seat.words ≡ words.now }
         ensures value { IfOk result (λ value. value ≡ self.old.value + n) }
         ensures added { IfOk result (λ value. self.new ≡ record { seat = with_step self.old.seat (add (value_word self.old.ctx) n value); ctx = self.old.ctx; value = value }) }
         ensures overflow { IsErr result ↔ (2 ^ 64 ≤ self.old.value + n) }

@@ -23,7 +23,7 @@ impl Model for Won {
 
     ghost Value = { WonModel };
 
-    ghost view = { λ won. record { table = won.words; flag = won.flag } };
+    ghost view = { λ won. record { words = won.words; flag = won.flag } };
 }
 
 impl Won {
@@ -46,9 +46,9 @@ impl Words {
     /// Sets a flag, by one test-and-set, as the kernel's `dma_fence_signal` sets that of a fence. It answers `First`
     /// to the call that found it 0, and to all others `Already`.
     pub fn set_once(&self, seat: &mut Seat, flag: usize) -> Once
-        requires own { seat.old.table ≡ self.now.table }
+        requires own { seat.old.words ≡ self.now }
         requires flag { flag < self.now.flags }
-        ensures first { IfFirst result (λ token. (token ≡ record { table = self.now.table; flag = flag }) × (seat.new ≡ with_step seat.old (won (flag_word self.now.contexts flag)))) }
+        ensures first { IfFirst result (λ token. (token ≡ record { words = self.now; flag = flag }) × (seat.new ≡ with_step seat.old (won (flag_word self.now.contexts flag)))) }
         ensures already { IfAlready result (seat.new ≡ with_step seat.old (lost (flag_word self.now.contexts flag))) }
     {
         if self.set_flag(seat, flag) == 0 {
@@ -62,7 +62,7 @@ impl Words {
     }
 
     fn set_flag(&self, seat: &mut Seat, flag: usize) -> u64
-        requires own { seat.old.table ≡ self.now.table }
+        requires own { seat.old.words ≡ self.now }
         requires flag { flag < self.now.flags }
         ensures { seat.new ≡ with_step seat.old (set_once_step (flag_word self.now.contexts flag) result) }
     {
@@ -74,7 +74,7 @@ impl Words {
     }
 
     pub(crate) fn total_flag(&self, seat: &mut Seat, flag: usize) -> u64
-        requires own { seat.old.table ≡ self.now.table }
+        requires own { seat.old.words ≡ self.now }
         requires flag { flag < self.now.flags }
         requires all { seat.old.parts ≡ PARTS }
         ensures entered { seat.new ≡ with_step seat.old (load (flag_word self.now.contexts flag) result) }

@@ -1,7 +1,7 @@
 // The rule of the words, what each kind of step tells, and how views are split and joined.
 ghost use Rattle.std.specs.Prelude.{ℕ};
-ghost use Rattle.words_core.specs.Rule.{IsKept, first_view, spent_view};
-ghost use Rattle.words_core.specs.Plays.{loads_value, claims_context, adds_to_value, counts_parts, loads_total, sets_flag, loads_flag, tells_nothing, parent_view, child_view, joined_view};
+ghost use Rattle.words_core.specs.Rule.{IsKept, first_view};
+ghost use Rattle.words_core.specs.Plays.{loads_value, claims_context, adds_to_value, counts_parts, loads_total, sets_flag, loads_flag, tells_sizes, parent_view, child_view, joined_view, joined_from};
 
 use crate::trace::View;
 use crate::words::Sizes;
@@ -13,7 +13,7 @@ pub struct WordsRule;
 impl TableRule<(), View, Sizes> for WordsRule {
     ghost holds = { λ sizes s. IsKept sizes s.words s.views };
 
-    ghost first = { λ _. first_view };
+    ghost first = { first_view };
 }
 
 pub struct LoadsValue;
@@ -60,10 +60,10 @@ impl Play<(), View> for LoadsFlag {
     ghost then = { loads_flag };
 }
 
-pub struct TellsNothing;
+pub struct TellsSizes;
 
-impl Play<(), View> for TellsNothing {
-    ghost then = { tells_nothing };
+impl Play<(), View> for TellsSizes {
+    ghost then = { tells_sizes };
 }
 
 // The number of parts that go to a new seat, which each call picks.
@@ -90,5 +90,5 @@ pub struct JoinSeats;
 impl Join<View> for JoinSeats {
     ghost both = { joined_view };
 
-    ghost spent = { spent_view };
+    ghost spent = { joined_from };
 }

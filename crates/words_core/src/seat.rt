@@ -21,10 +21,11 @@ impl Model for Seat {
     ghost use Rattle.std.specs.Prelude.{◌≡◌, ◌≤◌, []};
     ghost use Rattle.words_core.specs.declared.seat.TheConstants.{PARTS};
     ghost use Rattle.words_core.specs.Seat.{SeatModel};
+    ghost use Rattle.words_core.specs.Words.{words_of};
 
     ghost Value = { SeatModel };
 
-    ghost view = { λ s. record { table = s.token.table_id; parts = s.parts; start = s.token.me.0.start; trace = s.token.me.0.trace } };
+    ghost view = { λ s. record { words = words_of s.token.table_id s.token.me.0.sizes; parts = s.parts; start = s.token.me.0.start; trace = s.token.me.0.trace } };
 
     ghost invariant = { λ s. (s.token.me.1 ≡ []) × (s.token.me.0.parts ≡ s.parts) × (1 ≤ s.parts) × (s.parts ≤ PARTS) };
 }

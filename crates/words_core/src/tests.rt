@@ -120,9 +120,9 @@ fn drive(
     mine: Context,
     other: Context,
 ) -> Option<(Seat, Seat)>
-    requires own { (driving.table ≡ words.now.table) × (looking.table ≡ words.now.table) }
+    requires own { (driving.words ≡ words.now) × (looking.words ≡ words.now) }
     requires contexts { (mine ≤ words.now.contexts) × (other ≤ words.now.contexts) }
-    ensures { IfSome result (λ seats. (seats.0.table ≡ words.now.table) × (seats.1.table ≡ words.now.table)) }
+    ensures { IfSome result (λ seats. (seats.0.words ≡ words.now) × (seats.1.words ≡ words.now)) }
 {
     let mut driver = words.driver(driving, mine).ok()?;
     driver.inc(words, 1).ok()?;
@@ -153,12 +153,12 @@ fn two_threads_drive(rt: HostRuntime) -> Result<(), Fail> {
     let (one, other) = join(
         &rt,
         move || -> Option<(Seat, Seat)>
-            requires { (driving.table ≡ shared.now.table) × (looking.table ≡ shared.now.table) × (2 ≤ shared.now.contexts) }
-            ensures { IfSome result (λ seats. (seats.0.table ≡ shared.entry.now.table) × (seats.1.table ≡ shared.entry.now.table)) }
+            requires { (driving.words ≡ shared.now) × (looking.words ≡ shared.now) × (2 ≤ shared.now.contexts) }
+            ensures { IfSome result (λ seats. (seats.0.words ≡ shared.entry.now) × (seats.1.words ≡ shared.entry.now)) }
         { drive(shared, driving, looking, Context::at(0), Context::at(1)) },
         move || -> Option<(Seat, Seat)>
-            requires { (other_driving.table ≡ shared.now.table) × (other_looking.table ≡ shared.now.table) × (2 ≤ shared.now.contexts) }
-            ensures { IfSome result (λ seats. (seats.0.table ≡ shared.entry.now.table) × (seats.1.table ≡ shared.entry.now.table)) }
+            requires { (other_driving.words ≡ shared.now) × (other_looking.words ≡ shared.now) × (2 ≤ shared.now.contexts) }
+            ensures { IfSome result (λ seats. (seats.0.words ≡ shared.entry.now) × (seats.1.words ≡ shared.entry.now)) }
         {
             drive(
                 shared,

@@ -1,4 +1,5 @@
 // What a seat knows. These are words of contracts: only proofs have values of these types.
+use crate::words::Sizes;
 use std::collections::LinkedList;
 
 /// What a step does to its word.
@@ -24,6 +25,8 @@ pub struct Step {
 
 /// What a seat knows and has done. A seat with no parts is spent.
 pub struct View {
+    /// How many words of each kind there are.
+    pub sizes: Sizes,
     pub parts: u64,
     /// The steps that its parent knew when it was parted.
     pub start: LinkedList<Step>,

@@ -1,5 +1,6 @@
 // The steps on the claims and values of contexts.
-ghost use Rattle.std.specs.Prelude.{◌≡◌, ℕ, ◌+◌, ◌^◌, ◌<◌, ◌≤◌, true, IfOk, IfErr, MatchBool};
+ghost use Rattle.std.specs.Prelude.{◌≡◌, ℕ, ◌+◌, ◌^◌, ◌<◌, ◌≤◌, true, length, IfOk, IfErr, MatchBool};
+ghost use Rattle.point_core.specs.declared.context.TheConstants.{CONTEXTS};
 ghost use Rattle.point_core.specs.declared.refusal.Refusal.TheVariants as refusal;
 ghost use Rattle.point_core.specs.Reach.{value_at};
 ghost use Rattle.words_core.specs.declared.seat.TheConstants.{PARTS};
@@ -18,7 +19,7 @@ impl Words {
     ///
     /// Refuses as `Exists` alone, from the second claim on that was ever made on the context, and hands the seat back.
     pub fn driver(&self, mut seat: Seat, ctx: Context) -> Result<Driver, (Refusal, Seat)>
-        requires own { seat.table ≡ self.now.table }
+        requires own { seat.words ≡ self.now }
         requires context { ctx ≤ self.now.contexts }
         ensures won { IfOk result (λ d. d ≡ record { seat = with_step seat (won (claim_word ctx)); ctx = ctx; value = 0 }) }
         ensures first { IfOk result (λ d. wins_of (claim_word ctx) d.seat.trace ≡ 1) }
@@ -36,7 +37,7 @@ impl Words {
     }
 
     fn claim(&self, seat: &mut Seat, ctx: Context) -> bool
-        requires own { seat.old.table ≡ self.now.table }
+        requires own { seat.old.words ≡ self.now }
         requires context { ctx ≤ self.now.contexts }
         ensures entered { MatchBool result (seat.new ≡ with_step seat.old (won (claim_word ctx))) (seat.new ≡ with_step seat.old (lost (claim_word ctx))) }
         ensures first { result ≡ true → (wins_of (claim_word ctx) seat.old.trace ≡ 0) × (added_to seat.old ctx ≡ 0) }
@@ -48,7 +49,7 @@ impl Words {
     }
 
     pub(crate) fn add(&self, seat: &mut Seat, ctx: Context, n: u64) -> u64
-        requires own { seat.old.table ≡ self.now.table }
+        requires own { seat.old.words ≡ self.now }
         requires context { ctx ≤ self.now.contexts }
         requires won { 0 < wins_of (claim_word ctx) seat.old.trace }
         requires fits { added_to seat.old ctx + n < 2 ^ 64 }
@@ -63,7 +64,7 @@ impl Words {
 
     /// The value of a context, by one load. It is no less than any value that the seat has seen.
     pub fn load(&self, seat: &mut Seat, ctx: Context) -> u64
-        requires own { seat.old.table ≡ self.now.table }
+        requires own { seat.old.words ≡ self.now }
         requires context { ctx ≤ self.now.contexts }
         ensures entered { seat.new ≡ with_step seat.old (load (value_word ctx) result) }
         ensures later { seen seat.old (value_word ctx) ≤ result }
@@ -77,11 +78,12 @@ impl Words {
     /// The values of all contexts, by one load each, in rising order: no one moment need have had them all. Those past
     /// the last context are 0.
     pub fn load_all(&self, seat: &mut Seat) -> Reach
-        requires own { seat.old.table ≡ self.now.table }
+        requires own { seat.old.words ≡ self.now }
         ensures entered { seat.new ≡ with_steps seat.old (loads_of result self.now.contexts) }
         ensures later { (ctx : ℕ) → 1 ≤ ctx → ctx ≤ self.now.contexts → seen seat.old (value_word ctx) ≤ value_at result ctx }
         ensures seen { (ctx : ℕ) → 1 ≤ ctx → ctx ≤ self.now.contexts → seen seat.new (value_word ctx) ≡ value_at result ctx }
         ensures past { (ctx : ℕ) → self.now.contexts < ctx → value_at result ctx ≡ 0 }
+        ensures full { length result ≡ CONTEXTS }
     {
         let mut reach = Reach::zero();
         for index in 0..self.sizes.contexts {
@@ -93,7 +95,7 @@ impl Words {
     }
 
     pub(crate) fn total(&self, seat: &mut Seat, ctx: Context) -> u64
-        requires own { seat.old.table ≡ self.now.table }
+        requires own { seat.old.words ≡ self.now }
         requires context { ctx ≤ self.now.contexts }
         requires all { seat.old.parts ≡ PARTS }
         ensures entered { seat.new ≡ with_step seat.old (load (value_word ctx) result) }

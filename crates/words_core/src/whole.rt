@@ -31,7 +31,7 @@ impl Whole {
     /// The value of a context, by one load: the sum of all that was ever added to it. Each value that was loaded from
     /// it is 0 or was left by an addition, and one driver at most was ever given for it.
     pub fn value(&mut self, words: &Words, ctx: Context) -> u64
-        requires own { self.old.table ≡ words.now.table }
+        requires own { self.old.words ≡ words.now }
         requires context { ctx ≤ words.now.contexts }
         ensures entered { self.new ≡ with_step self.old (load (value_word ctx) result) }
         ensures state { result ≡ added_to self.old ctx }
@@ -43,7 +43,7 @@ impl Whole {
 
     /// Whether a flag is set, by one load: exactly where one step has won it, once.
     pub fn flag(&mut self, words: &Words, flag: usize) -> bool
-        requires own { self.old.table ≡ words.now.table }
+        requires own { self.old.words ≡ words.now }
         requires flag { flag < words.now.flags }
         ensures entered { self.new ≡ with_step self.old (load (flag_word words.now.contexts flag) (if result then 1 else 0)) }
         ensures state { wins_of (flag_word words.now.contexts flag) self.old.trace ≡ (if result then 1 else 0) }

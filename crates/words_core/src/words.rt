@@ -8,7 +8,7 @@ ghost use Rattle.words_core.specs.declared.words.TheConstants.{BUFFERS, FLAGS};
 ghost use Rattle.words_core.specs.Seat.{seen, without_parts, parted, both_of};
 ghost use Rattle.words_core.specs.Trace.{wins_of};
 
-use crate::plays::{CountsParts, JoinSeats, PartCount, SplitParts, TellsNothing, WordsRule};
+use crate::plays::{CountsParts, JoinSeats, PartCount, SplitParts, TellsSizes, WordsRule};
 use crate::seat::{PARTS, Seat};
 use crate::trace::View;
 use atomic_table::Table;
@@ -45,11 +45,11 @@ impl Model for Words {
     ghost use Rattle.point_core.specs.declared.context.TheConstants.{CONTEXTS};
     ghost use Rattle.words_core.specs.declared.words.TheConstants.{BUFFERS, FLAGS};
     ghost use Rattle.words_core.specs.Layout.{word_count};
-    ghost use Rattle.words_core.specs.Words.{WordsModel};
+    ghost use Rattle.words_core.specs.Words.{WordsModel, words_of};
 
     ghost Value = { WordsModel };
 
-    ghost view = { λ w. record { table = w.table.shared.table_id; contexts = w.sizes.contexts; buffers = w.sizes.buffers; flags = w.sizes.flags } };
+    ghost view = { λ w. words_of w.table.shared.table_id w.sizes };
 
     ghost invariant = { λ w. (w.table.shared.key ≡ w.sizes) × (w.table.shared.table_id.words ≡ word_count w.sizes) × (1 ≤ w.sizes.contexts) × (w.sizes.contexts ≤ CONTEXTS) × (w.sizes.buffers ≤ BUFFERS) × (w.sizes.flags ≤ FLAGS) };
 }
@@ -67,7 +67,7 @@ impl Words {
     ) -> Result<(Words, Seat), Refusal>
         ensures words { IfOk result (λ r. (r.0.contexts ≡ contexts) × (r.0.buffers ≡ buffers) × (r.0.flags ≡ flags)) }
         ensures limits { IfOk result (λ r. (1 ≤ contexts) × (contexts ≤ CONTEXTS) × (buffers ≤ BUFFERS) × (flags ≤ FLAGS)) }
-        ensures seat { IfOk result (λ r. r.1 ≡ record { table = r.0.table; parts = PARTS; start = []; trace = [] }) }
+        ensures seat { IfOk result (λ r. r.1 ≡ record { words = r.0; parts = PARTS; start = []; trace = [] }) }
         ensures timelines { (contexts < 1) ⊎ (CONTEXTS < contexts) → IfErr result (λ e. e ≡ refusal.Limit limit.Timelines) }
         ensures buffers { 1 ≤ contexts → contexts ≤ CONTEXTS → BUFFERS < buffers → IfErr result (λ e. e ≡ refusal.Limit limit.Buffers) }
         ensures flags { 1 ≤ contexts → contexts ≤ CONTEXTS → buffers ≤ BUFFERS → FLAGS < flags → IfErr result (λ e. e ≡ refusal.Limit limit.Flags) }
@@ -124,7 +124,7 @@ impl Words {
 
     /// A new seat with n of the parts, for another thread. It starts with all that this one has seen.
     pub fn part(&self, seat: &mut Seat, n: u32) -> Seat
-        requires own { seat.old.table ≡ self.now.table }
+        requires own { seat.old.words ≡ self.now }
         requires parts { (1 ≤ n) × (n < seat.old.parts) }
         ensures parent { seat.new ≡ without_parts seat.old n }
         ensures child { result ≡ parted seat.old n }
@@ -134,7 +134,7 @@ impl Words {
     }
 
     fn split<N: PartCount>(&self, seat: &mut Seat, n: u32) -> Seat
-        requires own { seat.old.table ≡ self.now.table }
+        requires own { seat.old.words ≡ self.now }
         requires parts { (1 ≤ n) × (n < seat.old.parts) }
         requires count { n ≡ N.count }
         ensures parent { seat.new ≡ without_parts seat.old n }
@@ -151,7 +151,7 @@ impl Words {
     /// Takes in another seat of the same words: its parts, its start and its trace, which follow this one's. No claim
     /// and no flag was won by both, so no two drivers of one context ever meet.
     pub fn join(&self, seat: &mut Seat, other: Seat)
-        requires own { (seat.old.table ≡ self.now.table) × (other.table ≡ self.now.table) }
+        requires own { (seat.old.words ≡ self.now) × (other.words ≡ self.now) }
         ensures both { seat.new ≡ both_of seat.old other }
         ensures once { (w : ℕ) → wins_of w seat.old.trace + wins_of w other.trace ≤ 1 }
         ensures seen { (w : ℕ) → seen seat.new w ≡ max (seen seat.old w) (seen other w) }
@@ -160,7 +160,7 @@ impl Words {
     }
 
     fn absorb(&self, seat: &mut Seat, other: Seat)
-        requires own { (seat.old.table ≡ self.now.table) × (other.table ≡ self.now.table) }
+        requires own { (seat.old.words ≡ self.now) × (other.words ≡ self.now) }
         ensures both { seat.new ≡ both_of seat.old other }
         ensures once { (w : ℕ) → wins_of w seat.new.trace ≤ 1 }
     {
@@ -172,11 +172,11 @@ impl Words {
         seat.parts += parts;
     }
 
-    /// A name of these words. It costs one load, which tells nothing.
+    /// A name of these words. It costs one load, which tells no word.
     pub fn id(&self) -> WordsId
-        ensures { result ≡ self.now.table }
+        ensures { result ≡ self.now }
     {
-        let (_, token) = self.table.shared.load_new_seat::<TellsNothing>(0);
+        let (_, token) = self.table.shared.load_new_seat::<TellsSizes>(0);
         WordsId { token }
     }
 }
@@ -188,9 +188,9 @@ pub struct WordsId {
 }
 
 impl Model for WordsId {
-    ghost use Rattle.atomic_table.specs.Seated.{TableId};
+    ghost use Rattle.words_core.specs.Words.{WordsModel, words_of};
 
-    ghost Value = { TableId };
+    ghost Value = { WordsModel };
 
-    ghost view = { λ id. id.token.table_id };
+    ghost view = { λ id. words_of id.token.table_id id.token.me.0.sizes };
 }

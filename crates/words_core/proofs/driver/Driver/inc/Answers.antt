@@ -1,4 +1,4 @@
-use Rattle.std.proofs.Common.{◌<◌, sym, ap, ◌∙◌, subst}
+use Rattle.std.proofs.Common.{◌<◌, ◌≤◌, sym, ap, ◌∙◌, subst}
 use Rattle.words_core.specs.Layout.{claim_word}
 use Rattle.words_core.specs.Seat.{SeatModel, added_to}
 use Rattle.words_core.specs.Trace.{wins_of}
@@ -13,4 +13,5 @@ invariant_of-self c =
     let value = c.add-self-inside.result in (
       subst (λ (s : SeatModel). 0 < wins_of (claim_word ctx) s.trace) (sym entered) (wins_of-add seat ctx c.args.n value c.self.invariant.0),
       c.add-self-inside.ensures.value ∙ sym (ap (λ (s : SeatModel). added_to s ctx) entered ∙ added_to-add seat ctx c.args.n value),
+      subst (λ (s : SeatModel). ctx ≤ s.words.contexts) (sym entered) c.self.invariant.2,
     )

@@ -8,10 +8,9 @@ pub join_seat-requires : goal.join_seat-requires
 join_seat-requires c =
     let shared = c.self.inside.table.shared in
     let token = c.seat.inside.token in
-    let other = c.other.inside.token in
-    let words = ap (λ (w : WordsModel). w.table) c.self.view_is in (
-      ap (λ (s : SeatModel). s.table) c.seat.view_is ∙ (c.requires.own.0 ∙ sym words),
-      ap (λ (s : SeatModel). s.table) c.other.view_is ∙ (c.requires.own.1 ∙ sym words),
+    let other = c.other.inside.token in (
+      ap (λ (s : SeatModel). s.words.table) c.seat.view_is ∙ ap (λ (w : WordsModel). w.table) (c.requires.own.0 ∙ sym c.self.view_is),
+      ap (λ (s : SeatModel). s.words.table) c.other.view_is ∙ ap (λ (w : WordsModel). w.table) (c.requires.own.1 ∙ sym c.self.view_is),
       c.other.invariant.0,
       omega arith,
       join-allowed shared.key token.id other.id token.me.0 other.me.0 (omega arith),
@@ -20,9 +19,8 @@ join_seat-requires c =
 pub load-requires : goal.load-requires
 load-requires c =
     let shared = c.self.inside.table.shared in
-    let token = c.join_seat.new.seat in
-    let words = ap (λ (w : WordsModel). w.table) c.self.view_is in (
-      c.join_seat.ensures.0 ∙ (ap (λ (s : SeatModel). s.table) c.seat.view_is ∙ (c.requires.own.0 ∙ sym words)),
+    let token = c.join_seat.new.seat in (
+      c.join_seat.ensures.0 ∙ (ap (λ (s : SeatModel). s.words.table) c.seat.view_is ∙ ap (λ (w : WordsModel). w.table) (c.requires.own.0 ∙ sym c.self.view_is)),
       omega arith,
       counts_parts-allowed shared.key shared.table_id.slots token.id token.me,
     )

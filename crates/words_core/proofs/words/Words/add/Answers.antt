@@ -16,7 +16,7 @@ fetch_add-requires c =
     let keyed = ap (λ (z : Sizes). z.contexts) c.self.invariant.0 in
     let seat = c.seat.view_is in
     let at : c.args.ctx - 1 ≡ place = omega arith in (
-      ap (λ (s : SeatModel). s.table) seat ∙ (c.requires.own ∙ sym (ap (λ (w : WordsModel). w.table) c.self.view_is)),
+      ap (λ (s : SeatModel). s.words.table) seat ∙ ap (λ (w : WordsModel). w.table) (c.requires.own ∙ sym c.self.view_is),
       omega arith,
       adds_to_value-allowed shared.key shared.table_id.slots token.id place c.args.n token.me (omega arith) (omega arith)
           (subst (λ (k : ℕ). 0 < wins_of (claim_at k) token.me.0.trace) at (subst (λ (s : SeatModel). 0 < wins_of (claim_at (c.args.ctx - 1)) s.trace) (sym seat) c.requires.won))

@@ -11,7 +11,7 @@ fetch_or-requires c =
     let token = c.seat.inside.token in
     let contexts = ap (λ (w : WordsModel). w.contexts) c.self.view_is in
     let keyed = ap (λ (z : Sizes). z.contexts) c.self.invariant.0 in (
-      ap (λ (s : SeatModel). s.table) c.seat.view_is ∙ (c.requires.own ∙ sym (ap (λ (w : WordsModel). w.table) c.self.view_is)),
+      ap (λ (s : SeatModel). s.words.table) c.seat.view_is ∙ ap (λ (w : WordsModel). w.table) (c.requires.own ∙ sym c.self.view_is),
       omega arith,
       claims_context-allowed shared.key shared.table_id.slots token.id c.index.result token.me (omega arith) (omega arith),
     )

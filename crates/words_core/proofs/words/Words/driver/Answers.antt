@@ -1,7 +1,8 @@
-use Rattle.std.proofs.Common.{◌≡◌, ◌<◌, sym, ap, ◌∙◌, refl, subst, arith}
+use Rattle.std.proofs.Common.{◌≡◌, ◌<◌, ◌≤◌, sym, ap, ◌∙◌, refl, subst, arith}
 use Rattle.words_core.specs.Layout.{claim_word}
 use Rattle.words_core.specs.Seat.{SeatModel, added_to}
 use Rattle.words_core.specs.Trace.{wins_of}
+use Rattle.words_core.specs.Words.{WordsModel}
 use Rattle.words_core.proofs.Driving.{wins_of-won, added_to-won}
 use Rattle.words_core.proofs.words.Words.driver.Goals as goal
 
@@ -13,6 +14,7 @@ invariant_of-result c =
     let wins = wins_of-won c.args.seat (claim_word ctx) in (
       subst (λ (s : SeatModel). 0 < wins_of (claim_word ctx) s.trace) (sym entered) (omega arith),
       sym (ap (λ (s : SeatModel). added_to s ctx) entered ∙ (added_to-won c.args.seat ctx ∙ first.1)),
+      subst (λ (s : SeatModel). ctx ≤ s.words.contexts) (sym entered) (subst (λ (w : WordsModel). ctx ≤ w.contexts) (sym c.requires.own) c.requires.context),
     )
 
 pub returns-then-claim-clause-first : goal.returns-then-claim-clause-first

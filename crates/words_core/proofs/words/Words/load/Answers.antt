@@ -1,7 +1,7 @@
 use Rattle.std.proofs.Common.{◌≡◌, ◌++◌, ℕ, sym, ap, ◌∙◌, arith}
 use Rattle.words_core.specs.declared.words.Sizes.{Sizes}
 use Rattle.words_core.specs.Seat.{SeatModel}
-use Rattle.words_core.specs.Words.{WordsModel}
+use Rattle.words_core.specs.Words.{WordsModel, words_of}
 use Rattle.words_core.specs.Layout.{value_at, value_word}
 use Rattle.words_core.specs.Plays.{Holder}
 use Rattle.words_core.specs.Trace.{load, on, greatest}
@@ -15,7 +15,7 @@ load-requires c =
     let token = c.seat.inside.token in
     let contexts = ap (λ (w : WordsModel). w.contexts) c.self.view_is in
     let keyed = ap (λ (z : Sizes). z.contexts) c.self.invariant.0 in (
-      ap (λ (s : SeatModel). s.table) c.seat.view_is ∙ (c.requires.own ∙ sym (ap (λ (w : WordsModel). w.table) c.self.view_is)),
+      ap (λ (s : SeatModel). s.words.table) c.seat.view_is ∙ ap (λ (w : WordsModel). w.table) (c.requires.own ∙ sym c.self.view_is),
       omega arith,
       loads_value-allowed shared.key shared.table_id.slots token.id c.index.result token.me (omega arith) (omega arith),
     )
@@ -25,7 +25,7 @@ returns-clause-seen c =
     let value = c.load.result in
     let word = value_at c.index.result in
     let at : value_word c.args.ctx ≡ word = omega arith in
-    let before : SeatModel = record { table = c.seat.inside.token.table_id; parts = c.seat.inside.parts; start = c.seat.inside.token.me.0.start; trace = c.seat.inside.token.me.0.trace } in
+    let before : SeatModel = record { words = words_of c.seat.inside.token.table_id c.seat.inside.token.me.0.sizes; parts = c.seat.inside.parts; start = c.seat.inside.token.me.0.start; trace = c.seat.inside.token.me.0.trace } in
     let play = c.load.ensures.2 in
     ap (λ (w : ℕ). greatest (on w (c.load.new.seat.me.0.start ++ c.load.new.seat.me.0.trace))) at
     ∙ ap (λ (me : Holder). greatest (on word (me.0.start ++ me.0.trace))) play.0

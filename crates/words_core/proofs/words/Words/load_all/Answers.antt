@@ -1,5 +1,5 @@
-use Rattle.std.proofs.Common.{◌≡◌, ◌+◌, ◌<◌, ◌≤◌, ℕ, List, length, sym, ap, ◌∙◌, subst, arith}
-use Rattle.std.proofs.lemmas.List.{append-nil}
+use Rattle.std.proofs.Common.{◌≡◌, ◌+◌, ◌-◌, ◌<◌, ◌≤◌, ℕ, List, length, sym, ap, ◌∙◌, subst, arith}
+use Rattle.std.proofs.lemmas.List.{append-nil, length-set, length-replicate}
 use Rattle.point_core.specs.Reach.{value_at, with_value}
 use Rattle.point_core.specs.declared.context.TheConstants.{CONTEXTS}
 use Rattle.words_core.specs.declared.trace.Step.{Step}
@@ -14,6 +14,7 @@ loop-index-init c = record {
   entered = ap (λ (steps : List Step). record c.args.seat.now { trace = steps }) (sym (append-nil c.args.seat.now.trace));
   later = λ ctx low high. absurd (omega arith);
   past = λ ctx low. ap (λ (reach : List ℕ). value_at reach ctx) c.zero-reach.ensures ∙ value_at-replicate CONTEXTS ctx;
+  full = ap (λ (reach : List ℕ). length reach) c.zero-reach.ensures ∙ length-replicate {A = ℕ} CONTEXTS 0;
 }
 
 pub loop-index-preserved : goal.loop-index-preserved
@@ -32,6 +33,7 @@ loop-index-preserved c =
       entered = subst (λ (r : List ℕ). c.load-value.new.seat ≡ with_steps first (loads_of r (n + 1))) (sym after) (c.load-value.ensures.entered ∙ loads_of-more first seat reach n ctx value is fits before.entered);
       later = subst (λ (r : List ℕ). (k : ℕ) → 1 ≤ k → k ≤ n + 1 → seen first (value_word k) ≤ value_at r k) (sym after) (later-more first seat reach n ctx value is fits before.entered c.load-value.ensures.later before.later);
       past = subst (λ (r : List ℕ). (k : ℕ) → n + 1 < k → value_at r k ≡ 0) (sym after) (past-more reach n ctx value is before.past);
+      full = ap (λ (r : List ℕ). length r) after ∙ (length-set reach (ctx - 1) value ∙ before.full);
     }
 
 pub returns-clause-seen : goal.returns-clause-seen

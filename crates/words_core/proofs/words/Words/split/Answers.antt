@@ -9,7 +9,7 @@ split_seat-token-requires g c =
     let shared = c.self.inside.table.shared in
     let token = c.seat.inside.token in
     let parts = ap (λ (s : SeatModel). s.parts) c.seat.view_is in (
-      ap (λ (s : SeatModel). s.table) c.seat.view_is ∙ (c.requires.own ∙ sym (ap (λ (w : WordsModel). w.table) c.self.view_is)),
+      ap (λ (s : SeatModel). s.words.table) c.seat.view_is ∙ ap (λ (w : WordsModel). w.table) (c.requires.own ∙ sym c.self.view_is),
       omega arith,
       split-allowed shared.key token.id g.N.PartCount.count token.me.0 (omega arith) (omega arith),
     )

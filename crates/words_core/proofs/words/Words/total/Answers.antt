@@ -12,7 +12,7 @@ load-requires c =
     let contexts = ap (λ (w : WordsModel). w.contexts) c.self.view_is in
     let keyed = ap (λ (z : Sizes). z.contexts) c.self.invariant.0 in
     let parts = ap (λ (s : SeatModel). s.parts) c.seat.view_is in (
-      ap (λ (s : SeatModel). s.table) c.seat.view_is ∙ (c.requires.own ∙ sym (ap (λ (w : WordsModel). w.table) c.self.view_is)),
+      ap (λ (s : SeatModel). s.words.table) c.seat.view_is ∙ ap (λ (w : WordsModel). w.table) (c.requires.own ∙ sym c.self.view_is),
       omega arith,
       loads_total-allowed shared.key shared.table_id.slots token.id c.index.result token.me (omega arith) (omega arith),
     )

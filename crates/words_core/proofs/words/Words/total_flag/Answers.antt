@@ -13,7 +13,7 @@ load-requires c =
     let flags = ap (λ (w : WordsModel). w.flags) c.self.view_is in
     let keyed = ap (λ (z : Sizes). z.flags) c.self.invariant.0 in
     let parts = ap (λ (s : SeatModel). s.parts) c.seat.view_is in (
-      ap (λ (s : SeatModel). s.table) c.seat.view_is ∙ (c.requires.own ∙ sym (ap (λ (w : WordsModel). w.table) c.self.view_is)),
+      ap (λ (s : SeatModel). s.words.table) c.seat.view_is ∙ ap (λ (w : WordsModel). w.table) (c.requires.own ∙ sym c.self.view_is),
       omega arith,
       loads_flag-allowed shared.key shared.table_id.slots token.id _ token.me record { inside = omega arith; claim = λ low. absurd (omega arith) } (omega arith),
     )
