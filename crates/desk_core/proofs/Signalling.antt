@@ -10,7 +10,7 @@ use Rattle.point_core.specs.declared.entry.Point.{Point}
 use Rattle.point_core.specs.declared.entry.Entry.{Entry}
 use Rattle.point_core.specs.declared.status.Status.TheVariants.{Signalled}
 use Rattle.point_core.specs.Status.{status_if}
-use Rattle.point_core.specs.Usage.{number_of}
+use Rattle.point_core.specs.Usage.{usage_number}
 use Rattle.point_core.specs.Agreement.{AgreesAbove, as_entry, as_entries, listing, HasContexts, IsReached}
 use Rattle.point_core.specs.Reach.{value_at}
 use Rattle.point_core.proofs.Agreement.{AgreesAbove-sym, listing-AgreesAbove, listing-empty, listing-contexts}
@@ -23,15 +23,15 @@ use Rattle.desk_core.proofs.Keeping.{as_entries-points, HasContexts-put, AgreesA
 -- tests and facts
 
 abbrev passes : List ℕ → ℕ → Entry → Bool
-passes reach usage e = not (nat_le (number_of e.usage) usage) || is_reached reach e
+passes reach usage e = not (nat_le (usage_number e.usage) usage) || is_reached reach e
 
-passes-reached : (reach : List ℕ) (usage : ℕ) (e : Entry) → passes reach usage e ≡ true → number_of e.usage ≤ usage → e.point.value ≤ value_at reach e.point.ctx
-passes-reached reach usage e is strong = leb-true _ _ (rw (le-leb (number_of e.usage) usage strong) at is)
+passes-reached : (reach : List ℕ) (usage : ℕ) (e : Entry) → passes reach usage e ≡ true → usage_number e.usage ≤ usage → e.point.value ≤ value_at reach e.point.ctx
+passes-reached reach usage e is strong = leb-true _ _ (rw (le-leb (usage_number e.usage) usage strong) at is)
 
-reached-passes : (reach : List ℕ) (usage : ℕ) (e : Entry) → (number_of e.usage ≤ usage → e.point.value ≤ value_at reach e.point.ctx) → passes reach usage e ≡ true
-reached-passes reach usage e h = elim (cases_lt usage (number_of e.usage)) [
-  | inl weak ↦ rw (lt-leb (number_of e.usage) usage weak) refl
-  | inr strong ↦ rw (le-leb (number_of e.usage) usage strong) (le-leb e.point.value (value_at reach e.point.ctx) (h strong))
+reached-passes : (reach : List ℕ) (usage : ℕ) (e : Entry) → (usage_number e.usage ≤ usage → e.point.value ≤ value_at reach e.point.ctx) → passes reach usage e ≡ true
+reached-passes reach usage e h = elim (cases_lt usage (usage_number e.usage)) [
+  | inl weak ↦ rw (lt-leb (usage_number e.usage) usage weak) refl
+  | inr strong ↦ rw (le-leb (usage_number e.usage) usage strong) (le-leb e.point.value (value_at reach e.point.ctx) (h strong))
 ]
 
 list_all-All : (p : Entry → Bool) (es : List Entry) → list_all p es ≡ true → All (λ e. p e ≡ true) es

@@ -9,7 +9,7 @@ use Rattle.point_core.specs.declared.refusal.Refusal.TheVariants.{NoEntry, Exist
 use Rattle.point_core.specs.declared.refusal.LimitKind.TheVariants.{Timelines, Files}
 use Rattle.point_core.specs.declared.status.Status.{Status}
 use Rattle.point_core.specs.declared.status.Status.TheVariants.{Signalled}
-use Rattle.point_core.specs.Usage.{number_of}
+use Rattle.point_core.specs.Usage.{usage_number}
 use Rattle.point_core.specs.Status.{status_if}
 use Rattle.point_core.specs.Reach.{value_at}
 use Rattle.point_core.specs.Agreement.{listing}
@@ -42,7 +42,7 @@ is_reached reach e = nat_le e.point.value (value_at reach e.point.ctx)
 
 -- each put entry of the usage or a stronger one has been reached
 abbrev pub all_reached : List ℕ → ℕ → List Entry → Bool
-all_reached reach usage es = list_all (λ e. not (nat_le (number_of e.usage) usage) || is_reached reach e) es
+all_reached reach usage es = list_all (λ e. not (nat_le (usage_number e.usage) usage) || is_reached reach e) es
 
 -- all that was put into the file of that name is reached
 abbrev pub is_signalled : World → List ℕ → Bool

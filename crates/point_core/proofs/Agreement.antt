@@ -8,7 +8,7 @@ use Rattle.std.proofs.lemmas.List.Sorted.{Contains-permutation, IsPermutation-sy
 use Rattle.point_core.specs.declared.context.TheConstants.{CONTEXTS}
 use Rattle.point_core.specs.declared.entry.Point.{Point}
 use Rattle.point_core.specs.declared.entry.Entry.{Entry}
-use Rattle.point_core.specs.Usage.{number_of}
+use Rattle.point_core.specs.Usage.{usage_number}
 use Rattle.point_core.specs.Reach.{value_at, IsAtLeast}
 use Rattle.point_core.specs.Agreement.{applies, AppliesAt, later, top, IsPut, NoneIsLater, NoneApplies, pending, pending_top, AgreesAbove, as_entry, as_entries, contexts, point_of, listing, Covers, HasContexts, HasRisingContexts, AllAbove, IsReached}
 use Rattle.point_core.specs.Latest.{raised_to}
@@ -99,7 +99,7 @@ AgreesAbove-later {later} {reach} {es} {fs} high h = AgreesAbove-from_raised (λ
 
 pub AppliesAt-from_true : (e : Entry) (usage ctx : ℕ) → applies e usage ctx ≡ true → AppliesAt e usage ctx
 AppliesAt-from_true e usage ctx is =
-    let parts = and_parts (nat_le (number_of e.usage) usage) (e.point.ctx == ctx) is in
+    let parts = and_parts (nat_le (usage_number e.usage) usage) (e.point.ctx == ctx) is in
     (leb-true _ _ parts.0, eqb-true _ _ parts.1)
 
 Contains-head : {X : Type 0} (x : X) (xs : List X) → Contains (x ∷ xs) x

@@ -3,6 +3,8 @@ pub mod Canonical
 pub mod Latest
 pub mod Listings
 pub mod Merges
+pub mod Named
 pub mod Names
+pub mod Reached
 mod Rows
 pub mod Values

@@ -1,5 +1,5 @@
 -- What is listed, context by context.
-use Rattle.std.proofs.Common.{◌≡◌, ℕ, ◌+◌, ◌<◌, ◌≤◌, zero, suc, refl, sym, ap, ◌∙◌, List, [], ◌∷◌, ◌++◌, length, get_or, take, max, Option, None, Some, arith, nat_lt, if◌then◌else◌, inl, inr, append-nil}
+use Rattle.std.proofs.Common.{◌≡◌, ℕ, ◌+◌, ◌<◌, ◌≤◌, zero, suc, refl, sym, ap, subst, ◌∙◌, List, [], ◌∷◌, ◌++◌, length, get_or, take, max, Option, None, Some, arith, nat_lt, if◌then◌else◌, inl, inr, append-nil}
 use Rattle.std.specs.Prelude.{option_map}
 use Rattle.std.specs.List.{filter_map, cons_option, range_with_len}
 use Rattle.std.proofs.lemmas.List.{map_more}
@@ -21,6 +21,13 @@ HasContexts-nil = All-nil (λ (e : Entry). (1 ≤ e.point.ctx) × (e.point.ctx �
 -- one more entry, of a context that there can be
 pub HasContexts-put : (es : List Entry) (p : Point) → HasContexts es → 1 ≤ p.ctx → p.ctx ≤ CONTEXTS → HasContexts (es ++ as_entry p ∷ [])
 HasContexts-put es p within low high = All-push (λ (e : Entry). (1 ≤ e.point.ctx) × (e.point.ctx ≤ CONTEXTS)) es (as_entry p) within (low, high)
+
+pub HasContexts-single : (p : Point) → (1 ≤ p.ctx) × (p.ctx ≤ CONTEXTS) → HasContexts (as_entry p ∷ [])
+HasContexts-single p has = HasContexts-put [] p HasContexts-nil has.0 has.1
+
+-- one more point of the list
+pub HasContexts-take_more : (ps : List Point) (i : ℕ) (p : Point) → i < length ps → p ≡ get_or ps i p → (1 ≤ p.ctx) × (p.ctx ≤ CONTEXTS) → HasContexts (as_entries (take i ps)) → HasContexts (as_entries (take (i + 1) ps))
+HasContexts-take_more ps i p low is has before = subst HasContexts (sym (as_entries-take_more ps i p low is)) (HasContexts-put (as_entries (take i ps)) p before has.0 has.1)
 
 cons_option-append : {X : Type 0} (o : Option X) (xs ys : List X) → cons_option o (xs ++ ys) ≡ cons_option o xs ++ ys
 cons_option-append None xs ys = refl

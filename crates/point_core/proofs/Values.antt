@@ -1,7 +1,8 @@
 -- Tables by context, and the greater value of each context.
-use Rattle.std.proofs.Common.{◌≡◌, ◌≢◌, ℕ, ◌+◌, ◌-◌, ◌<◌, ◌≤◌, max, refl, ap, ◌∙◌, List, [], ◌∷◌, length, get_or, set, arith, get_or-set_same, get_or-set_other, zero, suc, le_trans, inl, inr}
+use Rattle.std.proofs.Common.{◌≡◌, ◌≢◌, ℕ, ◌+◌, ◌-◌, ◌<◌, ◌≤◌, max, refl, ap, ◌∙◌, List, [], ◌∷◌, length, get_or, set, replicate, arith, get_or-set_same, get_or-set_other, zero, suc, le_trans, inl, inr}
 use Rattle.std.proofs.lemmas.Bool.{cases_lt}
-use Rattle.std.proofs.lemmas.List.{get_or_past}
+use Rattle.std.specs.List.{zip}
+use Rattle.std.proofs.lemmas.List.{get_or_past, get_or-replicate, length-map, length-replicate}
 use Rattle.point_core.specs.Reach.{value_at, with_value, later_values, IsAtLeast}
 
 pub value_at-with_value_same : (reach : List ℕ) (ctx value : ℕ) → 1 ≤ ctx → ctx ≤ length reach → value_at (with_value reach ctx value) ctx ≡ value
@@ -43,6 +44,20 @@ get_or-set_at_least (x ∷ xs) zero v zero low = low
 get_or-set_at_least (x ∷ xs) zero v (suc k) low = omega arith
 get_or-set_at_least (x ∷ xs) (suc i) v zero low = omega arith
 get_or-set_at_least (x ∷ xs) (suc i) v (suc k) low = get_or-set_at_least xs i v k low
+
+pub value_at-replicate : (n ctx : ℕ) → value_at (replicate n 0) ctx ≡ 0
+value_at-replicate n ctx = elim (cases_lt (ctx - 1) n) [
+  | inl low ↦ get_or-replicate n (ctx - 1) 0 0 low
+  | inr past ↦ get_or_past (replicate n 0) (ctx - 1) 0 (rw length-replicate past)
+]
+
+length-zip_same : {A B : Type 0} (xs : List A) (ys : List B) → length xs ≡ length ys → length (zip xs ys) ≡ length xs
+length-zip_same [] ys same = refl
+length-zip_same (x ∷ xs) [] same = absurd (omega arith)
+length-zip_same (x ∷ xs) (y ∷ ys) same = let rest = length-zip_same xs ys (omega arith) in omega arith
+
+pub length-later_values : (reach other : List ℕ) → length reach ≡ length other → length (later_values reach other) ≡ length reach
+length-later_values reach other same = length-map (zip reach other) _ ∙ length-zip_same reach other same
 
 -- a context's value that rises leaves no value lower
 pub IsAtLeast-with_value : (reach : List ℕ) (ctx value : ℕ) → value_at reach ctx ≤ value → IsAtLeast (with_value reach ctx value) reach

@@ -1,17 +1,17 @@
 -- What a set of entries says of each context, and when two sets say the same above a reach.
-use Rattle.std.specs.Prelude.{◌≡◌, ℕ, ◌==◌, ◌<◌, ◌≤◌, Bool, ◌&&◌, nat_lt, nat_le, max, if◌then◌else◌, List, [], ◌∷◌, ◌++◌, Option, None, Some, option_map, map, All, Contains}
-use Rattle.std.specs.List.{filter_map, range_with_len}
+use Rattle.std.specs.Prelude.{◌≡◌, ℕ, ◌==◌, ◌<◌, ◌≤◌, Bool, not, ◌&&◌, ◌||◌, nat_lt, nat_le, max, if◌then◌else◌, List, [], ◌∷◌, ◌++◌, Option, None, Some, option_map, map, All, Contains}
+use Rattle.std.specs.List.{filter_map, list_all, range_with_len}
 use Rattle.std.specs.List.Sorted.{IsStrictlyIncreasing}
 use Rattle.point_core.specs.declared.entry.Point.{Point}
 use Rattle.point_core.specs.declared.entry.Entry.{Entry}
 use Rattle.point_core.specs.declared.entry.Usage.TheVariants.{Kernel}
 use Rattle.point_core.specs.declared.context.TheConstants.{CONTEXTS}
-use Rattle.point_core.specs.Usage.{number_of}
-use Rattle.point_core.specs.Reach.{value_at}
+use Rattle.point_core.specs.Usage.{usage_number}
+use Rattle.point_core.specs.Reach.{value_at, is_reached}
 
 -- the entry is of the context, at the usage or a stronger one
 abbrev pub applies : Entry → ℕ → ℕ → Bool
-applies e usage ctx = nat_le (number_of e.usage) usage && (e.point.ctx == ctx)
+applies e usage ctx = nat_le (usage_number e.usage) usage && (e.point.ctx == ctx)
 
 -- the later of a point and another, if there is another
 abbrev pub later : ℕ → Option ℕ → Option ℕ
@@ -25,7 +25,7 @@ top (e ∷ es) usage ctx = if applies e usage ctx then later e.point.value (top 
 
 -- that it applies, as a fact
 abbrev pub AppliesAt : Entry → ℕ → ℕ → Type 0
-AppliesAt e usage ctx = (number_of e.usage ≤ usage) × (e.point.ctx ≡ ctx)
+AppliesAt e usage ctx = (usage_number e.usage ≤ usage) × (e.point.ctx ≡ ctx)
 
 -- the point was put for the context, at the usage or a stronger one
 abbrev pub IsPut : List Entry → ℕ → ℕ → ℕ → Type 0
@@ -78,7 +78,11 @@ merged reach ps qs = listing (as_entries (ps ++ qs)) 0 reach
 
 -- the first entry makes the second needless
 abbrev pub Covers : Entry → Entry → Type 0
-Covers by other = (by.point.ctx ≡ other.point.ctx) × (number_of by.usage ≤ number_of other.usage) × (other.point.value ≤ by.point.value)
+Covers by other = (by.point.ctx ≡ other.point.ctx) × (usage_number by.usage ≤ usage_number other.usage) × (other.point.value ≤ by.point.value)
+
+-- that it does, as a test
+abbrev pub covers : Entry → Entry → Bool
+covers by other = (by.point.ctx == other.point.ctx) && nat_le (usage_number by.usage) (usage_number other.usage) && nat_le other.point.value by.point.value
 
 -- each entry is of a context that there can be
 abbrev pub HasContexts : List Entry → Type 0
@@ -94,4 +98,8 @@ AllAbove reach ps = All (λ p. value_at reach p.ctx < p.value) ps
 
 -- each entry at the usage or a stronger one is reached
 abbrev pub IsReached : List Entry → ℕ → List ℕ → Type 0
-IsReached es usage reach = (e : Entry) → Contains es e → number_of e.usage ≤ usage → e.point.value ≤ value_at reach e.point.ctx
+IsReached es usage reach = (e : Entry) → Contains es e → usage_number e.usage ≤ usage → e.point.value ≤ value_at reach e.point.ctx
+
+-- that each is, as a test
+abbrev pub all_reached : List ℕ → ℕ → List Entry → Bool
+all_reached reach usage es = list_all (λ e. not (nat_le (usage_number e.usage) usage) || is_reached reach e.point) es

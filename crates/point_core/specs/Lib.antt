@@ -1,6 +1,7 @@
 pub mod Agreement
 pub mod Latest
 pub mod Name
+pub mod Named
 pub mod Reach
 pub mod Refusal
 pub mod Status

@@ -1,5 +1,7 @@
-use Rattle.std.specs.Prelude.{ℕ, ◌-◌, ◌≤◌, max, map, List, slice_index, slice_set}
+-- The value of each context, and which points it has reached.
+use Rattle.std.specs.Prelude.{ℕ, ◌-◌, ◌≤◌, Bool, nat_le, max, map, List, slice_index, slice_set}
 use Rattle.std.specs.List.{zip}
+use Rattle.point_core.specs.declared.entry.Point.{Point}
 
 -- the value of a context, which is numbered from 1
 abbrev pub value_at : List ℕ → ℕ → ℕ
@@ -16,3 +18,7 @@ later_values reach other = map (λ (both : ℕ × ℕ). max both.0 both.1) (zip 
 -- no value is below the other's
 pub record IsAtLeast (reach other : List ℕ) : Type 0 where
   pub values : (ctx : ℕ) → value_at other ctx ≤ value_at reach ctx
+
+-- the value of the point's context has reached it
+abbrev pub is_reached : List ℕ → Point → Bool
+is_reached reach p = nat_le p.value (value_at reach p.ctx)

@@ -1,7 +1,7 @@
 // A point of a timeline, and a point with the usage that it was added for.
 ghost use Rattle.std.specs.Prelude.{◌≡◌, ◌↔◌, IsTrue};
 ghost use Rattle.point_core.specs.Agreement.{Covers};
-ghost use Rattle.point_core.specs.Usage.{number_of};
+ghost use Rattle.point_core.specs.Usage.{usage_number};
 
 use crate::context::Context;
 
@@ -32,7 +32,7 @@ pub struct Entry {
 impl Usage {
     /// The number of the kernel's enum, from 0.
     pub fn number(self) -> u8
-        ensures { result ≡ number_of self }
+        ensures { result ≡ usage_number self }
     {
         match self {
             Usage::Kernel => 0,

@@ -1,6 +1,6 @@
 // Why a command or a call was refused.
 ghost use Rattle.std.specs.Prelude.{◌≡◌};
-ghost use Rattle.point_core.specs.Refusal.{number_of, name_of, word_of};
+ghost use Rattle.point_core.specs.Refusal.{refusal_number, refusal_name, limit_word};
 
 use std::alloc::AllocError;
 use thiserror::Error;
@@ -81,7 +81,7 @@ impl From<AllocError> for Refusal {
 impl LimitKind {
     /// The word that answers print.
     pub fn word(self) -> &'static str
-        ensures { result.now ≡ word_of self }
+        ensures { result.now ≡ limit_word self }
     {
         match self {
             LimitKind::Timelines => "timelines",
@@ -99,7 +99,7 @@ impl LimitKind {
 impl Refusal {
     /// The number that answers print, from 1 to 16.
     pub fn number(self) -> u8
-        ensures { result ≡ number_of self }
+        ensures { result ≡ refusal_number self }
     {
         match self {
             Refusal::Syntax => 1,
@@ -123,7 +123,7 @@ impl Refusal {
 
     /// The name that answers print. The kind of a limit is told by `LimitKind::word`.
     pub fn name(self) -> &'static str
-        ensures { result.now ≡ name_of self }
+        ensures { result.now ≡ refusal_name self }
     {
         match self {
             Refusal::Syntax => "Syntax",

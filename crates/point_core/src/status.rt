@@ -1,6 +1,6 @@
 // Whether a fence is signalled.
 ghost use Rattle.std.specs.Prelude.{◌≡◌};
-ghost use Rattle.point_core.specs.Status.{number_of};
+ghost use Rattle.point_core.specs.Status.{status_number, status_if};
 
 /// The status of a point or a sync file, as Linux's `dma_fence_get_status` gives it.
 #[derive(Clone, Copy, Debug, PartialEq, Eq, Hash)]
@@ -12,9 +12,20 @@ pub enum Status {
 }
 
 impl Status {
+    /// Signalled where it is so.
+    pub fn of(signalled: bool) -> Status
+        ensures { result ≡ status_if signalled }
+    {
+        if signalled {
+            Status::Signalled
+        } else {
+            Status::Active
+        }
+    }
+
     /// The number that file information shows: 0 while active, 1 once signalled.
     pub fn number(self) -> u8
-        ensures { result ≡ number_of self }
+        ensures { result ≡ status_number self }
     {
         match self {
             Status::Active => 0,

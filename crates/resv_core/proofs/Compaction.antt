@@ -9,7 +9,7 @@ use Rattle.point_core.specs.declared.entry.Point.{Point}
 use Rattle.point_core.specs.declared.entry.Entry.{Entry}
 use Rattle.point_core.specs.declared.entry.Usage.{Usage}
 use Rattle.point_core.specs.declared.entry.Usage.TheVariants.{Kernel, Write, Read, Bookkeep}
-use Rattle.point_core.specs.Usage.{number_of}
+use Rattle.point_core.specs.Usage.{usage_number}
 use Rattle.point_core.specs.Reach.{value_at}
 use Rattle.point_core.specs.Agreement.{applies, later, top, point_of, AgreesAbove, HasContexts}
 use Rattle.point_core.specs.Latest.{raised_to}
@@ -32,14 +32,14 @@ raised_to-one : (value : ℕ) (e : Entry) (usage ctx : ℕ) → applies e usage 
 raised_to-one value e usage ctx is = raised_to-if (applies e usage ctx) value e.point.value None ∙ ap (λ b. put_if b e.point.value value) is
 
 -- from what the stronger usages have to the later point
-raised_to-entry_above : (stronger p ctx : ℕ) (u : Usage) (usage : ℕ) → stronger ≤ p → number_of u ≤ usage → raised_to stronger (top (entry_above stronger (point_of ctx p) u) usage ctx) ≡ p
+raised_to-entry_above : (stronger p ctx : ℕ) (u : Usage) (usage : ℕ) → stronger ≤ p → usage_number u ≤ usage → raised_to stronger (top (entry_above stronger (point_of ctx p) u) usage ctx) ≡ p
 raised_to-entry_above stronger p ctx u usage low strong = elim (cases_lt stronger p) [
   | inl above ↦ rw (lt-ltb stronger p above) (raised_to-one stronger (entry_of (point_of ctx p) u) usage ctx (applies-true (entry_of (point_of ctx p) u) usage ctx strong refl) ∙ omega arith)
   | inr same ↦ rw (le-ltb stronger p same) (omega arith)
 ]
 
 -- a stronger usage doesn't see a weaker one's entry
-raised_to-entry_above_weak : (value stronger p ctx : ℕ) (u : Usage) (usage at : ℕ) → usage < number_of u → raised_to value (top (entry_above stronger (point_of ctx p) u) usage at) ≡ value
+raised_to-entry_above_weak : (value stronger p ctx : ℕ) (u : Usage) (usage at : ℕ) → usage < usage_number u → raised_to value (top (entry_above stronger (point_of ctx p) u) usage at) ≡ value
 raised_to-entry_above_weak value stronger p ctx u usage at weak = elim (cases_lt stronger p) [
   | inl above ↦ rw (lt-ltb stronger p above) (raised_to-one_other value (entry_of (point_of ctx p) u) usage at (applies-weak (entry_of (point_of ctx p) u) usage at weak))
   | inr same ↦ rw (le-ltb stronger p same) refl
@@ -121,17 +121,17 @@ raised_to-entries_at_other tops reach ctx usage at value apart = raised_to-parts
 
 -- an entry of an earlier context, or of a stronger usage of this one and not later than what the stronger usages have
 abbrev pub IsBefore : ℕ → ℕ → ℕ → Entry → Type 0
-IsBefore ctx level stronger e = (e.point.ctx < ctx) ⊎ ((e.point.ctx ≡ ctx) × (number_of e.usage < level) × (e.point.value ≤ stronger))
+IsBefore ctx level stronger e = (e.point.ctx < ctx) ⊎ ((e.point.ctx ≡ ctx) × (usage_number e.usage < level) × (e.point.value ≤ stronger))
 
-covers-not : (e : Entry) (u : Usage) (ctx level stronger p : ℕ) → number_of u ≡ level → stronger < p → IsBefore ctx level stronger e → (covers e (entry_of (point_of ctx p) u) ≡ false) × (covers (entry_of (point_of ctx p) u) e ≡ false)
+covers-not : (e : Entry) (u : Usage) (ctx level stronger p : ℕ) → usage_number u ≡ level → stronger < p → IsBefore ctx level stronger e → (covers e (entry_of (point_of ctx p) u) ≡ false) × (covers (entry_of (point_of ctx p) u) e ≡ false)
 covers-not e u ctx level stronger p is above (inl earlier) =
     let apart : e.point.ctx ≢ ctx = omega arith in
     let apart' : ctx ≢ e.point.ctx = omega arith in
     (rw (ne_eqb e.point.ctx ctx apart) refl, rw (ne_eqb ctx e.point.ctx apart') refl)
 covers-not e u ctx level stronger p is above (inr same) =
     let older : nat_le p e.point.value ≡ false = lt-leb p e.point.value (omega arith) in
-    let weaker : nat_le (number_of u) (number_of e.usage) ≡ false = lt-leb (number_of u) (number_of e.usage) (omega arith) in (
-      rw older (and-false ((e.point.ctx == ctx) && nat_le (number_of e.usage) (number_of u))),
+    let weaker : nat_le (usage_number u) (usage_number e.usage) ≡ false = lt-leb (usage_number u) (usage_number e.usage) (omega arith) in (
+      rw older (and-false ((e.point.ctx == ctx) && nat_le (usage_number e.usage) (usage_number u))),
       rw (weaker, and-false (ctx == e.point.ctx)) refl,
     )
 
@@ -144,7 +144,7 @@ IsBefore-later : (ctx level stronger p : ℕ) → stronger ≤ p → (e : Entry)
 IsBefore-later ctx level stronger p low e (inl earlier) = inl earlier
 IsBefore-later ctx level stronger p low e (inr same) = inr (same.0, omega arith, omega arith)
 
-IsKept-more : (reach : List ℕ) (ctx level stronger p : ℕ) (kept : List Entry) (u : Usage) → number_of u ≡ level → value_at reach ctx ≤ stronger → stronger ≤ p → IsKept reach ctx level stronger kept → IsKept reach ctx (level + 1) p (kept ++ entry_above stronger (point_of ctx p) u)
+IsKept-more : (reach : List ℕ) (ctx level stronger p : ℕ) (kept : List Entry) (u : Usage) → usage_number u ≡ level → value_at reach ctx ≤ stronger → stronger ≤ p → IsKept reach ctx level stronger kept → IsKept reach ctx (level + 1) p (kept ++ entry_above stronger (point_of ctx p) u)
 IsKept-more reach ctx level stronger p kept u is pending low h = elim (cases_lt stronger p) [
   | inl above ↦ rw (lt-ltb stronger p above) (record {
     trimmed = record {
@@ -159,18 +159,18 @@ IsKept-more reach ctx level stronger p kept u is pending low h = elim (cases_lt 
   })
 ]
 
-number_of-weakest : (u : Usage) → number_of u ≤ 3
-number_of-weakest Kernel = omega arith
-number_of-weakest Write = omega arith
-number_of-weakest Read = omega arith
-number_of-weakest Bookkeep = omega arith
+usage_number-weakest : (u : Usage) → usage_number u ≤ 3
+usage_number-weakest Kernel = omega arith
+usage_number-weakest Write = omega arith
+usage_number-weakest Read = omega arith
+usage_number-weakest Bookkeep = omega arith
 
 -- past the weakest usage there is no more to see
 top-weakest : (es : List Entry) (usage ctx : ℕ) → 3 ≤ usage → top es usage ctx ≡ top es 3 ctx
 top-weakest [] usage ctx low = refl
 top-weakest (e ∷ es) usage ctx low =
-    let strong = number_of-weakest e.usage in
-    ap (λ b. if b && (e.point.ctx == ctx) then later e.point.value (top es usage ctx) else top es usage ctx) (le-leb (number_of e.usage) usage (omega arith) ∙ sym (le-leb (number_of e.usage) 3 strong))
+    let strong = usage_number-weakest e.usage in
+    ap (λ b. if b && (e.point.ctx == ctx) then later e.point.value (top es usage ctx) else top es usage ctx) (le-leb (usage_number e.usage) usage (omega arith) ∙ sym (le-leb (usage_number e.usage) 3 strong))
     ∙ ap (λ t. if applies e 3 ctx then later e.point.value t else t) (top-weakest es usage ctx low)
 
 raised_to-top-stronger : (value : ℕ) (es : List Entry) (usage weaker ctx : ℕ) → usage ≤ weaker → raised_to value (top es usage ctx) ≤ raised_to value (top es weaker ctx)

@@ -9,7 +9,7 @@ use Rattle.point_core.specs.declared.context.TheConstants.{CONTEXTS}
 use Rattle.point_core.specs.declared.entry.Entry.{Entry}
 use Rattle.point_core.specs.declared.entry.Usage.{Usage}
 use Rattle.point_core.specs.declared.entry.Usage.TheVariants.{Kernel, Write, Read, Bookkeep}
-use Rattle.point_core.specs.Usage.{number_of}
+use Rattle.point_core.specs.Usage.{usage_number}
 use Rattle.point_core.specs.Agreement.{HasContexts}
 use Rattle.resv_core.specs.declared.resv.TheConstants.{PLACES, PLACES_PER_CONTEXT}
 use Rattle.resv_core.specs.Resv.{covers, IsTrimmed, is_at, is_of}
@@ -18,22 +18,22 @@ abbrev Apart : Entry → Entry → Type 0
 Apart e f = (covers e f ≡ false) × (covers f e ≡ false)
 
 -- of two entries of a context and usage, the later covers the other
-covers-later : (e f : Entry) → e.point.ctx ≡ f.point.ctx → number_of e.usage ≡ number_of f.usage → f.point.value ≤ e.point.value → covers e f ≡ true
+covers-later : (e f : Entry) → e.point.ctx ≡ f.point.ctx → usage_number e.usage ≡ usage_number f.usage → f.point.value ≤ e.point.value → covers e f ≡ true
 covers-later e f ctx usage later =
-    rw (eq-eqb e.point.ctx f.point.ctx ctx, le-leb (number_of e.usage) (number_of f.usage) (omega arith), le-leb f.point.value e.point.value later) refl
+    rw (eq-eqb e.point.ctx f.point.ctx ctx, le-leb (usage_number e.usage) (usage_number f.usage) (omega arith), le-leb f.point.value e.point.value later) refl
 
 true-not_false : {b : Bool} → b ≡ true → b ≡ false → ⊥
 true-not_false {b} is other = cc
 
-Apart-not : (e f : Entry) → e.point.ctx ≡ f.point.ctx → number_of e.usage ≡ number_of f.usage → Apart e f → ⊥
+Apart-not : (e f : Entry) → e.point.ctx ≡ f.point.ctx → usage_number e.usage ≡ usage_number f.usage → Apart e f → ⊥
 Apart-not e f ctx usage apart = elim (cases_lt e.point.value f.point.value) [
   | inl earlier ↦ true-not_false (covers-later f e (sym ctx) (sym usage) (omega arith)) apart.1
   | inr later ↦ true-not_false (covers-later e f ctx usage later) apart.0
 ]
 
-is_of-same : (usage : Usage) (ctx : ℕ) (e : Entry) → is_of usage ctx e ≡ true → (number_of e.usage ≡ number_of usage) × (e.point.ctx ≡ ctx)
+is_of-same : (usage : Usage) (ctx : ℕ) (e : Entry) → is_of usage ctx e ≡ true → (usage_number e.usage ≡ usage_number usage) × (e.point.ctx ≡ ctx)
 is_of-same usage ctx e is =
-    let parts = and_parts (number_of e.usage == number_of usage) (is_at ctx e) is in
+    let parts = and_parts (usage_number e.usage == usage_number usage) (is_at ctx e) is in
     (eqb-true _ _ parts.0, eqb-true _ _ parts.1)
 
 length-apart : (usage : Usage) (ctx : ℕ) (es : List Entry) → All (λ e. is_of usage ctx e ≡ true) es → AllPairs Apart es → length es ≤ 1
@@ -54,7 +54,7 @@ count_by-cons : (p : Entry → Bool) (e : Entry) (es : List Entry) → count_by 
 count_by-cons p e es = sum_by-cons (λ (f : Entry). cond (p f) 1 0) e es
 
 -- a usage is one of the four
-one_usage : (u : Usage) (b : Bool) → cond b 1 0 ≡ cond ((number_of u == number_of Kernel) && b) 1 0 + cond ((number_of u == number_of Write) && b) 1 0 + cond ((number_of u == number_of Read) && b) 1 0 + cond ((number_of u == number_of Bookkeep) && b) 1 0
+one_usage : (u : Usage) (b : Bool) → cond b 1 0 ≡ cond ((usage_number u == usage_number Kernel) && b) 1 0 + cond ((usage_number u == usage_number Write) && b) 1 0 + cond ((usage_number u == usage_number Read) && b) 1 0 + cond ((usage_number u == usage_number Bookkeep) && b) 1 0
 one_usage Kernel true = refl
 one_usage Kernel false = refl
 one_usage Write true = refl

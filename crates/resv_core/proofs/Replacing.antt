@@ -5,7 +5,7 @@ use Rattle.std.proofs.lemmas.Bool.{cases_Bool, or_cases, and_parts, leb-true, eq
 use Rattle.std.proofs.lemmas.List.Folds.{list_any_at, list_any_none}
 use Rattle.std.proofs.lemmas.List.Elements.{All-from_all_within}
 use Rattle.point_core.specs.declared.entry.Entry.{Entry}
-use Rattle.point_core.specs.Usage.{number_of}
+use Rattle.point_core.specs.Usage.{usage_number}
 use Rattle.point_core.specs.Reach.{value_at}
 use Rattle.point_core.specs.Agreement.{applies, top, AgreesAbove}
 use Rattle.point_core.specs.Latest.{raised_to}
@@ -24,12 +24,12 @@ put_if-above true p value = omega arith
 put_if-above false p value = omega arith
 
 -- why an entry may be replaced
-gives_way-cases : (reach : List ℕ) (new old : Entry) → gives_way reach new old ≡ true → (old.point.value ≤ value_at reach old.point.ctx) ⊎ ((new.point.ctx ≡ old.point.ctx) × (number_of new.usage ≤ number_of old.usage) × (old.point.value ≤ new.point.value))
+gives_way-cases : (reach : List ℕ) (new old : Entry) → gives_way reach new old ≡ true → (old.point.value ≤ value_at reach old.point.ctx) ⊎ ((new.point.ctx ≡ old.point.ctx) × (usage_number new.usage ≤ usage_number old.usage) × (old.point.value ≤ new.point.value))
 gives_way-cases reach new old is = elim (or_cases (nat_le old.point.value (value_at reach old.point.ctx)) (covers new old) is) [
   | inl reached ↦ inl (leb-true _ _ reached)
   | inr covered ↦
-      let parts = and_parts ((new.point.ctx == old.point.ctx) && nat_le (number_of new.usage) (number_of old.usage)) (nat_le old.point.value new.point.value) covered in
-      let front = and_parts (new.point.ctx == old.point.ctx) (nat_le (number_of new.usage) (number_of old.usage)) parts.0 in
+      let parts = and_parts ((new.point.ctx == old.point.ctx) && nat_le (usage_number new.usage) (usage_number old.usage)) (nat_le old.point.value new.point.value) covered in
+      let front = and_parts (new.point.ctx == old.point.ctx) (nat_le (usage_number new.usage) (usage_number old.usage)) parts.0 in
       inr (eqb-true _ _ front.0, leb-true _ _ front.1, leb-true _ _ parts.1)
 ]
 

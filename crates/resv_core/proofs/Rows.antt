@@ -6,7 +6,7 @@ use Rattle.point_core.specs.declared.entry.Entry.{Entry}
 use Rattle.point_core.specs.declared.entry.Usage.{Usage}
 use Rattle.point_core.specs.declared.listing.TopRow.{TopRow}
 use Rattle.point_core.specs.Latest.{IsLatest, points_above}
-use Rattle.point_core.specs.Usage.{number_of}
+use Rattle.point_core.specs.Usage.{usage_number}
 use Rattle.point_core.proofs.Listings.{points_above-IsLatest}
 use Rattle.resv_core.specs.Resv.{row_of, rows_at}
 
@@ -16,7 +16,7 @@ row-more rows old usage before after p is more =
     ∙ append_assoc old (map (row_of usage) before) (row_of usage p ∷ [])
     ∙ ap (λ rs. old ++ rs) (sym (map_push (row_of usage) before p) ∙ ap (map (row_of usage)) more)
 
-pub rows_at-IsLatest : {latest reach : List ℕ} {es : List Entry} {level : ℕ} (usage : Usage) → number_of usage ≡ level → IsLatest latest reach es level → map (row_of usage) (points_above latest reach) ≡ rows_at es reach usage
+pub rows_at-IsLatest : {latest reach : List ℕ} {es : List Entry} {level : ℕ} (usage : Usage) → usage_number usage ≡ level → IsLatest latest reach es level → map (row_of usage) (points_above latest reach) ≡ rows_at es reach usage
 rows_at-IsLatest {latest} {reach} {es} usage is h = ap (map (row_of usage)) (points_above-IsLatest (rw (← is) at h))
 
 -- one usage after the other

@@ -3,7 +3,7 @@ use Rattle.std.proofs.Common.{◌≡◌, ℕ, ◌≤◌, ◌↔◌, refl, sym, a
 use Rattle.point_core.specs.declared.entry.Entry.{Entry}
 use Rattle.point_core.specs.declared.entry.Usage.{Usage}
 use Rattle.point_core.specs.declared.entry.Usage.TheVariants.{Kernel, Write, Read, Bookkeep}
-use Rattle.point_core.specs.Usage.{number_of}
+use Rattle.point_core.specs.Usage.{usage_number}
 use Rattle.point_core.specs.Reach.{value_at}
 use Rattle.point_core.specs.Agreement.{top, AgreesAbove, IsReached}
 use Rattle.point_core.specs.Latest.{raised_to}
@@ -34,7 +34,7 @@ AgreesAbove-same_added reach steps others run run' is same =
     (AgreesAbove-trans (AgreesAbove-same_entries (last_reach reach steps) (all_added steps) (all_added others) (λ e. (same e).0) (λ e. (same e).1)) (AgreesAbove-sym other))
 
 rows_at-AgreesAbove : {reach : List ℕ} {es fs : List Entry} (usage : Usage) → AgreesAbove reach es fs → rows_at es reach usage ≡ rows_at fs reach usage
-rows_at-AgreesAbove usage h = ap (map (row_of usage)) (listing-AgreesAbove (number_of usage) h)
+rows_at-AgreesAbove usage h = ap (map (row_of usage)) (listing-AgreesAbove (usage_number usage) h)
 
 pub rows_of-AgreesAbove : {reach : List ℕ} {es fs : List Entry} → AgreesAbove reach es fs → rows_of es reach ≡ rows_of fs reach
 rows_of-AgreesAbove h =

@@ -7,7 +7,7 @@ use Rattle.point_core.specs.declared.entry.Usage.{Usage}
 use Rattle.point_core.specs.declared.entry.Usage.TheVariants.{Kernel, Write, Read, Bookkeep}
 use Rattle.point_core.specs.declared.listing.TopRow.{TopRow}
 use Rattle.resv_core.specs.declared.resv.TheConstants.{PLACES}
-use Rattle.point_core.specs.Usage.{number_of}
+use Rattle.point_core.specs.Usage.{usage_number}
 use Rattle.point_core.specs.Reach.{value_at}
 use Rattle.point_core.specs.Agreement.{HasContexts, listing}
 
@@ -30,7 +30,7 @@ pub record IsTable (r : Reservation) : Type 0 where
 
 -- the same context, a usage at least as strong, a point at least as late
 abbrev pub covers : Entry → Entry → Bool
-covers by other = (by.point.ctx == other.point.ctx) && nat_le (number_of by.usage) (number_of other.usage) && nat_le other.point.value by.point.value
+covers by other = (by.point.ctx == other.point.ctx) && nat_le (usage_number by.usage) (usage_number other.usage) && nat_le other.point.value by.point.value
 
 -- the old entry may be replaced by the new one: it is signalled, or the new one covers it
 abbrev pub gives_way : List ℕ → Entry → Entry → Bool
@@ -47,14 +47,14 @@ is_at ctx e = e.point.ctx == ctx
 
 -- the entry is of the context, and of that usage
 abbrev pub is_of : Usage → ℕ → Entry → Bool
-is_of usage ctx e = (number_of e.usage == number_of usage) && is_at ctx e
+is_of usage ctx e = (usage_number e.usage == usage_number usage) && is_at ctx e
 
 abbrev pub row_of : Usage → Point → TopRow
 row_of usage point = record { usage = usage; ctx = point.ctx; point = point.value }
 
 -- the pending tops at one usage, by rising context
 abbrev pub rows_at : List Entry → List ℕ → Usage → List TopRow
-rows_at es reach usage = map (row_of usage) (listing es (number_of usage) reach)
+rows_at es reach usage = map (row_of usage) (listing es (usage_number usage) reach)
 
 -- the pending tops, from the strongest usage to the weakest
 abbrev pub rows_of : List Entry → List ℕ → List TopRow

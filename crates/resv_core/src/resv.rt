@@ -5,7 +5,7 @@ ghost use Rattle.std.specs.Vec.{vec_capacity};
 ghost use Rattle.point_core.specs.declared.context.TheConstants.{CONTEXTS};
 ghost use Rattle.point_core.specs.Agreement.{IsReached, listing};
 ghost use Rattle.point_core.specs.Latest.{points_above};
-ghost use Rattle.point_core.specs.Usage.{number_of};
+ghost use Rattle.point_core.specs.Usage.{usage_number};
 ghost use Rattle.resv_core.specs.declared.resv.TheConstants.{PLACES};
 ghost use Rattle.resv_core.specs.Resv.{IsTable, IsTrimmed, empty, entry_of, gives_way, row_of, rows_of};
 ghost use Rattle.resv_core.specs.Run.{Leaves, Reserve, Add, Trim};
@@ -152,7 +152,7 @@ impl Resv {
     ///
     /// Refuses as `Memory` alone.
     pub fn collect(&self, usage: Usage, reach: &Reach) -> Result<Vec<Point>, Refusal>
-        ensures points { IfOk result (λ ps. ps.items ≡ listing self.now.entries (number_of usage) reach.now) }
+        ensures points { IfOk result (λ ps. ps.items ≡ listing self.now.entries (usage_number usage) reach.now) }
         ensures memory { IfErr result (λ e. e ≡ Refusal.Memory) }
     {
         points_above(
@@ -181,7 +181,7 @@ impl Resv {
     /// Whether every entry of the usage or a stronger one is signalled, as Linux's `dma_resv_test_signaled`. Takes no
     /// memory.
     pub fn test(&self, usage: Usage, reach: &Reach) -> bool
-        ensures reached { IsTrue result ↔ IsReached self.now.entries (number_of usage) reach.now }
+        ensures reached { IsTrue result ↔ IsReached self.now.entries (usage_number usage) reach.now }
     {
         self.entries.iter().all(|entry| entry.usage.number() > usage.number()
             || is_signalled(entry.point, reach))

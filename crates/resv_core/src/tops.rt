@@ -5,7 +5,7 @@ ghost use Rattle.point_core.specs.declared.entry.Entry.{Entry};
 ghost use Rattle.point_core.specs.declared.context.TheConstants.{CONTEXTS};
 ghost use Rattle.point_core.specs.Agreement.{AgreesAbove, HasContexts, point_of};
 ghost use Rattle.point_core.specs.Latest.{IsLatest};
-ghost use Rattle.point_core.specs.Usage.{number_of};
+ghost use Rattle.point_core.specs.Usage.{usage_number};
 ghost use Rattle.resv_core.specs.declared.tops.TheConstants.{USAGES};
 ghost use Rattle.resv_core.specs.Resv.{IsTrimmed};
 ghost use Rattle.resv_core.specs.Tops.{AreTops, entries_at, entry_above};
@@ -57,7 +57,7 @@ impl Tops {
 
 /// The latest point of each context at the usage or a stronger one, or its value where no point is above that.
 pub(crate) fn latest_of(entries: &[Entry], usage: Usage, reach: &Reach) -> Reach
-    ensures { IsLatest result reach.now entries.now (number_of usage) }
+    ensures { IsLatest result reach.now entries.now (usage_number usage) }
 {
     let mut latest = *reach;
     for entry in entries {
@@ -69,9 +69,9 @@ pub(crate) fn latest_of(entries: &[Entry], usage: Usage, reach: &Reach) -> Reach
 /// Puts an entry into the table of a usage, where it is of that usage or a stronger one.
 fn put_at(latest: &mut Reach, usage: Usage, entry: &Entry)
     ensures latest { (reach : List ℕ) (es : List Entry) →
-        IsLatest latest.old reach es (number_of usage) →
-        IsLatest latest.new reach (es ++ entry.now ∷ []) (number_of usage) }
-    ensures context { number_of entry.now.usage ≤ number_of usage → HasContexts (entry.now ∷ []) }
+        IsLatest latest.old reach es (usage_number usage) →
+        IsLatest latest.new reach (es ++ entry.now ∷ []) (usage_number usage) }
+    ensures context { usage_number entry.now.usage ≤ usage_number usage → HasContexts (entry.now ∷ []) }
 {
     if entry.usage.number() <= usage.number() {
         latest.raise_to(entry.point);

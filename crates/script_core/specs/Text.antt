@@ -21,10 +21,10 @@ driver_of SwSync = codes "sw_sync"
 driver_of Stub = codes "stub"
 
 abbrev pub fence_text : FenceRow → List ℕ
-fence_text row = line_text (codes "fence" ∷ row.timeline ∷ driver_of row.driver ∷ decimal row.point ∷ decimal (status.number_of row.status) ∷ [])
+fence_text row = line_text (codes "fence" ∷ row.timeline ∷ driver_of row.driver ∷ decimal row.point ∷ decimal (status.status_number row.status) ∷ [])
 
 abbrev pub info_line : Info → List ℕ
-info_line info = line_text (codes "ok" ∷ info.name ∷ decimal (status.number_of info.status) ∷ decimal (length info.fences) ∷ [])
+info_line info = line_text (codes "ok" ∷ info.name ∷ decimal (status.status_number info.status) ∷ decimal (length info.fences) ∷ [])
 
 abbrev pub info_text : Info → List ℕ
 info_text info = info_line info ++ flat_map fence_text info.fences
@@ -43,7 +43,7 @@ raised_text value fired = value_line value ++ flat_map fired_text fired
 abbrev pub details : ℕ → Refusal → List (List ℕ)
 details number Syntax = codes "line" ∷ decimal number ∷ []
 details number LongLine = codes "line" ∷ decimal number ∷ []
-details number (Limit kind) = refusal.word_of kind ∷ []
+details number (Limit kind) = refusal.limit_word kind ∷ []
 details number NoEntry = []
 details number Exists = []
 details number Overflow = []
@@ -59,7 +59,7 @@ details number Cancelled = []
 details number Memory = []
 
 abbrev pub refusal_text : ℕ → Refusal → List ℕ
-refusal_text number r = line_text (codes "err" ∷ decimal (refusal.number_of r) ∷ refusal.name_of r ∷ details number r)
+refusal_text number r = line_text (codes "err" ∷ decimal (refusal.refusal_number r) ∷ refusal.refusal_name r ∷ details number r)
 
 -- the text of the answer of the line of that number
 abbrev pub text_of : ℕ → Answer → List ℕ
