@@ -1,5 +1,5 @@
 -- Answers, and the histories after them.
-use Rattle.std.proofs.Common.{◌≡◌, ◌≢◌, true, false, refl, sym, ap, subst, ◌∙◌, List, [], ◌∷◌, ◌++◌, length, Option, None, Some, inl, inr, arith, length-append}
+use Rattle.std.proofs.Common.{◌≡◌, ◌≢◌, false, refl, sym, ap, subst, ◌∙◌, List, [], ◌∷◌, ◌++◌, length, Option, None, Some, inl, inr, arith, length-append}
 use Rattle.std.specs.Prelude.{Result, Ok, Err, IfOk, IfErr, OnErr}
 use Rattle.std.proofs.lemmas.Bool.{cases_Bool}
 use Rattle.point_core.specs.declared.refusal.Refusal.TheVariants.{Memory}
@@ -10,9 +10,11 @@ use Rattle.desk_core.specs.declared.answer.Answer.{Answer}
 use Rattle.desk_core.specs.declared.answer.Answer.TheVariants as answer
 use Rattle.syncfile_core.specs.Files.{IsRefusedFor}
 use Rattle.desk_core.specs.World.{World, empty_world, after}
-use Rattle.desk_core.specs.Answer.{first_of, causes, told, refused_or, is_refused, takes_memory, OnRefused}
-use Rattle.desk_core.specs.History.{world_from, world_of, IsAnswer, history_after, history_of, AreAnswers}
-use Rattle.desk_core.specs.Desk.{DeskState, Keeps, StandsFor, cause_of, IsDone, answer_of}
+use Rattle.desk_core.specs.Answer.{first_of, causes, told, answer_to, refused_or, is_refused, takes_memory, OnRefused}
+use Rattle.desk_core.specs.History.{world_from, world_of, AreAccepted, IsAnswer, history_after, history_of, AreAnswers}
+use Rattle.desk_core.specs.Desk.{DeskState, Holds, StandsFor, Answers}
+use Rattle.desk_core.specs.Keeping.{Keeps, cause_of, IsDone, answer_of}
+use Rattle.desk_core.proofs.Sound.{IsSound-history}
 use Rattle.desk_core.proofs.Stepping.{causes-keeps}
 
 -- one more command
@@ -31,13 +33,21 @@ is_refused-told w (command.Close f) = refl
 is_refused-told w (command.Wait f) = refl
 is_refused-told w (command.Info f) = refl
 
-answered : (old new : DeskState) (c : Command) (r : Result Answer Refusal) (cause : Option Refusal) (history : List Command) → IsRefusedFor cause r → (takes_memory c ≡ false → IfErr r (λ e. e ≢ Memory)) → IfOk r (λ a. IsDone old c a new) → StandsFor old history → first_of (causes (world_of history) c) ≡ cause → IsAnswer history c (answer_of r)
-answered old new c (Ok a) (Some e) history refused sure done stands is = absurd (cc)
-answered old new c (Ok a) None history refused sure done stands is = record { told = inl (done.told (world_of history) stands ∙ ap (λ o. refused_or o (told (world_of history) c)) (sym is)) }
-answered old new c (Err e') (Some e) history refused sure done stands is =
+-- the desk keeps the world of each history that it stands for
+pub Keeps-stands : {desk : DeskState} {history : List Command} → StandsFor desk history → Keeps desk (world_of history)
+Keeps-stands {desk} {history} stands = record { holds = stands.holds; sound = IsSound-history history stands.accepted }
+
+AreAccepted-push : (w : World) (history : List Command) (c : Command) → AreAccepted w history → is_refused (answer_to (world_from w history) c) ≡ false → AreAccepted w (history ++ c ∷ [])
+AreAccepted-push w [] c accepted is = (is, tt)
+AreAccepted-push w (d ∷ history) c accepted is = (accepted.0, AreAccepted-push (after w d) history c accepted.1 is)
+
+answered : (old new : DeskState) (c : Command) (r : Result Answer Refusal) (cause : Option Refusal) (history : List Command) → IsRefusedFor cause r → (takes_memory c ≡ false → IfErr r (λ e. e ≢ Memory)) → IfOk r (λ a. IsDone old c a new) → Keeps old (world_of history) → first_of (causes (world_of history) c) ≡ cause → IsAnswer history c (answer_of r)
+answered old new c (Ok a) (Some e) history refused sure done keeps is = absurd (cc)
+answered old new c (Ok a) None history refused sure done keeps is = record { told = inl (done.told (world_of history) keeps ∙ ap (λ o. refused_or o (told (world_of history) c)) (sym is)) }
+answered old new c (Err e') (Some e) history refused sure done keeps is =
     let same : e' ≡ e = cc in
     record { told = inl (ap answer.Refused same ∙ ap (λ o. refused_or o (told (world_of history) c)) (sym is)) }
-answered old new c (Err e) None history refused sure done stands is =
+answered old new c (Err e) None history refused sure done keeps is =
     elim (cases_Bool (takes_memory c)) [
       | inl takes ↦ record {
         told = inr (ap answer.Refused refused, takes, ap (λ o. is_refused (refused_or o (told (world_of history) c))) is ∙ is_refused-told (world_of history) c);
@@ -46,16 +56,28 @@ answered old new c (Err e) None history refused sure done stands is =
     ]
 
 -- the answer is the one of each history that the desk stands for
-pub IsAnswer-outcome : (old new : DeskState) (c : Command) (r : Result Answer Refusal) → IsRefusedFor (cause_of old c) r → (takes_memory c ≡ false → IfErr r (λ e. e ≢ Memory)) → IfOk r (λ a. IsDone old c a new) → (history : List Command) → StandsFor old history → IsAnswer history c (answer_of r)
-IsAnswer-outcome old new c r refused sure done history stands = answered old new c r (cause_of old c) history refused sure done stands (causes-keeps stands c)
+pub Answers-outcome : (old new : DeskState) (c : Command) (r : Result Answer Refusal) → IsRefusedFor (cause_of old c) r → (takes_memory c ≡ false → IfErr r (λ e. e ≢ Memory)) → IfOk r (λ a. IsDone old c a new) → Answers old c (answer_of r)
+Answers-outcome old new c r refused sure done history stands =
+    let keeps = Keeps-stands stands in
+    answered old new c r (cause_of old c) history refused sure done keeps (causes-keeps keeps c)
+
+accepted-cause : (cause : Option Refusal) (a : Answer) → IsRefusedFor cause (Ok a) → cause ≡ None
+accepted-cause (Some e) a refused = absurd (cc)
+accepted-cause None a refused = refl
 
 -- the desk stands for the history after it
-pub StandsFor-outcome : (old new : DeskState) (c : Command) (r : Result Answer Refusal) → OnErr r (new ≡ old) → IfOk r (λ a. IsDone old c a new) → (history : List Command) → StandsFor old history → StandsFor new (history_after history c (answer_of r))
-StandsFor-outcome old new c (Ok a) unchanged done history stands =
-    let P : World → Type 0 = λ w. Keeps new w in
+pub StandsFor-outcome : (old new : DeskState) (c : Command) (r : Result Answer Refusal) → IsRefusedFor (cause_of old c) r → OnErr r (new ≡ old) → IfOk r (λ a. IsDone old c a new) → (history : List Command) → StandsFor old history → StandsFor new (history_after history c (answer_of r))
+StandsFor-outcome old new c (Ok a) refused unchanged done history stands =
+    let keeps = Keeps-stands stands in
+    let P : World → Type 0 = λ w. Holds new w in
+    let uncaused = causes-keeps keeps c ∙ accepted-cause (cause_of old c) a refused in
+    let is = ap (λ o. is_refused (refused_or o (told (world_of history) c))) uncaused ∙ is_refused-told (world_of history) c in
     let accepted = done.accepted in
-    rw accepted (subst P (sym (world_from-push empty_world history c)) (done.kept (world_of history) stands))
-StandsFor-outcome old new c (Err e) unchanged done history stands =
+    rw accepted (record {
+      accepted = AreAccepted-push empty_world history c stands.accepted is;
+      holds = subst P (sym (world_from-push empty_world history c)) (done.held (world_of history) keeps);
+    })
+StandsFor-outcome old new c (Err e) refused unchanged done history stands =
     let P : DeskState → Type 0 = λ d. StandsFor d history in
     subst P (sym unchanged) stands
 
@@ -91,7 +113,7 @@ pub record HasRun (desk : DeskState) (cs : List Command) (given : List Answer) :
   pub stands : StandsFor desk (history_of [] cs given)
   pub each : length cs ≡ length given
 
-pub HasRun-push : {desk : DeskState} {cs : List Command} {given : List Answer} (new : DeskState) (c : Command) (a : Answer) → HasRun desk cs given → ((history : List Command) → StandsFor desk history → IsAnswer history c a) → ((history : List Command) → StandsFor desk history → StandsFor new (history_after history c a)) → HasRun new (cs ++ c ∷ []) (given ++ a ∷ [])
+pub HasRun-push : {desk : DeskState} {cs : List Command} {given : List Answer} (new : DeskState) (c : Command) (a : Answer) → HasRun desk cs given → Answers desk c a → ((history : List Command) → StandsFor desk history → StandsFor new (history_after history c a)) → HasRun new (cs ++ c ∷ []) (given ++ a ∷ [])
 HasRun-push {desk} {cs} {given} new c a run answer stands = record {
   answers = AreAnswers-push [] cs given c a run.answers (answer (history_of [] cs given) run.stands);
   stands =

@@ -12,38 +12,40 @@ use Rattle.point_core.specs.Agreement.{AgreesAbove, as_entry, as_entries, listin
 use Rattle.point_core.specs.Reach.{value_at}
 use Rattle.point_core.proofs.Agreement.{AgreesAbove-refl, AgreesAbove-append, AgreesAbove-same, listing-AgreesAbove, pending_top-listing, top-as_entries, as_entries-append}
 use Rattle.timeline_core.specs.Timeline.{Timeline, reach_of}
-use Rattle.syncfile_core.specs.SyncFile.{File as SyncFile}
+use Rattle.syncfile_core.specs.SyncFile.{File}
 use Rattle.syncfile_core.specs.Files.{has_file as has_sync_file, without_file, file_at as sync_file_at}
 use Rattle.syncfile_core.specs.Merge.{files_at, points_of as points_of_files}
-use Rattle.desk_core.specs.World.{World, File, files_without, same_name, has_file, file_named, put_set}
+use Rattle.desk_core.specs.World.{World, MadeFile, files_without, same_name, has_file, file_named, put_set}
 use Rattle.desk_core.specs.Answer.{points_of}
-use Rattle.desk_core.specs.Desk.{DeskState, points_at, Keeps, WasMade, IsFilePoint}
+use Rattle.desk_core.specs.Desk.{DeskState}
+use Rattle.desk_core.specs.Sound.{WasMade, IsFilePoint}
+use Rattle.desk_core.specs.Keeping.{points_at, Keeps}
 
-abbrev pub kept_names : List SyncFile → List (List ℕ)
-kept_names fs = map (λ (f : SyncFile). f.name) fs
+abbrev pub kept_names : List File → List (List ℕ)
+kept_names fs = map (λ (f : File). f.name) fs
 
-abbrev pub kept_points : List SyncFile → List (List Point)
-kept_points fs = map (λ (f : SyncFile). f.points) fs
+abbrev pub kept_points : List File → List (List Point)
+kept_points fs = map (λ (f : File). f.points) fs
 
-abbrev pub made_names : List File → List (List ℕ)
-made_names fs = map (λ (f : File). f.name) fs
+abbrev pub made_names : List MadeFile → List (List ℕ)
+made_names fs = map (λ (f : MadeFile). f.name) fs
 
-abbrev pub made_points : List File → List (List Point)
+abbrev pub made_points : List MadeFile → List (List Point)
 made_points fs = map points_of fs
 
-points_of-found : (o p : Option SyncFile) → points_of_files (cons_option o (cons_option p [])) ≡ unwrap_or (option_map (λ (f : SyncFile). f.points) o) [] ++ unwrap_or (option_map (λ (f : SyncFile). f.points) p) []
+points_of-found : (o p : Option File) → points_of_files (cons_option o (cons_option p [])) ≡ unwrap_or (option_map (λ (f : File). f.points) o) [] ++ unwrap_or (option_map (λ (f : File). f.points) p) []
 points_of-found None None = refl
 points_of-found None (Some g) = append-nil g.points
 points_of-found (Some f) None = refl
 points_of-found (Some f) (Some g) = ap (λ ps. f.points ++ ps) (append-nil g.points)
 
 -- the points of two files, one after the other
-pub points_of-files_at : (fs : List SyncFile) (a b : List ℕ) → points_of_files (files_at fs (a ∷ b ∷ [])) ≡ points_at fs a ++ points_at fs b
+pub points_of-files_at : (fs : List File) (a b : List ℕ) → points_of_files (files_at fs (a ∷ b ∷ [])) ≡ points_at fs a ++ points_at fs b
 points_of-files_at fs a b = points_of-found (sync_file_at fs a) (sync_file_at fs b)
 
 -- by name
 
-pub has_sync_file-names : (ks : List SyncFile) (fs : List File) (name : List ℕ) → kept_names ks ≡ made_names fs → has_sync_file ks name ≡ has_file fs name
+pub has_sync_file-names : (ks : List File) (fs : List MadeFile) (name : List ℕ) → kept_names ks ≡ made_names fs → has_sync_file ks name ≡ has_file fs name
 has_sync_file-names [] [] name is = refl
 has_sync_file-names [] (f ∷ fs) name is = absurd (cc)
 has_sync_file-names (k ∷ ks) [] name is = absurd (cc)
@@ -53,15 +55,15 @@ has_sync_file-names (k ∷ ks) (f ∷ fs) name is =
     ap (λ n. same_name n name || has_sync_file ks name) same
     ∙ ap (λ b. same_name f.name name || b) (has_sync_file-names ks fs name rest)
 
-pub length-names : (ks : List SyncFile) (fs : List File) → kept_names ks ≡ made_names fs → length ks ≡ length fs
-length-names ks fs is = sym (length-map ks (λ (f : SyncFile). f.name)) ∙ ap length is ∙ length-map fs (λ (f : File). f.name)
+pub length-names : (ks : List File) (fs : List MadeFile) → kept_names ks ≡ made_names fs → length ks ≡ length fs
+length-names ks fs is = sym (length-map ks (λ (f : File). f.name)) ∙ ap length is ∙ length-map fs (λ (f : MadeFile). f.name)
 
-names-cond : (b : Bool) (k : SyncFile) (f : File) (ks : List SyncFile) (fs : List File) → k.name ≡ f.name → kept_names ks ≡ made_names fs → kept_names (cond (not b) (k ∷ ks) ks) ≡ made_names (cond (not b) (f ∷ fs) fs)
+names-cond : (b : Bool) (k : File) (f : MadeFile) (ks : List File) (fs : List MadeFile) → k.name ≡ f.name → kept_names ks ≡ made_names fs → kept_names (cond (not b) (k ∷ ks) ks) ≡ made_names (cond (not b) (f ∷ fs) fs)
 names-cond true k f ks fs same rest = rest
 names-cond false k f ks fs same rest = rw (same, rest) refl
 
 -- without the file of a name the others keep theirs
-pub without_file-names : (ks : List SyncFile) (fs : List File) (name : List ℕ) → kept_names ks ≡ made_names fs → kept_names (without_file ks name) ≡ made_names (files_without fs name)
+pub without_file-names : (ks : List File) (fs : List MadeFile) (name : List ℕ) → kept_names ks ≡ made_names fs → kept_names (without_file ks name) ≡ made_names (files_without fs name)
 without_file-names [] [] name is = refl
 without_file-names [] (f ∷ fs) name is = absurd (cc)
 without_file-names (k ∷ ks) [] name is = absurd (cc)
@@ -71,11 +73,11 @@ without_file-names (k ∷ ks) (f ∷ fs) name is =
     ap (λ n. kept_names (cond (not (same_name n name)) (k ∷ without_file ks name) (without_file ks name))) same
     ∙ names-cond (same_name f.name name) k f (without_file ks name) (files_without fs name) same (without_file-names ks fs name rest)
 
-kept-points-cond : (b : Bool) (k : SyncFile) (f : File) (ks : List SyncFile) (fs : List File) → k.points ≡ points_of f → kept_points ks ≡ made_points fs → kept_points (cond (not b) (k ∷ ks) ks) ≡ made_points (cond (not b) (f ∷ fs) fs)
+kept-points-cond : (b : Bool) (k : File) (f : MadeFile) (ks : List File) (fs : List MadeFile) → k.points ≡ points_of f → kept_points ks ≡ made_points fs → kept_points (cond (not b) (k ∷ ks) ks) ≡ made_points (cond (not b) (f ∷ fs) fs)
 kept-points-cond true k f ks fs same rest = rest
 kept-points-cond false k f ks fs same rest = rw (same, rest) refl
 
-pub without_file-points : (ks : List SyncFile) (fs : List File) (name : List ℕ) → kept_names ks ≡ made_names fs → kept_points ks ≡ made_points fs → kept_points (without_file ks name) ≡ made_points (files_without fs name)
+pub without_file-points : (ks : List File) (fs : List MadeFile) (name : List ℕ) → kept_names ks ≡ made_names fs → kept_points ks ≡ made_points fs → kept_points (without_file ks name) ≡ made_points (files_without fs name)
 without_file-points [] [] name is points = refl
 without_file-points [] (f ∷ fs) name is points = absurd (cc)
 without_file-points (k ∷ ks) [] name is points = absurd (cc)
@@ -87,11 +89,11 @@ without_file-points (k ∷ ks) (f ∷ fs) name is points =
     ap (λ n. kept_points (cond (not (same_name n name)) (k ∷ without_file ks name) (without_file ks name))) same
     ∙ kept-points-cond (same_name f.name name) k f (without_file ks name) (files_without fs name) same' (without_file-points ks fs name rest rest')
 
-points-cond : (b : Bool) (k : SyncFile) (f : File) (o : Option SyncFile) (p : Option File) → k.points ≡ points_of f → option_map (λ (x : SyncFile). x.points) o ≡ option_map points_of p → option_map (λ (x : SyncFile). x.points) (cond b (Some k) o) ≡ option_map points_of (cond b (Some f) p)
+points-cond : (b : Bool) (k : File) (f : MadeFile) (o : Option File) (p : Option MadeFile) → k.points ≡ points_of f → option_map (λ (x : File). x.points) o ≡ option_map points_of p → option_map (λ (x : File). x.points) (cond b (Some k) o) ≡ option_map points_of (cond b (Some f) p)
 points-cond true k f o p same rest = ap Some same
 points-cond false k f o p same rest = rest
 
-pub sync_file_at-points : (ks : List SyncFile) (fs : List File) (name : List ℕ) → kept_names ks ≡ made_names fs → kept_points ks ≡ made_points fs → option_map (λ (f : SyncFile). f.points) (sync_file_at ks name) ≡ option_map points_of (file_named fs name)
+pub sync_file_at-points : (ks : List File) (fs : List MadeFile) (name : List ℕ) → kept_names ks ≡ made_names fs → kept_points ks ≡ made_points fs → option_map (λ (f : File). f.points) (sync_file_at ks name) ≡ option_map points_of (file_named fs name)
 sync_file_at-points [] [] name is points = refl
 sync_file_at-points [] (f ∷ fs) name is points = absurd (cc)
 sync_file_at-points (k ∷ ks) [] name is points = absurd (cc)
@@ -100,7 +102,7 @@ sync_file_at-points (k ∷ ks) (f ∷ fs) name is points =
     let rest : kept_names ks ≡ made_names fs = cc in
     let same' : k.points ≡ points_of f = cc in
     let rest' : kept_points ks ≡ made_points fs = cc in
-    ap (λ n. option_map (λ (x : SyncFile). x.points) (cond (same_name n name) (Some k) (sync_file_at ks name))) same
+    ap (λ n. option_map (λ (x : File). x.points) (cond (same_name n name) (Some k) (sync_file_at ks name))) same
     ∙ points-cond (same_name f.name name) k f (sync_file_at ks name) (file_named fs name) same' (sync_file_at-points ks fs name rest rest')
 
 found-All : {X : Type 0} (P : X → Type 0) (b : Bool) (x y : X) (rest : Option X) → cond b (Some x) rest ≡ Some y → P x → (rest ≡ Some y → P y) → P y
@@ -112,11 +114,11 @@ pub find-All : {X : Type 0} (P : X → Type 0) (test : X → Bool) (xs : List X)
 find-All P test [] x all is = absurd (cc)
 find-All P test (y ∷ ys) x all is = found-All P (test y) y x (find test ys) is (All-head P y ys all) (λ rest. find-All P test ys x (All-tail P y ys all) rest)
 
-pub file_named-All : (P : File → Type 0) (fs : List File) (name : List ℕ) (f : File) → All P fs → file_named fs name ≡ Some f → P f
-file_named-All P fs name f all is = find-All P (λ (g : File). same_name g.name name) fs f all is
+pub file_named-All : (P : MadeFile → Type 0) (fs : List MadeFile) (name : List ℕ) (f : MadeFile) → All P fs → file_named fs name ≡ Some f → P f
+file_named-All P fs name f all is = find-All P (λ (g : MadeFile). same_name g.name name) fs f all is
 
-pub sync_file_at-All : (P : SyncFile → Type 0) (fs : List SyncFile) (name : List ℕ) (f : SyncFile) → All P fs → sync_file_at fs name ≡ Some f → P f
-sync_file_at-All P fs name f all is = find-All P (λ (g : SyncFile). same_name g.name name) fs f all is
+pub sync_file_at-All : (P : File → Type 0) (fs : List File) (name : List ℕ) (f : File) → All P fs → sync_file_at fs name ≡ Some f → P f
+sync_file_at-All P fs name f all is = find-All P (λ (g : File). same_name g.name name) fs f all is
 
 -- a file's points and what was put into it
 
@@ -139,29 +141,29 @@ pending_top-points reach made es usage at ctx all =
     ∙ ap (pending (value_at reach ctx)) (top-as_entries (map (λ (e : Entry). e.point) es) usage at ctx)
     ∙ ap (λ ds. pending_top reach ds at ctx) (as_entries-points made es all)
 
-points_of-if : (one : Bool) (reach : List ℕ) (ts : List Timeline) (f : File) → WasMade ts f → length ts ≤ CONTEXTS → AgreesAbove (reach_of ts) (as_entries (if one then map (λ (e : Entry). e.point) f.put else listing f.put 0 f.made_at)) f.put
+points_of-if : (one : Bool) (reach : List ℕ) (ts : List Timeline) (f : MadeFile) → WasMade ts f → length ts ≤ CONTEXTS → AgreesAbove (reach_of ts) (as_entries (if one then map (λ (e : Entry). e.point) f.put else listing f.put 0 f.made_at)) f.put
 points_of-if true reach ts f made room = AgreesAbove-same (reach_of ts) (as_entries-points (length ts) f.put made.put)
 points_of-if false reach ts f made room = record {
   tops = λ usage ctx. pending_top-listing f.put 0 usage ctx (HasContexts-put (length ts) f.put room made.put) made.since ∙ pending_top-points (reach_of ts) (length ts) f.put 0 usage ctx made.put;
 }
 
 -- above the timelines' values a file's points agree with all that was put into it
-pub AgreesAbove-points_of : (ts : List Timeline) (f : File) → WasMade ts f → length ts ≤ CONTEXTS → AgreesAbove (reach_of ts) (as_entries (points_of f)) f.put
+pub AgreesAbove-points_of : (ts : List Timeline) (f : MadeFile) → WasMade ts f → length ts ≤ CONTEXTS → AgreesAbove (reach_of ts) (as_entries (points_of f)) f.put
 AgreesAbove-points_of ts f made room = points_of-if f.is_one_point (reach_of ts) ts f made room
 
-put-found : (ts : List Timeline) (o : Option File) → ((f : File) → o ≡ Some f → WasMade ts f) → length ts ≤ CONTEXTS → AgreesAbove (reach_of ts) (as_entries (unwrap_or (option_map points_of o) [])) (unwrap_or (option_map (λ (f : File). f.put) o) [])
+put-found : (ts : List Timeline) (o : Option MadeFile) → ((f : MadeFile) → o ≡ Some f → WasMade ts f) → length ts ≤ CONTEXTS → AgreesAbove (reach_of ts) (as_entries (unwrap_or (option_map points_of o) [])) (unwrap_or (option_map (λ (f : MadeFile). f.put) o) [])
 put-found ts None made room = AgreesAbove-refl (reach_of ts) []
 put-found ts (Some f) made room = AgreesAbove-points_of ts f (made f refl) room
 
 -- what the desk lists of a name
 
 pub points_at-keeps : {desk : DeskState} {world : World} → Keeps desk world → (name : List ℕ) → points_at desk.files name ≡ unwrap_or (option_map points_of (file_named world.files name)) []
-points_at-keeps {desk} {world} k name = ap (λ o. unwrap_or o []) (sync_file_at-points desk.files world.files name k.names k.points)
+points_at-keeps {desk} {world} k name = ap (λ o. unwrap_or o []) (sync_file_at-points desk.files world.files name k.holds.names k.holds.points)
 
 pub AgreesAbove-keeps : {desk : DeskState} {world : World} → Keeps desk world → (name : List ℕ) → AgreesAbove (reach_of world.timelines) (as_entries (points_at desk.files name)) (put_set world.files name)
 AgreesAbove-keeps {desk} {world} k name =
     rw (points_at-keeps k name)
-    (put-found world.timelines (file_named world.files name) (λ f is. file_named-All (WasMade world.timelines) world.files name f k.made is) k.room)
+    (put-found world.timelines (file_named world.files name) (λ f is. file_named-All (WasMade world.timelines) world.files name f k.sound.made is) k.sound.room)
 
 -- what is merged is what is pending of both put sets
 pub listing-keeps : {desk : DeskState} {world : World} → Keeps desk world → (a b : List ℕ) → listing (as_entries (points_at desk.files a ++ points_at desk.files b)) 0 (reach_of world.timelines) ≡ listing (put_set world.files a ++ put_set world.files b) 0 (reach_of world.timelines)
@@ -169,9 +171,12 @@ listing-keeps {desk} {world} k a b =
     ap (λ es. listing es 0 (reach_of world.timelines)) (as_entries-append (points_at desk.files a) (points_at desk.files b))
     ∙ listing-AgreesAbove 0 (AgreesAbove-append (AgreesAbove-keeps k a) (AgreesAbove-keeps k b))
 
-put-made : (ts : List Timeline) (o : Option File) → ((f : File) → o ≡ Some f → WasMade ts f) → All (IsFilePoint (length ts)) (unwrap_or (option_map (λ (f : File). f.put) o) [])
+put-made : (ts : List Timeline) (o : Option MadeFile) → ((f : MadeFile) → o ≡ Some f → WasMade ts f) → All (IsFilePoint (length ts)) (unwrap_or (option_map (λ (f : MadeFile). f.put) o) [])
 put-made ts None made = All-nil (IsFilePoint (length ts))
 put-made ts (Some f) made = (made f refl).put
 
+pub put_set-made : (ts : List Timeline) (fs : List MadeFile) (name : List ℕ) → All (WasMade ts) fs → All (IsFilePoint (length ts)) (put_set fs name)
+put_set-made ts fs name made = put-made ts (file_named fs name) (λ f is. file_named-All (WasMade ts) fs name f made is)
+
 pub put_set-keeps : {desk : DeskState} {world : World} → Keeps desk world → (name : List ℕ) → All (IsFilePoint (length world.timelines)) (put_set world.files name)
-put_set-keeps {desk} {world} k name = put-made world.timelines (file_named world.files name) (λ f is. file_named-All (WasMade world.timelines) world.files name f k.made is)
+put_set-keeps {desk} {world} k name = put_set-made world.timelines world.files name k.sound.made

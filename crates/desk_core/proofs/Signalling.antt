@@ -15,9 +15,11 @@ use Rattle.point_core.specs.Agreement.{AgreesAbove, as_entry, as_entries, listin
 use Rattle.point_core.specs.Reach.{value_at}
 use Rattle.point_core.proofs.Agreement.{AgreesAbove-sym, listing-AgreesAbove, listing-empty, listing-contexts}
 use Rattle.timeline_core.specs.Timeline.{Timeline, reach_of}
-use Rattle.desk_core.specs.World.{World, File, file_named, put_set}
+use Rattle.desk_core.specs.World.{World, MadeFile, file_named, put_set}
 use Rattle.desk_core.specs.Answer.{is_reached, all_reached, points_of}
-use Rattle.desk_core.specs.Desk.{DeskState, points_at, Keeps, WasMade, IsFilePoint}
+use Rattle.desk_core.specs.Desk.{DeskState}
+use Rattle.desk_core.specs.Sound.{WasMade, IsFilePoint}
+use Rattle.desk_core.specs.Keeping.{points_at, Keeps}
 use Rattle.desk_core.proofs.Keeping.{as_entries-points, HasContexts-put, AgreesAbove-keeps, points_at-keeps, put_set-keeps, file_named-All}
 
 -- tests and facts
@@ -58,23 +60,23 @@ pub IsReached-AgreesAbove : {reach : List ℕ} {es fs : List Entry} → HasConte
 IsReached-AgreesAbove {reach} {es} {fs} within within' agrees reached =
     (listing-empty fs 0 reach within').0 (sym (listing-AgreesAbove 0 agrees) ∙ (listing-empty es 0 reach within).1 reached)
 
-points_of-contexts_if : (one : Bool) (made : ℕ) (f : File) → made ≤ CONTEXTS → All (IsFilePoint made) f.put → HasContexts (as_entries (if one then map (λ (e : Entry). e.point) f.put else listing f.put 0 f.made_at))
+points_of-contexts_if : (one : Bool) (made : ℕ) (f : MadeFile) → made ≤ CONTEXTS → All (IsFilePoint made) f.put → HasContexts (as_entries (if one then map (λ (e : Entry). e.point) f.put else listing f.put 0 f.made_at))
 points_of-contexts_if true made f room put = let P : List Entry → Type 0 = λ es. HasContexts es in subst P (sym (as_entries-points made f.put put)) (HasContexts-put made f.put room put)
 points_of-contexts_if false made f room put = (listing-contexts f.put 0 f.made_at).1
 
-points-contexts : (ts : List Timeline) (o : Option File) → ((f : File) → o ≡ Some f → WasMade ts f) → length ts ≤ CONTEXTS → HasContexts (as_entries (unwrap_or (option_map points_of o) []))
+points-contexts : (ts : List Timeline) (o : Option MadeFile) → ((f : MadeFile) → o ≡ Some f → WasMade ts f) → length ts ≤ CONTEXTS → HasContexts (as_entries (unwrap_or (option_map points_of o) []))
 points-contexts ts None made room = All-nil (λ (e : Entry). (1 ≤ e.point.ctx) × (e.point.ctx ≤ CONTEXTS))
 points-contexts ts (Some f) made room = points_of-contexts_if f.is_one_point (length ts) f room (made f refl).put
 
 pub HasContexts-points_at : {desk : DeskState} {world : World} → Keeps desk world → (name : List ℕ) → HasContexts (as_entries (points_at desk.files name))
 HasContexts-points_at {desk} {world} k name =
     rw (points_at-keeps k name)
-    (points-contexts world.timelines (file_named world.files name) (λ f is. file_named-All (WasMade world.timelines) world.files name f k.made is) k.room)
+    (points-contexts world.timelines (file_named world.files name) (λ f is. file_named-All (WasMade world.timelines) world.files name f k.sound.made is) k.sound.room)
 
 pub IsReached-keeps : {desk : DeskState} {world : World} → Keeps desk world → (name : List ℕ) → IsReached (as_entries (points_at desk.files name)) 0 (reach_of world.timelines) ↔ IsReached (put_set world.files name) 0 (reach_of world.timelines)
 IsReached-keeps {desk} {world} k name =
     let within = HasContexts-points_at k name in
-    let within' = HasContexts-put (length world.timelines) (put_set world.files name) k.room (put_set-keeps k name) in
+    let within' = HasContexts-put (length world.timelines) (put_set world.files name) k.sound.room (put_set-keeps k name) in
     (IsReached-AgreesAbove within within' (AgreesAbove-keeps k name), IsReached-AgreesAbove within' within (AgreesAbove-sym (AgreesAbove-keeps k name)))
 
 pub all_reached-keeps : {desk : DeskState} {world : World} → Keeps desk world → (name : List ℕ) → all_reached (reach_of world.timelines) 0 (as_entries (points_at desk.files name)) ≡ all_reached (reach_of world.timelines) 0 (put_set world.files name)

@@ -1,29 +1,25 @@
 -- What a desk keeps after each command.
-use Rattle.std.proofs.Common.{◌≡◌, ℕ, ◌+◌, ◌-◌, ◌^◌, ◌<◌, ◌≤◌, Bool, true, false, ◌&&◌, refl, sym, ap, subst, ◌∙◌, List, [], ◌∷◌, ◌++◌, length, map, None, Some, arith, nat_le, nat_lt, not, replicate, length-append, suc, zero}
+use Rattle.std.proofs.Common.{◌≡◌, ℕ, ◌+◌, ◌^◌, ◌≤◌, Bool, true, false, ◌&&◌, refl, sym, ap, ◌∙◌, List, [], ◌∷◌, ◌++◌, length, map, None, Some, nat_le, nat_lt, not}
 use Rattle.std.specs.Prelude.{if◌then◌else◌}
 use Rattle.std.proofs.lemmas.Bool.{leb-true, leb-false, lt-ltb, le-ltb}
-use Rattle.std.proofs.lemmas.List.{length-map}
-use Rattle.std.proofs.lemmas.List.Elements.{All-nil, All-cons, All-push, All-weaker, All-append, All-filter}
 use Rattle.point_core.specs.declared.context.TheConstants.{CONTEXTS}
-use Rattle.point_core.specs.declared.entry.Entry.{Entry}
 use Rattle.point_core.specs.declared.refusal.Refusal.{Refusal}
 use Rattle.point_core.specs.declared.refusal.Refusal.TheVariants.{NoEntry, Exists, Overflow, Limit, TimedOut}
 use Rattle.point_core.specs.declared.refusal.LimitKind.TheVariants.{Timelines, Files}
-use Rattle.point_core.specs.Agreement.{as_entry, point_of, as_entries, listing}
-use Rattle.point_core.specs.Reach.{IsAtLeast}
-use Rattle.point_core.proofs.Values.{IsAtLeast-refl, IsAtLeast-trans}
+use Rattle.point_core.specs.Agreement.{point_of, as_entries, listing}
 use Rattle.syncfile_core.specs.declared.files.TheConstants.{FILES}
 use Rattle.desk_core.specs.declared.command.Command.{Command}
 use Rattle.desk_core.specs.declared.command.Command.TheVariants as command
-use Rattle.timeline_core.specs.Timeline.{Timeline, new_timeline, has_timeline, context_of, reach_of, value_of, raised, is_named, raised_by}
-use Rattle.syncfile_core.specs.SyncFile.{File as SyncFile, plain_file}
+use Rattle.timeline_core.specs.Timeline.{new_timeline, has_timeline, context_of, reach_of, value_of, raised}
+use Rattle.syncfile_core.specs.SyncFile.{File, plain_file}
 use Rattle.syncfile_core.specs.Files.{has_file as has_sync_file, without_file, cause_to_refuse}
 use Rattle.syncfile_core.specs.Merge.{merge_of}
-use Rattle.desk_core.specs.World.{World, File, same_name, has_file, put_set, after}
+use Rattle.desk_core.specs.World.{World, MadeFile, has_file, after}
 use Rattle.desk_core.specs.Answer.{first_of, is_signalled, all_reached, causes, making_file, points_of}
-use Rattle.desk_core.specs.Desk.{DeskState, points_at, Keeps, WasMade, IsFilePoint, cause_of}
+use Rattle.desk_core.specs.Desk.{DeskState, Holds}
+use Rattle.desk_core.specs.Keeping.{points_at, Keeps, cause_of}
 use Rattle.desk_core.proofs.Signalling.{all_reached-keeps}
-use Rattle.desk_core.proofs.Keeping.{points_of-files_at, has_sync_file-names, length-names, without_file-names, without_file-points, listing-keeps, put_set-keeps}
+use Rattle.desk_core.proofs.Keeping.{points_of-files_at, has_sync_file-names, length-names, without_file-names, without_file-points, listing-keeps}
 
 -- why a command is refused
 
@@ -41,9 +37,9 @@ if-not false x y = refl
 
 making_file-keeps : {desk : DeskState} {world : World} → Keeps desk world → (name : List ℕ) → first_of (making_file world name) ≡ cause_to_refuse desk.files name
 making_file-keeps {desk} {world} k name =
-    ap (λ b. if b then Some Exists else (if nat_le FILES (length world.files) then Some (Limit Files) else None)) (sym (has_sync_file-names desk.files world.files name k.names))
+    ap (λ b. if b then Some Exists else (if nat_le FILES (length world.files) then Some (Limit Files) else None)) (sym (has_sync_file-names desk.files world.files name k.holds.names))
     ∙ ap (λ o. if has_sync_file desk.files name then Some Exists else o)
-    (limit_tests FILES (length world.files) (Limit Files) ∙ ap (λ n. if nat_lt n FILES then None else Some (Limit Files)) (sym (length-names desk.files world.files k.names)))
+    (limit_tests FILES (length world.files) (Limit Files) ∙ ap (λ n. if nat_lt n FILES then None else Some (Limit Files)) (sym (length-names desk.files world.files k.holds.names)))
 
 and-true : (b : Bool) → (b && true) ≡ b
 and-true true = refl
@@ -53,139 +49,77 @@ and-true false = refl
 pub causes-keeps : {desk : DeskState} {world : World} → Keeps desk world → (c : Command) → first_of (causes world c) ≡ cause_of desk c
 causes-keeps {desk} {world} k (command.Timeline t) =
     ap (λ o. if has_timeline world.timelines t then Some Exists else o) (limit_tests CONTEXTS (length world.timelines) (Limit Timelines))
-    ∙ ap (λ ts. if has_timeline ts t then Some Exists else (if nat_lt (length ts) CONTEXTS then None else Some (Limit Timelines))) (sym k.timelines)
+    ∙ ap (λ ts. if has_timeline ts t then Some Exists else (if nat_lt (length ts) CONTEXTS then None else Some (Limit Timelines))) (sym k.holds.timelines)
 causes-keeps {desk} {world} k (command.Inc t n) =
     if-not (has_timeline world.timelines t) (Some NoEntry) (if nat_le (2 ^ 64) (value_of world.timelines t + n) then Some Overflow else None)
-    ∙ ap (λ ts. if has_timeline ts t then (if nat_le (2 ^ 64) (value_of ts t + n) then Some Overflow else None) else Some NoEntry) (sym k.timelines)
+    ∙ ap (λ ts. if has_timeline ts t then (if nat_le (2 ^ 64) (value_of ts t + n) then Some Overflow else None) else Some NoEntry) (sym k.holds.timelines)
 causes-keeps {desk} {world} k (command.Value t) =
     if-not (has_timeline world.timelines t) (Some NoEntry) None
-    ∙ ap (λ ts. if has_timeline ts t then None else Some NoEntry) (sym k.timelines)
+    ∙ ap (λ ts. if has_timeline ts t then None else Some NoEntry) (sym k.holds.timelines)
 causes-keeps {desk} {world} k (command.Fence f t p) =
     if-not (has_timeline world.timelines t) (Some NoEntry) (first_of (making_file world f))
     ∙ ap (λ o. if has_timeline world.timelines t then o else Some NoEntry) (making_file-keeps k f)
-    ∙ ap (λ ts. if has_timeline ts t then cause_to_refuse desk.files f else Some NoEntry) (sym k.timelines)
+    ∙ ap (λ ts. if has_timeline ts t then cause_to_refuse desk.files f else Some NoEntry) (sym k.holds.timelines)
 causes-keeps {desk} {world} k (command.Merge f a b) =
     if-not (has_file world.files a && has_file world.files b) (Some NoEntry) (first_of (making_file world f))
     ∙ ap (λ o. if has_file world.files a && has_file world.files b then o else Some NoEntry) (making_file-keeps k f)
-    ∙ ap (λ h. if h && has_file world.files b then cause_to_refuse desk.files f else Some NoEntry) (sym (has_sync_file-names desk.files world.files a k.names))
-    ∙ ap (λ h. if has_sync_file desk.files a && h then cause_to_refuse desk.files f else Some NoEntry) (sym (has_sync_file-names desk.files world.files b k.names) ∙ sym (and-true (has_sync_file desk.files b)))
+    ∙ ap (λ h. if h && has_file world.files b then cause_to_refuse desk.files f else Some NoEntry) (sym (has_sync_file-names desk.files world.files a k.holds.names))
+    ∙ ap (λ h. if has_sync_file desk.files a && h then cause_to_refuse desk.files f else Some NoEntry) (sym (has_sync_file-names desk.files world.files b k.holds.names) ∙ sym (and-true (has_sync_file desk.files b)))
 causes-keeps {desk} {world} k (command.Close f) =
     if-not (has_file world.files f) (Some NoEntry) None
-    ∙ ap (λ h. if h then None else Some NoEntry) (sym (has_sync_file-names desk.files world.files f k.names))
+    ∙ ap (λ h. if h then None else Some NoEntry) (sym (has_sync_file-names desk.files world.files f k.holds.names))
 causes-keeps {desk} {world} k (command.Wait f) =
-    let listed = ap (λ ts. all_reached (reach_of ts) 0 (as_entries (points_at desk.files f))) k.timelines ∙ all_reached-keeps k f in
+    let listed = ap (λ ts. all_reached (reach_of ts) 0 (as_entries (points_at desk.files f))) k.holds.timelines ∙ all_reached-keeps k f in
     if-not (has_file world.files f) (Some NoEntry) (if not (is_signalled world f) then Some TimedOut else None)
     ∙ ap (λ o. if has_file world.files f then o else Some NoEntry) (if-not (is_signalled world f) (Some TimedOut) None ∙ ap (λ b. if b then None else Some TimedOut) (sym listed))
-    ∙ ap (λ h. if h then (if all_reached (reach_of desk.timelines) 0 (as_entries (points_at desk.files f)) then None else Some TimedOut) else Some NoEntry) (sym (has_sync_file-names desk.files world.files f k.names))
+    ∙ ap (λ h. if h then (if all_reached (reach_of desk.timelines) 0 (as_entries (points_at desk.files f)) then None else Some TimedOut) else Some NoEntry) (sym (has_sync_file-names desk.files world.files f k.holds.names))
 causes-keeps {desk} {world} k (command.Info f) =
     if-not (has_file world.files f) (Some NoEntry) None
-    ∙ ap (λ h. if h then None else Some NoEntry) (sym (has_sync_file-names desk.files world.files f k.names))
+    ∙ ap (λ h. if h then None else Some NoEntry) (sym (has_sync_file-names desk.files world.files f k.holds.names))
 
--- what is kept
+-- what is held
 
 map-push : {X Y : Type 0} (f : X → Y) (xs : List X) (x : X) → map f (xs ++ x ∷ []) ≡ map f xs ++ f x ∷ []
 map-push f [] x = refl
 map-push f (y ∷ ys) x = ap (λ zs. f y ∷ zs) (map-push f ys x)
 
-reach-zero : (n : ℕ) (ts : List Timeline) (name : List ℕ) → length ts < n → map (λ (t : Timeline). t.value) (ts ++ new_timeline name ∷ []) ++ replicate (n - length (ts ++ new_timeline name ∷ [])) 0 ≡ map (λ (t : Timeline). t.value) ts ++ replicate (n - length ts) 0
-reach-zero zero ts name low = absurd (omega (arith, low))
-reach-zero (suc n) [] name low =
-    let less : suc n - 1 ≡ n = omega arith in
-    let all : suc n - 0 ≡ suc n = omega arith in
-    rw (less, all) refl
-reach-zero (suc n) (t ∷ ts) name low =
-    let less : suc n - length (t ∷ (ts ++ new_timeline name ∷ [])) ≡ n - length (ts ++ new_timeline name ∷ []) = omega arith in
-    let less' : suc n - length (t ∷ ts) ≡ n - length ts = omega arith in
-    rw (less, less') (ap (λ vs. t.value ∷ vs) (reach-zero n ts name (omega arith)))
-
--- a timeline begins with a value that was 0 before
-pub reach_of-new_timeline : (ts : List Timeline) (name : List ℕ) → length ts < CONTEXTS → reach_of (ts ++ new_timeline name ∷ []) ≡ reach_of ts
-reach_of-new_timeline ts name low = reach-zero CONTEXTS ts name low
-
-IsFilePoint-more : (made made' : ℕ) → made ≤ made' → (e : Entry) → IsFilePoint made e → IsFilePoint made' e
-IsFilePoint-more made made' more e h = let within = h.timeline.1 in record { usage = h.usage; timeline = (h.timeline.0, omega arith) }
-
-WasMade-new_timeline : (ts : List Timeline) (name : List ℕ) → length ts < CONTEXTS → (f : File) → WasMade ts f → WasMade (ts ++ new_timeline name ∷ []) f
-WasMade-new_timeline ts name low f h = record {
-  since = let P : List ℕ → Type 0 = λ reach. IsAtLeast reach f.made_at in subst P (sym (reach_of-new_timeline ts name low)) h.since;
-  put = All-weaker (IsFilePoint (length ts)) (IsFilePoint (length (ts ++ new_timeline name ∷ []))) (IsFilePoint-more (length ts) (length (ts ++ new_timeline name ∷ [])) (omega (arith, length-append {A = Timeline}))) f.put h.put;
-}
-
--- as many timelines as before
-pub length-raised : (ts : List Timeline) (name : List ℕ) (n : ℕ) → length (raised ts name n) ≡ length ts
-length-raised ts name n = length-map ts (λ t. if is_named name t then raised_by n t else t)
-
--- a file stays made while no value falls
-WasMade-later : (ts later : List Timeline) → length later ≡ length ts → IsAtLeast (reach_of later) (reach_of ts) → (f : File) → WasMade ts f → WasMade later f
-WasMade-later ts later same rises f h = record {
-  since = IsAtLeast-trans rises h.since;
-  put = rw same h.put;
-}
-
 -- a timeline rises, and the files stay
-pub Keeps-raised : {desk : DeskState} {world : World} → Keeps desk world → (name : List ℕ) (n : ℕ) → IsAtLeast (reach_of (raised desk.timelines name n)) (reach_of desk.timelines) → Keeps (record { timelines = raised desk.timelines name n; files = desk.files }) (after world (command.Inc name n))
-Keeps-raised {desk} {world} k name n rises =
-    let same = k.timelines in
-    let rises' : IsAtLeast (reach_of (raised world.timelines name n)) (reach_of world.timelines) = rw same at rises in
-    record {
-      timelines = ap (λ ts. raised ts name n) same;
-      names = k.names;
-      points = k.points;
-      made = All-weaker (WasMade world.timelines) (WasMade (raised world.timelines name n)) (WasMade-later world.timelines (raised world.timelines name n) (length-raised world.timelines name n) rises') world.files k.made;
-      room = rw (length-raised world.timelines name n) k.room;
-    }
+pub Holds-raised : {desk : DeskState} {world : World} → Holds desk world → (name : List ℕ) (n : ℕ) → Holds (record { timelines = raised desk.timelines name n; files = desk.files }) (after world (command.Inc name n))
+Holds-raised {desk} {world} h name n = record {
+  timelines = ap (λ ts. raised ts name n) h.timelines;
+  names = h.names;
+  points = h.points;
+}
 
-pub Keeps-timeline : {desk : DeskState} {world : World} → Keeps desk world → (name : List ℕ) → length desk.timelines < CONTEXTS → Keeps (record { timelines = desk.timelines ++ new_timeline name ∷ []; files = desk.files }) (after world (command.Timeline name))
-Keeps-timeline {desk} {world} k name low =
-    let same = k.timelines in
-    let low' : length world.timelines < CONTEXTS = rw same at low in
-    record {
-      timelines = ap (λ ts. ts ++ new_timeline name ∷ []) same;
-      names = k.names;
-      points = k.points;
-      made = All-weaker (WasMade world.timelines) (WasMade (world.timelines ++ new_timeline name ∷ [])) (WasMade-new_timeline world.timelines name low') world.files k.made;
-      room = omega (arith, length-append {A = Timeline});
-    }
+pub Holds-timeline : {desk : DeskState} {world : World} → Holds desk world → (name : List ℕ) → Holds (record { timelines = desk.timelines ++ new_timeline name ∷ []; files = desk.files }) (after world (command.Timeline name))
+Holds-timeline {desk} {world} h name = record {
+  timelines = ap (λ ts. ts ++ new_timeline name ∷ []) h.timelines;
+  names = h.names;
+  points = h.points;
+}
 
 -- a file is put behind the others
-pub Keeps-file : {desk : DeskState} {world : World} → Keeps desk world → (kept : SyncFile) (f : File) → kept.name ≡ f.name → kept.points ≡ points_of f → WasMade world.timelines f → Keeps (record { timelines = desk.timelines; files = desk.files ++ kept ∷ [] }) (record world { files = world.files ++ f ∷ [] })
-Keeps-file {desk} {world} k kept f name points made = record {
-  timelines = k.timelines;
-  names = map-push (λ (g : SyncFile). g.name) desk.files kept ∙ ap (λ ns. ns ++ kept.name ∷ []) k.names ∙ ap (λ n. map (λ (g : File). g.name) world.files ++ n ∷ []) name ∙ sym (map-push (λ (g : File). g.name) world.files f);
-  points = map-push (λ (g : SyncFile). g.points) desk.files kept ∙ ap (λ ps. ps ++ kept.points ∷ []) k.points ∙ ap (λ p. map points_of world.files ++ p ∷ []) points ∙ sym (map-push points_of world.files f);
-  made = All-push (WasMade world.timelines) world.files f k.made made;
-  room = k.room;
+pub Holds-file : {desk : DeskState} {world : World} → Holds desk world → (kept : File) (f : MadeFile) → kept.name ≡ f.name → kept.points ≡ points_of f → Holds (record { timelines = desk.timelines; files = desk.files ++ kept ∷ [] }) (record world { files = world.files ++ f ∷ [] })
+Holds-file {desk} {world} h kept f name points = record {
+  timelines = h.timelines;
+  names = map-push (λ (g : File). g.name) desk.files kept ∙ ap (λ ns. ns ++ kept.name ∷ []) h.names ∙ ap (λ n. map (λ (g : MadeFile). g.name) world.files ++ n ∷ []) name ∙ sym (map-push (λ (g : MadeFile). g.name) world.files f);
+  points = map-push (λ (g : File). g.points) desk.files kept ∙ ap (λ ps. ps ++ kept.points ∷ []) h.points ∙ ap (λ p. map points_of world.files ++ p ∷ []) points ∙ sym (map-push points_of world.files f);
 }
 
 -- a file is taken out
-pub Keeps-close : {desk : DeskState} {world : World} → Keeps desk world → (name : List ℕ) → Keeps (record { timelines = desk.timelines; files = without_file desk.files name }) (after world (command.Close name))
-Keeps-close {desk} {world} k name = record {
-  timelines = k.timelines;
-  names = without_file-names desk.files world.files name k.names;
-  points = without_file-points desk.files world.files name k.names k.points;
-  made = All-filter (λ (f : File). not (same_name f.name name)) (WasMade world.timelines) world.files k.made;
-  room = k.room;
+pub Holds-close : {desk : DeskState} {world : World} → Holds desk world → (name : List ℕ) → Holds (record { timelines = desk.timelines; files = without_file desk.files name }) (after world (command.Close name))
+Holds-close {desk} {world} h name = record {
+  timelines = h.timelines;
+  names = without_file-names desk.files world.files name h.names;
+  points = without_file-points desk.files world.files name h.names h.points;
 }
 
-pub Keeps-fence : {desk : DeskState} {world : World} → Keeps desk world → (name t : List ℕ) (ctx p : ℕ) → ctx ≡ context_of desk.timelines t → 1 ≤ ctx → ctx ≤ length desk.timelines → Keeps (record { timelines = desk.timelines; files = desk.files ++ plain_file name (point_of ctx p) ∷ [] }) (after world (command.Fence name t p))
-Keeps-fence {desk} {world} k name t ctx p is low high =
-    let same = k.timelines in
-    let is' : ctx ≡ context_of world.timelines t = rw same at is in
-    let high' : ctx ≤ length world.timelines = rw same at high in
-    Keeps-file k (plain_file name (point_of ctx p)) _ refl
-    (ap (λ c. point_of c p ∷ []) is')
-    (record {
-      since = IsAtLeast-refl (reach_of world.timelines);
-      put = All-cons (IsFilePoint (length world.timelines)) (as_entry (point_of (context_of world.timelines t) p)) [] (record { usage = refl; timeline = rw (← is') (low, high') }) (All-nil (IsFilePoint (length world.timelines)));
-    })
+pub Holds-fence : {desk : DeskState} {world : World} → Holds desk world → (name t : List ℕ) (ctx p : ℕ) → ctx ≡ context_of desk.timelines t → Holds (record { timelines = desk.timelines; files = desk.files ++ plain_file name (point_of ctx p) ∷ [] }) (after world (command.Fence name t p))
+Holds-fence {desk} {world} h name t ctx p is =
+    Holds-file h (plain_file name (point_of ctx p)) _ refl (ap (λ c. point_of c p ∷ []) (is ∙ ap (λ ts. context_of ts t) h.timelines))
 
-pub Keeps-merge : {desk : DeskState} {world : World} → Keeps desk world → (name a b reach : List ℕ) → reach ≡ reach_of desk.timelines → Keeps (record { timelines = desk.timelines; files = desk.files ++ merge_of desk.files name (a ∷ b ∷ []) reach ∷ [] }) (after world (command.Merge name a b))
-Keeps-merge {desk} {world} k name a b reach is =
-    let same = k.timelines in
-    let is' : reach ≡ reach_of world.timelines = rw same at is in
-    Keeps-file k (merge_of desk.files name (a ∷ b ∷ []) reach) _ refl
+pub Holds-merge : {desk : DeskState} {world : World} → Keeps desk world → (name a b reach : List ℕ) → reach ≡ reach_of desk.timelines → Holds (record { timelines = desk.timelines; files = desk.files ++ merge_of desk.files name (a ∷ b ∷ []) reach ∷ [] }) (after world (command.Merge name a b))
+Holds-merge {desk} {world} k name a b reach is =
+    let is' : reach ≡ reach_of world.timelines = is ∙ ap reach_of k.holds.timelines in
+    Holds-file k.holds (merge_of desk.files name (a ∷ b ∷ []) reach) _ refl
     (ap (λ ps. listing (as_entries ps) 0 reach) (points_of-files_at desk.files a b) ∙ rw is' (listing-keeps k a b))
-    (record {
-      since = IsAtLeast-refl (reach_of world.timelines);
-      put = All-append (IsFilePoint (length world.timelines)) (put_set world.files a) (put_set world.files b) (put_set-keeps k a) (put_set-keeps k b);
-    })

@@ -9,12 +9,13 @@ use Rattle.point_core.specs.declared.status.Status.TheVariants.{Active, Signalle
 use Rattle.point_core.specs.Status.{status_if}
 use Rattle.point_core.specs.Agreement.{as_entries}
 use Rattle.timeline_core.specs.Timeline.{reach_of}
-use Rattle.syncfile_core.specs.SyncFile.{File as SyncFile}
+use Rattle.syncfile_core.specs.SyncFile.{File}
 use Rattle.syncfile_core.specs.Status.{is_reached, status_of}
 use Rattle.syncfile_core.specs.Files.{is_named, has_file as has_sync_file, file_at as sync_file_at, without_file, IsRefusedFor}
 use Rattle.desk_core.specs.declared.command.Command.TheVariants as command
 use Rattle.desk_core.specs.Answer.{all_reached}
-use Rattle.desk_core.specs.Desk.{DeskState, cause_of}
+use Rattle.desk_core.specs.Desk.{DeskState}
+use Rattle.desk_core.specs.Keeping.{cause_of}
 use Rattle.desk_core.proofs.Finding.{has_sync_file-found}
 use Rattle.desk_core.proofs.Signalling.{all_reached-points}
 use Rattle.std.specs.List.{list_all}
@@ -28,13 +29,13 @@ cause_if-status_if : (b : Bool) → (if b then None else Some TimedOut) ≡ caus
 cause_if-status_if true = refl
 cause_if-status_if false = refl
 
-abbrev reached_by : DeskState → Option SyncFile → Bool
-reached_by d o = all_reached (reach_of d.timelines) 0 (as_entries (unwrap_or (option_map (λ (f : SyncFile). f.points) o) []))
+abbrev reached_by : DeskState → Option File → Bool
+reached_by d o = all_reached (reach_of d.timelines) 0 (as_entries (unwrap_or (option_map (λ (f : File). f.points) o) []))
 
 cause_of-missing : (d : DeskState) (name : List ℕ) → sync_file_at d.files name ≡ None → cause_of d (command.Wait name) ≡ Some NoEntry
 cause_of-missing d name is = ap (λ h. if h then (if reached_by d (sync_file_at d.files name) then None else Some TimedOut) else Some NoEntry) (has_sync_file-found d.files name ∙ ap is_some is)
 
-cause_of-found : (d : DeskState) (name : List ℕ) (f : SyncFile) → sync_file_at d.files name ≡ Some f → cause_of d (command.Wait name) ≡ cause_if (status_of f.points (reach_of d.timelines))
+cause_of-found : (d : DeskState) (name : List ℕ) (f : File) → sync_file_at d.files name ≡ Some f → cause_of d (command.Wait name) ≡ cause_if (status_of f.points (reach_of d.timelines))
 cause_of-found d name f is =
     ap (λ h. if h then (if reached_by d (sync_file_at d.files name) then None else Some TimedOut) else Some NoEntry) (has_sync_file-found d.files name ∙ ap is_some is)
     ∙ ap (λ o. if reached_by d o then None else Some TimedOut) is
@@ -42,13 +43,13 @@ cause_of-found d name f is =
     ∙ cause_if-status_if (list_all (is_reached (reach_of d.timelines)) f.points)
 
 -- what the files' answer says of the check
-waited : (d : DeskState) (name reach : List ℕ) (r : Result Status Refusal) (o : Option SyncFile) → reach ≡ reach_of d.timelines → sync_file_at d.files name ≡ o → MatchOption o (r ≡ Err NoEntry) (λ f. r ≡ Ok (status_of f.points reach)) → (s : Status) → r ≡ Ok s → cause_of d (command.Wait name) ≡ cause_if s
+waited : (d : DeskState) (name reach : List ℕ) (r : Result Status Refusal) (o : Option File) → reach ≡ reach_of d.timelines → sync_file_at d.files name ≡ o → MatchOption o (r ≡ Err NoEntry) (λ f. r ≡ Ok (status_of f.points reach)) → (s : Status) → r ≡ Ok s → cause_of d (command.Wait name) ≡ cause_if s
 waited d name reach r None same is told s ok = absurd (cc)
 waited d name reach r (Some f) same is told s ok =
     let status : s ≡ status_of f.points reach = cc in
     cause_of-found d name f is ∙ ap (λ rs. cause_if (status_of f.points rs)) (sym same) ∙ ap cause_if (sym status)
 
-unwaited : (d : DeskState) (name reach : List ℕ) (r : Result Status Refusal) (o : Option SyncFile) → sync_file_at d.files name ≡ o → MatchOption o (r ≡ Err NoEntry) (λ f. r ≡ Ok (status_of f.points reach)) → (e : Refusal) → r ≡ Err e → (cause_of d (command.Wait name) ≡ Some NoEntry) × (e ≡ NoEntry)
+unwaited : (d : DeskState) (name reach : List ℕ) (r : Result Status Refusal) (o : Option File) → sync_file_at d.files name ≡ o → MatchOption o (r ≡ Err NoEntry) (λ f. r ≡ Ok (status_of f.points reach)) → (e : Refusal) → r ≡ Err e → (cause_of d (command.Wait name) ≡ Some NoEntry) × (e ≡ NoEntry)
 unwaited d name reach r None is told e err = (cause_of-missing d name is, cc)
 unwaited d name reach r (Some f) is told e err = absurd (cc)
 
@@ -66,11 +67,11 @@ cause_of-waited d name reach checked s same told ok = waited d name reach checke
 
 -- a close that is refused takes nothing out
 
-kept-if : (b : Bool) (rest : Bool) (f : SyncFile) (fs gs : List SyncFile) → (b || rest) ≡ false → (rest ≡ false → gs ≡ fs) → (if not b then f ∷ gs else gs) ≡ f ∷ fs
+kept-if : (b : Bool) (rest : Bool) (f : File) (fs gs : List File) → (b || rest) ≡ false → (rest ≡ false → gs ≡ fs) → (if not b then f ∷ gs else gs) ≡ f ∷ fs
 kept-if true rest f fs gs is same = absurd (cc)
 kept-if false rest f fs gs is same = ap (λ hs. f ∷ hs) (same is)
 
-without_file-missing : (fs : List SyncFile) (name : List ℕ) → has_sync_file fs name ≡ false → without_file fs name ≡ fs
+without_file-missing : (fs : List File) (name : List ℕ) → has_sync_file fs name ≡ false → without_file fs name ≡ fs
 without_file-missing [] name missing = refl
 without_file-missing (f ∷ fs) name missing = kept-if (is_named name f) (has_sync_file fs name) f fs (without_file fs name) missing (λ rest. without_file-missing fs name rest)
 
@@ -79,5 +80,5 @@ missing_if true (Ok t) e known err = absurd (cc)
 missing_if true (Err f) e known err = absurd (false≢true known)
 missing_if false r e known err = refl
 
-pub unclosed : (fs new : List SyncFile) (name : List ℕ) (r : Result (Unit {0}) Refusal) (e : Refusal) → MatchBool (has_sync_file fs name) (IsOk r) (r ≡ Err NoEntry) → r ≡ Err e → new ≡ without_file fs name → new ≡ fs
+pub unclosed : (fs new : List File) (name : List ℕ) (r : Result (Unit {0}) Refusal) (e : Refusal) → MatchBool (has_sync_file fs name) (IsOk r) (r ≡ Err NoEntry) → r ≡ Err e → new ≡ without_file fs name → new ≡ fs
 unclosed fs new name r e known err without = without ∙ without_file-missing fs name (missing_if (has_sync_file fs name) r e known err)

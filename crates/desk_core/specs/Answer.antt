@@ -21,7 +21,7 @@ use Rattle.desk_core.specs.declared.answer.Info.{Info}
 use Rattle.desk_core.specs.declared.answer.FenceRow.{FenceRow}
 use Rattle.desk_core.specs.declared.answer.Maker.TheVariants.{SwSync, Stub}
 use Rattle.timeline_core.specs.Timeline.{Timeline, has_timeline, name_at, reach_of, value_of}
-use Rattle.desk_core.specs.World.{File, World, has_file, file_named, put_set}
+use Rattle.desk_core.specs.World.{MadeFile, World, has_file, file_named, put_set}
 use Rattle.syncfile_core.specs.declared.files.TheConstants.{FILES}
 
 -- the first refusal whose cause holds
@@ -60,11 +60,11 @@ causes w (command.Wait f) = cause (not (has_file w.files f)) NoEntry ∷ cause (
 causes w (command.Info f) = cause (not (has_file w.files f)) NoEntry ∷ []
 
 -- a file is signalled exactly where all that was put into it is
-abbrev pub status_of : World → File → Status
+abbrev pub status_of : World → MadeFile → Status
 status_of w f = status_if (all_reached (reach_of w.timelines) 0 f.put)
 
 -- a file made of one point lists it, any other what was pending when it was made
-abbrev pub points_of : File → List Point
+abbrev pub points_of : MadeFile → List Point
 points_of f = if f.is_one_point then map (λ e. e.point) f.put else listing f.put 0 f.made_at
 
 -- the name of a context that was made
@@ -82,7 +82,7 @@ abbrev pub or_stub : List FenceRow → List FenceRow
 or_stub [] = stub_row ∷ []
 or_stub (r ∷ rs) = r ∷ rs
 
-abbrev pub info_of : World → List ℕ → Option File → Info
+abbrev pub info_of : World → List ℕ → Option MadeFile → Info
 info_of w name None = record { name = name; status = Signalled; fences = [] }
 info_of w name (Some f) = record { name = name; status = status_of w f; fences = or_stub (map (fence_row w.timelines) (points_of f)) }
 
@@ -104,7 +104,7 @@ refused_or (Some r) a = answer.Refused r
 -- the command makes something or tells a list, and so may find no memory; no other command does
 abbrev pub takes_memory : Command → Bool
 takes_memory (command.Timeline t) = true
-takes_memory (command.Inc t n) = true
+takes_memory (command.Inc t n) = false
 takes_memory (command.Value t) = false
 takes_memory (command.Fence f t p) = true
 takes_memory (command.Merge f a b) = true

@@ -1,88 +1,28 @@
--- What a desk keeps, and the histories that it stands for.
-use Rattle.std.specs.Prelude.{◌≡◌, ℕ, ◌+◌, ◌^◌, ◌≤◌, false, nat_lt, nat_le, if◌then◌else◌, List, [], ◌∷◌, map, length, All, Option, None, Some, option_map, unwrap_or, Result, Ok, Err}
-use Rattle.point_core.specs.declared.entry.Point.{Point}
-use Rattle.point_core.specs.declared.entry.Entry.{Entry}
-use Rattle.point_core.specs.declared.entry.Usage.TheVariants.{Kernel}
-use Rattle.point_core.specs.declared.context.TheConstants.{CONTEXTS}
-use Rattle.point_core.specs.declared.refusal.Refusal.{Refusal}
-use Rattle.point_core.specs.declared.refusal.Refusal.TheVariants.{NoEntry, Exists, Overflow, Limit, TimedOut}
-use Rattle.point_core.specs.declared.refusal.LimitKind.TheVariants.{Timelines}
-use Rattle.point_core.specs.Reach.{IsAtLeast}
-use Rattle.timeline_core.specs.Timeline.{Timeline, has_timeline, reach_of, value_of}
-use Rattle.syncfile_core.specs.SyncFile.{File as SyncFile}
-use Rattle.syncfile_core.specs.Files.{has_file as has_sync_file, file_at as sync_file_at, cause_to_refuse}
-use Rattle.syncfile_core.specs.Merge.{cause_to_refuse_merge}
-use Rattle.desk_core.specs.World.{File, World, after}
-use Rattle.point_core.specs.Agreement.{as_entries}
-use Rattle.point_core.specs.Status.{status_if}
-use Rattle.desk_core.specs.Answer.{points_of, told, is_refused, all_reached, fence_row, or_stub}
-use Rattle.desk_core.specs.declared.answer.Info.{Info}
+-- What a desk holds, the histories that it stands for, and the answers that it gives.
+use Rattle.std.specs.Prelude.{◌≡◌, List, map}
+use Rattle.timeline_core.specs.Timeline.{Timeline}
+use Rattle.syncfile_core.specs.SyncFile.{File}
+use Rattle.desk_core.specs.World.{MadeFile, World}
+use Rattle.desk_core.specs.Answer.{points_of}
 use Rattle.desk_core.specs.declared.answer.Answer.{Answer}
-use Rattle.desk_core.specs.declared.answer.Answer.TheVariants as answer
 use Rattle.desk_core.specs.declared.command.Command.{Command}
-use Rattle.desk_core.specs.declared.command.Command.TheVariants as command
-use Rattle.desk_core.specs.History.{world_of}
+use Rattle.desk_core.specs.History.{world_of, IsHistory, IsAnswer}
 
 pub record DeskState : Type 0 where
   pub timelines : List Timeline
-  pub files : List SyncFile
+  pub files : List File
 
--- each point is of a timeline that was made
-abbrev pub AreMade : ℕ → List Point → Type 0
-AreMade made ps = All (λ (p : Point). p.ctx ≤ made) ps
-
--- each file lists points of timelines that were made
-abbrev pub HaveTimelines : ℕ → List SyncFile → Type 0
-HaveTimelines made fs = All (λ (f : SyncFile). AreMade made f.points) fs
-
--- what is told of a file that lists the points
-abbrev pub info_at : List Timeline → List ℕ → List Point → Info
-info_at ts name ps = record { name = name; status = status_if (all_reached (reach_of ts) 0 (as_entries ps)); fences = or_stub (map (fence_row ts) ps) }
-
--- an entry of a file has the strongest usage, and is of a timeline that was made
-pub record IsFilePoint (made : ℕ) (e : Entry) : Type 0 where
-  pub usage : e.usage ≡ Kernel
-  pub timeline : (1 ≤ e.point.ctx) × (e.point.ctx ≤ made)
-
--- all that was put into the file is of timelines that were made, and no value has fallen since the file was made
-pub record WasMade (ts : List Timeline) (f : File) : Type 0 where
-  pub since : IsAtLeast (reach_of ts) f.made_at
-  pub put : All (IsFilePoint (length ts)) f.put
-
--- the desk keeps the world: its timelines, and its files by name and order, each with the points that it lists
-pub record Keeps (desk : DeskState) (world : World) : Type 0 where
+-- the desk holds what the world has: its timelines, and its files by name and order, each with the points that it lists
+pub record Holds (desk : DeskState) (world : World) : Type 0 where
   pub timelines : desk.timelines ≡ world.timelines
-  pub names : map (λ (f : SyncFile). f.name) desk.files ≡ map (λ (f : File). f.name) world.files
-  pub points : map (λ (f : SyncFile). f.points) desk.files ≡ map points_of world.files
-  pub made : All (WasMade world.timelines) world.files
-  pub room : length world.timelines ≤ CONTEXTS
+  pub names : map (λ (f : File). f.name) desk.files ≡ map (λ (f : MadeFile). f.name) world.files
+  pub points : map (λ (f : File). f.points) desk.files ≡ map points_of world.files
 
--- the desk stands for a history whose world it keeps
-abbrev pub StandsFor : DeskState → List Command → Type 0
-StandsFor desk history = Keeps desk (world_of history)
+-- the list of commands is a history, and the desk holds what its world has
+pub record StandsFor (desk : DeskState) (history : List Command) : Type 0 where
+  pub accepted : IsHistory history
+  pub holds : Holds desk (world_of history)
 
--- the points of the file of that name
-abbrev pub points_at : List SyncFile → List ℕ → List Point
-points_at fs name = unwrap_or (option_map (λ (f : SyncFile). f.points) (sync_file_at fs name)) []
-
--- why the desk refuses a command, by what it keeps
-abbrev pub cause_of : DeskState → Command → Option Refusal
-cause_of d (command.Timeline t) = if has_timeline d.timelines t then Some Exists else if nat_lt (length d.timelines) CONTEXTS then None else Some (Limit Timelines)
-cause_of d (command.Inc t n) = if has_timeline d.timelines t then (if nat_le (2 ^ 64) (value_of d.timelines t + n) then Some Overflow else None) else Some NoEntry
-cause_of d (command.Value t) = if has_timeline d.timelines t then None else Some NoEntry
-cause_of d (command.Fence f t p) = if has_timeline d.timelines t then cause_to_refuse d.files f else Some NoEntry
-cause_of d (command.Merge f a b) = cause_to_refuse_merge d.files f (a ∷ b ∷ [])
-cause_of d (command.Close f) = if has_sync_file d.files f then None else Some NoEntry
-cause_of d (command.Wait f) = if has_sync_file d.files f then (if all_reached (reach_of d.timelines) 0 (as_entries (points_at d.files f)) then None else Some TimedOut) else Some NoEntry
-cause_of d (command.Info f) = if has_sync_file d.files f then None else Some NoEntry
-
--- the command was done in each world that the desk keeps
-pub record IsDone (old : DeskState) (c : Command) (given : Answer) (new : DeskState) : Type 0 where
-  pub accepted : is_refused given ≡ false
-  pub told : (world : World) → Keeps old world → given ≡ told world c
-  pub kept : (world : World) → Keeps old world → Keeps new (after world c)
-
--- what is answered: what was told, or the refusal
-abbrev pub answer_of : Result Answer Refusal → Answer
-answer_of (Ok given) = given
-answer_of (Err refusal) = answer.Refused refusal
+-- the desk may give that answer: for each history that it stands for it is the command's one answer, or Memory
+abbrev pub Answers : DeskState → Command → Answer → Type 0
+Answers desk command given = (history : List Command) → StandsFor desk history → IsAnswer history command given

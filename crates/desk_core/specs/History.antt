@@ -1,10 +1,12 @@
 -- A history is the list of the accepted commands, and means a world.
-use Rattle.std.specs.Prelude.{◌≡◌, ◌⊎◌, true, false, if◌then◌else◌, List, [], ◌∷◌, ◌++◌}
+use Rattle.std.specs.Prelude.{◌≡◌, ◌⊎◌, ℕ, true, false, if◌then◌else◌, List, [], ◌∷◌, ◌++◌, ⊤}
+use Rattle.std.specs.List.{sum_by}
 use Rattle.point_core.specs.declared.refusal.Refusal.TheVariants.{Memory}
 use Rattle.desk_core.specs.declared.command.Command.{Command}
+use Rattle.desk_core.specs.declared.command.Command.TheVariants as command
 use Rattle.desk_core.specs.declared.answer.Answer.{Answer}
 use Rattle.desk_core.specs.declared.answer.Answer.TheVariants as answer
-use Rattle.desk_core.specs.World.{World, empty_world, after}
+use Rattle.desk_core.specs.World.{World, empty_world, after, same_name}
 use Rattle.desk_core.specs.Answer.{answer_to, is_refused, takes_memory}
 
 abbrev pub world_from : World → List Command → World
@@ -14,6 +16,30 @@ world_from w (c ∷ cs) = world_from (after w c) cs
 -- the world that a history means
 abbrev pub world_of : List Command → World
 world_of history = world_from empty_world history
+
+-- each command is accepted in the world that those before it make
+abbrev pub AreAccepted : World → List Command → Type 0
+AreAccepted w [] = ⊤
+AreAccepted w (c ∷ cs) = (is_refused (answer_to w c) ≡ false) × AreAccepted (after w c) cs
+
+-- a history is a list of accepted commands
+abbrev pub IsHistory : List Command → Type 0
+IsHistory history = AreAccepted empty_world history
+
+-- what the command adds to the value of the timeline of that name
+abbrev pub increment_of : List ℕ → Command → ℕ
+increment_of name (command.Inc t n) = if same_name name t then n else 0
+increment_of name (command.Timeline t) = 0
+increment_of name (command.Value t) = 0
+increment_of name (command.Fence f t p) = 0
+increment_of name (command.Merge f a b) = 0
+increment_of name (command.Close f) = 0
+increment_of name (command.Wait f) = 0
+increment_of name (command.Info f) = 0
+
+-- the sum of the accepted increments of the timeline of that name
+abbrev pub incremented : List Command → List ℕ → ℕ
+incremented history name = sum_by (increment_of name) history
 
 -- the one answer of the command, or Memory where that is no refusal and the command takes memory
 pub record IsAnswer (history : List Command) (command : Command) (given : Answer) : Type 0 where

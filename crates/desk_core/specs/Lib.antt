@@ -2,6 +2,8 @@ pub mod Answer
 pub mod Desk
 pub mod Headline
 pub mod History
+pub mod Keeping
+pub mod Sound
 pub mod World
 pub use Rattle.point_core.specs.Agreement
 pub use Rattle.point_core.specs.Reach

@@ -9,7 +9,7 @@ use Rattle.desk_core.specs.declared.command.Command.TheVariants as command
 use Rattle.timeline_core.specs.Timeline.{Timeline, new_timeline, context_of, reach_of, raised}
 
 -- a sync file, with all that was put into it. A file made of one point lists it whether or not it is signalled
-pub record File : Type 0 where
+pub record MadeFile : Type 0 where
   pub name : List ℕ
   pub put : List Entry
   pub is_one_point : Bool
@@ -17,7 +17,7 @@ pub record File : Type 0 where
 
 pub record World : Type 0 where
   pub timelines : List Timeline
-  pub files : List File
+  pub files : List MadeFile
 
 abbrev pub empty_world : World
 empty_world = record { timelines = []; files = [] }
@@ -25,18 +25,18 @@ empty_world = record { timelines = []; files = [] }
 abbrev pub same_name : List ℕ → List ℕ → Bool
 same_name = pointwise nat_eq
 
-abbrev pub has_file : List File → List ℕ → Bool
+abbrev pub has_file : List MadeFile → List ℕ → Bool
 has_file fs name = list_any (λ f. same_name f.name name) fs
 
-abbrev pub file_named : List File → List ℕ → Option File
+abbrev pub file_named : List MadeFile → List ℕ → Option MadeFile
 file_named fs name = find (λ f. same_name f.name name) fs
 
 -- the files but the one of that name
-abbrev pub files_without : List File → List ℕ → List File
+abbrev pub files_without : List MadeFile → List ℕ → List MadeFile
 files_without fs name = filter (λ f. not (same_name f.name name)) fs
 
 -- all that was put into the file of that name
-abbrev pub put_set : List File → List ℕ → List Entry
+abbrev pub put_set : List MadeFile → List ℕ → List Entry
 put_set fs name = unwrap_or (option_map (λ f. f.put) (file_named fs name)) []
 
 abbrev pub with_timeline : World → List ℕ → World

@@ -22,7 +22,8 @@ pub struct Desk {
 
 impl Model for Desk {
     ghost use Rattle.std.specs.Prelude.{length};
-    ghost use Rattle.desk_core.specs.Desk.{DeskState, HaveTimelines};
+    ghost use Rattle.desk_core.specs.Desk.{DeskState};
+    ghost use Rattle.desk_core.specs.Keeping.{HaveTimelines};
 
     ghost Value = { DeskState };
 
@@ -34,8 +35,9 @@ impl Model for Desk {
 impl Desk {
     ghost use Rattle.desk_core.specs.Answer.{OnRefused, takes_memory};
     ghost use Rattle.syncfile_core.specs.Files.{IsRefusedFor};
-    ghost use Rattle.desk_core.specs.History.{IsAnswer, history_after};
-    ghost use Rattle.desk_core.specs.Desk.{StandsFor, cause_of, IsDone};
+    ghost use Rattle.desk_core.specs.History.{history_after};
+    ghost use Rattle.desk_core.specs.Desk.{StandsFor, Answers};
+    ghost use Rattle.desk_core.specs.Keeping.{cause_of, IsDone};
 
     /// A desk without timelines and files.
     ///
@@ -52,11 +54,12 @@ impl Desk {
     }
 
     /// The answer of one command: the first refusal whose cause holds, else what the command tells. `Memory` comes
-    /// last, where a growth was really refused, and `value`, `close` and `wait` never answer it. A refused command changes
-    /// nothing.
+    /// last, where a growth was really refused, and `inc`, `value`, `close` and `wait` never answer it. A refused command
+    /// changes nothing.
     pub fn step(&mut self, command: Command) -> Answer
-        ensures answer { (history : List Command) → StandsFor self.old history → IsAnswer history command result }
-        ensures stands { (history : List Command) → StandsFor self.old history → StandsFor self.new (history_after history command result) }
+        ensures answer { Answers self.old command result }
+        ensures stands { (history : List Command) →
+            StandsFor self.old history → StandsFor self.new (history_after history command result) }
         ensures unchanged { OnRefused result (self.new ≡ self.old) }
     {
         match self.outcome(command) {
@@ -94,6 +97,7 @@ impl Desk {
 
     fn inc(&mut self, name: &Name, n: u64) -> Result<Answer, Refusal>
         ensures refused { IsRefusedFor (cause_of self.old (Command.Inc name.now n)) result }
+        ensures sure { IfErr result (λ e. e ≢ Refusal.Memory) }
         ensures done { IfOk result (λ given. IsDone self.old (Command.Inc name.now n) given self.new) }
         ensures unchanged { OnErr result (self.new ≡ self.old) }
     {

@@ -6,7 +6,7 @@ ghost use Rattle.point_core.specs.Reach.{value_at};
 ghost use Rattle.point_core.specs.Status.{status_if};
 ghost use Rattle.timeline_core.specs.Timeline.{reach_of};
 ghost use Rattle.desk_core.specs.Answer.{all_reached, fence_row, stub_row, or_stub};
-ghost use Rattle.desk_core.specs.Desk.{AreMade, info_at};
+ghost use Rattle.desk_core.specs.Keeping.{AreMade, info_at};
 
 use crate::answer::{FenceRow, Info, Maker};
 use point_core::{Items, Name, Point, Reach, Refusal, Status, is_signalled};

@@ -8,6 +8,7 @@ mod answer;
 mod command;
 mod desk;
 mod info;
+pub mod laws;
 mod runs;
 
 pub use answer::{Answer, FenceRow, Info, Maker};

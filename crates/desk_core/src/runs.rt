@@ -1,8 +1,8 @@
 // A run over a list of commands.
 ghost use Rattle.std.specs.Prelude.{◌≡◌, [], IfOk, IfErr};
-ghost use Rattle.desk_core.specs.History.{world_of, history_of, AreAnswers};
+ghost use Rattle.desk_core.specs.History.{history_of, AreAnswers};
 ghost use Rattle.desk_core.specs.Desk.{StandsFor};
-ghost use Rattle.desk_core.specs.Headline.{TellsWhatWasPut};
+ghost use Rattle.desk_core.specs.Headline.{TellsSums, TellsWhatWasPut};
 
 use crate::answer::Answer;
 use crate::command::Command;
@@ -16,7 +16,8 @@ use std::alloc::Global;
 pub fn run(alloc: Global, commands: &[Command]) -> Result<(Desk, Vec<Answer>), Refusal>
     ensures answers { IfOk result (λ r. AreAnswers [] commands.now r.1.items) }
     ensures stands { IfOk result (λ r. StandsFor r.0 (history_of [] commands.now r.1.items)) }
-    ensures files { IfOk result (λ r. TellsWhatWasPut r.0 (world_of (history_of [] commands.now r.1.items))) }
+    ensures sums { IfOk result (λ r. TellsSums r.0 (history_of [] commands.now r.1.items)) }
+    ensures files { IfOk result (λ r. TellsWhatWasPut r.0 (history_of [] commands.now r.1.items)) }
     ensures memory { IfErr result (λ e. e ≡ Refusal.Memory) }
 {
     let mut desk = Desk::new(alloc)?;

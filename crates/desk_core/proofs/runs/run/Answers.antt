@@ -1,7 +1,8 @@
 use Rattle.std.proofs.Common.{◌++◌, [], ◌∷◌, take, arith, refl, sym, ap, ◌∙◌}
 use Rattle.std.proofs.lemmas.List.{take_more, take_all}
 use Rattle.desk_core.proofs.Answering.{HasRun-push}
-use Rattle.desk_core.proofs.Telling.{TellsWhatWasPut-keeps}
+use Rattle.desk_core.proofs.Telling.{TellsWhatWasPut-stands}
+use Rattle.desk_core.proofs.Sums.{TellsSums-stands}
 use Rattle.desk_core.proofs.runs.run.Goals as goal
 
 pub loop-command-init : goal.loop-command-init
@@ -17,7 +18,12 @@ loop-command-preserved c =
     rw (more, c.push_reserved.ensures.items)
     (HasRun-push c.step.new.self c.command-item.result c.step.result c.loop-command.invariant.0 c.step.ensures.answer c.step.ensures.stands, omega arith, omega arith)
 
+pub returns-clause-sums : goal.returns-clause-sums
+returns-clause-sums c =
+    let all = take_all c.loop-command.command-index c.args.commands.now c.loop-command-test.false in
+    TellsSums-stands _ _ (rw all at c.loop-command.invariant.0.stands)
+
 pub returns-clause-files : goal.returns-clause-files
 returns-clause-files c =
     let all = take_all c.loop-command.command-index c.args.commands.now c.loop-command-test.false in
-    TellsWhatWasPut-keeps (rw all at c.loop-command.invariant.0.stands)
+    TellsWhatWasPut-stands _ _ (rw all at c.loop-command.invariant.0.stands)

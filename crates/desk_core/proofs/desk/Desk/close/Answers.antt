@@ -1,9 +1,9 @@
 use Rattle.std.proofs.Common.{length, not, refl}
 use Rattle.std.proofs.lemmas.List.Elements.{All-filter}
 use Rattle.std.proofs.lemmas.Result.{err_from_is_err_and}
-use Rattle.syncfile_core.specs.SyncFile.{File as SyncFile}
+use Rattle.syncfile_core.specs.SyncFile.{File}
 use Rattle.syncfile_core.specs.Files.{is_named}
-use Rattle.desk_core.specs.Desk.{AreMade}
+use Rattle.desk_core.specs.Keeping.{AreMade}
 use Rattle.desk_core.proofs.Doing.{IsDone-close}
 use Rattle.desk_core.proofs.Waiting.{unclosed}
 use Rattle.desk_core.proofs.desk.Desk.close.Goals as goal
@@ -11,7 +11,7 @@ use Rattle.desk_core.proofs.desk.Desk.close.Goals as goal
 pub invariant_of-self : goal.invariant_of-self
 invariant_of-self c =
     rw c.close.ensures.without
-    (All-filter (λ (f : SyncFile). not (is_named c.args.name.now f)) (λ (f : SyncFile). AreMade (length c.self.inside.timelines) f.points) c.self.inside.files c.self.invariant)
+    (All-filter (λ (f : File). not (is_named c.args.name.now f)) (λ (f : File). AreMade (length c.self.inside.timelines) f.points) c.self.inside.files c.self.invariant)
 
 pub returns-in_err-close-clause-unchanged : goal.returns-in_err-close-clause-unchanged
 returns-in_err-close-clause-unchanged c =
@@ -22,7 +22,7 @@ returns-in_err-close-clause-unchanged c =
 pub invariant_of-self-2 : goal.invariant_of-self-2
 invariant_of-self-2 c =
     rw c.close.ensures.without
-    (All-filter (λ (f : SyncFile). not (is_named c.args.name.now f)) (λ (f : SyncFile). AreMade (length c.self.inside.timelines) f.points) c.self.inside.files c.self.invariant)
+    (All-filter (λ (f : File). not (is_named c.args.name.now f)) (λ (f : File). AreMade (length c.self.inside.timelines) f.points) c.self.inside.files c.self.invariant)
 
 pub returns-clause-done : goal.returns-clause-done
 returns-clause-done c =

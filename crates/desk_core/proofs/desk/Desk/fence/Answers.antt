@@ -5,6 +5,5 @@ pub returns-clause-done : goal.returns-clause-done
 returns-clause-done c =
     let some = c.in_ok-ctx.ensures.ok_part in
     let value = rw some at c.context.ensures.value in
-    let made = rw some at c.context.ensures.made in
     rw (← c.self.view_is)
-    (IsDone-fence _ c.args.name c.args.timeline.now c.create.new.self c.in_ok-ctx.ctx c.args.value c.in_ok-create.ensures.last value made.0 made.1)
+    (IsDone-fence _ c.args.name c.args.timeline.now c.create.new.self c.in_ok-ctx.ctx c.args.value c.in_ok-create.ensures.last value)

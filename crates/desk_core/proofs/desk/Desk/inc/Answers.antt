@@ -5,4 +5,4 @@ use Rattle.desk_core.proofs.desk.Desk.inc.Goals as goal
 pub returns-clause-done : goal.returns-clause-done
 returns-clause-done c =
     rw (← c.self.view_is)
-    (IsDone-inc _ c.args.name.now c.args.n c.inc.new.self c.in_ok-value.value c.of.result c.in_ok-value.ensures.raised c.inc.ensures.never_falls c.in_ok-value.ensures.value (c.of.ensures ∙ c.new.ensures.items))
+    (IsDone-inc _ c.args.name.now c.args.n c.inc.new.self c.in_ok-value.value c.of.result c.in_ok-value.ensures.raised c.in_ok-value.ensures.value (c.of.ensures ∙ c.new.ensures.items))

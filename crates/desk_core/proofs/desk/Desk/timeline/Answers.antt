@@ -5,4 +5,4 @@ use Rattle.desk_core.proofs.desk.Desk.timeline.Goals as goal
 pub returns-clause-done : goal.returns-clause-done
 returns-clause-done c =
     rw (← c.self.view_is)
-    (IsDone-timeline _ c.args.name c.create.new.self c.from.result c.in_ok-ctx.ensures.added c.in_ok-ctx.ensures.timelines.room (c.from.ensures ∙ c.number.ensures.value ∙ c.in_ok-ctx.ensures.number))
+    (IsDone-timeline _ c.args.name c.create.new.self c.from.result c.in_ok-ctx.ensures.added (c.from.ensures ∙ c.number.ensures.value ∙ c.in_ok-ctx.ensures.number))

@@ -1,0 +1,127 @@
+-- The world of a history is sound.
+use Rattle.std.proofs.Common.{◌≡◌, ℕ, ◌-◌, ◌<◌, ◌≤◌, Bool, true, false, not, suc, zero, refl, sym, subst, List, [], ◌∷◌, ◌++◌, length, get_or, replicate, Option, None, Some, arith, length-append}
+use Rattle.std.specs.Prelude.{if◌then◌else◌, nat_le}
+use Rattle.std.proofs.lemmas.Bool.{leb-false}
+use Rattle.std.proofs.lemmas.List.{length-map}
+use Rattle.std.proofs.lemmas.List.Elements.{All-nil, All-cons, All-push, All-weaker, All-append, All-filter}
+use Rattle.point_core.specs.declared.context.TheConstants.{CONTEXTS}
+use Rattle.point_core.specs.declared.entry.Entry.{Entry}
+use Rattle.point_core.specs.declared.refusal.Refusal.{Refusal}
+use Rattle.point_core.specs.declared.refusal.Refusal.TheVariants.{NoEntry, Exists, Limit}
+use Rattle.point_core.specs.declared.refusal.LimitKind.TheVariants.{Timelines}
+use Rattle.point_core.specs.Agreement.{as_entry, point_of}
+use Rattle.point_core.specs.Reach.{IsAtLeast}
+use Rattle.point_core.proofs.Values.{IsAtLeast-refl, IsAtLeast-trans}
+use Rattle.timeline_core.specs.Timeline.{Timeline, new_timeline, has_timeline, context_of, values_of, reach_of, raised, is_named, raised_by}
+use Rattle.timeline_core.proofs.Places.{place_from-has_timeline, place-within, context_of-place}
+use Rattle.timeline_core.proofs.Storing.{reach_of-new}
+use Rattle.desk_core.specs.declared.answer.Answer.{Answer}
+use Rattle.desk_core.specs.declared.command.Command.{Command}
+use Rattle.desk_core.specs.declared.command.Command.TheVariants as command
+use Rattle.desk_core.specs.World.{World, MadeFile, same_name, put_set, after, empty_world}
+use Rattle.desk_core.specs.Answer.{first_of, cause, making_file, causes, refused_or, is_refused, told}
+use Rattle.desk_core.specs.History.{world_from, world_of, AreAccepted, IsHistory}
+use Rattle.desk_core.specs.Sound.{WasMade, IsFilePoint, IsSound}
+use Rattle.desk_core.proofs.Keeping.{put_set-made}
+
+-- what is accepted
+
+pub first_of-none : (b : Bool) (r : Refusal) (rest : List (Bool × Refusal)) → first_of (cause b r ∷ rest) ≡ None → (b ≡ false) × (first_of rest ≡ None)
+first_of-none true r rest is = absurd (cc)
+first_of-none false r rest is = (refl, is)
+
+accepted-None : (o : Option Refusal) (a : Answer) → is_refused (refused_or o a) ≡ false → o ≡ None
+accepted-None None a is = refl
+accepted-None (Some r) a is = absurd (cc)
+
+-- an accepted command has no cause to be refused
+pub causes-accepted : (w : World) (c : Command) → is_refused (refused_or (first_of (causes w c)) (told w c)) ≡ false → first_of (causes w c) ≡ None
+causes-accepted w c is = accepted-None (first_of (causes w c)) (told w c) is
+
+pub not-false : (b : Bool) → not b ≡ false → b ≡ true
+not-false true is = refl
+not-false false is = absurd (cc)
+
+-- timelines
+
+IsFilePoint-more : (made made' : ℕ) → made ≤ made' → (e : Entry) → IsFilePoint made e → IsFilePoint made' e
+IsFilePoint-more made made' more e h = let within = h.timeline.1 in record { usage = h.usage; timeline = (h.timeline.0, omega arith) }
+
+WasMade-new : (ts : List Timeline) (name : List ℕ) → length ts < CONTEXTS → (f : MadeFile) → WasMade ts f → WasMade (ts ++ new_timeline name ∷ []) f
+WasMade-new ts name low f h = record {
+  since = let P : List ℕ → Type 0 = λ reach. IsAtLeast reach f.made_at in subst P (sym (reach_of-new ts name low)) h.since;
+  put = All-weaker (IsFilePoint (length ts)) (IsFilePoint (length (ts ++ new_timeline name ∷ []))) (IsFilePoint-more (length ts) (length (ts ++ new_timeline name ∷ [])) (omega (arith, length-append {A = Timeline}))) f.put h.put;
+}
+
+-- as many timelines as before
+length-raised : (ts : List Timeline) (name : List ℕ) (n : ℕ) → length (raised ts name n) ≡ length ts
+length-raised ts name n = length-map ts (λ t. if is_named name t then raised_by n t else t)
+
+value-raised_if : (b : Bool) (n : ℕ) (t : Timeline) → t.value ≤ (if b then raised_by n t else t).value
+value-raised_if true n t = omega arith
+value-raised_if false n t = omega arith
+
+values_of-raised : (ts : List Timeline) (zs : List ℕ) (name : List ℕ) (n k : ℕ) → get_or (values_of ts ++ zs) k 0 ≤ get_or (values_of (raised ts name n) ++ zs) k 0
+values_of-raised [] zs name n k = omega arith
+values_of-raised (t ∷ ts) zs name n zero = value-raised_if (is_named name t) n t
+values_of-raised (t ∷ ts) zs name n (suc k) = values_of-raised ts zs name n k
+
+-- no value falls
+pub IsAtLeast-raised : (ts : List Timeline) (name : List ℕ) (n : ℕ) → IsAtLeast (reach_of (raised ts name n)) (reach_of ts)
+IsAtLeast-raised ts name n =
+    rw (length-raised ts name n)
+    (record { values = λ ctx. values_of-raised ts (replicate (CONTEXTS - length ts) 0) name n (ctx - 1) })
+
+-- a file stays made while no value falls
+WasMade-later : (ts later : List Timeline) → length later ≡ length ts → IsAtLeast (reach_of later) (reach_of ts) → (f : MadeFile) → WasMade ts f → WasMade later f
+WasMade-later ts later same rises f h = record {
+  since = IsAtLeast-trans rises h.since;
+  put = rw same h.put;
+}
+
+-- the context of a name is one that was made
+pub context_of-made : (ts : List Timeline) (name : List ℕ) → has_timeline ts name ≡ true → (1 ≤ context_of ts name) × (context_of ts name ≤ length ts)
+context_of-made ts name has =
+    let place = place_from-has_timeline ts name 0 has in
+    let low = place-within ts name place.0 place.1 in
+    let is = context_of-place ts name place.0 place.1 in
+    (omega arith, omega arith)
+
+-- each accepted command keeps a world sound
+
+IsSound-file : (w : World) → IsSound w → (f : MadeFile) → WasMade w.timelines f → IsSound (record w { files = w.files ++ f ∷ [] })
+IsSound-file w s f made = record { made = All-push (WasMade w.timelines) w.files f s.made made; room = s.room }
+
+pub IsSound-after : (w : World) (c : Command) → IsSound w → first_of (causes w c) ≡ None → IsSound (after w c)
+IsSound-after w (command.Timeline t) s is =
+    let free = first_of-none (has_timeline w.timelines t) Exists (cause (nat_le CONTEXTS (length w.timelines)) (Limit Timelines) ∷ []) is in
+    let low : length w.timelines < CONTEXTS = leb-false CONTEXTS (length w.timelines) (first_of-none (nat_le CONTEXTS (length w.timelines)) (Limit Timelines) [] free.1).0 in
+    record {
+      made = All-weaker (WasMade w.timelines) (WasMade (w.timelines ++ new_timeline t ∷ [])) (WasMade-new w.timelines t low) w.files s.made;
+      room = omega (arith, length-append {A = Timeline});
+    }
+IsSound-after w (command.Inc t n) s is = record {
+  made = All-weaker (WasMade w.timelines) (WasMade (raised w.timelines t n)) (WasMade-later w.timelines (raised w.timelines t n) (length-raised w.timelines t n) (IsAtLeast-raised w.timelines t n)) w.files s.made;
+  room = rw (length-raised w.timelines t n) s.room;
+}
+IsSound-after w (command.Value t) s is = s
+IsSound-after w (command.Fence f t p) s is =
+    let has = not-false (has_timeline w.timelines t) (first_of-none (not (has_timeline w.timelines t)) NoEntry (making_file w f) is).0 in
+    IsSound-file w s _ (record {
+      since = IsAtLeast-refl (reach_of w.timelines);
+      put = All-cons (IsFilePoint (length w.timelines)) (as_entry (point_of (context_of w.timelines t) p)) [] (record { usage = refl; timeline = context_of-made w.timelines t has }) (All-nil (IsFilePoint (length w.timelines)));
+    })
+IsSound-after w (command.Merge f a b) s is = IsSound-file w s _ (record {
+  since = IsAtLeast-refl (reach_of w.timelines);
+  put = All-append (IsFilePoint (length w.timelines)) (put_set w.files a) (put_set w.files b) (put_set-made w.timelines w.files a s.made) (put_set-made w.timelines w.files b s.made);
+})
+IsSound-after w (command.Close f) s is = record { made = All-filter (λ (g : MadeFile). not (same_name g.name f)) (WasMade w.timelines) w.files s.made; room = s.room }
+IsSound-after w (command.Wait f) s is = s
+IsSound-after w (command.Info f) s is = s
+
+IsSound-from : (w : World) (history : List Command) → IsSound w → AreAccepted w history → IsSound (world_from w history)
+IsSound-from w [] s accepted = s
+IsSound-from w (c ∷ history) s accepted = IsSound-from (after w c) history (IsSound-after w c s (causes-accepted w c accepted.0)) accepted.1
+
+pub IsSound-history : (history : List Command) → IsHistory history → IsSound (world_of history)
+IsSound-history history accepted = IsSound-from empty_world history (record { made = All-nil (WasMade []); room = omega arith }) accepted

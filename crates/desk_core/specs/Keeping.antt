@@ -1,0 +1,65 @@
+-- What the contracts of the single commands say, for the proof of `step`.
+use Rattle.std.specs.Prelude.{◌≡◌, ℕ, ◌+◌, ◌^◌, ◌≤◌, false, nat_lt, nat_le, if◌then◌else◌, List, [], ◌∷◌, map, length, All, Option, None, Some, option_map, unwrap_or, Result, Ok, Err}
+use Rattle.point_core.specs.declared.entry.Point.{Point}
+use Rattle.point_core.specs.declared.context.TheConstants.{CONTEXTS}
+use Rattle.point_core.specs.declared.refusal.Refusal.{Refusal}
+use Rattle.point_core.specs.declared.refusal.Refusal.TheVariants.{NoEntry, Exists, Overflow, Limit, TimedOut}
+use Rattle.point_core.specs.declared.refusal.LimitKind.TheVariants.{Timelines}
+use Rattle.point_core.specs.Agreement.{as_entries}
+use Rattle.point_core.specs.Status.{status_if}
+use Rattle.timeline_core.specs.Timeline.{Timeline, has_timeline, reach_of, value_of}
+use Rattle.syncfile_core.specs.SyncFile.{File}
+use Rattle.syncfile_core.specs.Files.{has_file as has_sync_file, file_at as sync_file_at, cause_to_refuse}
+use Rattle.syncfile_core.specs.Merge.{cause_to_refuse_merge}
+use Rattle.desk_core.specs.declared.answer.Info.{Info}
+use Rattle.desk_core.specs.declared.answer.Answer.{Answer}
+use Rattle.desk_core.specs.declared.answer.Answer.TheVariants as answer
+use Rattle.desk_core.specs.declared.command.Command.{Command}
+use Rattle.desk_core.specs.declared.command.Command.TheVariants as command
+use Rattle.desk_core.specs.World.{World, after}
+use Rattle.desk_core.specs.Answer.{told, is_refused, all_reached, fence_row, or_stub}
+use Rattle.desk_core.specs.Desk.{DeskState, Holds}
+use Rattle.desk_core.specs.Sound.{IsSound}
+
+-- each point is of a timeline that was made
+abbrev pub AreMade : ℕ → List Point → Type 0
+AreMade made ps = All (λ (p : Point). p.ctx ≤ made) ps
+
+-- each file lists points of timelines that were made
+abbrev pub HaveTimelines : ℕ → List File → Type 0
+HaveTimelines made fs = All (λ (f : File). AreMade made f.points) fs
+
+-- what is told of a file that lists the points
+abbrev pub info_at : List Timeline → List ℕ → List Point → Info
+info_at ts name ps = record { name = name; status = status_if (all_reached (reach_of ts) 0 (as_entries ps)); fences = or_stub (map (fence_row ts) ps) }
+
+-- the desk holds what a sound world has
+pub record Keeps (desk : DeskState) (world : World) : Type 0 where
+  pub holds : Holds desk world
+  pub sound : IsSound world
+
+-- the points of the file of that name
+abbrev pub points_at : List File → List ℕ → List Point
+points_at fs name = unwrap_or (option_map (λ (f : File). f.points) (sync_file_at fs name)) []
+
+-- why the desk refuses a command, by what it keeps
+abbrev pub cause_of : DeskState → Command → Option Refusal
+cause_of d (command.Timeline t) = if has_timeline d.timelines t then Some Exists else if nat_lt (length d.timelines) CONTEXTS then None else Some (Limit Timelines)
+cause_of d (command.Inc t n) = if has_timeline d.timelines t then (if nat_le (2 ^ 64) (value_of d.timelines t + n) then Some Overflow else None) else Some NoEntry
+cause_of d (command.Value t) = if has_timeline d.timelines t then None else Some NoEntry
+cause_of d (command.Fence f t p) = if has_timeline d.timelines t then cause_to_refuse d.files f else Some NoEntry
+cause_of d (command.Merge f a b) = cause_to_refuse_merge d.files f (a ∷ b ∷ [])
+cause_of d (command.Close f) = if has_sync_file d.files f then None else Some NoEntry
+cause_of d (command.Wait f) = if has_sync_file d.files f then (if all_reached (reach_of d.timelines) 0 (as_entries (points_at d.files f)) then None else Some TimedOut) else Some NoEntry
+cause_of d (command.Info f) = if has_sync_file d.files f then None else Some NoEntry
+
+-- the command was done in each world that the desk keeps
+pub record IsDone (old : DeskState) (c : Command) (given : Answer) (new : DeskState) : Type 0 where
+  pub accepted : is_refused given ≡ false
+  pub told : (world : World) → Keeps old world → given ≡ told world c
+  pub held : (world : World) → Keeps old world → Holds new (after world c)
+
+-- what is answered: what was told, or the refusal
+abbrev pub answer_of : Result Answer Refusal → Answer
+answer_of (Ok given) = given
+answer_of (Err refusal) = answer.Refused refusal
