@@ -1,0 +1,4 @@
+mod Adding
+mod Counts
+pub mod Putting
+mod Tables

@@ -1,0 +1,92 @@
+-- Buffers in a map by name: what a write to one of them leaves.
+use Rattle.std.proofs.Common.{◌≡◌, ℕ, ◌<◌, ◌≤◌, Bool, true, false, cond, nat_eq, refl, sym, ap, ◌∙◌, subst, List, [], ◌∷◌, ◌++◌, length, All, Option, None, Some, option_map, unwrap_or, is_some, Result, Ok, Err, OnErr, MatchBool, arith, inl, inr, length-append}
+use Rattle.std.specs.List.{IsDistinct}
+use Rattle.std.specs.Map.{values_of, lookup, set_value}
+use Rattle.std.proofs.lemmas.Bool.{cases_Bool, false≢true}
+use Rattle.std.specs.Cmp.Lexicographic.{nat_list_eq_equiv}
+use Rattle.std.proofs.lemmas.List.{map-append}
+use Rattle.std.proofs.lemmas.List.Elements.{All-append, All-cons, All-nil}
+use Rattle.std.proofs.lemmas.Map.{keys-set_value, length-set_value, lookup-set_value}
+use Rattle.std.proofs.lemmas.Map.Views.{All-values-set_value}
+use Rattle.indexmap.specs.IndexMap.{IndexMap, insert_entry}
+use Rattle.indexmap.proofs.CallerLemmas.{insert_entry-new}
+use lib.Pointwise.{pointwise}
+use Rattle.point_core.specs.declared.entry.Entry.{Entry}
+use Rattle.point_core.specs.Agreement.{AgreesAbove}
+use Rattle.point_core.proofs.Agreement.{AgreesAbove-sym, AgreesAbove-trans, AgreesAbove-append, AgreesAbove-refl}
+use Rattle.resv_core.specs.Resv.{Reservation, IsTable, empty}
+use Rattle.point_core.specs.declared.context.TheConstants.{CONTEXTS}
+use Rattle.dmabuf_core.specs.declared.buffers.TheConstants.{BUFFERS}
+use Rattle.dmabuf_core.specs.Buffers.{Buffer, AreBuffers, names_of, table_at, has_buffer, entries_of}
+
+-- one buffer has another table
+pub AreBuffers-set_value : (name : List ℕ) (bs : List Buffer) (w : Reservation) → AreBuffers bs → IsTable w → AreBuffers (set_value (pointwise nat_eq name) bs w)
+AreBuffers-set_value name bs w kept table = record {
+  distinct = subst (IsDistinct (pointwise nat_eq)) (sym (keys-set_value (pointwise nat_eq name) bs w)) kept.distinct;
+  within = rw (length-set_value (pointwise nat_eq name) bs w) kept.within;
+  tables = All-values-set_value (pointwise nat_eq name) IsTable bs w kept.tables table;
+}
+
+-- a write of what is there changes nothing
+pub set_value-same : {K X : Type 0} (test : K → Bool) (es : List (K × X)) (w : X) → lookup test es ≡ Some w → set_value test es w ≡ es
+set_value-same test [] w is = refl
+set_value-same test (e ∷ es) w is = elim (cases_Bool (test e.0)) [
+  | inl here ↦
+      let found : e.1 ≡ w = cc here in
+      ap (λ b. cond b ((e.0, w) ∷ es) (e ∷ set_value test es w)) here ∙ ap (λ v. (e.0, v) ∷ es) (sym found)
+  | inr there ↦
+      let found : lookup test es ≡ Some w = cc there in
+      ap (λ b. cond b ((e.0, w) ∷ es) (e ∷ set_value test es w)) there ∙ ap (λ rest. e ∷ rest) (set_value-same test es w found)
+]
+
+-- a new buffer goes last
+pub AreBuffers-append : (bs : List Buffer) (name : List ℕ) (w : Reservation) → AreBuffers bs → IsTable w → length bs < BUFFERS → IsDistinct (pointwise nat_eq) (names_of (bs ++ (name, w) ∷ [])) → AreBuffers (bs ++ (name, w) ∷ [])
+AreBuffers-append bs name w kept table room distinct = record {
+  distinct = distinct;
+  within = omega (arith, length-append bs ((name, w) ∷ []));
+  tables = subst (λ ws. All IsTable ws) (sym (map-append (λ (b : Buffer). b.1) bs ((name, w) ∷ []))) (All-append IsTable (values_of bs) (w ∷ []) kept.tables (All-cons IsTable w [] table (All-nil IsTable)));
+}
+
+pub IsTable-empty : IsTable empty
+IsTable-empty = record { places = omega arith; contexts = All-nil (λ e. (1 ≤ e.point.ctx) × (e.point.ctx ≤ CONTEXTS)) }
+
+is_none : {T : Type 0} (o : Option T) → is_some o ≡ false → o ≡ None
+is_none None h = refl
+is_none (Some x) h = absurd (false≢true (sym h))
+
+-- a name that is not there goes last
+pub insert_entry-last : {S : Type 0} (m : IndexMap (List ℕ) Reservation S) (bs : List Buffer) (name : List ℕ) (w : Reservation) → m.entries ≡ bs → has_buffer bs name ≡ false → insert_entry (pointwise nat_eq) m.entries name w ≡ bs ++ (name, w) ∷ []
+insert_entry-last m bs name w is new =
+    insert_entry-new (pointwise nat_eq) m name w (is_none (table_at m.entries name) (ap (λ es. has_buffer es name) is ∙ new))
+    ∙ ap (λ es. es ++ (name, w) ∷ []) is
+
+-- what a buffer holds, where there is one, and once its table is written
+pub entries_of-found : (bs : List Buffer) (name : List ℕ) (t : Reservation) → table_at bs name ≡ Some t → entries_of bs name ≡ t.entries
+entries_of-found bs name t found = ap (λ o. unwrap_or (option_map (λ (r : Reservation). r.entries) o) []) found
+
+table_at-set_value : (bs : List Buffer) (name : List ℕ) (old w : Reservation) → table_at bs name ≡ Some old → table_at (set_value (pointwise nat_eq name) bs w) name ≡ Some w
+table_at-set_value bs name old w found =
+    lookup-set_value nat_list_eq_equiv (pointwise nat_eq name) (nat_list_eq_equiv.congr name) name w bs (ap is_some found)
+    ∙ ap (λ b. cond b (Some w) (table_at bs name)) (nat_list_eq_equiv.refl name)
+
+-- what agrees with a table and what is put in agrees so once the table is written
+pub AgreesAbove-written : {reach : List ℕ} (added : List Entry) (bs after : List Buffer) (name : List ℕ) (old new : Reservation) → table_at bs name ≡ Some old → after ≡ set_value (pointwise nat_eq name) bs new → AgreesAbove reach new.entries (old.entries ++ added) → AgreesAbove reach (entries_of after name) (entries_of bs name ++ added)
+AgreesAbove-written {reach} added bs after name old new found written agrees =
+    let now = ap (λ es. entries_of es name) written ∙ entries_of-found (set_value (pointwise nat_eq name) bs new) name new (table_at-set_value bs name old new found) in
+    let before = entries_of-found bs name old found in
+    rw (now, before) agrees
+
+-- an entry is added once there is a place for it
+pub AgreesAbove-reserved : {reach : List ℕ} (es mid fs added : List Entry) → AgreesAbove reach es mid → AgreesAbove reach fs (mid ++ added) → AgreesAbove reach fs (es ++ added)
+AgreesAbove-reserved {reach} es mid fs added reserved more = AgreesAbove-trans more (AgreesAbove-append (AgreesAbove-sym reserved) (AgreesAbove-refl reach added))
+
+pub OnErr-always : {T E : Type 0} (r : Result T E) (P : Type 0) → P → OnErr r P
+OnErr-always (Ok v) P h = tt
+OnErr-always (Err e) P h = h
+
+pub OnErr-weaker : {T E : Type 0} (r : Result T E) (P Q : Type 0) → (P → Q) → OnErr r P → OnErr r Q
+OnErr-weaker (Ok v) P Q f h = tt
+OnErr-weaker (Err e) P Q f h = f h
+
+pub MatchBool-true : (b : Bool) (P Q : Type 0) → b ≡ true → P → MatchBool b P Q
+MatchBool-true b P Q is h = subst (λ p. MatchBool p P Q) (sym is) h

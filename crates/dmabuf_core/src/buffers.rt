@@ -1,0 +1,246 @@
+// The buffers by name.
+ghost use Rattle.std.specs.Prelude.{◌≡◌, false, ◌↔◌, ◌≤◌, ◌++◌, [], ◌∷◌, List, length, map, IfErr, IfOk, IsOk, IsOkAnd, IsTrue, MatchBool, MatchOption, MatchResult, Ok, Err, OnErr, OnOk, Some};
+ghost use Rattle.point_core.specs.declared.refusal.Refusal.TheVariants.{Memory, NoEntry};
+ghost use Rattle.point_core.specs.declared.context.TheConstants.{CONTEXTS};
+ghost use Rattle.point_core.specs.Agreement.{AgreesAbove, as_entries, HasRisingContexts, IsReached, listing};
+ghost use Rattle.point_core.specs.Usage.{usage_number};
+ghost use Rattle.point_core.specs.Refusal.{IsRefusedFor};
+ghost use Rattle.resv_core.specs.Resv.{IsTable, IsTrimmed, empty, entry_of, rows_of};
+ghost use Rattle.dmabuf_core.specs.Flags.{export_usage, imported, with_usage};
+ghost use Rattle.dmabuf_core.specs.Buffers.{AreBuffers, OnlyChanges, cause_by_flags, cause_to_refuse, cause_without, entries_of, has_buffer, names_of, table_at};
+
+use crate::flags::SyncFlags;
+use indexmap::IndexMap;
+use point_core::{CONTEXTS, Items, LimitKind, Listing, Name, Point, Reach, Refusal, TopRow, Usage};
+use resv_core::Resv;
+use std::alloc::Global;
+use std::marker::Model;
+use syncfile_core::SyncFile;
+
+/// How many buffers there can be. A buffer is never unmade.
+pub const BUFFERS: usize = 64;
+
+const _: () = prove!(BUFFERS == 64);
+
+/// The buffers that were made, by the order of making, each with its reservation, as Linux's `struct dma_buf` and its
+/// `resv`.
+#[derive(Drop)]
+pub struct Buffers {
+    by_name: IndexMap<Name, Resv>,
+}
+
+impl Model for Buffers {
+    ghost use Rattle.std.specs.Prelude.{List};
+    ghost use Rattle.dmabuf_core.specs.Buffers.{AreBuffers, Buffer};
+
+    ghost Value = { List Buffer };
+
+    ghost view = { λ bs. bs.by_name.entries };
+
+    ghost invariant = { λ bs. AreBuffers bs.by_name.entries };
+}
+
+impl Buffers {
+    /// No buffers. It takes no memory yet, so it is never refused.
+    pub fn new(alloc: Global) -> Result<Buffers, Refusal>
+        ensures { result ≡ Ok [] }
+    {
+        Ok(Buffers {
+            by_name: IndexMap::new(alloc),
+        })
+    }
+
+    /// Makes a buffer with an empty reservation. It is never unmade.
+    ///
+    /// Refuses as `Exists` where there is one of that name, as `Limit` where there are `BUFFERS` buffers, then as `Memory`;
+    /// nothing is made then.
+    pub fn create(&mut self, name: Name) -> Result<(), Refusal>
+        ensures refused { IsRefusedFor (cause_to_refuse self.old name) result }
+        ensures last { OnOk result (self.new ≡ self.old ++ (name, empty) ∷ []) }
+        ensures unchanged { OnErr result (self.new ≡ self.old) }
+        ensures kept { AreBuffers self.new }
+    {
+        if self.has(&name) {
+            return Err(Refusal::Exists);
+        }
+        if self.by_name.len() >= BUFFERS {
+            return Err(Refusal::Limit(LimitKind::Buffers));
+        }
+        let table = Resv::new(self.allocator())?;
+        match self.by_name.insert(name, table) {
+            Ok(_) => Ok(()),
+            Err(_) => Err(Refusal::Memory),
+        }
+    }
+
+    /// Whether there is a buffer of that name.
+    ///
+    /// Takes no memory.
+    pub fn has(&self, name: &Name) -> bool
+        ensures { result ≡ has_buffer self.now name.now }
+    {
+        self.by_name.contains_key(name)
+    }
+
+    /// Adds one fence to a buffer, as Linux's `dma_resv_add_fence` after a `dma_resv_reserve_fences` of one.
+    ///
+    /// Refuses as `NoEntry`, then as `Memory`, and then leaves every table as it was. Memory is taken by the first fence of
+    /// a buffer alone.
+    pub fn add(
+        &mut self,
+        name: &Name,
+        point: Point,
+        usage: Usage,
+        reach: &Reach,
+    ) -> Result<(), Refusal>
+        ensures refused { IsRefusedFor (cause_without self.old name.now) result }
+        ensures agrees { OnOk result (AgreesAbove reach.now (entries_of self.new name.now) (entries_of self.old name.now ++ entry_of point usage ∷ [])) }
+        ensures others { OnlyChanges name.now self.old self.new }
+        ensures unchanged { OnErr result (self.new ≡ self.old) }
+        ensures kept { AreBuffers self.new }
+    {
+        let Some(table) = self.by_name.get_mut(name) else {
+            return Err(Refusal::NoEntry);
+        };
+        table.reserve(1, reach)?;
+        table.add(point, usage, reach);
+        Ok(())
+    }
+
+    /// Adds the fences of a sync file to a buffer, as Linux's `DMA_BUF_IOCTL_IMPORT_SYNC_FILE`: with usage `Write` where
+    /// the flags have writing, else with usage `Read`. A file without points adds nothing; the kernel adds its stub,
+    /// which is signalled. Places for all fences are reserved before the first is added.
+    ///
+    /// Refuses as `NoEntry`, then as `Flags` any number but 1, 2 and 3, then as `Memory`, and then leaves every table as it
+    /// was.
+    pub fn import(
+        &mut self,
+        name: &Name,
+        file: &SyncFile,
+        flags: u32,
+        reach: &Reach,
+    ) -> Result<(), Refusal>
+        ensures refused { IsRefusedFor (cause_by_flags self.old name.now flags) result }
+        ensures agrees { OnOk result (AgreesAbove reach.now (entries_of self.new name.now) (entries_of self.old name.now ++ imported flags (as_entries file.now.points))) }
+        ensures others { OnlyChanges name.now self.old self.new }
+        ensures nothing { file.now.points ≡ [] → self.new ≡ self.old }
+        ensures unchanged { OnErr result (self.new ≡ self.old) }
+        ensures kept { AreBuffers self.new }
+    {
+        let Some(table) = self.by_name.get_mut(name) else {
+            return Err(Refusal::NoEntry);
+        };
+        let usage = SyncFlags::of(flags)?.import_usage();
+        add_all(table, file.points.as_slice(), usage, reach)
+    }
+
+    /// The fences that an access with those flags has to wait for, as a listing to make a sync file of, as Linux's
+    /// `DMA_BUF_IOCTL_EXPORT_SYNC_FILE`: with reading alone the kernel's and the writers', else the readers' too. Those
+    /// that are signalled are not listed, and the floor is the reach. Where nothing is pending nothing is listed; the
+    /// kernel gives a file of its stub.
+    ///
+    /// Refuses as `NoEntry`, then as `Flags` any number but 1, 2 and 3, then as `Memory`.
+    pub fn export(&self, name: &Name, flags: u32, reach: &Reach) -> Result<Listing, Refusal>
+        ensures refused { IsRefusedFor (cause_by_flags self.now name.now flags) result }
+        ensures points { IfOk result (λ l. l.points ≡ listing (entries_of self.now name.now) (usage_number (export_usage flags)) reach.now) }
+        ensures floor { IfOk result (λ l. l.floor ≡ reach.now) }
+    {
+        let table = self.known(name)?;
+        let usage = SyncFlags::of(flags)?.export_usage();
+        Ok(Listing {
+            points: Items::of(table.collect(usage, reach)?),
+            floor: *reach,
+        })
+    }
+
+    /// Whether every fence of the usage or a stronger one is signalled, as Linux's `dma_resv_test_signaled`.
+    ///
+    /// Refuses as `NoEntry`. Takes no memory.
+    pub fn test(&self, name: &Name, usage: Usage, reach: &Reach) -> Result<bool, Refusal>
+        ensures { MatchBool (has_buffer self.now name.now) (IsOkAnd result (λ told. IsTrue told ↔ IsReached (entries_of self.now name.now) (usage_number usage) reach.now)) (result ≡ Err NoEntry) }
+    {
+        Ok(self.known(name)?.test(usage, reach))
+    }
+
+    /// Drops from a buffer the fences that are signalled, and those that another one covers.
+    ///
+    /// Refuses as `NoEntry`. Takes no memory.
+    pub fn trim(&mut self, name: &Name, reach: &Reach) -> Result<(), Refusal>
+        ensures known { MatchBool (has_buffer self.old name.now) (IsOk result) (result ≡ Err NoEntry) }
+        ensures agrees { AgreesAbove reach.now (entries_of self.old name.now) (entries_of self.new name.now) }
+        ensures trimmed { IsTrimmed reach.now (entries_of self.new name.now) }
+        ensures others { OnlyChanges name.now self.old self.new }
+        ensures unchanged { OnErr result (self.new ≡ self.old) }
+        ensures kept { AreBuffers self.new }
+    {
+        let Some(table) = self.by_name.get_mut(name) else {
+            return Err(Refusal::NoEntry);
+        };
+        table.trim(reach);
+        Ok(())
+    }
+
+    /// The pending top of each context at each usage: from the strongest usage to the weakest, and by rising context.
+    ///
+    /// Refuses as `NoEntry`, then as `Memory`.
+    pub fn table(&self, name: &Name, reach: &Reach) -> Result<Vec<TopRow>, Refusal>
+        ensures refused { IsRefusedFor (cause_without self.now name.now) result }
+        ensures rows { IfOk result (λ rows. rows.items ≡ rows_of (entries_of self.now name.now) reach.now) }
+    {
+        self.known(name)?.table(reach)
+    }
+
+    /// The names, by the order of making.
+    ///
+    /// Refuses as `Memory` alone.
+    pub fn names(&self) -> Result<Vec<Name>, Refusal>
+        ensures names { IfOk result (λ names. names.items ≡ names_of self.now) }
+        ensures memory { IfErr result (λ e. e ≡ Memory) }
+        ensures kept { AreBuffers self.now }
+    {
+        Ok(self.by_name.keys().copied().collect(self.allocator())?)
+    }
+
+    fn known(&self, name: &Name) -> Result<&Resv, Refusal>
+        ensures found { IfOk result (λ table. table_at self.now name.now ≡ Some table.now) }
+        ensures unknown { IfErr result (λ e. e ≡ NoEntry) }
+        ensures absent { OnErr result (has_buffer self.now name.now ≡ false) }
+    {
+        self.by_name.get(name).ok_or(Refusal::NoEntry)
+    }
+
+    fn allocator(&self) -> Global {
+        *self.by_name.allocator()
+    }
+}
+
+/// Adds the points of a file to a table, with that usage, once there are places for all.
+///
+/// Refuses as `Memory` alone, and leaves the table as it was.
+fn add_all(table: &mut Resv, points: &[Point], usage: Usage, reach: &Reach) -> Result<(), Refusal>
+    requires rising { HasRisingContexts points.now }
+    ensures table { IsTable table.new }
+    ensures agrees { OnOk result (AgreesAbove reach.now table.new.entries (table.old.entries ++ map (with_usage usage) (as_entries points.now))) }
+    ensures nothing { points.now ≡ [] → table.new ≡ table.old }
+    ensures unchanged { OnErr result (table.new ≡ table.old) }
+    ensures memory { IfErr result (λ e. e ≡ Memory) }
+{
+    table.reserve(count(points), reach)?;
+    for point in points {
+        table.add(*point, usage, reach);
+    }
+    Ok(())
+}
+
+/// How many points there are: at most one of each context.
+fn count(points: &[Point]) -> usize
+    requires rising { HasRisingContexts points.now }
+    ensures count { result ≡ length points.now }
+    ensures few { result ≤ CONTEXTS }
+{
+    if let (Some(first), Some(last)) = (points.first(), points.last()) {
+        prove!(first.ctx.number() >= 1);
+        prove!(usize::from(last.ctx.number()) <= CONTEXTS);
+    }
+    points.len()
+}

@@ -1,0 +1,44 @@
+// What holds of buffers and of what was put into them, whatever was called: each law is the contract of a function with an
+// empty body.
+ghost use Rattle.std.specs.Prelude.{◌≡◌, ℕ, ◌+◌, ◌*◌, ◌≤◌, ◌↔◌, List, ◌++◌};
+ghost use Rattle.point_core.specs.declared.entry.Point.{Point};
+ghost use Rattle.point_core.specs.declared.entry.Entry.{Entry};
+ghost use Rattle.point_core.specs.declared.entry.Usage.TheVariants.{Kernel};
+ghost use Rattle.point_core.specs.Usage.{usage_number};
+ghost use Rattle.point_core.specs.Reach.{IsAtLeast};
+ghost use Rattle.point_core.specs.Agreement.{AgreesAbove, as_entries, HasContexts, IsReached, listing};
+ghost use Rattle.dmabuf_core.specs.Flags.{export_usage, exported, imported};
+
+/// Where a table agrees above the reach with all that was put into its buffer, it does so after an `add` or an `import`,
+/// and after the reach has risen.
+pub fn buffers_keep_what_is_put_in()
+    ensures added { (reach : List ℕ) (before after put added : List Entry) →
+        AgreesAbove reach before put → AgreesAbove reach after (before ++ added) →
+        AgreesAbove reach after (put ++ added) }
+    ensures later { (reach later : List ℕ) (before after put added : List Entry) →
+        IsAtLeast later reach → AgreesAbove reach before put → AgreesAbove later after (before ++ added) →
+        AgreesAbove later after (put ++ added) }
+{}
+
+/// An export lists what the definition of an exported file says of all that was put into the buffer, and the file
+/// stands for that.
+pub fn an_export_lists_what_was_put_in()
+    ensures listed { (reach : List ℕ) (es put : List Entry) (flags : ℕ) →
+        AgreesAbove reach es put →
+        listing es (usage_number (export_usage flags)) reach ≡ listing (exported flags put) 0 reach }
+    ensures stands { (reach : List ℕ) (es put : List Entry) (flags : ℕ) →
+        HasContexts put → AgreesAbove reach es put →
+        AgreesAbove reach (as_entries (listing es (usage_number (export_usage flags)) reach)) (exported flags put) }
+    ensures reached { (reach : List ℕ) (put : List Entry) (flags : ℕ) →
+        (IsReached (exported flags put) 0 reach ↔ IsReached put (usage_number (export_usage flags)) reach) }
+{}
+
+/// A file that stands above its floor for what was put into it may be imported in its place, at a reach that is at
+/// least the floor.
+pub fn an_import_puts_in_what_a_file_stands_for()
+    ensures stands { (floor reach : List ℕ) (points : List Point) (put : List Entry) (flags : ℕ) →
+        AgreesAbove floor (as_entries points) put → IsAtLeast reach floor →
+        AgreesAbove reach (imported flags (as_entries points)) (imported flags put) }
+    ensures same { (reach : List ℕ) (es fs : List Entry) (flags : ℕ) →
+        AgreesAbove reach es fs → AgreesAbove reach (imported flags es) (imported flags fs) }
+{}
