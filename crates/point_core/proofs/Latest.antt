@@ -1,7 +1,8 @@
 -- A table of latest points, as points are put into it one by one.
-use Rattle.std.proofs.Common.{◌≡◌, ◌≢◌, ℕ, ◌<◌, ◌≤◌, max, refl, sym, ap, ◌∙◌, List, [], ◌∷◌, ◌++◌, length, Option, None, Some, arith, Bool, true, false, nat_le, if◌then◌else◌, inl, inr}
+use Rattle.std.proofs.Common.{◌≡◌, ◌≢◌, ℕ, ◌<◌, ◌≤◌, max, refl, sym, ap, subst, ◌∙◌, List, [], ◌∷◌, ◌++◌, length, Option, None, Some, arith, Bool, true, false, nat_le, if◌then◌else◌, inl, inr}
 use Rattle.std.proofs.lemmas.Bool.{cases_eq, eq-eqb, ne_eqb, le-leb, lt-leb}
 use Rattle.std.proofs.Math.Bool.{and-false}
+use Rattle.point_core.specs.declared.entry.Point.{Point}
 use Rattle.point_core.specs.declared.entry.Entry.{Entry}
 use Rattle.point_core.specs.Usage.{usage_number}
 use Rattle.point_core.specs.Reach.{value_at, with_value}
@@ -71,6 +72,11 @@ IsLatest-put {latest} {reach} {es} {usage} e h strong low high = record {
     | inr apart ↦ rw (value_at-with_value_other latest e.point.ctx ctx (max (value_at latest e.point.ctx) e.point.value) low from apart, raised_to-top-last (value_at reach ctx) es e usage ctx, applies-other e usage ctx (λ is. apart (sym is))) (h.values ctx from to)
   ];
 }
+
+-- the same of a point that is an entry's
+pub IsLatest-put_point : {latest reach : List ℕ} {es : List Entry} {usage : ℕ} (p : Point) (e : Entry) → e.point ≡ p → IsLatest latest reach es usage → usage_number e.usage ≤ usage → 1 ≤ p.ctx → p.ctx ≤ length latest → IsLatest (with_value latest p.ctx (max (value_at latest p.ctx) p.value)) reach (es ++ e ∷ []) usage
+IsLatest-put_point {latest} {reach} {es} {usage} p e is h strong low high =
+    subst (λ (q : Point). 1 ≤ q.ctx → q.ctx ≤ length latest → IsLatest (with_value latest q.ctx (max (value_at latest q.ctx) q.value)) reach (es ++ e ∷ []) usage) is (IsLatest-put e h strong) low high
 
 -- a weaker entry is passed over
 pub IsLatest-weaker : {latest reach : List ℕ} {es : List Entry} {usage : ℕ} (e : Entry) → IsLatest latest reach es usage → usage < usage_number e.usage → IsLatest latest reach (es ++ e ∷ []) usage

@@ -8,6 +8,7 @@
 mod context;
 mod entry;
 mod items;
+mod latest_points;
 pub mod laws;
 mod listing;
 mod name;
@@ -18,7 +19,8 @@ mod status;
 pub use context::{CONTEXTS, Context};
 pub use entry::{Entry, Point, Usage, covers};
 pub use items::Items;
-pub use listing::{Listing, TopRow, canon, points_above};
+pub use latest_points::LatestPoints;
+pub use listing::{Listing, TopRow, canon};
 pub use name::{NAME_BYTES, Name};
 pub use reach::{Reach, is_signalled};
 pub use refusal::{LimitKind, Refusal};

@@ -1,11 +1,11 @@
 // What is pending: the latest point of each context above a reach.
 ghost use Rattle.std.specs.Prelude.{◌≡◌, IfOk, IfErr};
 ghost use Rattle.point_core.specs.Agreement.{as_entries, listing, HasContexts};
-ghost use Rattle.point_core.specs.Latest.{IsLatest, points_above};
 
-use crate::context::{CONTEXTS, Context};
+use crate::context::Context;
 use crate::entry::{Point, Usage};
 use crate::items::Items;
+use crate::latest_points::LatestPoints;
 use crate::reach::Reach;
 use crate::refusal::Refusal;
 use std::alloc::Global;
@@ -37,35 +37,7 @@ pub fn canon(alloc: Global, points: &[Point], reach: &Reach) -> Result<Vec<Point
     // What the type of a context says of each point.
     ensures contexts { HasContexts (as_entries points.now) }
 {
-    points_above(alloc, &latest_of(points, reach), reach)
-}
-
-/// The greatest point of each context, or its value where no point is above that.
-fn latest_of(points: &[Point], reach: &Reach) -> Reach
-    ensures latest { IsLatest result reach.now (as_entries points.now) 0 }
-    ensures contexts { HasContexts (as_entries points.now) }
-{
-    let mut latest = *reach;
-    for point in points {
-        latest.raise_to(*point);
-    }
-    latest
-}
-
-/// The points of a table of latest points that are above the reach, by rising context.
-///
-/// Refuses as `Memory` alone.
-pub fn points_above(alloc: Global, latest: &Reach, reach: &Reach) -> Result<Vec<Point>, Refusal>
-    ensures points { IfOk result (λ ps. ps.items ≡ points_above latest.now reach.now) }
-    ensures memory { IfErr result (λ e. e ≡ Refusal.Memory) }
-{
-    let mut points = Vec::with_capacity(alloc, CONTEXTS)?;
-    for index in 0..CONTEXTS {
-        let ctx = Context::at(index);
-        let value = latest.get(ctx);
-        if value > reach.get(ctx) {
-            points.push_reserved(Point { ctx, value });
-        }
-    }
-    Ok(points)
+    let mut latest = LatestPoints::above(reach);
+    latest.put_all(points);
+    latest.points(alloc, reach)
 }

@@ -70,6 +70,14 @@ impl Reach {
         self.values[index] = self.values[index].max(point.value);
     }
 
+    /// The values, by context.
+    pub(crate) fn values(&self) -> [u64; CONTEXTS]
+        ensures value { result ≡ self.now }
+        ensures full { length self.now ≡ CONTEXTS }
+    {
+        self.values
+    }
+
     /// The greater value of each context.
     pub fn joined(&self, other: &Reach) -> Reach
         ensures values { result ≡ later_values self.now other.now }

@@ -1,0 +1,98 @@
+// The latest point of each context.
+ghost use Rattle.std.specs.Prelude.{◌≡◌, ℕ, ◌≤◌, List, [], ◌∷◌, ◌++◌, length, max, IfOk, IfErr};
+ghost use Rattle.point_core.specs.declared.context.TheConstants.{CONTEXTS};
+ghost use Rattle.point_core.specs.declared.entry.Entry.{Entry};
+ghost use Rattle.point_core.specs.Agreement.{as_entries, HasContexts};
+ghost use Rattle.point_core.specs.Latest.{IsLatest, points_above};
+ghost use Rattle.point_core.specs.Reach.{value_at, with_value};
+ghost use Rattle.point_core.specs.Usage.{usage_number};
+
+use crate::context::{CONTEXTS, Context};
+use crate::entry::Point;
+use crate::reach::Reach;
+use crate::refusal::Refusal;
+use std::alloc::Global;
+use std::marker::Model;
+
+/// A table of the latest point of each context, among a reach and the points that were put. It is no reach: a point
+/// need not be reached to be put.
+#[derive(Clone, Copy, Debug)]
+pub struct LatestPoints {
+    values: [u64; CONTEXTS],
+}
+
+impl Model for LatestPoints {
+    ghost use Rattle.std.specs.Prelude.{◌≡◌, List, ℕ, length};
+    ghost use Rattle.point_core.specs.declared.context.TheConstants.{CONTEXTS};
+
+    ghost Value = { List ℕ };
+
+    ghost view = { λ l. l.values };
+
+    ghost invariant = { λ l. length l.values ≡ CONTEXTS };
+
+    ghost inverse = { λ values. record { values = values } };
+}
+
+impl LatestPoints {
+    /// No point yet: what the reach has.
+    pub fn above(reach: &Reach) -> LatestPoints
+        ensures value { result ≡ reach.now }
+        ensures empty { (usage : ℕ) → IsLatest result reach.now [] usage }
+    {
+        LatestPoints {
+            values: reach.values(),
+        }
+    }
+
+    /// The latest point of a context.
+    pub fn get(&self, ctx: Context) -> u64
+        ensures value { result ≡ value_at self.now ctx }
+        ensures context { (1 ≤ ctx) × (ctx ≤ CONTEXTS) }
+    {
+        self.values[ctx.index()]
+    }
+
+    /// One more point.
+    pub fn put(&mut self, point: Point)
+        ensures value { self.new ≡ with_value self.old point.ctx (max (value_at self.old point.ctx) point.value) }
+        ensures context { (1 ≤ point.ctx) × (point.ctx ≤ CONTEXTS) }
+
+        // Of an entry at the usage or a stronger one: the table has it too.
+        ensures latest { (reach : List ℕ) (es : List Entry) (e : Entry) (usage : ℕ) →
+            e.point ≡ point → usage_number e.usage ≤ usage →
+            IsLatest self.old reach es usage → IsLatest self.new reach (es ++ e ∷ []) usage }
+    {
+        let index = point.ctx.index();
+        self.values[index] = self.values[index].max(point.value);
+    }
+
+    /// More points.
+    pub fn put_all(&mut self, points: &[Point])
+        ensures latest { (reach : List ℕ) (es : List Entry) →
+            IsLatest self.old reach es 0 → IsLatest self.new reach (es ++ as_entries points.now) 0 }
+        ensures contexts { HasContexts (as_entries points.now) }
+    {
+        for point in points {
+            self.put(*point);
+        }
+    }
+
+    /// The latest points that are above the reach, by rising context.
+    ///
+    /// Refuses as `Memory` alone.
+    pub fn points(&self, alloc: Global, reach: &Reach) -> Result<Vec<Point>, Refusal>
+        ensures points { IfOk result (λ ps. ps.items ≡ points_above self.now reach.now) }
+        ensures memory { IfErr result (λ e. e ≡ Refusal.Memory) }
+    {
+        let mut points = Vec::with_capacity(alloc, CONTEXTS)?;
+        for index in 0..CONTEXTS {
+            let ctx = Context::at(index);
+            let value = self.get(ctx);
+            if value > reach.get(ctx) {
+                points.push_reserved(Point { ctx, value });
+            }
+        }
+        Ok(points)
+    }
+}
