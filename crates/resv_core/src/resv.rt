@@ -12,8 +12,8 @@ ghost use Rattle.resv_core.specs.Run.{Leaves, Reserve, Add, Trim};
 
 use crate::tops::{Tops, USAGES, compact, latest_of};
 use point_core::{
-    CONTEXTS, Context, Entry, Point, Reach, Refusal, TopRow, Usage, covers, is_signalled,
-    points_above,
+    CONTEXTS, Context, Entry, LatestPoints, Point, Reach, Refusal, TopRow, Usage, covers,
+    is_signalled,
 };
 use std::alloc::Global;
 use std::marker::Model;
@@ -155,11 +155,7 @@ impl Resv {
         ensures points { IfOk result (λ ps. ps.items ≡ listing self.now.entries (usage_number usage) reach.now) }
         ensures memory { IfErr result (λ e. e ≡ Refusal.Memory) }
     {
-        points_above(
-            self.alloc,
-            &latest_of(self.entries.as_slice(), usage, reach),
-            reach,
-        )
+        latest_of(self.entries.as_slice(), usage, reach).points(self.alloc, reach)
     }
 
     /// The pending top of each context at each usage: from the strongest usage to the weakest, and by rising context.
@@ -196,7 +192,7 @@ fn gives_way(new: &Entry, old: &Entry, reach: &Reach) -> bool
 }
 
 /// Appends a row for each point of the table of latest points that is above the reach, by rising context.
-fn push_rows(rows: &mut Vec<TopRow>, usage: Usage, latest: &Reach, reach: &Reach)
+fn push_rows(rows: &mut Vec<TopRow>, usage: Usage, latest: &LatestPoints, reach: &Reach)
     requires places { vec_len rows.old + CONTEXTS ≤ vec_capacity rows.old }
     ensures rows { rows.new.items ≡ rows.old.items ++ map (row_of usage) (points_above latest.now reach.now) }
     ensures few { vec_len rows.new ≤ vec_len rows.old + CONTEXTS }

@@ -10,7 +10,7 @@ ghost use Rattle.resv_core.specs.declared.tops.TheConstants.{USAGES};
 ghost use Rattle.resv_core.specs.Resv.{IsTrimmed};
 ghost use Rattle.resv_core.specs.Tops.{AreTops, entries_at, entry_above};
 
-use point_core::{CONTEXTS, Context, Entry, Point, Reach, Usage};
+use point_core::{CONTEXTS, Context, Entry, LatestPoints, Point, Reach, Usage};
 
 /// How many usages there are.
 pub(crate) const USAGES: usize = 4;
@@ -18,10 +18,10 @@ pub(crate) const USAGES: usize = 4;
 /// Tables of latest points, which begin as a reach: for each usage one that has the stronger usages too.
 #[derive(Drop)]
 pub(crate) struct Tops {
-    pub(crate) kernel: Reach,
-    pub(crate) write: Reach,
-    pub(crate) read: Reach,
-    pub(crate) bookkeep: Reach,
+    pub(crate) kernel: LatestPoints,
+    pub(crate) write: LatestPoints,
+    pub(crate) read: LatestPoints,
+    pub(crate) bookkeep: LatestPoints,
 }
 
 impl Tops {
@@ -30,11 +30,12 @@ impl Tops {
         ensures tops { AreTops result reach.now entries.now }
         ensures contexts { HasContexts entries.now }
     {
+        let none = LatestPoints::above(reach);
         let mut tops = Tops {
-            kernel: *reach,
-            write: *reach,
-            read: *reach,
-            bookkeep: *reach,
+            kernel: none,
+            write: none,
+            read: none,
+            bookkeep: none,
         };
         for entry in entries {
             tops.put(entry);
@@ -56,10 +57,10 @@ impl Tops {
 }
 
 /// The latest point of each context at the usage or a stronger one, or its value where no point is above that.
-pub(crate) fn latest_of(entries: &[Entry], usage: Usage, reach: &Reach) -> Reach
+pub(crate) fn latest_of(entries: &[Entry], usage: Usage, reach: &Reach) -> LatestPoints
     ensures { IsLatest result reach.now entries.now (usage_number usage) }
 {
-    let mut latest = *reach;
+    let mut latest = LatestPoints::above(reach);
     for entry in entries {
         put_at(&mut latest, usage, entry);
     }
@@ -67,14 +68,14 @@ pub(crate) fn latest_of(entries: &[Entry], usage: Usage, reach: &Reach) -> Reach
 }
 
 /// Puts an entry into the table of a usage, where it is of that usage or a stronger one.
-fn put_at(latest: &mut Reach, usage: Usage, entry: &Entry)
+fn put_at(latest: &mut LatestPoints, usage: Usage, entry: &Entry)
     ensures latest { (reach : List ℕ) (es : List Entry) →
         IsLatest latest.old reach es (usage_number usage) →
         IsLatest latest.new reach (es ++ entry.now ∷ []) (usage_number usage) }
     ensures context { usage_number entry.now.usage ≤ usage_number usage → HasContexts (entry.now ∷ []) }
 {
     if entry.usage.number() <= usage.number() {
-        latest.raise_to(entry.point);
+        latest.put(entry.point);
     }
 }
 

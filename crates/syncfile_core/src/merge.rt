@@ -8,13 +8,13 @@ ghost use Rattle.syncfile_core.specs.SyncFile.{File};
 ghost use Rattle.syncfile_core.specs.Merge.{IsGathered, IsGatheredAbove, StandsForUnion, merged_file};
 
 use crate::sync_file::SyncFile;
-use point_core::{Items, Name, Point, Reach, Refusal, points_above};
+use point_core::{Items, LatestPoints, Name, Reach, Refusal};
 use std::alloc::Global;
 
 /// The latest point of each context among a reach and the inputs so far, and the greatest of their floors.
 #[derive(Drop)]
 pub(crate) struct Gathered {
-    latest: Reach,
+    latest: LatestPoints,
     floor: Reach,
 }
 
@@ -24,7 +24,7 @@ impl Gathered {
         ensures none { IsGathered result.latest result.floor reach.now [] }
     {
         Gathered {
-            latest: *reach,
+            latest: LatestPoints::above(reach),
             floor: *reach,
         }
     }
@@ -35,7 +35,7 @@ impl Gathered {
             IsGathered self.old.latest self.old.floor reach inputs →
             IsGathered self.new.latest self.new.floor reach (inputs ++ file.now ∷ []) }
     {
-        raise_to_all(&mut self.latest, file.points.as_slice());
+        self.latest.put_all(file.points.as_slice());
         self.floor = self.floor.joined(&file.floor);
     }
 
@@ -56,22 +56,11 @@ impl Gathered {
             IsGathered self.latest self.floor reach.now inputs → IfOk result (StandsForUnion inputs) }
         ensures memory { IfErr result (λ e. e ≡ Memory) }
     {
-        let points = points_above(alloc, &self.latest, reach)?;
+        let points = self.latest.points(alloc, reach)?;
         Ok(SyncFile {
             name,
             points: Items::of(points),
             floor: self.floor,
         })
-    }
-}
-
-/// Raises the latest point of each context to the points, one after another.
-fn raise_to_all(latest: &mut Reach, points: &[Point])
-    ensures latest { (reach : List ℕ) (es : List Entry) →
-        IsLatest latest.old reach es 0 → IsLatest latest.new reach (es ++ as_entries points.now) 0 }
-    ensures contexts { HasContexts (as_entries points.now) }
-{
-    for point in points {
-        latest.raise_to(*point);
     }
 }
