@@ -181,7 +181,7 @@ raised_to-top-stronger value (e ∷ es) usage weaker ctx low =
     (put_if-stronger (applies e usage ctx) (applies e weaker ctx) e.point.value _ _ rest (λ is. let at = AppliesAt-from_true e usage ctx is in applies-true e weaker ctx (omega (arith, at.0)) at.1))
 
 -- of any context there can be, each table has the top at its usage
-AreTops-at : {tops : Tops} {reach : List ℕ} {es : List Entry} → AreTops tops reach es → (usage ctx : ℕ) → 1 ≤ ctx → ctx ≤ CONTEXTS → value_at (table_at tops usage) ctx ≡ raised_to (value_at reach ctx) (top es usage ctx)
+pub AreTops-at : {tops : Tops} {reach : List ℕ} {es : List Entry} → AreTops tops reach es → (usage ctx : ℕ) → 1 ≤ ctx → ctx ≤ CONTEXTS → value_at (table_at tops usage) ctx ≡ raised_to (value_at reach ctx) (top es usage ctx)
 AreTops-at h zero ctx low high = h.kernel.values ctx low high
 AreTops-at h (suc zero) ctx low high = h.write.values ctx low high
 AreTops-at h (suc (suc zero)) ctx low high = h.read.values ctx low high
@@ -264,7 +264,7 @@ IsCompacted-more {tops} {reach} {es} tell {n} {kept} h ctx is low =
     }
 
 -- whether there can be the context
-cases_context : (n ctx : ℕ) → ((1 ≤ ctx) × (ctx ≤ n)) ⊎ (1 ≤ ctx → ctx ≤ n → ⊥)
+pub cases_context : (n ctx : ℕ) → ((1 ≤ ctx) × (ctx ≤ n)) ⊎ (1 ≤ ctx → ctx ≤ n → ⊥)
 cases_context n ctx = elim (cases_lt n ctx) [
   | inl past ↦ inr (λ low high. omega arith)
   | inr high ↦ elim (cases_lt 0 ctx) [

@@ -1,3 +1,4 @@
+pub mod Comparing
 pub mod Compaction
 pub mod Counting
 pub mod Replacing

@@ -1,9 +1,10 @@
 -- Tables of latest points, one for each usage, and the entries that they stand for.
-use Rattle.std.specs.Prelude.{ℕ, nat_lt, if◌then◌else◌, List, [], ◌∷◌, ◌++◌}
+use Rattle.std.specs.Prelude.{◌≡◌, ℕ, ◌≤◌, nat_lt, if◌then◌else◌, List, [], ◌∷◌, ◌++◌}
 use Rattle.point_core.specs.declared.entry.Point.{Point}
 use Rattle.point_core.specs.declared.entry.Entry.{Entry}
 use Rattle.point_core.specs.declared.entry.Usage.{Usage}
 use Rattle.point_core.specs.declared.entry.Usage.TheVariants.{Kernel, Write, Read, Bookkeep}
+use Rattle.point_core.specs.declared.context.TheConstants.{CONTEXTS}
 use Rattle.point_core.specs.Reach.{value_at}
 use Rattle.point_core.specs.Agreement.{point_of}
 use Rattle.point_core.specs.Latest.{IsLatest}
@@ -16,6 +17,18 @@ pub record AreTops (tops : Tops) (reach : List ℕ) (es : List Entry) : Type 0 w
   pub write : IsLatest tops.write reach es 1
   pub read : IsLatest tops.read reach es 2
   pub bookkeep : IsLatest tops.bookkeep reach es 3
+
+-- both have the same points of the context
+abbrev pub AreSameAt : Tops → Tops → ℕ → Type 0
+AreSameAt tops others ctx =
+    (value_at tops.kernel ctx ≡ value_at others.kernel ctx)
+    × (value_at tops.write ctx ≡ value_at others.write ctx)
+    × (value_at tops.read ctx ≡ value_at others.read ctx)
+    × (value_at tops.bookkeep ctx ≡ value_at others.bookkeep ctx)
+
+-- and of every context
+abbrev pub AreSame : Tops → Tops → Type 0
+AreSame tops others = (ctx : ℕ) → 1 ≤ ctx → ctx ≤ CONTEXTS → AreSameAt tops others ctx
 
 -- an entry of the point, if it is later than what the stronger usages have
 abbrev pub entry_above : ℕ → Point → Usage → List Entry

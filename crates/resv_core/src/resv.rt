@@ -3,7 +3,7 @@ ghost use Rattle.std.specs.Prelude.{◌≡◌, ◌+◌, ◌-◌, ◌<◌, ◌≤
 ghost use Rattle.std.specs.List.{list_any};
 ghost use Rattle.std.specs.Vec.{vec_capacity};
 ghost use Rattle.point_core.specs.declared.context.TheConstants.{CONTEXTS};
-ghost use Rattle.point_core.specs.Agreement.{IsReached, listing};
+ghost use Rattle.point_core.specs.Agreement.{AgreesAbove, IsReached, listing};
 ghost use Rattle.point_core.specs.Latest.{points_above};
 ghost use Rattle.point_core.specs.Usage.{usage_number};
 ghost use Rattle.resv_core.specs.declared.resv.TheConstants.{PLACES};
@@ -181,6 +181,14 @@ impl Resv {
     {
         self.entries.iter().all(|entry| entry.usage.number() > usage.number()
             || is_signalled(entry.point, reach))
+    }
+
+    /// Whether the table agrees above the reach with these entries: at each usage both have the same latest pending
+    /// point of each context. Takes no memory.
+    pub fn agrees(&self, entries: &[Entry], reach: &Reach) -> bool
+        ensures agrees { IsTrue result ↔ AgreesAbove reach.now self.now.entries entries.now }
+    {
+        Tops::of(self.entries.as_slice(), reach).is_same(&Tops::of(entries, reach))
     }
 }
 

@@ -1,5 +1,5 @@
 // The latest point of each context, at each usage or a stronger one.
-ghost use Rattle.std.specs.Prelude.{◌≡◌, ℕ, ◌+◌, ◌*◌, ◌<◌, ◌≤◌, ◌++◌, ◌∷◌, [], List, vec_len};
+ghost use Rattle.std.specs.Prelude.{◌≡◌, ℕ, ◌+◌, ◌*◌, ◌<◌, ◌≤◌, ◌↔◌, ◌++◌, ◌∷◌, [], IsTrue, List, vec_len};
 ghost use Rattle.std.specs.Vec.{vec_capacity};
 ghost use Rattle.point_core.specs.declared.entry.Entry.{Entry};
 ghost use Rattle.point_core.specs.declared.context.TheConstants.{CONTEXTS};
@@ -8,7 +8,7 @@ ghost use Rattle.point_core.specs.Latest.{IsLatest};
 ghost use Rattle.point_core.specs.Usage.{usage_number};
 ghost use Rattle.resv_core.specs.declared.tops.TheConstants.{USAGES};
 ghost use Rattle.resv_core.specs.Resv.{IsTrimmed};
-ghost use Rattle.resv_core.specs.Tops.{AreTops, entries_at, entry_above};
+ghost use Rattle.resv_core.specs.Tops.{AreSame, AreSameAt, AreTops, entries_at, entry_above};
 
 use point_core::{CONTEXTS, Context, Entry, LatestPoints, Point, Reach, Usage};
 
@@ -41,6 +41,27 @@ impl Tops {
             tops.put(entry);
         }
         tops
+    }
+
+    /// Whether both have the same points.
+    pub(crate) fn is_same(&self, other: &Tops) -> bool
+        ensures same { IsTrue result ↔ AreSame self.now other.now }
+    {
+        for index in 0..CONTEXTS {
+            if !self.is_same_at(other, Context::at(index)) {
+                return false;
+            }
+        }
+        true
+    }
+
+    fn is_same_at(&self, other: &Tops, ctx: Context) -> bool
+        ensures same { IsTrue result ↔ AreSameAt self.now other.now ctx }
+    {
+        self.kernel.get(ctx) == other.kernel.get(ctx)
+            && self.write.get(ctx) == other.write.get(ctx)
+            && self.read.get(ctx) == other.read.get(ctx)
+            && self.bookkeep.get(ctx) == other.bookkeep.get(ctx)
     }
 
     /// Puts an entry into the tables of its usage and of the weaker ones.

@@ -1,0 +1,2 @@
+pub mod LockedBuffer
+pub use Rattle.resv_core.specs.Resv

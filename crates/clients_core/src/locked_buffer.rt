@@ -1,0 +1,128 @@
+// What lies under the lock of a buffer.
+ghost use Rattle.std.specs.Prelude.{◌≡◌, ◌⊎◌, ◌++◌, ◌∷◌, [], Ok, Err, IfErr, IfOk, IsErr, OnErr, OnOk, ◌↔◌, replicate};
+ghost use Rattle.point_core.specs.declared.context.TheConstants.{CONTEXTS};
+ghost use Rattle.point_core.specs.declared.refusal.Refusal.TheVariants as refusal;
+ghost use Rattle.point_core.specs.Agreement.{AgreesAbove, listing};
+ghost use Rattle.point_core.specs.Reach.{IsAtLeast};
+ghost use Rattle.point_core.specs.Usage.{number_of};
+ghost use Rattle.resv_core.specs.Resv.{entry_of, rows_of};
+
+use point_core::{Entry, Items, Listing, Point, Reach, Refusal, TopRow, Usage};
+use resv_core::Resv;
+use std::alloc::Global;
+use std::marker::Model;
+
+/// A buffer that clients share: its reservation, the reach of its last call, its floor, and a journal of all puts.
+///
+/// A client loads its reach under the buffer's lock, and values only rise, so the floor is never above the reach that
+/// comes next. Where it is, words and buffer don't belong together, and the call is refused as `Torn`.
+#[derive(Debug, Drop)]
+pub struct LockedBuffer {
+    resv: Resv,
+    floor: Reach,
+    journal: Vec<Entry>,
+}
+
+impl Model for LockedBuffer {
+    ghost use Rattle.point_core.specs.Agreement.{AgreesAbove};
+    ghost use Rattle.clients_core.specs.LockedBuffer.{BufferModel};
+
+    ghost Value = { BufferModel };
+
+    ghost view = { λ b. record { journal = b.journal.items; floor = b.floor } };
+
+    ghost invariant = { λ b. AgreesAbove b.floor b.resv.entries b.journal.items };
+}
+
+impl LockedBuffer {
+    /// Nothing was put, and the floor is 0.
+    ///
+    /// Refuses as `Memory` alone.
+    pub fn new(alloc: Global) -> Result<Self, Refusal>
+        ensures empty { result ≡ Ok (record { journal = []; floor = replicate CONTEXTS 0 }) }
+    {
+        Ok(LockedBuffer {
+            resv: Resv::new(alloc)?,
+            floor: Reach::zero(),
+            journal: Vec::new(alloc),
+        })
+    }
+
+    /// Puts a fence in.
+    ///
+    /// Refuses, in this order: as `Torn` where the floor is above the reach in some context, which changes nothing, and
+    /// as `Memory`. Else the reach is the floor afterwards, also where it refuses for memory. A refusal leaves the
+    /// journal as it was.
+    pub fn put(&mut self, point: Point, usage: Usage, reach: &Reach) -> Result<(), Refusal>
+        ensures torn { (result ≡ Err refusal.Torn) ↔ (¬ IsAtLeast reach.now self.old.floor) }
+        ensures refusals { IfErr result (λ e. (e ≡ refusal.Torn) ⊎ (e ≡ refusal.Memory)) }
+        ensures unchanged { ¬ IsAtLeast reach.now self.old.floor → self.new ≡ self.old }
+        ensures floor { IsAtLeast reach.now self.old.floor → self.new.floor ≡ reach.now }
+        ensures put { OnOk result (self.new.journal ≡ self.old.journal ++ entry_of point usage ∷ []) }
+        ensures refused { OnErr result (self.new.journal ≡ self.old.journal) }
+    {
+        self.rise_to(reach)?;
+        self.journal.reserve(1)?;
+        self.resv.reserve(1, reach)?;
+        let Point { ctx, value } = point;
+        self.resv.add(Point { ctx, value }, usage, reach);
+        let point = Point { ctx, value };
+        self.journal.push_reserved(Entry { point, usage });
+        Ok(())
+    }
+
+    /// The pending points of all puts at the usage or a stronger one, and the reach as their floor.
+    ///
+    /// Refuses as `put` does.
+    pub fn export(&mut self, usage: Usage, reach: &Reach) -> Result<Listing, Refusal>
+        ensures torn { (result ≡ Err refusal.Torn) ↔ (¬ IsAtLeast reach.now self.old.floor) }
+        ensures refusals { IfErr result (λ e. (e ≡ refusal.Torn) ⊎ (e ≡ refusal.Memory)) }
+        ensures unchanged { ¬ IsAtLeast reach.now self.old.floor → self.new ≡ self.old }
+        ensures floor { IsAtLeast reach.now self.old.floor → self.new.floor ≡ reach.now }
+        ensures journal { self.new.journal ≡ self.old.journal }
+        ensures points { IfOk result (λ l. l.points ≡ listing self.old.journal (number_of usage) reach.now) }
+        ensures listed { IfOk result (λ l. l.floor ≡ reach.now) }
+    {
+        self.rise_to(reach)?;
+        let points = self.resv.collect(usage, reach)?;
+        Ok(Listing {
+            points: Items::of(points),
+            floor: *reach,
+        })
+    }
+
+    /// The pending tops of all puts, as `Resv::table` gives them, where the puts say the same above the reach as the
+    /// entries that are expected.
+    ///
+    /// Refuses as `put` does, and as `Torn`, which changes nothing, where they don't.
+    pub fn settle(&mut self, expected: &[Entry], reach: &Reach) -> Result<Vec<TopRow>, Refusal>
+        ensures torn { (result ≡ Err refusal.Torn) ↔
+            (¬ (IsAtLeast reach.now self.old.floor × AgreesAbove reach.now self.old.journal expected.now)) }
+        ensures refusals { IfErr result (λ e. (e ≡ refusal.Torn) ⊎ (e ≡ refusal.Memory)) }
+        ensures unchanged { result ≡ Err refusal.Torn → self.new ≡ self.old }
+        ensures floor { ¬ (result ≡ Err refusal.Torn) → self.new.floor ≡ reach.now }
+        ensures journal { self.new.journal ≡ self.old.journal }
+        ensures rows { IfOk result (λ rows. rows.items ≡ rows_of self.old.journal reach.now) }
+        ensures expected { IfOk result (λ rows. rows.items ≡ rows_of expected.now reach.now) }
+    {
+        if !reach.at_least(&self.floor) || !self.resv.agrees(expected, reach) {
+            return Err(Refusal::Torn);
+        }
+        self.rise_to(reach)?;
+        self.resv.table(reach)
+    }
+
+    /// Takes the reach as the floor.
+    fn rise_to(&mut self, reach: &Reach) -> Result<(), Refusal>
+        ensures torn { IsErr result ↔ (¬ IsAtLeast reach.now self.old.floor) }
+        ensures refusal { IfErr result (λ e. e ≡ refusal.Torn) }
+        ensures risen { OnOk result (self.new ≡ record self.old { floor = reach.now }) }
+        ensures unchanged { OnErr result (self.new ≡ self.old) }
+    {
+        if !reach.at_least(&self.floor) {
+            return Err(Refusal::Torn);
+        }
+        self.floor = *reach;
+        Ok(())
+    }
+}
