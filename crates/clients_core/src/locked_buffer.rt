@@ -4,7 +4,7 @@ ghost use Rattle.point_core.specs.declared.context.TheConstants.{CONTEXTS};
 ghost use Rattle.point_core.specs.declared.refusal.Refusal.TheVariants as refusal;
 ghost use Rattle.point_core.specs.Agreement.{AgreesAbove, listing};
 ghost use Rattle.point_core.specs.Reach.{IsAtLeast};
-ghost use Rattle.point_core.specs.Usage.{number_of};
+ghost use Rattle.point_core.specs.Usage.{usage_number};
 ghost use Rattle.resv_core.specs.Resv.{entry_of, rows_of};
 
 use point_core::{Entry, Items, Listing, Point, Reach, Refusal, TopRow, Usage};
@@ -80,7 +80,7 @@ impl LockedBuffer {
         ensures unchanged { ¬ IsAtLeast reach.now self.old.floor → self.new ≡ self.old }
         ensures floor { IsAtLeast reach.now self.old.floor → self.new.floor ≡ reach.now }
         ensures journal { self.new.journal ≡ self.old.journal }
-        ensures points { IfOk result (λ l. l.points ≡ listing self.old.journal (number_of usage) reach.now) }
+        ensures points { IfOk result (λ l. l.points ≡ listing self.old.journal (usage_number usage) reach.now) }
         ensures listed { IfOk result (λ l. l.floor ≡ reach.now) }
     {
         self.rise_to(reach)?;

@@ -11,12 +11,12 @@ use Rattle.point_core.specs.declared.entry.Usage.{Usage}
 use Rattle.point_core.specs.declared.entry.Usage.TheVariants.{Kernel, Write, Read, Bookkeep}
 use Rattle.point_core.specs.Usage.{usage_number}
 use Rattle.point_core.specs.Reach.{value_at}
-use Rattle.point_core.specs.Agreement.{applies, later, top, point_of, AgreesAbove, HasContexts}
+use Rattle.point_core.specs.Agreement.{covers, applies, later, top, point_of, AgreesAbove, HasContexts}
 use Rattle.point_core.specs.Latest.{raised_to}
 use Rattle.point_core.proofs.Latest.{put_if, raised_to-if, raised_to-top-append, applies-true, applies-other, applies-weak}
 use Rattle.point_core.proofs.Agreement.{AppliesAt-from_true, AgreesAbove-from_raised, raised_to-above, top-is_none, top-outside}
 use Rattle.resv_core.specs.declared.tops.Tops.{Tops}
-use Rattle.resv_core.specs.Resv.{entry_of, covers, IsTrimmed}
+use Rattle.resv_core.specs.Resv.{entry_of, IsTrimmed}
 use Rattle.resv_core.specs.Tops.{AreTops, entry_above, entries_at}
 
 put_if-stronger : (b c : Bool) (p value higher : ℕ) → value ≤ higher → (b ≡ true → c ≡ true) → put_if b p value ≤ put_if c p higher

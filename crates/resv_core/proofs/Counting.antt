@@ -10,9 +10,9 @@ use Rattle.point_core.specs.declared.entry.Entry.{Entry}
 use Rattle.point_core.specs.declared.entry.Usage.{Usage}
 use Rattle.point_core.specs.declared.entry.Usage.TheVariants.{Kernel, Write, Read, Bookkeep}
 use Rattle.point_core.specs.Usage.{usage_number}
-use Rattle.point_core.specs.Agreement.{HasContexts}
+use Rattle.point_core.specs.Agreement.{covers, HasContexts}
 use Rattle.resv_core.specs.declared.resv.TheConstants.{PLACES, PLACES_PER_CONTEXT}
-use Rattle.resv_core.specs.Resv.{covers, IsTrimmed, is_at, is_of}
+use Rattle.resv_core.specs.Resv.{IsTrimmed, is_at, is_of}
 
 abbrev Apart : Entry → Entry → Type 0
 Apart e f = (covers e f ≡ false) × (covers f e ≡ false)

@@ -7,17 +7,11 @@ use Rattle.std.proofs.lemmas.List.Elements.{All-from_all_within}
 use Rattle.point_core.specs.declared.entry.Entry.{Entry}
 use Rattle.point_core.specs.Usage.{usage_number}
 use Rattle.point_core.specs.Reach.{value_at}
-use Rattle.point_core.specs.Agreement.{applies, top, AgreesAbove}
+use Rattle.point_core.specs.Agreement.{covers, applies, top, AgreesAbove}
 use Rattle.point_core.specs.Latest.{raised_to}
-use Rattle.point_core.proofs.Latest.{put_if, raised_to-if, raised_to-top-last, applies-true}
+use Rattle.point_core.proofs.Latest.{put_if, put_if-comm, raised_to-if, raised_to-top-last, applies-true}
 use Rattle.point_core.proofs.Agreement.{AppliesAt-from_true, AgreesAbove-from_raised, raised_to-above}
-use Rattle.resv_core.specs.Resv.{covers, gives_way}
-
-put_if-comm : (b c : Bool) (p q value : ℕ) → put_if b p (put_if c q value) ≡ put_if c q (put_if b p value)
-put_if-comm true true p q value = omega arith
-put_if-comm true false p q value = refl
-put_if-comm false true p q value = refl
-put_if-comm false false p q value = refl
+use Rattle.resv_core.specs.Resv.{gives_way}
 
 put_if-above : (b : Bool) (p value : ℕ) → value ≤ put_if b p value
 put_if-above true p value = omega arith

@@ -43,21 +43,3 @@ rows_of-AgreesAbove h =
     let read = rows_at-AgreesAbove Read h in
     let bookkeep = rows_at-AgreesAbove Bookkeep h in
     cc
-
--- where all is reached, no top lifts the value
-raised_to-IsReached : (es : List Entry) (usage : ℕ) (reach : List ℕ) (ctx : ℕ) (t : Option ℕ) → IsReached es usage reach → top es usage ctx ≡ t → raised_to (value_at reach ctx) t ≡ value_at reach ctx
-raised_to-IsReached es usage reach ctx None reached is = refl
-raised_to-IsReached es usage reach ctx (Some p) reached is =
-    let put = (top-Some es usage ctx p is).0 in
-    let below = reached put.0 put.1 put.2.0 in
-    let low : put.0.point.value ≤ value_at reach ctx = rw put.2.1 at below in
-    let value : put.0.point.value ≡ p = put.3 in
-    omega arith
-
-pub IsReached-AgreesAbove : {reach : List ℕ} {es fs : List Entry} (usage : ℕ) → AgreesAbove reach es fs → IsReached es usage reach → IsReached fs usage reach
-IsReached-AgreesAbove {reach} {es} {fs} usage h reached = λ e among strong.
-    let value = value_at reach e.point.ctx in
-    let below = raised_to-top-above fs usage e.point.ctx value e among (strong, refl) in
-    let same = AgreesAbove-raised h usage e.point.ctx in
-    let none = raised_to-IsReached es usage reach e.point.ctx (top es usage e.point.ctx) reached refl in
-    omega arith

@@ -9,7 +9,7 @@ use Rattle.point_core.specs.declared.listing.TopRow.{TopRow}
 use Rattle.resv_core.specs.declared.resv.TheConstants.{PLACES}
 use Rattle.point_core.specs.Usage.{usage_number}
 use Rattle.point_core.specs.Reach.{value_at}
-use Rattle.point_core.specs.Agreement.{HasContexts, listing}
+use Rattle.point_core.specs.Agreement.{HasContexts, covers, listing}
 
 -- the entries, and how many more there is a place for
 pub record Reservation : Type 0 where
@@ -27,10 +27,6 @@ entry_of point usage = record { point = point; usage = usage }
 pub record IsTable (r : Reservation) : Type 0 where
   pub places : length r.entries + r.room ≤ PLACES
   pub contexts : HasContexts r.entries
-
--- the same context, a usage at least as strong, a point at least as late
-abbrev pub covers : Entry → Entry → Bool
-covers by other = (by.point.ctx == other.point.ctx) && nat_le (usage_number by.usage) (usage_number other.usage) && nat_le other.point.value by.point.value
 
 -- the old entry may be replaced by the new one: it is signalled, or the new one covers it
 abbrev pub gives_way : List ℕ → Entry → Entry → Bool

@@ -1,5 +1,6 @@
 use Rattle.point_core.proofs.Agreement.{AgreesAbove-sym, listing-AgreesAbove}
-use Rattle.resv_core.proofs.Runs.{IsReached-AgreesAbove, rows_of-AgreesAbove}
+use Rattle.point_core.proofs.Reached.{IsReached-AgreesAbove}
+use Rattle.resv_core.proofs.Runs.{rows_of-AgreesAbove}
 use Rattle.resv_core.proofs.laws.tables_that_agree_tell_the_same.Goals as goal
 
 pub returns-clause-collect : goal.returns-clause-collect
