@@ -18,7 +18,7 @@ use Rattle.script_core.specs.declared.totals.Totals.{Totals}
 use Rattle.script_core.specs.Bytes.{WasRead, EndsSo}
 use Rattle.script_core.specs.Script.{lines_until, ending_of, script_of}
 use Rattle.script_core.specs.Text.{text_of}
-use Rattle.script_core.specs.Output.{answer_of_line, history_after_line, output_from, IsLineAnswer, AreLineAnswers, texts_of, NoneIsMemory, WritesAnswers, WritesFront, IsInput, Counts, AnswersScript}
+use Rattle.script_core.specs.Output.{answer_of_line, history_after_line, output_from, IsLineAnswer, AreLineAnswers, texts_of, NoneIsMemory, WritesAnswers, WritesFront, IsInput, Counts, AnswersScript, AnswersEndedLines}
 use Rattle.script_core.proofs.Fronts.{lines_until-front}
 use Rattle.script_core.proofs.Progress.{AppendsFront-all}
 
@@ -135,11 +135,12 @@ module _ (known left : Option (List ℕ)) (bytes shown : List ℕ) (end : Ending
       ] in
       (input.0, input.1.input, AnswersScript-from input.0 lines w.0 totals old new (whole ∙ sym among) w.1 w.2)
 
-  pub ended_written : (totals : Totals) → end ≡ ending.Failed → (given : List Answer) × WritesAnswers lines given old new × Counts totals given → (read_bytes : List ℕ) × (given : List Answer) × Consumes known left read_bytes × WritesAnswers (lines_until ending.Failed read_bytes) given old new
+  pub ended_written : (totals : Totals) → end ≡ ending.Failed → (given : List Answer) × WritesAnswers lines given old new × Counts totals given → AnswersEndedLines known left old new
   ended_written totals e w =
       let short : length bytes ≤ SCRIPT_BYTES = subst (EndsSo left bytes) e read.ends in
       let lines_are : lines ≡ lines_until ending.Failed bytes = among ∙ ap (λ x. lines_until x (take SCRIPT_BYTES bytes)) e ∙ lines_until-short ending.Failed bytes short in
-      (bytes, w.0, read.consumed, subst (λ ls. WritesAnswers ls w.0 old new) lines_are w.1)
+      let answers : WritesAnswers (lines_until ending.Failed bytes) w.0 old new = subst (λ ls. WritesAnswers ls w.0 old new) lines_are w.1 in
+      record { bytes = bytes; consumed = read.consumed; few = short; given = w.0; answers = answers }
 
 -- what was read is all that the reader had, up to the byte behind the limit
 pub reads_front : (known left : Option (List ℕ)) (bytes : List ℕ) (end : Ending) → WasRead known left bytes end → (end ≡ ending.Whole) ⊎ (end ≡ ending.TooLong) → IfSome known (λ input. Consumes known left (take (SCRIPT_BYTES + 1) input))

@@ -16,6 +16,12 @@ pub record WasRead (old new : Option (List ℕ)) (bytes : List ℕ) (end : Endin
   pub consumed : Consumes old new bytes
   pub ends : EndsSo new bytes end
 
+-- some bytes were read, at most so many
+pub record ConsumesAtMost (most : ℕ) (old new : Option (List ℕ)) : Type 0 where
+  pub bytes : List ℕ
+  pub consumed : Consumes old new bytes
+  pub few : length bytes ≤ most
+
 -- a front of the bytes was written
 pub record AppendsFront (old new : Option (List ℕ)) (bytes : List ℕ) : Type 0 where
   pub front : List ℕ

@@ -1,7 +1,7 @@
 -- What is written for a script.
-use Rattle.std.specs.Prelude.{◌≡◌, ◌≢◌, ℕ, List, [], ◌∷◌, ◌++◌, length, Option, count_by, IfSome}
+use Rattle.std.specs.Prelude.{◌≡◌, ◌≢◌, ◌≤◌, ℕ, List, [], ◌∷◌, ◌++◌, length, Option, count_by, IfSome}
 use Rattle.std.specs.List.{AllByRecursion}
-use Rattle.std.specs.Io.KnownBytes.{Appends}
+use Rattle.std.specs.Io.KnownBytes.{Appends, Consumes}
 use Rattle.point_core.specs.declared.refusal.Refusal.TheVariants.{Memory}
 use Rattle.desk_core.specs.declared.command.Command.{Command}
 use Rattle.desk_core.specs.declared.answer.Answer.{Answer}
@@ -13,7 +13,9 @@ use Rattle.script_core.specs.declared.line.Body.{Body}
 use Rattle.script_core.specs.declared.line.Body.TheVariants.{Cmd, Bad}
 use Rattle.script_core.specs.declared.line.Line.{Line}
 use Rattle.script_core.specs.Bytes.{AppendsFront}
-use Rattle.script_core.specs.Script.{script_of}
+use Rattle.script_core.specs.declared.script.Ending.TheVariants as ending
+use Rattle.script_core.specs.declared.script.TheConstants.{SCRIPT_BYTES}
+use Rattle.script_core.specs.Script.{script_of, lines_until}
 use Rattle.script_core.specs.Text.{text_of}
 
 -- the one answer of a line
@@ -86,3 +88,12 @@ pub record AnswersScript (script : List ℕ) (totals : Totals) (old new : Option
   pub answers : WritesAnswers (script_of script) given old new
   pub output : NoneIsMemory given → Appends old new (output_of script)
   pub counts : Counts totals given
+
+-- A read failed, at most the bytes of a script having been read. The lines whose line feed was read have their answers,
+-- and the texts of these were written, and nothing else.
+pub record AnswersEndedLines (before after old new : Option (List ℕ)) : Type 0 where
+  pub bytes : List ℕ
+  pub consumed : Consumes before after bytes
+  pub few : length bytes ≤ SCRIPT_BYTES
+  pub given : List Answer
+  pub answers : WritesAnswers (lines_until ending.Failed bytes) given old new

@@ -5,10 +5,10 @@ ghost use Rattle.point_core.specs.declared.refusal.Refusal.TheVariants.{Read as 
 ghost use Rattle.desk_core.specs.declared.command.Command.{Command};
 ghost use Rattle.desk_core.specs.declared.answer.Answer.{Answer};
 ghost use Rattle.desk_core.specs.Desk.{StandsFor};
-ghost use Rattle.script_core.specs.declared.script.Ending.TheVariants as ending;
 ghost use Rattle.script_core.specs.Lines.{lines_left};
-ghost use Rattle.script_core.specs.Output.{IsLineAnswer, history_after_line, WritesAnswers, WritesFront, Counts, IsInput, AnswersScript};
-ghost use Rattle.script_core.specs.Script.{script_of, lines_until};
+ghost use Rattle.script_core.specs.Bytes.{ConsumesAtMost};
+ghost use Rattle.script_core.specs.Output.{IsLineAnswer, history_after_line, WritesAnswers, WritesFront, Counts, IsInput, AnswersScript, AnswersEndedLines};
+ghost use Rattle.script_core.specs.Script.{script_of};
 
 use crate::line::Body;
 use crate::reading::read_whole;
@@ -35,19 +35,23 @@ pub fn engine<R: Read, W: Write>(
     ensures ok { IfOk result (λ totals. (script : List ℕ) × IsInput (R.remaining reader.old) script
         × AnswersScript script totals (W.contents writer.old) (W.contents writer.new)) }
 
-    // No byte is read past the one behind the limit.
+    // What is read is the script, up to the byte behind its limit.
     ensures reads { IfOk result (λ _. IfSome (R.remaining reader.old) (λ input.
         Consumes (R.remaining reader.old) (R.remaining reader.new) (take (SCRIPT_BYTES + 1) input))) }
 
+    // Whatever the result, no byte is read past that one.
+    ensures within { ConsumesAtMost (SCRIPT_BYTES + 1) (R.remaining reader.old) (R.remaining reader.new) }
+
     // The lines whose line feed was read are answered.
-    ensures read { result ≡ Err ReadFault → (bytes : List ℕ) × (given : List Answer)
-        × Consumes (R.remaining reader.old) (R.remaining reader.new) bytes
-        × WritesAnswers (lines_until ending.Failed bytes) given (W.contents writer.old) (W.contents writer.new) }
+    ensures read { result ≡ Err ReadFault
+        → AnswersEndedLines (R.remaining reader.old) (R.remaining reader.new)
+        (W.contents writer.old) (W.contents writer.new) }
 
     // A front of the answers is written.
     ensures err { OnErr result ((script : List ℕ) × IsInput (R.remaining reader.old) script
         × WritesFront (script_of script) (W.contents writer.old) (W.contents writer.new)) }
-    ensures refusals { IfErr result (λ refusal. (refusal ≡ ReadFault) ⊎ (refusal ≡ WriteFault) ⊎ (refusal ≡ Memory)) }
+    ensures refusals { IfErr result (λ refusal.
+        (refusal ≡ ReadFault) ⊎ (refusal ≡ WriteFault) ⊎ (refusal ≡ Memory)) }
 {
     let (bytes, ending) = read_whole(alloc, reader)?;
     let totals = answer_lines(alloc, Lines::new(&bytes, ending), writer)?;
@@ -65,8 +69,10 @@ fn answer_lines<W: Write>(
 ) -> Result<Totals, Refusal>
     requires { length (lines_left lines) < 2 ^ 64 }
     ensures ok { IfOk result (λ totals. (given : List Answer)
-        × WritesAnswers (lines_left lines.entry) given (W.contents writer.old) (W.contents writer.new) × Counts totals given) }
-    ensures err { OnErr result (WritesFront (lines_left lines.entry) (W.contents writer.old) (W.contents writer.new)) }
+        × WritesAnswers (lines_left lines.entry) given (W.contents writer.old) (W.contents writer.new)
+        × Counts totals given) }
+    ensures err { OnErr result
+        (WritesFront (lines_left lines.entry) (W.contents writer.old) (W.contents writer.new)) }
     ensures refusals { IfErr result (λ refusal. (refusal ≡ WriteFault) ⊎ (refusal ≡ Memory)) }
 {
     let mut desk = Desk::new(alloc)?;
@@ -85,8 +91,10 @@ fn answer_lines<W: Write>(
 }
 
 fn answer_line(desk: &mut Desk, body: Body) -> Answer
-    ensures answer { (history : List Command) → StandsFor desk.old history → IsLineAnswer history body result }
-    ensures stands { (history : List Command) → StandsFor desk.old history → StandsFor desk.new (history_after_line history body result) }
+    ensures answer { (history : List Command) → StandsFor desk.old history
+        → IsLineAnswer history body result }
+    ensures stands { (history : List Command) → StandsFor desk.old history
+        → StandsFor desk.new (history_after_line history body result) }
 {
     match body {
         Body::Cmd(command) => desk.step(command),

@@ -4,6 +4,7 @@
 #![tactic(auto)]
 
 mod answering;
+pub mod laws;
 mod line;
 mod number;
 mod reading;
@@ -22,3 +23,4 @@ pub use number::DIGITS;
 pub use script::{SCRIPT_BYTES, read_script};
 pub use text::print;
 pub use totals::Totals;
+pub use writing::write_whole;

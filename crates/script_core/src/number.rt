@@ -7,7 +7,7 @@ pub const DIGITS: usize = 20;
 
 /// The number that the word spells: 1 to `DIGITS` decimal digits, leading zeros allowed, of at most 64 bits.
 pub(crate) fn number(word: &[u8]) -> Option<u64>
-    ensures { result ≡ number_of word.now }
+    ensures value { result ≡ number_of word.now }
 {
     if word.is_empty() || word.len() > DIGITS {
         return None;

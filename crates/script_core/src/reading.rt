@@ -1,7 +1,7 @@
 // A script's bytes from a reader.
-ghost use Rattle.std.specs.Prelude.{◌≡◌, IfOk, IfErr};
+ghost use Rattle.std.specs.Prelude.{◌≡◌, ◌+◌, IfOk, IfErr};
 ghost use Rattle.point_core.specs.declared.refusal.Refusal.TheVariants.{Memory};
-ghost use Rattle.script_core.specs.Bytes.{WasRead};
+ghost use Rattle.script_core.specs.Bytes.{WasRead, ConsumesAtMost};
 
 use crate::script::{Ending, SCRIPT_BYTES};
 use point_core::Refusal;
@@ -17,6 +17,7 @@ pub(crate) fn read_whole<R: Read>(
     reader: &mut R,
 ) -> Result<(Vec<u8>, Ending), Refusal>
     ensures read { IfOk result (λ r. WasRead (R.remaining reader.old) (R.remaining reader.new) r.0.items r.1) }
+    ensures within { ConsumesAtMost (SCRIPT_BYTES + 1) (R.remaining reader.old) (R.remaining reader.new) }
     ensures err { IfErr result (λ refusal. refusal ≡ Memory) }
 {
     let mut bytes = Vec::new(alloc);

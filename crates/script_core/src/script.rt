@@ -61,7 +61,7 @@ impl<'a> Lines<'a> {
 
     /// The lines of a script.
     fn of(bytes: &'a [u8]) -> Self
-        ensures { lines_left result ≡ script_of bytes.now }
+        ensures lines { lines_left result ≡ script_of bytes.now }
     {
         Lines::new(bytes, ending_of(bytes))
     }
@@ -97,7 +97,7 @@ impl<'a> Lines<'a> {
 }
 
 fn ending_of(script: &[u8]) -> Ending
-    ensures { result ≡ ending_of script.now }
+    ensures ending { result ≡ ending_of script.now }
 {
     if script.len() <= SCRIPT_BYTES {
         Ending::Whole
@@ -107,7 +107,7 @@ fn ending_of(script: &[u8]) -> Ending
 }
 
 fn last_body(ending: Ending, last: &[u8]) -> Option<Body>
-    ensures { result ≡ last_body ending last.now }
+    ensures body { result ≡ last_body ending last.now }
 {
     match ending {
         Ending::Whole => body_of(last),
@@ -118,7 +118,9 @@ fn last_body(ending: Ending, last: &[u8]) -> Option<Body>
 
 /// The first line and the bytes behind its line feed, or none where no line feed is there.
 fn first_line(bytes: &[u8]) -> Option<(&[u8], &[u8])>
-    ensures lines { MatchOption result (lines_of bytes.now ≡ bytes.now ∷ []) (λ l. lines_of bytes.now ≡ l.0.now ∷ lines_of l.1.now) }
+    ensures lines { MatchOption result
+        (lines_of bytes.now ≡ bytes.now ∷ [])
+        (λ l. lines_of bytes.now ≡ l.0.now ∷ lines_of l.1.now) }
     ensures shorter { IfSome result (λ l. length l.1.now < length bytes.now) }
 {
     let end = first_line_feed(bytes)?;
@@ -126,7 +128,7 @@ fn first_line(bytes: &[u8]) -> Option<(&[u8], &[u8])>
 }
 
 fn first_line_feed(bytes: &[u8]) -> Option<usize>
-    ensures { result ≡ position is_line_feed bytes.now }
+    ensures place { result ≡ position is_line_feed bytes.now }
 {
     bytes.iter().position(|byte| *byte == b'\n')
 }

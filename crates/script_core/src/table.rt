@@ -11,7 +11,7 @@ use point_core::Name;
 
 /// The command of a line, by its first word and the bytes behind it, or none where they fit no row.
 pub(crate) fn command(word: &[u8], rest: &[u8]) -> Option<Command>
-    ensures { result ≡ command_from word.now (words_of rest.now) }
+    ensures command { result ≡ command_from word.now (words_of rest.now) }
 {
     if is(word, "timeline") {
         Some(Command::Timeline(one_name(rest)?))
@@ -38,40 +38,40 @@ pub(crate) fn command(word: &[u8], rest: &[u8]) -> Option<Command>
 }
 
 fn is(word: &[u8], text: &str) -> bool
-    ensures { result ≡ bytes_eq word.now text.now }
+    ensures same { result ≡ bytes_eq word.now text.now }
 {
     word == text.as_bytes()
 }
 
 fn one_name(rest: &[u8]) -> Option<Name>
-    ensures { result ≡ one_name (words_of rest.now) }
+    ensures words { result ≡ one_name (words_of rest.now) }
 {
     name(one(rest)?)
 }
 
 fn name_and_number(rest: &[u8]) -> Option<(Name, u64)>
-    ensures { result ≡ name_and_number (words_of rest.now) }
+    ensures words { result ≡ name_and_number (words_of rest.now) }
 {
     let (first, second) = two(rest)?;
     Some((name(first)?, number(second)?))
 }
 
 fn two_names_and_number(rest: &[u8]) -> Option<(Name, Name, u64)>
-    ensures { result ≡ two_names_and_number (words_of rest.now) }
+    ensures words { result ≡ two_names_and_number (words_of rest.now) }
 {
     let (first, second, third) = three(rest)?;
     Some((name(first)?, name(second)?, number(third)?))
 }
 
 fn three_names(rest: &[u8]) -> Option<(Name, Name, Name)>
-    ensures { result ≡ three_names (words_of rest.now) }
+    ensures words { result ≡ three_names (words_of rest.now) }
 {
     let (first, second, third) = three(rest)?;
     Some((name(first)?, name(second)?, name(third)?))
 }
 
 fn name(word: &[u8]) -> Option<Name>
-    ensures { result ≡ name_of word.now }
+    ensures name { result ≡ name_of word.now }
 {
     Name::read(word)
 }

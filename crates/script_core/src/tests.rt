@@ -1,6 +1,7 @@
-// Worked rows, the checks of a line, and readers and writers that go piece by piece, fail or halt.
-use crate::{Body, SCRIPT_BYTES, Totals, engine, print, read_script};
-use desk_core::{Answer, Command};
+// The checks of a line, the limits, and readers and writers that go piece by piece, fail or halt.
+mod rows;
+
+use crate::{SCRIPT_BYTES, Totals, engine};
 use point_core::Refusal;
 use std::alloc::Global;
 use std::io;
@@ -40,6 +41,8 @@ struct Sink {
     halts: bool,
     flush_fails: bool,
     flushes: usize,
+    // how many bytes were taken before the last flush
+    flushed: usize,
 }
 
 impl Write for Sink {
@@ -57,6 +60,7 @@ impl Write for Sink {
 
     fn flush(&mut self) -> io::Result<()> {
         self.flushes = self.flushes.saturating_add(1);
+        self.flushed = self.taken.len();
         if self.flush_fails {
             return Err(io::Error::from(io::ErrorKind::BrokenPipe));
         }
@@ -81,6 +85,7 @@ fn sink_of(alloc: Global, piece: usize, room: usize) -> Sink {
         halts: false,
         flush_fails: false,
         flushes: 0,
+        flushed: 0,
     }
 }
 
@@ -97,13 +102,27 @@ fn assert_answers(
     totals: (u64, u64, u64),
 ) -> Result<(), Fail> {
     for piece in [1, 2, 7, 4096] {
-        let mut reader = source_of(script, piece, false);
-        let mut writer = sink_of(alloc, piece, usize::MAX);
-        let told = engine(alloc, &mut reader, &mut writer)?;
-        assert_eq!(rt; writer.taken.as_slice(), wanted);
-        assert_eq!(rt; writer.flushes, 1);
-        assert_totals(rt, told, totals);
+        assert_answers_by(rt, alloc, script, wanted, totals, piece)?;
     }
+    Ok(())
+}
+
+// The same, in pieces of that size. The answers are flushed once, behind the last byte.
+fn assert_answers_by(
+    rt: &impl Abort,
+    alloc: Global,
+    script: &[u8],
+    wanted: &[u8],
+    totals: (u64, u64, u64),
+    piece: usize,
+) -> Result<(), Fail> {
+    let mut reader = source_of(script, piece, false);
+    let mut writer = sink_of(alloc, piece, usize::MAX);
+    let told = engine(alloc, &mut reader, &mut writer)?;
+    assert_eq!(rt; writer.taken.as_slice(), wanted);
+    assert_eq!(rt; writer.flushes, 1);
+    assert_eq!(rt; writer.flushed, wanted.len());
+    assert_totals(rt, told, totals);
     Ok(())
 }
 
@@ -360,12 +379,30 @@ fn script_limit(rt: HostRuntime) -> Result<(), Fail> {
     let mut script = Vec::from_slice(alloc, b"timeline a\n")?;
     push_copies(&mut script, b'\n', SCRIPT_BYTES - 21)?;
     script.extend_from_slice(b"timeline b\ntimeline c\n")?;
-    let mut reader = source_of(script.as_slice(), 1, false);
+    let mut reader = source_of(script.as_slice(), 4096, false);
     let mut writer = Vec::new(alloc);
     let totals = engine(alloc, &mut reader, &mut writer)?;
     assert_eq!(rt; writer.as_slice(), b"ok 1\nerr 6 Limit script\n".as_slice());
     assert_totals(&rt, totals, (2, 1, 1));
-    assert_eq!(rt; reader.reads, SCRIPT_BYTES + 1);
+    assert_eq!(rt; reader.script.len(), script.len() - SCRIPT_BYTES - 1);
+    Ok(())
+}
+
+#[test]
+fn script_of_one_byte_too_many(rt: HostRuntime) -> Result<(), Fail> {
+    let alloc = rt.alloc();
+    let mut script = Vec::from_slice(alloc, b"timeline a\n")?;
+    push_copies(&mut script, b'\n', 1_048_566)?;
+    assert_eq!(rt; script.len(), 1_048_577);
+    let mut reader = source_of(script.as_slice(), 1, false);
+    let mut writer = sink_of(alloc, 4096, usize::MAX);
+    let totals = engine(alloc, &mut reader, &mut writer)?;
+    assert_eq!(rt;
+        writer.taken.as_slice(),
+        b"ok 1\nerr 6 Limit script\n".as_slice()
+    );
+    assert_totals(&rt, totals, (2, 1, 1));
+    assert_eq!(rt; reader.reads, 1_048_577);
     Ok(())
 }
 
@@ -412,6 +449,7 @@ fn failing_writer(rt: HostRuntime) -> Result<(), Fail> {
                 Some(Refusal::Write)
             );
             assert_eq!(rt; writer.taken.as_slice(), &BOTH_ORDERS_ANSWERS[..room]);
+            assert_eq!(rt; writer.flushes, 0);
         }
     }
     Ok(())
@@ -445,20 +483,5 @@ fn halting_writer(rt: HostRuntime) -> Result<(), Fail> {
         Some(Refusal::Write)
     );
     assert_eq!(rt; writer.taken.as_slice(), b"ok".as_slice());
-    Ok(())
-}
-
-#[test]
-fn read_script_rows(rt: HostRuntime) -> Result<(), Fail> {
-    let lines = read_script(rt.alloc(), b"info a\n\nxx")?;
-    assert_eq!(rt; lines.len(), 2);
-    assert_eq!(rt; lines[0].number, 1);
-    assert!(rt; matches!(lines[0].body, Body::Cmd(Command::Info(_))));
-    assert_eq!(rt; lines[1].number, 3);
-    assert!(rt; matches!(lines[1].body, Body::Bad(Refusal::Syntax)));
-
-    let mut out = Vec::from_slice(rt.alloc(), b"ok\n")?;
-    print(3, &Answer::Refused(Refusal::Syntax), &mut out)?;
-    assert_eq!(rt; out.as_slice(), b"ok\nerr 1 Syntax line 3\n".as_slice());
     Ok(())
 }

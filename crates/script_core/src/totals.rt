@@ -18,7 +18,7 @@ impl Totals {
     ghost use Rattle.script_core.specs.Output.{Counts};
 
     pub(crate) fn new() -> Self
-        ensures { Counts result [] }
+        ensures counts { Counts result [] }
     {
         Totals {
             lines: 0,

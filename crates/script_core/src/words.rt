@@ -5,7 +5,9 @@ ghost use Rattle.script_core.specs.Words.{is_space, words_of, one_of, two_of, th
 
 /// The first word, and the bytes behind it.
 pub(crate) fn first_word(bytes: &[u8]) -> Option<(&[u8], &[u8])>
-    ensures { MatchOption result (words_of bytes.now ≡ []) (λ w. words_of bytes.now ≡ w.0.now ∷ words_of w.1.now) }
+    ensures words { MatchOption result
+        (words_of bytes.now ≡ [])
+        (λ w. words_of bytes.now ≡ w.0.now ∷ words_of w.1.now) }
 {
     let start = first_other_than_space(bytes)?;
     let bytes = &bytes[start..];
@@ -14,20 +16,20 @@ pub(crate) fn first_word(bytes: &[u8]) -> Option<(&[u8], &[u8])>
 }
 
 fn first_other_than_space(bytes: &[u8]) -> Option<usize>
-    ensures value { result ≡ position (λ b. not (is_space b)) bytes.now }
+    ensures place { result ≡ position (λ b. not (is_space b)) bytes.now }
 {
     bytes.iter().position(|byte| *byte != b' ')
 }
 
 fn first_space(bytes: &[u8]) -> Option<usize>
-    ensures value { result ≡ position is_space bytes.now }
+    ensures place { result ≡ position is_space bytes.now }
 {
     bytes.iter().position(|byte| *byte == b' ')
 }
 
 /// The word, where there is exactly one.
 pub(crate) fn one(bytes: &[u8]) -> Option<&[u8]>
-    ensures { option_map (λ w. w.now) result ≡ one_of (words_of bytes.now) }
+    ensures words { option_map (λ w. w.now) result ≡ one_of (words_of bytes.now) }
 {
     let (word, rest) = first_word(bytes)?;
     match first_word(rest) {
@@ -38,7 +40,7 @@ pub(crate) fn one(bytes: &[u8]) -> Option<&[u8]>
 
 /// The words, where there are exactly two.
 pub(crate) fn two(bytes: &[u8]) -> Option<(&[u8], &[u8])>
-    ensures { option_map (λ w. (w.0.now, w.1.now)) result ≡ two_of (words_of bytes.now) }
+    ensures words { option_map (λ w. (w.0.now, w.1.now)) result ≡ two_of (words_of bytes.now) }
 {
     let (first, rest) = first_word(bytes)?;
     let second = one(rest)?;
@@ -47,7 +49,7 @@ pub(crate) fn two(bytes: &[u8]) -> Option<(&[u8], &[u8])>
 
 /// The words, where there are exactly three.
 pub(crate) fn three(bytes: &[u8]) -> Option<(&[u8], &[u8], &[u8])>
-    ensures { option_map (λ w. (w.0.now, w.1.now, w.2.now)) result ≡ three_of (words_of bytes.now) }
+    ensures words { option_map (λ w. (w.0.now, w.1.now, w.2.now)) result ≡ three_of (words_of bytes.now) }
 {
     let (first, rest) = first_word(bytes)?;
     let (second, third) = two(rest)?;

@@ -14,8 +14,10 @@ const WRITE_BYTES: usize = 8192;
 ///
 /// Refused as `write_whole`.
 pub(crate) fn write_many<W: Write>(writer: &mut W, out: &mut Vec<u8>) -> Result<(), Refusal>
-    ensures ok { OnOk result ((written : List ℕ) × (out.old.items ≡ written ++ out.new.items) × Appends (W.contents writer.old) (W.contents writer.new) written) }
-    ensures err { OnErr result ((result ≡ Err Write) × AppendsFront (W.contents writer.old) (W.contents writer.new) out.old.items) }
+    ensures ok { OnOk result ((written : List ℕ) × (out.old.items ≡ written ++ out.new.items)
+        × Appends (W.contents writer.old) (W.contents writer.new) written) }
+    ensures refused { OnErr result (result ≡ Err Write) }
+    ensures err { OnErr result (AppendsFront (W.contents writer.old) (W.contents writer.new) out.old.items) }
 {
     if out.len() >= WRITE_BYTES {
         write_whole(writer, out)?;
@@ -28,9 +30,10 @@ pub(crate) fn write_many<W: Write>(writer: &mut W, out: &mut Vec<u8>) -> Result<
 ///
 /// Refused as Write, where a front of the bytes was written: a write failed or took no byte. An interrupted write
 /// counts as failed.
-pub(crate) fn write_whole<W: Write>(writer: &mut W, bytes: &[u8]) -> Result<(), Refusal>
+pub fn write_whole<W: Write>(writer: &mut W, bytes: &[u8]) -> Result<(), Refusal>
     ensures ok { OnOk result (Appends (W.contents writer.old) (W.contents writer.new) bytes.now) }
-    ensures err { OnErr result ((result ≡ Err Write) × AppendsFront (W.contents writer.old) (W.contents writer.new) bytes.now) }
+    ensures refused { OnErr result (result ≡ Err Write) }
+    ensures err { OnErr result (AppendsFront (W.contents writer.old) (W.contents writer.new) bytes.now) }
 {
     let mut rest = bytes;
     while !rest.is_empty() {

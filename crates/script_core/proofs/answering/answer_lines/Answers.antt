@@ -20,7 +20,7 @@ returns-in_err-write_many-clause-err g c =
     let q = err_from_is_err_and c.from_residual-in_err-write_many.result c.from_residual-in_err-write_many.ensures.1 in
     let e = lines-next _ _ _ _ _ c.loop-line.invariant.0 c.in-Some.ensures.steps in
     let p = Progress-line _ _ _ _ _ _ c.with-totals.result _ _ _ _ c.loop-line.invariant.1 c.answer_line-answer.ensures.answer c.answer_line-answer.ensures.stands c.in_ok-print.ensures.ok c.with-totals.ensures.lines c.with-totals.ensures.refused in
-    rw q.1 (Progress-front _ _ _ _ _ _ _ _ _ p e c.in_err-write_many.ensures.err.1)
+    rw q.1 (Progress-front _ _ _ _ _ _ _ _ _ p e c.in_err-write_many.ensures.err)
 
 pub loop-line-preserved : goal.loop-line-preserved
 loop-line-preserved g c =
@@ -31,7 +31,7 @@ loop-line-preserved g c =
 pub returns-in_err-write_whole-clause-err : goal.returns-in_err-write_whole-clause-err
 returns-in_err-write_whole-clause-err g c =
     let q = err_from_is_err_and c.from_residual-in_err-write_whole.result c.from_residual-in_err-write_whole.ensures.1 in
-    rw q.1 (Progress-front _ _ _ _ _ _ _ _ _ c.loop-line.invariant.1 c.loop-line.invariant.0 (rw c.deref.ensures.value at c.in_err-write_whole.ensures.err.1))
+    rw q.1 (Progress-front _ _ _ _ _ _ _ _ _ c.loop-line.invariant.1 c.loop-line.invariant.0 (rw c.deref.ensures.value at c.in_err-write_whole.ensures.err))
 
 pub returns-in_err-flush-clause-err : goal.returns-in_err-flush-clause-err
 returns-in_err-flush-clause-err g c =

@@ -28,6 +28,7 @@ pub returns : goal.returns
 returns g c = record {
   ok = all_written _ _ _ _ _ _ c.in_ok-bytes.ensures.read c.deref.ensures.value c.new.ensures.lines _ _ c.in_ok-totals.totals c.in-Whole.is c.in_ok-totals.ensures.ok;
   reads = reads_front _ _ _ _ c.in_ok-bytes.ensures.read c.in-Whole.is;
+  within = c.in_ok-bytes.ensures.within;
   read = λ e. absurd (cc);
   err = tt;
   refusals = tt;

@@ -1,0 +1,41 @@
+// The exit status of a run.
+ghost use Rattle.std.specs.Prelude.{◌≡◌, ◌==◌, if◌then◌else◌, MatchResult};
+ghost use Rattle.std.specs.Io.KnownBytes.{Keeps};
+ghost use Rattle.script_core.specs.Bytes.{AppendsFront};
+ghost use Rattle.fencectl.specs.Fault.{fault_text};
+
+use crate::fault::tell_fault;
+use point_core::Refusal;
+use script_core::Totals;
+use std::io::Write;
+
+/// Every line was accepted.
+const ACCEPTED: u8 = 0;
+/// A line was refused.
+const REFUSED: u8 = 1;
+
+/// The status of a script that was answered to its end: 0 where every line was accepted, 1 where one was refused.
+fn status_of_totals(totals: Totals) -> u8
+    ensures { result ≡ (if totals.refused == 0 then 0 else 1) }
+{
+    if totals.refused == 0 {
+        ACCEPTED
+    } else {
+        REFUSED
+    }
+}
+
+/// The status of a run that ended so. A fault is told to the writer, and its status is 2.
+pub(crate) fn status_of_run<W: Write>(ended: Result<Totals, Refusal>, writer: &mut W) -> u8
+    ensures status { MatchResult ended
+        (λ totals. result ≡ (if totals.refused == 0 then 0 else 1))
+        (λ _. result ≡ 2) }
+    ensures told { MatchResult ended
+        (λ _. Keeps (W.contents writer.old) (W.contents writer.new))
+        (λ refusal. AppendsFront (W.contents writer.old) (W.contents writer.new) (fault_text refusal)) }
+{
+    match ended {
+        Ok(totals) => status_of_totals(totals),
+        Err(refusal) => tell_fault(&refusal, writer),
+    }
+}
