@@ -1,0 +1,3 @@
+pub mod Causes
+pub mod Firing
+pub mod Pending

@@ -1,0 +1,3 @@
+pub mod Fence
+pub mod Watch
+pub mod Watches

@@ -1,0 +1,85 @@
+// A fence, and several fences as one.
+ghost use Rattle.std.specs.Prelude.{◌≡◌, ◌<◌, length, IfOk, IfErr, IsOk};
+ghost use Rattle.point_core.specs.declared.refusal.Refusal.TheVariants.{Memory};
+ghost use Rattle.point_core.specs.Agreement.{HasRisingContexts};
+ghost use Rattle.fence_core.specs.Fence.{members_of, fence_of, are_reached};
+
+use point_core::{Point, Reach, Refusal, is_signalled};
+use std::alloc::Global;
+use std::marker::Model;
+use std::slice;
+
+/// Several fences as one, signalled once all of them are, as Linux's `struct dma_fence_array` without
+/// `signal_on_any`: at least two points, by rising context.
+#[derive(Debug, Drop)]
+pub struct FenceArray {
+    points: Vec<Point>,
+}
+
+impl Model for FenceArray {
+    ghost use Rattle.std.specs.Prelude.{List, ◌≤◌, length};
+    ghost use Rattle.point_core.specs.declared.entry.Point.{Point};
+    ghost use Rattle.point_core.specs.Agreement.{HasRisingContexts};
+
+    ghost Value = { List Point };
+
+    ghost view = { λ a. a.points.items };
+
+    ghost invariant = { λ a. (2 ≤ length a.points.items) × HasRisingContexts a.points.items };
+}
+
+/// What a sync file stands for and a watch waits for, as Linux's `struct dma_fence`: the stub, which is signalled from
+/// the start, one point, or an array.
+#[derive(Debug, Drop)]
+pub enum Fence {
+    Stub,
+    Plain(Point),
+    Array(FenceArray),
+}
+
+impl Fence {
+    /// The fence of these points: the stub of none, a plain fence of one, else an array, as Linux's `sync_file_merge`
+    /// makes them.
+    ///
+    /// Refuses as `Memory` alone, and only where it makes an array.
+    pub fn of(alloc: Global, points: &[Point]) -> Result<Fence, Refusal>
+        requires rising { HasRisingContexts points.now }
+        ensures fence { IfOk result (λ f. f ≡ fence_of points.now) }
+        ensures memory { IfErr result (λ e. e ≡ Memory) }
+        ensures few { length points.now < 2 → IsOk result }
+    {
+        match points {
+            [] => Ok(Fence::Stub),
+            [point] => Ok(Fence::Plain(*point)),
+            _ => Ok(Fence::Array(FenceArray {
+                points: Vec::from_slice(alloc, points)?,
+            })),
+        }
+    }
+
+    /// The points that it waits for, by rising context, as Linux's `dma_fence_unwrap_for_each` goes over them. A plain
+    /// fence has itself, and the stub none.
+    ///
+    /// Takes no memory.
+    pub fn members(&self) -> &[Point]
+        ensures value { result.now ≡ members_of self.now }
+        ensures rising { HasRisingContexts result.now }
+    {
+        match self {
+            Fence::Stub => &[],
+            Fence::Plain(point) => slice::from_ref(point),
+            Fence::Array(array) => array.points.as_slice(),
+        }
+    }
+
+    /// Whether each of its points is signalled. The stub is.
+    ///
+    /// Takes no memory.
+    pub fn is_signalled(&self, reach: &Reach) -> bool
+        ensures { result ≡ are_reached reach.now (members_of self.now) }
+    {
+        self.members()
+            .iter()
+            .all(|point| is_signalled(*point, reach))
+    }
+}
