@@ -1,19 +1,36 @@
 -- What a seat has won and added, after its steps.
-use Rattle.std.proofs.Common.{◌≡◌, ◌≢◌, ℕ, ◌+◌, ◌-◌, ◌<◌, [], ◌∷◌, ◌++◌, sym, refl, ap, ◌∙◌, arith}
+use Rattle.std.proofs.Common.{◌≡◌, ◌≢◌, ℕ, ◌+◌, ◌-◌, ◌<◌, ◌==◌, true, false, cond, List, [], ◌∷◌, ◌++◌, sym, refl, ap, ◌∙◌, arith}
+use Rattle.std.proofs.lemmas.List.{append_assoc}
 use Rattle.words_core.specs.declared.trace.Step.{Step}
-use Rattle.words_core.specs.Layout.{value_at, claim_at, value_word, claim_word}
-use Rattle.words_core.specs.Trace.{on, amount_of, total, added, is_win, add, won, wins_of}
-use Rattle.words_core.specs.Seat.{SeatModel, with_step, both_of, added_to}
+use Rattle.words_core.specs.Layout.{value_place, claim_place, value_word, claim_word}
+use Rattle.words_core.specs.Trace.{on, amount_of, total, added, is_win, is_test, add, won, lost, wins_of, set_once_step}
+use Rattle.words_core.specs.Seat.{SeatModel, with_step, both_of, added_to, tests_of}
 use Rattle.words_core.proofs.Totals.{total-append}
 use Rattle.words_core.proofs.Traces.{on-append, on-append_here, on-append_other}
 
-apart : (c : ℕ) → value_at c ≢ claim_at c
+apart : (c : ℕ) → value_place c ≢ claim_place c
 apart c e = omega arith
 
 pub wins_of-won : (seat : SeatModel) (w : ℕ) → wins_of w (with_step seat (won w)).trace ≡ wins_of w seat.trace + 1
 wins_of-won seat w =
     let a : total is_win (on w seat.trace ++ won w ∷ []) ≡ total is_win (on w seat.trace) + (1 + 0) = total-append is_win (on w seat.trace) (won w ∷ []) in
     rw (on-append_here w seat.trace (won w) refl) (omega arith)
+
+pub set_once_step-word : (w n : ℕ) → (set_once_step w n).word ≡ w
+set_once_step-word w n = elim (n == 0) as (λ b. (cond b (won w) (lost w)).word ≡ w) [ true ↦ refl | false ↦ refl ]
+
+set_once_step-tests : (w n : ℕ) → is_test (set_once_step w n) ≡ 1
+set_once_step-tests w n = elim (n == 0) as (λ b. is_test (cond b (won w) (lost w)) ≡ 1) [ true ↦ refl | false ↦ refl ]
+
+-- whatever it found, a test-and-set is known afterwards
+pub tests_of-set_once : (seat : SeatModel) (w n : ℕ) → tests_of (with_step seat (set_once_step w n)) w ≡ tests_of seat w + 1
+tests_of-set_once seat w n =
+    let s : Step = set_once_step w n in
+    let known : List Step = on w (seat.start ++ seat.trace) in
+    let more : on w (seat.start ++ (seat.trace ++ s ∷ [])) ≡ known ++ s ∷ [] = ap (on w) (sym (append_assoc seat.start seat.trace (s ∷ []))) ∙ on-append_here w (seat.start ++ seat.trace) s (set_once_step-word w n) in
+    let sum : total is_test (known ++ s ∷ []) ≡ total is_test known + (is_test s + 0) = total-append is_test known (s ∷ []) in
+    let one = set_once_step-tests w n in
+    ap (total is_test) more ∙ (omega arith)
 
 pub wins_of-both_of : (seat other : SeatModel) (w : ℕ) → wins_of w (both_of seat other).trace ≡ wins_of w seat.trace + wins_of w other.trace
 wins_of-both_of seat other w = ap (total is_win) (on-append w seat.trace other.trace) ∙ total-append is_win (on w seat.trace) (on w other.trace)

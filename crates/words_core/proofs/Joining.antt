@@ -10,13 +10,13 @@ use Rattle.atomic_table.proofs.Lists.{at_map, set_again, set_else}
 use Rattle.words_core.specs.declared.trace.Step.{Step}
 use Rattle.words_core.specs.declared.trace.View.{View}
 use Rattle.words_core.specs.declared.words.Sizes.{Sizes}
-use Rattle.words_core.specs.Layout.{value_at, claim_at, IsClaimOrFlag}
-use Rattle.words_core.specs.Trace.{on, amount_of, total, added, is_add, is_win, is_loss, is_load_of, is_add_to, HasRunningSums}
-use Rattle.words_core.specs.Rule.{WordTrace, context_trace, set_once_trace, made_in, known_in, wins_in, wins_on, IsAtMost, HasSums, AddsAsDriver, parts_of, IsEmptyIfSpent, KnowsSizes, IsTraced, IsValue, IsSetOnce, IsKept}
+use Rattle.words_core.specs.Layout.{value_place, claim_place}
+use Rattle.words_core.specs.Trace.{on, amount_of, total, added, is_add, is_win, is_test, is_load_of, is_add_to, is_raise_to, is_sight_of, HasRunningSums}
+use Rattle.words_core.specs.Rule.{Each, WordTrace, context_trace, word_trace, made_in, known_in, wins_in, wins_on, IsAtMost, RaisesNoMore, HasSums, AddsAsDriver, parts_of, IsEmptyIfSpent, KnowsSizes, IsTraced, IsValue, IsSetOnce, IsEntry, IsKept}
 use Rattle.words_core.specs.Plays.{Holder, counts_parts, joined_view, joined_from}
 use Rattle.words_core.proofs.Totals.{total-append, total_at, Each-set, Each-at, total-joined, total_two, total-map}
-use Rattle.words_core.proofs.Traces.{on-append, greatest-append_le, HasRunningSums-append, added_none, HasRunningSums-none}
-use Rattle.words_core.proofs.Frames.{IsValue-same, IsSetOnce-same}
+use Rattle.words_core.proofs.Traces.{on-append, greatest-append_le, raised-append_le, HasRunningSums-append, added_none, HasRunningSums-none}
+use Rattle.words_core.proofs.Frames.{same_word}
 
 abbrev both_traces : WordTrace → WordTrace → WordTrace
 both_traces t u = record { start = t.start ++ u.start; made = t.made ++ u.made; claim = t.claim ++ u.claim }
@@ -33,13 +33,18 @@ total-both : (f : Step → ℕ) (traces : List WordTrace) (id other : ℕ) (t u 
     → total (made_in f) (set (set traces id (both_traces t u)) other no_trace) ≡ total (made_in f) traces
 total-both f traces id other t u at apart at' = total-joined (made_in f) traces id other t u (both_traces t u) no_trace at apart at' (total-append f t.made u.made) refl
 
+below-joined : (n : ℕ) (traces : List WordTrace) (id other : ℕ) (t u : WordTrace) → get_elem? traces id ≡ some t → other ≢ id → get_elem? traces other ≡ some u → Each (IsAtMost n) traces → Each (IsAtMost n) (set (set traces id (both_traces t u)) other no_trace)
+below-joined n traces id other t u at apart at' h =
+    let b : WordTrace = both_traces t u in
+    let mine = Each-at (IsAtMost n) traces id t h at in let theirs = Each-at (IsAtMost n) traces other u h at' in
+    Each-set (IsAtMost n) (set traces id b) other no_trace (Each-set (IsAtMost n) traces id b h (greatest-append_le t.start u.start n mine.0 theirs.0, greatest-append_le t.made u.made n mine.1 theirs.1)) (omega arith, omega arith)
+
 IsTraced-joined : (leaves finds : ℕ → Step → ℕ) (n : ℕ) (traces : List WordTrace) (id other : ℕ) (t u : WordTrace) → get_elem? traces id ≡ some t → other ≢ id → get_elem? traces other ≡ some u
     → IsTraced leaves finds n traces → IsTraced leaves finds n (set (set traces id (both_traces t u)) other no_trace)
 IsTraced-joined leaves finds n traces id other t u at apart at' h =
     let b : WordTrace = both_traces t u in
-    let mine = Each-at (IsAtMost n) traces id t h.below at in let theirs = Each-at (IsAtMost n) traces other u h.below at' in
     record {
-      below = Each-set (IsAtMost n) (set traces id b) other no_trace (Each-set (IsAtMost n) traces id b h.below (greatest-append_le t.start u.start n mine.0 theirs.0, greatest-append_le t.made u.made n mine.1 theirs.1)) (omega arith, omega arith);
+      below = below-joined n traces id other t u at apart at' h.below;
       left = rw (total-both (leaves n) traces id other t u at apart at') h.left;
       found = λ x pos some.
           let s : total (finds x) (t.start ++ u.start) ≡ total (finds x) t.start + total (finds x) u.start = total-append (finds x) t.start u.start in
@@ -66,20 +71,39 @@ IsValue-joined n traces id other t u at apart at' few h =
           let x = mine (omega arith) in let y = theirs (omega arith) in omega arith)) (λ _. refl);
     }
 
-IsSetOnce-joined : (n : ℕ) (traces : List (List Step)) (id other : ℕ) (t u : List Step) → get_elem? traces id ≡ some t → other ≢ id → get_elem? traces other ≡ some u → IsSetOnce n traces → IsSetOnce n (set (set traces id (t ++ u)) other [])
+IsSetOnce-joined : (n : ℕ) (traces : List WordTrace) (id other : ℕ) (t u : WordTrace) → get_elem? traces id ≡ some t → other ≢ id → get_elem? traces other ≡ some u → IsSetOnce n traces → IsSetOnce n (set (set traces id (both_traces t u)) other no_trace)
 IsSetOnce-joined n traces id other t u at apart at' h =
-    let same : (f : Step → ℕ) → total (total f) (set (set traces id (t ++ u)) other []) ≡ total (total f) traces = λ f.
-    total-joined (total f) traces id other t u (t ++ u) [] at apart at' (total-append f t u) refl in
-    record { won = h.won ∙ sym (same is_win); lost = λ some. h.lost (let a = same is_loss in omega arith) }
+    let b : WordTrace = both_traces t u in
+    let s : total is_test (t.start ++ u.start) ≡ total is_test t.start + total is_test u.start = total-append is_test t.start u.start in
+    let m : total is_test (t.made ++ u.made) ≡ total is_test t.made + total is_test u.made = total-append is_test t.made u.made in
+    let a : total (known_in is_test) (set (set traces id b) other no_trace) ≡ total (known_in is_test) traces = total-joined (known_in is_test) traces id other t u b no_trace at apart at' (omega arith) refl in
+    record {
+      below = below-joined n traces id other t u at apart at' h.below;
+      won = h.won ∙ sym (total-both is_win traces id other t u at apart at');
+      tested = λ some. h.tested (omega arith);
+    }
 
-pub IsClaimOrFlag-claim : (z : Sizes) (c : ℕ) → c < z.contexts → IsClaimOrFlag z (claim_at c)
-IsClaimOrFlag-claim z c low = record { inside = omega arith; claim = λ _. omega arith }
+IsEntry-joined : (n : ℕ) (traces : List WordTrace) (id other : ℕ) (t u : WordTrace) → get_elem? traces id ≡ some t → other ≢ id → get_elem? traces other ≡ some u → IsEntry n traces → IsEntry n (set (set traces id (both_traces t u)) other no_trace)
+IsEntry-joined n traces id other t u at apart at' h =
+    let b : WordTrace = both_traces t u in
+    let mine = Each-at (RaisesNoMore n) traces id t h.raises at in let theirs = Each-at (RaisesNoMore n) traces other u h.raises at' in
+    record {
+      traced = IsTraced-joined is_raise_to is_sight_of n traces id other t u at apart at' h.traced;
+      raises = Each-set (RaisesNoMore n) (set traces id b) other no_trace (Each-set (RaisesNoMore n) traces id b h.raises (raised-append_le t.made u.made n mine theirs)) (omega arith);
+    }
+
+word_trace-joined : (k : ℕ) (views : List View) (id other : ℕ) (v w : View)
+    → map (word_trace k) (set (set views id (joined_view v w)) other joined_from) ≡ set (set (map (word_trace k) views) id (both_traces (word_trace k v) (word_trace k w))) other no_trace
+word_trace-joined k views id other v w =
+    let b : View = joined_view v w in
+    map-set (word_trace k) (set views id b) other joined_from ∙ ap (λ (ts : List WordTrace). set ts other no_trace) (map-set (word_trace k) views id b)
+    ∙ (λ i. set (set (map (word_trace k) views) id record { start = on-append k v.start w.start i; made = on-append k v.trace w.trace i; claim = [] }) other no_trace)
 
 -- at most one view has won a claim, once
 pub few_wins : (z : Sizes) (words : List ℕ) (views : List View) (c : ℕ) → c < z.contexts → IsKept z words views → total wins_in (map (context_trace c) views) ≤ 1
 few_wins z words views c low h =
-    let few = h.won_once (claim_at c) in
-    let a : total wins_in (map (context_trace c) views) ≡ total (λ (v : View). total is_win (on (claim_at c) v.trace)) views = total-map wins_in (context_trace c) views in
+    let few = h.won_once (claim_place c) in
+    let a : total wins_in (map (context_trace c) views) ≡ total (λ (v : View). total is_win (on (claim_place c) v.trace)) views = total-map wins_in (context_trace c) views in
     omega arith
 
 pub join-allowed : (z : Sizes) (id other : ℕ) (v w : View) → 0 < v.parts → Joins {S = Unit {0}} (λ s. IsKept z s.words s.views) id v other w (joined_view v w) joined_from
@@ -94,13 +118,15 @@ join-allowed z id other v w live s h at apart there =
       won_once = λ k. let few = h.won_once k in
           let a : total (wins_on k) (set (set views id b) other joined_from) ≡ total (wins_on k) views = total-joined (wins_on k) views id other v w b joined_from at apart at'
           (ap (total is_win) (on-append k v.trace w.trace) ∙ total-append is_win (on k v.trace) (on k w.trace)) refl in omega arith;
-      values = λ c low. IsValue-same _ _ _ _ refl
+      values = λ c low. same_word IsValue _ _ _ _ refl
           (map-set (context_trace c) (set views id b) other joined_from ∙ ap (λ (ts : List WordTrace). set ts other no_trace) (map-set (context_trace c) views id b)
-          ∙ (λ i. set (set (map (context_trace c) views) id record { start = on-append (value_at c) v.start w.start i; made = on-append (value_at c) v.trace w.trace i; claim = on-append (claim_at c) v.trace w.trace i }) other no_trace))
-          (IsValue-joined (slice_index s.words (value_at c)) (map (context_trace c) views) id other (context_trace c v) (context_trace c w) (at_map (context_trace c) views id v at) apart (at_map (context_trace c) views other w at') (few_wins z s.words views c low h) (h.values c low));
-      set_once = λ k is. IsSetOnce-same _ _ _ _ refl
-          (map-set (set_once_trace k) (set views id b) other joined_from ∙ ap (λ (ts : List (List Step)). set ts other []) (map-set (set_once_trace k) views id b) ∙ (λ i. set (set (map (set_once_trace k) views) id (on-append k v.trace w.trace i)) other []))
-          (IsSetOnce-joined (slice_index s.words k) (map (set_once_trace k) views) id other (set_once_trace k v) (set_once_trace k w) (at_map (set_once_trace k) views id v at) apart (at_map (set_once_trace k) views other w at') (h.set_once k is));
+          ∙ (λ i. set (set (map (context_trace c) views) id record { start = on-append (value_place c) v.start w.start i; made = on-append (value_place c) v.trace w.trace i; claim = on-append (claim_place c) v.trace w.trace i }) other no_trace))
+          (IsValue-joined (slice_index s.words (value_place c)) (map (context_trace c) views) id other (context_trace c v) (context_trace c w) (at_map (context_trace c) views id v at) apart (at_map (context_trace c) views other w at') (few_wins z s.words views c low h) (h.values c low));
+      set_once = λ k is. same_word IsSetOnce _ _ _ _ refl (word_trace-joined k views id other v w)
+          (IsSetOnce-joined (slice_index s.words k) (map (word_trace k) views) id other (word_trace k v) (word_trace k w) (at_map (word_trace k) views id v at) apart (at_map (word_trace k) views other w at') (h.set_once k is));
+      entries = λ k is. same_word IsEntry _ _ _ _ refl (word_trace-joined k views id other v w)
+          (IsEntry-joined (slice_index s.words k) (map (word_trace k) views) id other (word_trace k v) (word_trace k w) (at_map (word_trace k) views id v at) apart (at_map (word_trace k) views other w at') (h.entries k is));
+      unused = h.unused;
     }
 
 -- a load that enters nothing, and sees that the parts are no more than all

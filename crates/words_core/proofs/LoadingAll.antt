@@ -1,9 +1,8 @@
 -- One load after another.
-use Rattle.std.proofs.Common.{◌≡◌, ℕ, zero, suc, ◌+◌, ◌-◌, ◌<◌, ◌≤◌, max, List, [], ◌∷◌, ◌++◌, length, replicate, inl, inr, refl, sym, ap, ◌∙◌, subst, arith}
+use Rattle.std.proofs.Common.{◌≡◌, ℕ, zero, suc, ◌+◌, ◌<◌, ◌≤◌, max, List, [], ◌∷◌, ◌++◌, length, refl, sym, ap, ◌∙◌, subst, arith}
 use mathlib.Core.Logic.{dite}
 use native.Mathlib.Decide.{ℕ_discrete}
-use Rattle.std.proofs.lemmas.Bool.{cases_lt}
-use Rattle.std.proofs.lemmas.List.{append_assoc, get_or-replicate, get_or_past, length-replicate}
+use Rattle.std.proofs.lemmas.List.{append_assoc}
 use Rattle.point_core.specs.Reach.{value_at, with_value}
 use Rattle.point_core.proofs.Values.{value_at-with_value_same, value_at-with_value_other}
 use Rattle.words_core.specs.declared.trace.Step.{Step}
@@ -12,12 +11,6 @@ use Rattle.words_core.specs.Trace.{load, on, greatest}
 use Rattle.words_core.specs.Seat.{SeatModel, seen, with_step, with_steps, loads_of}
 use Rattle.words_core.proofs.Traces.{on-append_here, on-append_other, greatest-append}
 use Rattle.words_core.proofs.Seen.{seen-with_steps, seen_stays}
-
-pub value_at-replicate : (n ctx : ℕ) → value_at (replicate n 0) ctx ≡ 0
-value_at-replicate n ctx = elim (cases_lt (ctx - 1) n) [
-  | inl low ↦ get_or-replicate n (ctx - 1) 0 0 low
-  | inr past ↦ get_or_past (replicate n 0) (ctx - 1) 0 (rw length-replicate past)
-]
 
 -- the loads tell the values of these contexts alone
 loads_of-same : (reach other : List ℕ) (n : ℕ) → ((ctx : ℕ) → 1 ≤ ctx → ctx ≤ n → value_at reach ctx ≡ value_at other ctx) → loads_of reach n ≡ loads_of other n

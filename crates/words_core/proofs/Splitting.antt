@@ -8,13 +8,13 @@ use Rattle.atomic_table.proofs.Lists.{at_map}
 use Rattle.words_core.specs.declared.trace.Step.{Step}
 use Rattle.words_core.specs.declared.trace.View.{View}
 use Rattle.words_core.specs.declared.words.Sizes.{Sizes}
-use Rattle.words_core.specs.Layout.{value_at}
-use Rattle.words_core.specs.Trace.{amount_of, total, greatest, is_win, is_loss, is_load_of, is_add_to}
-use Rattle.words_core.specs.Rule.{spent_view, WordTrace, context_trace, set_once_trace, made_in, known_in, wins_on, IsAtMost, HasSums, AddsAsDriver, parts_of, IsEmptyIfSpent, KnowsSizes, IsTraced, IsValue, IsSetOnce, IsKept}
+use Rattle.words_core.specs.Layout.{value_place}
+use Rattle.words_core.specs.Trace.{on, amount_of, total, greatest, is_win, is_test, is_load_of, is_add_to, is_raise_to, is_sight_of}
+use Rattle.words_core.specs.Rule.{spent_view, WordTrace, context_trace, word_trace, made_in, known_in, wins_on, IsAtMost, RaisesNoMore, HasSums, AddsAsDriver, parts_of, IsEmptyIfSpent, KnowsSizes, IsTraced, IsValue, IsSetOnce, IsEntry, IsKept}
 use Rattle.words_core.specs.Plays.{parent_view, child_view}
 use Rattle.words_core.proofs.Totals.{total-set, total-append, total_at, Each-set, Each-at, Each-last, map-set_same}
 use Rattle.words_core.proofs.Traces.{on-append, greatest-append_le}
-use Rattle.words_core.proofs.Frames.{IsValue-same, IsSetOnce-same}
+use Rattle.words_core.proofs.Frames.{same_word}
 
 -- what a new seat has on a word
 abbrev pub started : List Step → WordTrace
@@ -47,19 +47,51 @@ IsValue-started n traces start low known h =
       driven = Each-last AddsAsDriver traces t h.driven (λ _. refl);
     }
 
+-- what a seat knows of a word, all traces know
+known_by_one : (f : Step → ℕ) (traces : List WordTrace) (id : ℕ) (t : WordTrace) → get_elem? traces id ≡ some t → total f (t.start ++ t.made) ≤ total (known_in f) traces
+known_by_one f traces id t at =
+    let b : total f (t.start ++ t.made) ≡ total f t.start + total f t.made = total-append f t.start t.made in
+    let d : total f t.start + total f t.made ≤ total (known_in f) traces = total_at (known_in f) traces id t at in omega arith
+
 -- its start is all that its parent knows
 IsValue-parted : (n : ℕ) (traces : List WordTrace) (id : ℕ) (t : WordTrace) → get_elem? traces id ≡ some t → IsValue n traces → IsValue n (traces ++ started (t.start ++ t.made) ∷ [])
 IsValue-parted n traces id t at h =
     let mine = Each-at (IsAtMost n) traces id t h.traced.below at in
     IsValue-started n traces (t.start ++ t.made) (greatest-append_le t.start t.made n mine.0 mine.1)
-    (λ x. let b : total (is_load_of x) (t.start ++ t.made) ≡ total (is_load_of x) t.start + total (is_load_of x) t.made = total-append (is_load_of x) t.start t.made in
-    let d : total (is_load_of x) t.start + total (is_load_of x) t.made ≤ total (known_in (is_load_of x)) traces = total_at (known_in (is_load_of x)) traces id t at in omega arith) h
+    (λ x. known_by_one (is_load_of x) traces id t at) h
 
-pub IsSetOnce-started : (n : ℕ) (traces : List (List Step)) → IsSetOnce n traces → IsSetOnce n (traces ++ [] ∷ [])
-IsSetOnce-started n traces h =
-    let more : (f : Step → ℕ) → total (total f) (traces ++ [] ∷ []) ≡ total (total f) traces = λ f.
-    let a : total (total f) (traces ++ [] ∷ []) ≡ total (total f) traces + (0 + 0) = total-append (total f) traces ([] ∷ []) in omega arith in
-    record { won = h.won ∙ sym (more is_win); lost = λ some. h.lost (let a = more is_loss in omega arith) }
+IsSetOnce-started : (n : ℕ) (traces : List WordTrace) (start : List Step) → greatest start ≤ n → (total is_test start ≤ total (known_in is_test) traces) → IsSetOnce n traces → IsSetOnce n (traces ++ started start ∷ [])
+IsSetOnce-started n traces start low known h =
+    let t : WordTrace = started start in
+    let more : total (known_in is_test) (traces ++ t ∷ []) ≡ total (known_in is_test) traces + ((total is_test start + 0) + 0) = total-append (known_in is_test) traces (t ∷ []) in
+    record {
+      below = Each-last (IsAtMost n) traces t h.below (low, omega arith);
+      won = h.won ∙ sym (total-started is_win traces start);
+      tested = λ some. h.tested (omega arith);
+    }
+
+IsEntry-started : (n : ℕ) (traces : List WordTrace) (start : List Step) → greatest start ≤ n → ((x : ℕ) → total (is_sight_of x) start ≤ total (known_in (is_sight_of x)) traces) → IsEntry n traces → IsEntry n (traces ++ started start ∷ [])
+IsEntry-started n traces start low known h = record {
+  traced = IsTraced-started is_raise_to is_sight_of n traces start low known h.traced;
+  raises = Each-last (RaisesNoMore n) traces (started start) h.raises (omega arith);
+}
+
+IsSetOnce-parted : (n : ℕ) (traces : List WordTrace) (id : ℕ) (t : WordTrace) → get_elem? traces id ≡ some t → IsSetOnce n traces → IsSetOnce n (traces ++ started (t.start ++ t.made) ∷ [])
+IsSetOnce-parted n traces id t at h =
+    let mine = Each-at (IsAtMost n) traces id t h.below at in
+    IsSetOnce-started n traces (t.start ++ t.made) (greatest-append_le t.start t.made n mine.0 mine.1) (known_by_one is_test traces id t at) h
+
+IsEntry-parted : (n : ℕ) (traces : List WordTrace) (id : ℕ) (t : WordTrace) → get_elem? traces id ≡ some t → IsEntry n traces → IsEntry n (traces ++ started (t.start ++ t.made) ∷ [])
+IsEntry-parted n traces id t at h =
+    let mine = Each-at (IsAtMost n) traces id t h.traced.below at in
+    IsEntry-started n traces (t.start ++ t.made) (greatest-append_le t.start t.made n mine.0 mine.1) (λ x. known_by_one (is_sight_of x) traces id t at) h
+
+-- what a new seat has on one word
+word_trace-parted : (k n : ℕ) (views : List View) (id : ℕ) (v : View) → get_elem? views id ≡ some v
+    → map (word_trace k) (set views id (parent_view n v) ++ child_view n v ∷ []) ≡ map (word_trace k) views ++ started (on k v.start ++ on k v.trace) ∷ []
+word_trace-parted k n views id v at =
+    let l : View = parent_view n v in
+    map-append (word_trace k) (set views id l) (child_view n v ∷ []) ∙ (λ i. map-set_same (word_trace k) views id v l at refl i ++ record { start = on-append k v.start v.trace i; made = []; claim = [] } ∷ [])
 
 pub split-allowed : (z : Sizes) (id n : ℕ) (v : View) → 0 < n → n < v.parts → Splits {S = Unit {0}} (λ s. IsKept z s.words s.views) id v (parent_view n v) (child_view n v)
 split-allowed z id n v pos less s h at =
@@ -76,11 +108,12 @@ split-allowed z id n v pos less s h at =
           let few = h.won_once w in
           let a : total (wins_on w) vs + wins_on w v ≡ total (wins_on w) views + wins_on w v = total-set (wins_on w) views id v l at in
           let b : total (wins_on w) (vs ++ r ∷ []) ≡ total (wins_on w) vs + (0 + 0) = total-append (wins_on w) vs (r ∷ []) in omega arith;
-      values = λ c low. IsValue-same _ _ _ _ refl
-          (map-append (context_trace c) vs (r ∷ []) ∙ (λ i. map-set_same (context_trace c) views id v l at refl i ++ record { start = on-append (value_at c) v.start v.trace i; made = []; claim = [] } ∷ []))
-          (IsValue-parted (slice_index s.words (value_at c)) (map (context_trace c) views) id (context_trace c v) (at_map (context_trace c) views id v at) (h.values c low));
-      set_once = λ k is. IsSetOnce-same _ _ _ _ refl (map-append (set_once_trace k) vs (r ∷ []) ∙ (λ i. map-set_same (set_once_trace k) views id v l at refl i ++ [] ∷ []))
-          (IsSetOnce-started (slice_index s.words k) (map (set_once_trace k) views) (h.set_once k is));
+      values = λ c low. same_word IsValue _ _ _ _ refl
+          (map-append (context_trace c) vs (r ∷ []) ∙ (λ i. map-set_same (context_trace c) views id v l at refl i ++ record { start = on-append (value_place c) v.start v.trace i; made = []; claim = [] } ∷ []))
+          (IsValue-parted (slice_index s.words (value_place c)) (map (context_trace c) views) id (context_trace c v) (at_map (context_trace c) views id v at) (h.values c low));
+      set_once = λ k is. same_word IsSetOnce _ _ _ _ refl (word_trace-parted k n views id v at) (IsSetOnce-parted (slice_index s.words k) (map (word_trace k) views) id (word_trace k v) (at_map (word_trace k) views id v at) (h.set_once k is));
+      entries = λ k is. same_word IsEntry _ _ _ _ refl (word_trace-parted k n views id v at) (IsEntry-parted (slice_index s.words k) (map (word_trace k) views) id (word_trace k v) (at_map (word_trace k) views id v at) (h.entries k is));
+      unused = h.unused;
     }
 
 -- a spent seat may come at any time
@@ -95,8 +128,10 @@ IsKept-spent z words views h =
       spent = Each-last IsEmptyIfSpent views spent h.spent (λ _. (refl, refl));
       sized = Each-last (KnowsSizes z) views spent h.sized (λ _. refl);
       won_once = λ w. let few = h.won_once w in let a : total (wins_on w) (views ++ spent ∷ []) ≡ total (wins_on w) views + (0 + 0) = total-append (wins_on w) views (spent ∷ []) in omega arith;
-      values = λ c low. IsValue-same _ _ _ _ refl (map-append (context_trace c) views (spent ∷ [])) (IsValue-started (slice_index words (value_at c)) (map (context_trace c) views) [] (omega arith) (λ x. omega arith) (h.values c low));
-      set_once = λ k is. IsSetOnce-same _ _ _ _ refl (map-append (set_once_trace k) views (spent ∷ [])) (IsSetOnce-started (slice_index words k) (map (set_once_trace k) views) (h.set_once k is));
+      values = λ c low. same_word IsValue _ _ _ _ refl (map-append (context_trace c) views (spent ∷ [])) (IsValue-started (slice_index words (value_place c)) (map (context_trace c) views) [] (omega arith) (λ x. omega arith) (h.values c low));
+      set_once = λ k is. same_word IsSetOnce _ _ _ _ refl (map-append (word_trace k) views (spent ∷ [])) (IsSetOnce-started (slice_index words k) (map (word_trace k) views) [] (omega arith) (omega arith) (h.set_once k is));
+      entries = λ k is. same_word IsEntry _ _ _ _ refl (map-append (word_trace k) views (spent ∷ [])) (IsEntry-started (slice_index words k) (map (word_trace k) views) [] (omega arith) (λ x. omega arith) (h.entries k is));
+      unused = h.unused;
     }
 
 pub spent-allowed : (z : Sizes) (slots i : ℕ) → Enters {S = Unit {0}} (λ s. IsKept z s.words s.views) slots i (λ n w. w.sizes ≡ z)

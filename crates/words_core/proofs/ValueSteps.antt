@@ -6,7 +6,7 @@ use native.Mathlib.Decide.{ℕ_discrete}
 use lib.ListN.{get_elem?}
 use Rattle.words_core.specs.declared.trace.Step.{Step}
 use Rattle.words_core.specs.Trace.{amount_of, total, added, is_add, is_win, is_load_of, is_add_to, load, add}
-use Rattle.words_core.specs.Rule.{WordTrace, made_in, known_in, wins_in, IsAtMost, HasSums, AddsAsDriver, IsTraced, IsValue}
+use Rattle.words_core.specs.Rule.{Each, WordTrace, made_in, known_in, wins_in, IsAtMost, HasSums, AddsAsDriver, IsTraced, IsValue}
 use Rattle.words_core.proofs.Totals.{total-set, total-append, Each-set, Each-at, Each-weaker}
 use Rattle.words_core.proofs.Traces.{greatest-append_le, greatest_one, HasRunningSums-append, load_value, add_value}
 
@@ -33,8 +33,16 @@ total-known_grown f traces id t s at =
     let b : total (known_in f) (set traces id (grown t s)) + (total f t.start + total f t.made) ≡ total (known_in f) traces + (total f t.start + total f (t.made ++ s ∷ [])) = total-set (known_in f) traces id t (grown t s) at in
     omega arith
 
-none_or_some : (n : ℕ) → (n ≡ 0) ⊎ (0 < n)
+pub none_or_some : (n : ℕ) → (n ≡ 0) ⊎ (0 < n)
 none_or_some n = dite (ℕ_discrete n 0) (λ e. inl e) (λ ne. inr (omega arith))
+
+-- each known value is at most the word, which the step takes from n to m
+pub below-grown : (n m : ℕ) (traces : List WordTrace) (id : ℕ) (t : WordTrace) (s : Step) → get_elem? traces id ≡ some t → Each (IsAtMost n) traces → n ≤ m → s.value ≤ m → Each (IsAtMost m) (set traces id (grown t s))
+below-grown n m traces id t s at h up top =
+    let mine = Each-at (IsAtMost n) traces id t h at in
+    Each-set (IsAtMost m) traces id (grown t s)
+    (Each-weaker (IsAtMost n) (IsAtMost m) traces (λ u b. (omega arith, omega arith)) h)
+    (omega arith, greatest-append_le t.made (s ∷ []) m (omega arith) (greatest_one s m top))
 
 -- the step takes the word from n to m
 pub IsTraced-grown : (leaves finds : ℕ → Step → ℕ) (n m : ℕ) (traces : List WordTrace) (id : ℕ) (t : WordTrace) (s : Step) → get_elem? traces id ≡ some t → IsTraced leaves finds n traces
@@ -43,11 +51,8 @@ pub IsTraced-grown : (leaves finds : ℕ → Step → ℕ) (n m : ℕ) (traces :
     → ((x : ℕ) → 0 < x → 0 < finds x s → 0 < total (made_in (leaves x)) traces + leaves x s)
     → IsTraced leaves finds m (set traces id (grown t s))
 IsTraced-grown leaves finds n m traces id t s at h up top left found =
-    let mine = Each-at (IsAtMost n) traces id t h.below at in
     record {
-      below = Each-set (IsAtMost m) traces id (grown t s)
-          (Each-weaker (IsAtMost n) (IsAtMost m) traces (λ u b. (omega arith, omega arith)) h.below)
-          (omega arith, greatest-append_le t.made (s ∷ []) m (omega arith) (greatest_one s m top));
+      below = below-grown n m traces id t s at h.below up top;
       left = rw (total-grown (leaves m) traces id t s at) left;
       found = λ x pos some. let a = total-known_grown (finds x) traces id t s at in let b = total-grown (leaves x) traces id t s at in
           elim (none_or_some (finds x s)) as (λ _. 0 < total (made_in (leaves x)) (set traces id (grown t s))) [ inl none ↦ let c = h.found x pos (omega arith) in omega arith | inr one ↦ let c = found x pos one in omega arith ];

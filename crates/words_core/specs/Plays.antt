@@ -1,10 +1,10 @@
 -- What each kind of step tells its seat, and how views are split and joined.
-use Rattle.std.specs.Prelude.{◌≡◌, ℕ, ◌+◌, ◌-◌, ◌≤◌, [], ◌∷◌, ◌++◌}
+use Rattle.std.specs.Prelude.{◌≡◌, ℕ, ◌+◌, ◌-◌, ◌<◌, ◌≤◌, max, [], ◌∷◌, ◌++◌}
 use Rattle.atomic_table.specs.Table.{Me, Step as TableStep}
 use Rattle.words_core.specs.declared.seat.TheConstants.{PARTS}
 use Rattle.words_core.specs.declared.trace.Step.{Step}
 use Rattle.words_core.specs.declared.trace.View.{View}
-use Rattle.words_core.specs.Trace.{load, add, set_once_step, on, greatest, added, wins_of, LoadsWereLeft, IsDecided}
+use Rattle.words_core.specs.Trace.{load, add, raise, shown, set_once_step, is_test, total, on, greatest, raised, added, wins_of, LoadsWereLeft, SightsWereRaised, IsDecided}
 use Rattle.words_core.specs.Rule.{view, spent_view}
 
 -- a seat's view, with no slots
@@ -19,16 +19,21 @@ view_with v s = view v.sizes v.parts v.start (v.trace ++ s ∷ [])
 abbrev pub seen_by : ℕ → View → ℕ
 seen_by w v = greatest (on w (v.start ++ v.trace))
 
+-- how often it is known that the word w was won or lost
+abbrev pub tests_by : ℕ → View → ℕ
+tests_by w v = total is_test (on w (v.start ++ v.trace))
+
 -- the value is entered, and it is at least what was seen
 abbrev pub loads_value : TableStep (Unit {0}) → Holder → ℕ → Holder → Type 0
 loads_value s me found after = (after ≡ (view_with me.0 (load s.word found), me.1)) × (seen_by s.word me.0 ≤ found)
 
--- a claim is won where it was 0, and then nothing was added to the context's value, the word before it
-abbrev pub claims_context : TableStep (Unit {0}) → Holder → ℕ → Holder → Type 0
-claims_context s me found after = (after ≡ (view_with me.0 (set_once_step s.word found), me.1)) × (found ≡ 0 → (wins_of s.word me.0.trace ≡ 0) × (added (on (s.word - 1) me.0.trace) ≡ 0))
+-- a word is won where it was 0, and then nobody was known to have won or lost it
+abbrev pub sets_once : TableStep (Unit {0}) → Holder → ℕ → Holder → Type 0
+sets_once s me found after = (after ≡ (view_with me.0 (set_once_step s.word found), me.1)) × (found ≡ 0 → (tests_by s.word me.0 ≡ 0) × (wins_of s.word me.0.trace ≡ 0))
 
-abbrev pub sets_flag : TableStep (Unit {0}) → Holder → ℕ → Holder → Type 0
-sets_flag s me found after = after ≡ (view_with me.0 (set_once_step s.word found), me.1)
+-- where a claim is won, nothing was added to the context's value, the word before it
+abbrev pub claims_context : TableStep (Unit {0}) → Holder → ℕ → Holder → Type 0
+claims_context s me found after = sets_once s me found after × (found ≡ 0 → added (on (s.word - 1) me.0.trace) ≡ 0)
 
 -- the word was all that the seat had added
 abbrev pub adds_to_value : TableStep (Unit {0}) → Holder → ℕ → Holder → Type 0
@@ -40,11 +45,22 @@ counts_parts s me found after = (after ≡ me) × (me.0.parts ≤ PARTS) × ((w 
 
 -- a seat with all parts has added all that the word is, and its claim is the word after it
 abbrev pub loads_total : TableStep (Unit {0}) → Holder → ℕ → Holder → Type 0
-loads_total s me found after = (after ≡ (view_with me.0 (load s.word found), me.1)) × (found ≡ added (on s.word me.0.trace)) × LoadsWereLeft s.word me.0.trace × IsDecided (s.word + 1) me.0.trace
+loads_total s me found after = (after ≡ (view_with me.0 (load s.word found), me.1)) × (seen_by s.word me.0 ≤ found) × (found ≡ added (on s.word me.0.trace)) × LoadsWereLeft s.word me.0.trace × IsDecided (s.word + 1) me.0.trace
 
 -- a flag is how often a seat with all parts has won it
 abbrev pub loads_flag : TableStep (Unit {0}) → Holder → ℕ → Holder → Type 0
-loads_flag s me found after = (after ≡ (view_with me.0 (load s.word found), me.1)) × (found ≡ wins_of s.word me.0.trace) × IsDecided s.word me.0.trace
+loads_flag s me found after = (after ≡ (view_with me.0 (load s.word found), me.1)) × (seen_by s.word me.0 ≤ found) × (found ≡ wins_of s.word me.0.trace) × IsDecided s.word me.0.trace × (0 < tests_by s.word me.0 → found ≡ 1)
+
+-- what an entry of the board shows is at least what was seen
+abbrev pub loads_entry : TableStep (Unit {0}) → Holder → ℕ → Holder → Type 0
+loads_entry s me found after = (after ≡ (view_with me.0 (shown s.word found), me.1)) × (seen_by s.word me.0 ≤ found)
+
+abbrev pub raises_entry : TableStep (Unit {0}) → Holder → ℕ → Holder → Type 0
+raises_entry s me found after = (after ≡ (view_with me.0 (raise s.word s.first (max found s.first)), me.1)) × (seen_by s.word me.0 ≤ found)
+
+-- a seat with all parts has made all raises of an entry
+abbrev pub loads_top : TableStep (Unit {0}) → Holder → ℕ → Holder → Type 0
+loads_top s me found after = (after ≡ (view_with me.0 (shown s.word found), me.1)) × (seen_by s.word me.0 ≤ found) × (found ≡ raised (on s.word me.0.trace)) × SightsWereRaised s.word me.0.trace
 
 -- a new seat knows how many words there are
 abbrev pub tells_sizes : TableStep (Unit {0}) → Holder → ℕ → Holder → Type 0

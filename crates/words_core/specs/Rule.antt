@@ -4,8 +4,8 @@ use Rattle.words_core.specs.declared.seat.TheConstants.{PARTS}
 use Rattle.words_core.specs.declared.trace.Step.{Step}
 use Rattle.words_core.specs.declared.trace.View.{View}
 use Rattle.words_core.specs.declared.words.Sizes.{Sizes}
-use Rattle.words_core.specs.Layout.{value_at, claim_at, word_count, IsClaimOrFlag}
-use Rattle.words_core.specs.Trace.{is_add, is_win, is_loss, is_load_of, is_add_to, total, on, greatest, added, HasRunningSums, wins_of}
+use Rattle.words_core.specs.Layout.{value_place, claim_place, word_count, IsClaimOrFlag, IsBoardWord, IsUnused}
+use Rattle.words_core.specs.Trace.{is_add, is_win, is_test, is_load_of, is_add_to, is_raise_to, is_sight_of, total, on, greatest, raised, added, HasRunningSums, wins_of}
 
 abbrev pub view : Sizes → ℕ → List Step → List Step → View
 view sizes parts start trace = record { sizes = sizes; parts = parts; start = start; trace = trace }
@@ -30,11 +30,11 @@ pub record WordTrace : Type 0 where
 
 -- on the context at a place
 abbrev pub context_trace : ℕ → View → WordTrace
-context_trace place v = record { start = on (value_at place) v.start; made = on (value_at place) v.trace; claim = on (claim_at place) v.trace }
+context_trace place v = record { start = on (value_place place) v.start; made = on (value_place place) v.trace; claim = on (claim_place place) v.trace }
 
--- on a claim or a flag
-abbrev pub set_once_trace : ℕ → View → List Step
-set_once_trace k v = on k v.trace
+-- on one word alone
+abbrev pub word_trace : ℕ → View → WordTrace
+word_trace k v = record { start = on k v.start; made = on k v.trace; claim = [] }
 
 -- f of the steps that were made, added up
 abbrev pub made_in : (Step → ℕ) → WordTrace → ℕ
@@ -57,6 +57,10 @@ parts_of v = v.parts
 -- what is known of the word is at most n
 abbrev pub IsAtMost : ℕ → WordTrace → Type 0
 IsAtMost n t = (greatest t.start ≤ n) × (greatest t.made ≤ n)
+
+-- it was raised to no more than n
+abbrev pub RaisesNoMore : ℕ → WordTrace → Type 0
+RaisesNoMore n t = raised t.made ≤ n
 
 -- each addition leaves the sum up to it
 abbrev pub HasSums : WordTrace → Type 0
@@ -90,10 +94,18 @@ pub record IsValue (word : ℕ) (traces : List WordTrace) : Type 0 where
   pub running : Each HasSums traces
   pub driven : Each AddsAsDriver traces
 
--- a claim or a flag: 1 where it was won, and else 0. Where it was lost it is 1
-pub record IsSetOnce (word : ℕ) (traces : List (List Step)) : Type 0 where
-  pub won : word ≡ total (total is_win) traces
-  pub lost : 0 < total (total is_loss) traces → word ≡ 1
+-- a claim or a flag: 1 where it was won, and else 0
+pub record IsSetOnce (word : ℕ) (traces : List WordTrace) : Type 0 where
+  -- each known value is at most the word
+  pub below : Each (IsAtMost word) traces
+  pub won : word ≡ total (made_in is_win) traces
+  -- where it is known to have been won or lost it is 1
+  pub tested : 0 < total (known_in is_test) traces → word ≡ 1
+
+-- an entry of the board: the greatest that it was raised to, or 0
+pub record IsEntry (word : ℕ) (traces : List WordTrace) : Type 0 where
+  pub traced : IsTraced is_raise_to is_sight_of word traces
+  pub raises : Each (RaisesNoMore word) traces
 
 -- the rule. Lost seats are among the views, with their parts
 pub record IsKept (sizes : Sizes) (words : List ℕ) (views : List View) : Type 0 where
@@ -103,5 +115,7 @@ pub record IsKept (sizes : Sizes) (words : List ℕ) (views : List View) : Type 
   pub sized : Each (KnowsSizes sizes) views
   -- each word was won once at most, by all seats together
   pub won_once : (w : ℕ) → total (wins_on w) views ≤ 1
-  pub values : (place : ℕ) → place < sizes.contexts → IsValue (slice_index words (value_at place)) (map (context_trace place) views)
-  pub set_once : (k : ℕ) → IsClaimOrFlag sizes k → IsSetOnce (slice_index words k) (map (set_once_trace k) views)
+  pub values : (place : ℕ) → place < sizes.contexts → IsValue (slice_index words (value_place place)) (map (context_trace place) views)
+  pub set_once : (k : ℕ) → IsClaimOrFlag sizes k → IsSetOnce (slice_index words k) (map (word_trace k) views)
+  pub entries : (k : ℕ) → IsBoardWord sizes k → IsEntry (slice_index words k) (map (word_trace k) views)
+  pub unused : (k : ℕ) → IsUnused sizes k → slice_index words k ≡ 0

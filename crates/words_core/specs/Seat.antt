@@ -3,7 +3,7 @@ use Rattle.std.specs.Prelude.{ℕ, zero, suc, ◌+◌, ◌-◌, List, [], ◌∷
 use Rattle.point_core.specs.Reach.{value_at}
 use Rattle.words_core.specs.declared.trace.Step.{Step}
 use Rattle.words_core.specs.Layout.{value_word}
-use Rattle.words_core.specs.Trace.{load, on, greatest, added}
+use Rattle.words_core.specs.Trace.{load, is_test, total, on, greatest, raised, added}
 use Rattle.words_core.specs.Words.{WordsModel}
 
 -- the words that it is of, its parts, the steps that its parent knew when it was parted, and its own steps
@@ -20,6 +20,14 @@ seen seat w = greatest (on w (seat.start ++ seat.trace))
 -- the sum of what a seat has added to the value of a context
 abbrev pub added_to : SeatModel → ℕ → ℕ
 added_to seat ctx = added (on (value_word ctx) seat.trace)
+
+-- the greatest point that a seat has raised the word w to, or 0
+abbrev pub raised_to : SeatModel → ℕ → ℕ
+raised_to seat w = raised (on w seat.trace)
+
+-- how often a seat knows that the word w was won or found set
+abbrev pub tests_of : SeatModel → ℕ → ℕ
+tests_of seat w = total is_test (on w (seat.start ++ seat.trace))
 
 -- the seat with one more step
 abbrev pub with_step : SeatModel → Step → SeatModel

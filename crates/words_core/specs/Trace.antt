@@ -1,7 +1,7 @@
 -- Steps, and what a list of them says of one word.
 use Rattle.std.specs.Prelude.{◌≡◌, ℕ, ◌+◌, ◌<◌, ◌≤◌, ◌==◌, max, if◌then◌else◌, filter, List, [], ◌∷◌}
 use Rattle.words_core.specs.declared.trace.Kind.{Kind}
-use Rattle.words_core.specs.declared.trace.Kind.TheVariants.{Load, Add, Won, Lost}
+use Rattle.words_core.specs.declared.trace.Kind.TheVariants.{Load, Add, Won, Lost, Raise, Shown}
 use Rattle.words_core.specs.declared.trace.Step.{Step}
 
 -- the word w was read, and v found
@@ -20,6 +20,14 @@ won w = record { kind = Won; word = w; operand = 0; value = 0 }
 abbrev pub lost : ℕ → Step
 lost w = record { kind = Lost; word = w; operand = 0; value = 0 }
 
+-- the word w was raised to p where it was less, which left v
+abbrev pub raise : ℕ → ℕ → ℕ → Step
+raise w p v = record { kind = Raise; word = w; operand = p; value = v }
+
+-- the word w of the board was read, and v found
+abbrev pub shown : ℕ → ℕ → Step
+shown w v = record { kind = Shown; word = w; operand = 0; value = v }
+
 -- a test-and-set of the word w that found a value
 abbrev pub set_once_step : ℕ → ℕ → Step
 set_once_step w found = if found == 0 then won w else lost w
@@ -30,6 +38,8 @@ if_kind Load Load n = n
 if_kind Add Add n = n
 if_kind Won Won n = n
 if_kind Lost Lost n = n
+if_kind Raise Raise n = n
+if_kind Shown Shown n = n
 if_kind wanted kind n = 0
 
 -- what a step added
@@ -46,6 +56,10 @@ is_win s = if_kind Won s.kind 1
 abbrev pub is_loss : Step → ℕ
 is_loss s = if_kind Lost s.kind 1
 
+-- 1 at a test-and-set, whatever it found
+abbrev pub is_test : Step → ℕ
+is_test s = is_win s + is_loss s
+
 -- 1 at a load that found x
 abbrev pub is_load_of : ℕ → Step → ℕ
 is_load_of x s = if_kind Load s.kind (if s.value == x then 1 else 0)
@@ -53,6 +67,18 @@ is_load_of x s = if_kind Load s.kind (if s.value == x then 1 else 0)
 -- 1 at an addition that left x
 abbrev pub is_add_to : ℕ → Step → ℕ
 is_add_to x s = if_kind Add s.kind (if s.value == x then 1 else 0)
+
+-- what a step raised the word to, or 0
+abbrev pub target_of : Step → ℕ
+target_of s = if_kind Raise s.kind s.operand
+
+-- 1 where it raised the word to x
+abbrev pub is_raise_to : ℕ → Step → ℕ
+is_raise_to x s = if_kind Raise s.kind (if s.operand == x then 1 else 0)
+
+-- 1 where it showed x of the board, or left it there
+abbrev pub is_sight_of : ℕ → Step → ℕ
+is_sight_of x s = if_kind Raise s.kind (if s.value == x then 1 else 0) + if_kind Shown s.kind (if s.value == x then 1 else 0)
 
 -- f of each, added up
 abbrev pub total : {A : Type 0} → (A → ℕ) → List A → ℕ
@@ -71,6 +97,11 @@ greatest (s ∷ steps) = max s.value (greatest steps)
 -- the sum of what was added
 abbrev pub added : List Step → ℕ
 added steps = total amount_of steps
+
+-- the greatest that was raised to, or 0
+abbrev pub raised : List Step → ℕ
+raised [] = 0
+raised (s ∷ steps) = max (target_of s) (raised steps)
 
 -- each addition leaves the sum up to it, from n on
 abbrev pub HasRunningSums : ℕ → List Step → Type 0
@@ -96,6 +127,18 @@ WasLeft w x steps = 0 < total (is_add_to x) (on w steps)
 -- each value of the word w that was loaded is 0 or was left by an addition
 abbrev pub LoadsWereLeft : ℕ → List Step → Type 0
 LoadsWereLeft w steps = (x : ℕ) → 0 < x → WasLoaded w x steps → WasLeft w x steps
+
+-- a raise or a look left or showed x of the word w
+abbrev pub WasShown : ℕ → ℕ → List Step → Type 0
+WasShown w x steps = 0 < total (is_sight_of x) (on w steps)
+
+-- the word w was raised to x
+abbrev pub WasRaised : ℕ → ℕ → List Step → Type 0
+WasRaised w x steps = 0 < total (is_raise_to x) (on w steps)
+
+-- each value of the word w that was shown is 0 or what it was raised to
+abbrev pub SightsWereRaised : ℕ → List Step → Type 0
+SightsWereRaised w steps = (x : ℕ) → 0 < x → WasShown w x steps → WasRaised w x steps
 
 -- of a claim or a flag, where the steps are all that were made: it was won once at most, and once where it was lost
 pub record IsDecided (w : ℕ) (steps : List Step) : Type 0 where

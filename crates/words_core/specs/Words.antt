@@ -12,3 +12,6 @@ pub record WordsModel : Type 0 where
 
 abbrev pub words_of : TableId → Sizes → WordsModel
 words_of table sizes = record { table = table; contexts = sizes.contexts; buffers = sizes.buffers; flags = sizes.flags }
+
+abbrev pub sizes_of : WordsModel → Sizes
+sizes_of words = record { contexts = words.contexts; buffers = words.buffers; flags = words.flags }

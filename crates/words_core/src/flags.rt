@@ -1,14 +1,14 @@
 // Flags, which are set once.
-ghost use Rattle.std.specs.Prelude.{◌≡◌, ◌<◌};
+ghost use Rattle.std.specs.Prelude.{◌≡◌, ◌+◌, ◌<◌, ◌≤◌};
 ghost use Rattle.words_core.specs.declared.seat.TheConstants.{PARTS};
 ghost use Rattle.words_core.specs.Layout.{flag_word};
 ghost use Rattle.words_core.specs.Once.{IfFirst, IfAlready};
-ghost use Rattle.words_core.specs.Seat.{with_step};
+ghost use Rattle.words_core.specs.Seat.{seen, tests_of, with_step};
 ghost use Rattle.words_core.specs.Trace.{load, won, lost, wins_of, IsDecided, set_once_step};
 
-use crate::plays::{LoadsFlag, SetsFlag};
+use crate::plays::{LoadsFlag, SetsOnce};
 use crate::seat::Seat;
-use crate::words::{CONTEXT_STRIDE, Words, WordsId};
+use crate::words::{Words, WordsId};
 use std::marker::Model;
 
 /// That its holder set the flag, which nobody else did.
@@ -44,12 +44,18 @@ pub enum Once {
 
 impl Words {
     /// Sets a flag, by one test-and-set, as the kernel's `dma_fence_signal` sets that of a fence. It answers `First`
-    /// to the call that found it 0, and to all others `Already`.
+    /// to the call that found it 0, and to all others `Already`, which found it set.
+    ///
+    /// A seat knows of each test-and-set that it made, and of those that its parent knew of when it was parted. Where
+    /// it knows of any, the answer is `Already`.
     pub fn set_once(&self, seat: &mut Seat, flag: usize) -> Once
         requires own { seat.old.words ≡ self.now }
         requires flag { flag < self.now.flags }
-        ensures first { IfFirst result (λ token. (token ≡ record { words = self.now; flag = flag }) × (seat.new ≡ with_step seat.old (won (flag_word self.now.contexts flag)))) }
-        ensures already { IfAlready result (seat.new ≡ with_step seat.old (lost (flag_word self.now.contexts flag))) }
+        ensures first { IfFirst result (λ token. (token ≡ record { words = self.now; flag = flag }) × (seat.new ≡ with_step seat.old (won (flag_word self.now flag)))) }
+        ensures free { IfFirst result (λ _. (tests_of seat.old (flag_word self.now flag) ≡ 0) × (wins_of (flag_word self.now flag) seat.old.trace ≡ 0)) }
+        ensures once { IfFirst result (λ _. wins_of (flag_word self.now flag) seat.new.trace ≡ 1) }
+        ensures already { IfAlready result (seat.new ≡ with_step seat.old (lost (flag_word self.now flag))) }
+        ensures set { tests_of seat.new (flag_word self.now flag) ≡ tests_of seat.old (flag_word self.now flag) + 1 }
     {
         if self.set_flag(seat, flag) == 0 {
             Once::First(Won {
@@ -61,29 +67,31 @@ impl Words {
         }
     }
 
+    // The test-and-set of a flag, with the number that it found.
     fn set_flag(&self, seat: &mut Seat, flag: usize) -> u64
         requires own { seat.old.words ≡ self.now }
         requires flag { flag < self.now.flags }
-        ensures { seat.new ≡ with_step seat.old (set_once_step (flag_word self.now.contexts flag) result) }
+        ensures entered { seat.new ≡ with_step seat.old (set_once_step (flag_word self.now flag) result) }
+        ensures first { result ≡ 0 → (tests_of seat.old (flag_word self.now flag) ≡ 0) × (wins_of (flag_word self.now flag) seat.old.trace ≡ 0) }
     {
-        self.table.shared.fetch_or::<SetsFlag>(
-            &mut seat.token,
-            CONTEXT_STRIDE * self.sizes.contexts + flag,
-            1,
-        )
+        let place = self.flag_place(flag);
+        self.table
+            .shared
+            .fetch_or::<SetsOnce>(&mut seat.token, place, 1)
     }
 
+    // The load of a seat with all parts: how often its trace has won the flag.
     pub(crate) fn total_flag(&self, seat: &mut Seat, flag: usize) -> u64
         requires own { seat.old.words ≡ self.now }
         requires flag { flag < self.now.flags }
         requires all { seat.old.parts ≡ PARTS }
-        ensures entered { seat.new ≡ with_step seat.old (load (flag_word self.now.contexts flag) result) }
-        ensures state { result ≡ wins_of (flag_word self.now.contexts flag) seat.old.trace }
-        ensures decided { IsDecided (flag_word self.now.contexts flag) seat.old.trace }
+        ensures entered { seat.new ≡ with_step seat.old (load (flag_word self.now flag) result) }
+        ensures later { seen seat.old (flag_word self.now flag) ≤ result }
+        ensures state { result ≡ wins_of (flag_word self.now flag) seat.old.trace }
+        ensures decided { IsDecided (flag_word self.now flag) seat.old.trace }
+        ensures set { 0 < tests_of seat.old (flag_word self.now flag) → result ≡ 1 }
     {
-        self.table.shared.load::<LoadsFlag>(
-            &mut seat.token,
-            CONTEXT_STRIDE * self.sizes.contexts + flag,
-        )
+        let place = self.flag_place(flag);
+        self.table.shared.load::<LoadsFlag>(&mut seat.token, place)
     }
 }

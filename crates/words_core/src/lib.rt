@@ -4,8 +4,11 @@
 //! steps is the rule, which holds between any two steps whatever the schedule. No call waits.
 #![tactic(auto)]
 
+mod board;
 mod driver;
 mod flags;
+mod laws;
+mod places;
 mod plays;
 mod seat;
 #[cfg(test)]
@@ -17,6 +20,7 @@ mod words;
 
 pub use driver::Driver;
 pub use flags::{Once, Won};
+pub use laws::{entries_lie_apart, what_is_known_stays_known};
 pub use seat::{PARTS, Seat};
 pub use whole::Whole;
-pub use words::{BUFFERS, CONTEXT_STRIDE, FLAGS, Words, WordsId};
+pub use words::{BUFFERS, FLAGS, LINE_WORDS, USAGES, Words, WordsId};

@@ -1,7 +1,7 @@
 // The rule of the words, what each kind of step tells, and how views are split and joined.
 ghost use Rattle.std.specs.Prelude.{ℕ};
 ghost use Rattle.words_core.specs.Rule.{IsKept, first_view};
-ghost use Rattle.words_core.specs.Plays.{loads_value, claims_context, adds_to_value, counts_parts, loads_total, sets_flag, loads_flag, tells_sizes, parent_view, child_view, joined_view, joined_from};
+ghost use Rattle.words_core.specs.Plays.{loads_value, claims_context, adds_to_value, counts_parts, loads_total, sets_once, loads_flag, loads_entry, raises_entry, loads_top, tells_sizes, parent_view, child_view, joined_view, joined_from};
 
 use crate::trace::View;
 use crate::words::Sizes;
@@ -47,10 +47,10 @@ impl Play<(), View> for LoadsTotal {
     ghost then = { loads_total };
 }
 
-pub struct SetsFlag;
+pub struct SetsOnce;
 
-impl Play<(), View> for SetsFlag {
-    ghost then = { sets_flag };
+impl Play<(), View> for SetsOnce {
+    ghost then = { sets_once };
 }
 
 // By a seat with all parts.
@@ -58,6 +58,25 @@ pub struct LoadsFlag;
 
 impl Play<(), View> for LoadsFlag {
     ghost then = { loads_flag };
+}
+
+pub struct LoadsEntry;
+
+impl Play<(), View> for LoadsEntry {
+    ghost then = { loads_entry };
+}
+
+pub struct RaisesEntry;
+
+impl Play<(), View> for RaisesEntry {
+    ghost then = { raises_entry };
+}
+
+// By a seat with all parts.
+pub struct LoadsTop;
+
+impl Play<(), View> for LoadsTop {
+    ghost then = { loads_top };
 }
 
 pub struct TellsSizes;

@@ -9,6 +9,8 @@ use std::marker::Model;
 /// The parts of a set of words, which its seats share. A dropped seat takes its parts with it.
 pub const PARTS: u32 = 65_536;
 
+const _: () = prove!(PARTS == 65_536);
+
 /// A thread's right to step on a set of words, with a trace of its steps and a start, what its parent had seen when it
 /// was parted. Both are seen by contracts alone: a seat has no bytes but its number of parts.
 #[derive(Drop)]

@@ -12,6 +12,10 @@ pub enum Kind {
     Won,
     /// Finds that it was set.
     Lost,
+    /// Raises it to the operand, where it is less.
+    Raise,
+    /// Reads it, of an entry of the board.
+    Shown,
 }
 
 /// One step of a seat on one word.

@@ -5,24 +5,26 @@ ghost use Rattle.point_core.specs.declared.refusal.Refusal.TheVariants as refusa
 ghost use Rattle.point_core.specs.Reach.{value_at};
 ghost use Rattle.words_core.specs.declared.seat.TheConstants.{PARTS};
 ghost use Rattle.words_core.specs.Layout.{value_word, claim_word};
-ghost use Rattle.words_core.specs.Seat.{seen, added_to, with_step, with_steps, loads_of};
+ghost use Rattle.words_core.specs.Seat.{seen, added_to, tests_of, with_step, with_steps, loads_of};
 ghost use Rattle.words_core.specs.Trace.{load, add, won, lost, wins_of, LoadsWereLeft, IsDecided};
 
 use crate::driver::Driver;
 use crate::plays::{AddsToValue, ClaimsContext, LoadsTotal, LoadsValue};
 use crate::seat::Seat;
-use crate::words::{CONTEXT_STRIDE, Words};
+use crate::words::{LINE_WORDS, Words};
 use point_core::{Context, Point, Reach, Refusal};
 
 impl Words {
     /// The right to advance a context, by one test-and-set of its claim.
     ///
     /// Refuses as `Exists` alone, from the second claim on that was ever made on the context, and hands the seat back.
+    /// Where it is Ok, neither the seat nor those that it descends from knew of a claim.
     pub fn driver(&self, mut seat: Seat, ctx: Context) -> Result<Driver, (Refusal, Seat)>
         requires own { seat.words ≡ self.now }
         requires context { ctx ≤ self.now.contexts }
         ensures won { IfOk result (λ d. d ≡ record { seat = with_step seat (won (claim_word ctx)); ctx = ctx; value = 0 }) }
         ensures first { IfOk result (λ d. wins_of (claim_word ctx) d.seat.trace ≡ 1) }
+        ensures free { IfOk result (λ _. tests_of seat (claim_word ctx) ≡ 0) }
         ensures lost { IfErr result (λ e. (e.0 ≡ refusal.Exists) × (e.1 ≡ with_step seat (lost (claim_word ctx)))) }
     {
         if self.claim(&mut seat, ctx) {
@@ -36,18 +38,20 @@ impl Words {
         }
     }
 
+    // The test-and-set of a claim: true where it was 0. Then its context's value is 0 too, which a driver starts from.
     fn claim(&self, seat: &mut Seat, ctx: Context) -> bool
         requires own { seat.old.words ≡ self.now }
         requires context { ctx ≤ self.now.contexts }
         ensures entered { MatchBool result (seat.new ≡ with_step seat.old (won (claim_word ctx))) (seat.new ≡ with_step seat.old (lost (claim_word ctx))) }
-        ensures first { result ≡ true → (wins_of (claim_word ctx) seat.old.trace ≡ 0) × (added_to seat.old ctx ≡ 0) }
+        ensures first { result ≡ true → (tests_of seat.old (claim_word ctx) ≡ 0) × (wins_of (claim_word ctx) seat.old.trace ≡ 0) × (added_to seat.old ctx ≡ 0) }
     {
         self.table
             .shared
-            .fetch_or::<ClaimsContext>(&mut seat.token, CONTEXT_STRIDE * ctx.index() + 1, 1)
+            .fetch_or::<ClaimsContext>(&mut seat.token, LINE_WORDS * ctx.index() + 1, 1)
             == 0
     }
 
+    // The driver's fetch_add: the word is what the seat has added, since nobody else adds, so the sum does not wrap.
     pub(crate) fn add(&self, seat: &mut Seat, ctx: Context, n: u64) -> u64
         requires own { seat.old.words ≡ self.now }
         requires context { ctx ≤ self.now.contexts }
@@ -58,7 +62,7 @@ impl Words {
     {
         self.table
             .shared
-            .fetch_add::<AddsToValue>(&mut seat.token, CONTEXT_STRIDE * ctx.index(), n)
+            .fetch_add::<AddsToValue>(&mut seat.token, LINE_WORDS * ctx.index(), n)
             + n
     }
 
@@ -72,7 +76,7 @@ impl Words {
     {
         self.table
             .shared
-            .load::<LoadsValue>(&mut seat.token, CONTEXT_STRIDE * ctx.index())
+            .load::<LoadsValue>(&mut seat.token, LINE_WORDS * ctx.index())
     }
 
     /// The values of all contexts, by one load each, in rising order: no one moment need have had them all. Those past
@@ -94,17 +98,19 @@ impl Words {
         reach
     }
 
+    // The load of a seat with all parts: the word is all that its trace has added.
     pub(crate) fn total(&self, seat: &mut Seat, ctx: Context) -> u64
         requires own { seat.old.words ≡ self.now }
         requires context { ctx ≤ self.now.contexts }
         requires all { seat.old.parts ≡ PARTS }
         ensures entered { seat.new ≡ with_step seat.old (load (value_word ctx) result) }
+        ensures later { seen seat.old (value_word ctx) ≤ result }
         ensures state { result ≡ added_to seat.old ctx }
         ensures loaded { LoadsWereLeft (value_word ctx) seat.old.trace }
         ensures driver { IsDecided (claim_word ctx) seat.old.trace }
     {
         self.table
             .shared
-            .load::<LoadsTotal>(&mut seat.token, CONTEXT_STRIDE * ctx.index())
+            .load::<LoadsTotal>(&mut seat.token, LINE_WORDS * ctx.index())
     }
 }

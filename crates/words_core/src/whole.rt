@@ -1,12 +1,12 @@
 // A seat with all parts.
-ghost use Rattle.std.specs.Prelude.{◌≡◌, ◌<◌, ◌≤◌, if◌then◌else◌};
-ghost use Rattle.words_core.specs.Layout.{value_word, claim_word, flag_word};
-ghost use Rattle.words_core.specs.Seat.{with_step, added_to};
-ghost use Rattle.words_core.specs.Trace.{load, wins_of, LoadsWereLeft, IsDecided};
+ghost use Rattle.std.specs.Prelude.{◌≡◌, ◌<◌, ◌≤◌, true, if◌then◌else◌};
+ghost use Rattle.words_core.specs.Layout.{value_word, claim_word, board_word, flag_word};
+ghost use Rattle.words_core.specs.Seat.{seen, tests_of, with_step, added_to, raised_to};
+ghost use Rattle.words_core.specs.Trace.{load, shown, wins_of, LoadsWereLeft, SightsWereRaised, IsDecided};
 
 use crate::seat::Seat;
 use crate::words::Words;
-use point_core::Context;
+use point_core::{Context, Usage};
 use std::marker::Model;
 
 /// A seat with all parts, whose trace has every step that was made on the words.
@@ -34,6 +34,7 @@ impl Whole {
         requires own { self.old.words ≡ words.now }
         requires context { ctx ≤ words.now.contexts }
         ensures entered { self.new ≡ with_step self.old (load (value_word ctx) result) }
+        ensures later { seen self.old (value_word ctx) ≤ result }
         ensures state { result ≡ added_to self.old ctx }
         ensures loaded { LoadsWereLeft (value_word ctx) self.old.trace }
         ensures driver { IsDecided (claim_word ctx) self.old.trace }
@@ -41,13 +42,30 @@ impl Whole {
         words.total(&mut self.seat, ctx)
     }
 
+    /// A buffer's entry of the board for a context and a usage, by one load: the greatest point that it was ever raised
+    /// to, or 0. Each value that it showed is 0 or such a point.
+    pub fn top(&mut self, words: &Words, buffer: usize, ctx: Context, usage: Usage) -> u64
+        requires own { self.old.words ≡ words.now }
+        requires buffer { buffer < words.now.buffers }
+        requires context { ctx ≤ words.now.contexts }
+        ensures entered { self.new ≡ with_step self.old (shown (board_word words.now buffer ctx usage) result) }
+        ensures later { seen self.old (board_word words.now buffer ctx usage) ≤ result }
+        ensures state { result ≡ raised_to self.old (board_word words.now buffer ctx usage) }
+        ensures raised { SightsWereRaised (board_word words.now buffer ctx usage) self.old.trace }
+    {
+        let place = words.entry_place(buffer, ctx, usage);
+        words.top_at(&mut self.seat, place)
+    }
+
     /// Whether a flag is set, by one load: exactly where one step has won it, once.
     pub fn flag(&mut self, words: &Words, flag: usize) -> bool
         requires own { self.old.words ≡ words.now }
         requires flag { flag < words.now.flags }
-        ensures entered { self.new ≡ with_step self.old (load (flag_word words.now.contexts flag) (if result then 1 else 0)) }
-        ensures state { wins_of (flag_word words.now.contexts flag) self.old.trace ≡ (if result then 1 else 0) }
-        ensures decided { IsDecided (flag_word words.now.contexts flag) self.old.trace }
+        ensures entered { self.new ≡ with_step self.old (load (flag_word words.now flag) (if result then 1 else 0)) }
+        ensures later { seen self.old (flag_word words.now flag) ≤ (if result then 1 else 0) }
+        ensures state { wins_of (flag_word words.now flag) self.old.trace ≡ (if result then 1 else 0) }
+        ensures decided { IsDecided (flag_word words.now flag) self.old.trace }
+        ensures set { 0 < tests_of self.old (flag_word words.now flag) → result ≡ true }
     {
         words.total_flag(&mut self.seat, flag) == 1
     }

@@ -19,11 +19,23 @@ use std::marker::{Brand, Model};
 /// The most buffers of a set of words.
 pub const BUFFERS: usize = 64;
 
+const _: () = prove!(BUFFERS == 64);
+
 /// The most flags of a set of words.
 pub const FLAGS: usize = 65_536;
 
-/// How many words each context has room for: a cache line of 64 bytes, so that no two timelines share one.
-pub const CONTEXT_STRIDE: usize = 8;
+const _: () = prove!(FLAGS == 65_536);
+
+/// How many words lie on a cache line of 64 bytes. Each context has a line, and so has each buffer for each context,
+/// so that no two timelines share one, and neither do the puts of two clients.
+pub const LINE_WORDS: usize = 8;
+
+const _: () = prove!(LINE_WORDS * 8 == 64);
+
+/// How many usages there are: a buffer has an entry for each, of each context.
+pub const USAGES: usize = 4;
+
+const _: () = prove!(USAGES == 4);
 
 /// How many contexts, buffers and flags a set of words has.
 #[derive(Clone, Copy)]
@@ -87,7 +99,8 @@ impl Words {
             buffers,
             flags,
         };
-        let zeros = Vec::from_elem(alloc, 0u64, CONTEXT_STRIDE * contexts + flags)?;
+        let count = LINE_WORDS * contexts + LINE_WORDS * (buffers * contexts) + flags;
+        let zeros = Vec::from_elem(alloc, 0u64, count)?;
         let (table, token) = Table::of_words(alloc, zeros.as_slice(), &sizes)?;
         Ok((
             Words { table, sizes },
@@ -133,6 +146,8 @@ impl Words {
         self.split::<Brand>(seat, n)
     }
 
+    // A split has a ghost number of parts, since what it leaves is a function of the view alone. `part` calls it with
+    // `Brand`, and its proof picks that number.
     fn split<N: PartCount>(&self, seat: &mut Seat, n: u32) -> Seat
         requires own { seat.old.words ≡ self.now }
         requires parts { (1 ≤ n) × (n < seat.old.parts) }
@@ -159,6 +174,8 @@ impl Words {
         self.absorb(seat, other);
     }
 
+    // The join, and a second load of word 0, which tells that the parts are no more than all and each word won once
+    // at most: a join alone tells its caller nothing of the rule.
     fn absorb(&self, seat: &mut Seat, other: Seat)
         requires own { (seat.old.words ≡ self.now) × (other.words ≡ self.now) }
         ensures both { seat.new ≡ both_of seat.old other }

@@ -13,7 +13,7 @@ invariant_of-result c =
     let first = c.if-claim.ensures.first refl in
     let wins = wins_of-won c.args.seat (claim_word ctx) in (
       subst (λ (s : SeatModel). 0 < wins_of (claim_word ctx) s.trace) (sym entered) (omega arith),
-      sym (ap (λ (s : SeatModel). added_to s ctx) entered ∙ (added_to-won c.args.seat ctx ∙ first.1)),
+      sym (ap (λ (s : SeatModel). added_to s ctx) entered ∙ (added_to-won c.args.seat ctx ∙ first.2)),
       subst (λ (s : SeatModel). ctx ≤ s.words.contexts) (sym entered) (subst (λ (w : WordsModel). ctx ≤ w.contexts) (sym c.requires.own) c.requires.context),
     )
 

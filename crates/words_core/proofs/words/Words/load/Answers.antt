@@ -2,7 +2,7 @@ use Rattle.std.proofs.Common.{◌≡◌, ◌++◌, ℕ, sym, ap, ◌∙◌, arit
 use Rattle.words_core.specs.declared.words.Sizes.{Sizes}
 use Rattle.words_core.specs.Seat.{SeatModel}
 use Rattle.words_core.specs.Words.{WordsModel, words_of}
-use Rattle.words_core.specs.Layout.{value_at, value_word}
+use Rattle.words_core.specs.Layout.{value_place, value_word}
 use Rattle.words_core.specs.Plays.{Holder}
 use Rattle.words_core.specs.Trace.{load, on, greatest}
 use Rattle.words_core.proofs.Seen.{seen-with_step_later}
@@ -23,7 +23,7 @@ load-requires c =
 pub returns-clause-seen : goal.returns-clause-seen
 returns-clause-seen c =
     let value = c.load.result in
-    let word = value_at c.index.result in
+    let word = value_place c.index.result in
     let at : value_word c.args.ctx ≡ word = omega arith in
     let before : SeatModel = record { words = words_of c.seat.inside.token.table_id c.seat.inside.token.me.0.sizes; parts = c.seat.inside.parts; start = c.seat.inside.token.me.0.start; trace = c.seat.inside.token.me.0.trace } in
     let play = c.load.ensures.2 in

@@ -1,12 +1,13 @@
 use Rattle.std.proofs.Common.{◌≡◌, ◌+◌, ◌-◌, ◌<◌, ◌≤◌, ℕ, List, length, sym, ap, ◌∙◌, subst, arith}
 use Rattle.std.proofs.lemmas.List.{append-nil, length-set, length-replicate}
 use Rattle.point_core.specs.Reach.{value_at, with_value}
+use Rattle.point_core.proofs.Values.{value_at-replicate}
 use Rattle.point_core.specs.declared.context.TheConstants.{CONTEXTS}
 use Rattle.words_core.specs.declared.trace.Step.{Step}
 use Rattle.words_core.specs.Layout.{value_word}
 use Rattle.words_core.specs.Seat.{SeatModel, seen, with_steps, loads_of}
 use Rattle.words_core.specs.Words.{WordsModel}
-use Rattle.words_core.proofs.LoadingAll.{value_at-replicate, loads_of-more, later-more, past-more, raised_from_zero, seen-loads_of}
+use Rattle.words_core.proofs.LoadingAll.{loads_of-more, later-more, past-more, raised_from_zero, seen-loads_of}
 use Rattle.words_core.proofs.words.Words.load_all.Goals as goal
 
 pub loop-index-init : goal.loop-index-init

@@ -1,0 +1,29 @@
+//! What holds of all words and seats: each law is the contract of a function with an empty body.
+ghost use Rattle.std.specs.Prelude.{◌≡◌, ℕ, ◌+◌, ◌/◌, ◌≤◌};
+ghost use Rattle.point_core.specs.declared.entry.Usage.{Usage};
+ghost use Rattle.words_core.specs.declared.trace.Step.{Step};
+ghost use Rattle.words_core.specs.declared.words.TheConstants.{LINE_WORDS};
+ghost use Rattle.words_core.specs.Layout.{board_word};
+ghost use Rattle.words_core.specs.Seat.{SeatModel, seen, tests_of, with_step, parted, both_of};
+ghost use Rattle.words_core.specs.Words.{WordsModel};
+
+/// No two entries of the board are one word, and those of two buffers or two contexts lie on two lines.
+pub fn entries_lie_apart()
+    ensures words { (words : WordsModel) (buffer ctx other other_ctx : ℕ) (usage other_usage : Usage) →
+        1 ≤ ctx → ctx ≤ words.contexts → 1 ≤ other_ctx → other_ctx ≤ words.contexts →
+        board_word words buffer ctx usage ≡ board_word words other other_ctx other_usage →
+        (buffer ≡ other) × (ctx ≡ other_ctx) × (usage ≡ other_usage) }
+    ensures lines { (words : WordsModel) (buffer ctx other other_ctx : ℕ) (usage other_usage : Usage) →
+        1 ≤ ctx → ctx ≤ words.contexts → 1 ≤ other_ctx → other_ctx ≤ words.contexts →
+        board_word words buffer ctx usage / LINE_WORDS ≡ board_word words other other_ctx other_usage / LINE_WORDS →
+        (buffer ≡ other) × (ctx ≡ other_ctx) }
+{}
+
+/// What a seat has seen, and what it knows to have been won or lost, stays so, goes to each seat that is parted from
+/// it, and is joined.
+pub fn what_is_known_stays_known()
+    ensures seen_later { (seat : SeatModel) (s : Step) (w : ℕ) → seen seat w ≤ seen (with_step seat s) w }
+    ensures later { (seat : SeatModel) (s : Step) (w : ℕ) → tests_of seat w ≤ tests_of (with_step seat s) w }
+    ensures parted { (seat : SeatModel) (n w : ℕ) → tests_of (parted seat n) w ≡ tests_of seat w }
+    ensures joined { (seat other : SeatModel) (w : ℕ) → tests_of (both_of seat other) w ≡ tests_of seat w + tests_of other w }
+{}

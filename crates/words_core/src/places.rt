@@ -1,0 +1,30 @@
+// Where the words lie in the table.
+ghost use Rattle.std.specs.Prelude.{◌≡◌, ◌<◌, ◌≤◌};
+ghost use Rattle.words_core.specs.Layout.{board_word, flag_word, word_count, IsBoardWord};
+ghost use Rattle.words_core.specs.Words.{sizes_of};
+
+use crate::words::{LINE_WORDS, Words};
+use point_core::{Context, Usage};
+
+impl Words {
+    // The place of an entry of the board.
+    pub(crate) fn entry_place(&self, buffer: usize, ctx: Context, usage: Usage) -> usize
+        requires buffer { buffer < self.now.buffers }
+        requires context { ctx ≤ self.now.contexts }
+        ensures value { result ≡ board_word self.now buffer ctx usage }
+        ensures entry { IsBoardWord (sizes_of self.now) result }
+    {
+        let line = buffer * self.sizes.contexts + ctx.index();
+        LINE_WORDS * self.sizes.contexts + LINE_WORDS * line + usize::from(usage.number())
+    }
+
+    // The place of a flag.
+    pub(crate) fn flag_place(&self, flag: usize) -> usize
+        requires flag { flag < self.now.flags }
+        ensures value { result ≡ flag_word self.now flag }
+        ensures inside { result < word_count (sizes_of self.now) }
+    {
+        let lines = self.sizes.contexts + self.sizes.buffers * self.sizes.contexts;
+        LINE_WORDS * lines + flag
+    }
+}
