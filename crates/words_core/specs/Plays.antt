@@ -51,12 +51,12 @@ loads_total s me found after = (after ≡ (view_with me.0 (load s.word found), m
 abbrev pub loads_flag : TableStep (Unit {0}) → Holder → ℕ → Holder → Type 0
 loads_flag s me found after = (after ≡ (view_with me.0 (load s.word found), me.1)) × (seen_by s.word me.0 ≤ found) × (found ≡ wins_of s.word me.0.trace) × IsDecided s.word me.0.trace × (0 < tests_by s.word me.0 → found ≡ 1)
 
--- what an entry of the board shows is at least what was seen
+-- what an entry of the board shows is at least what was seen, and what the seat raised it to
 abbrev pub loads_entry : TableStep (Unit {0}) → Holder → ℕ → Holder → Type 0
-loads_entry s me found after = (after ≡ (view_with me.0 (shown s.word found), me.1)) × (seen_by s.word me.0 ≤ found)
+loads_entry s me found after = (after ≡ (view_with me.0 (shown s.word found), me.1)) × (seen_by s.word me.0 ≤ found) × (raised (on s.word me.0.trace) ≤ found)
 
 abbrev pub raises_entry : TableStep (Unit {0}) → Holder → ℕ → Holder → Type 0
-raises_entry s me found after = (after ≡ (view_with me.0 (raise s.word s.first (max found s.first)), me.1)) × (seen_by s.word me.0 ≤ found)
+raises_entry s me found after = (after ≡ (view_with me.0 (raise s.word s.first (max found s.first)), me.1)) × (seen_by s.word me.0 ≤ found) × (raised (on s.word me.0.trace) ≤ found)
 
 -- a seat with all parts has made all raises of an entry
 abbrev pub loads_top : TableStep (Unit {0}) → Holder → ℕ → Holder → Type 0

@@ -13,7 +13,7 @@ use point_core::{Context, Usage};
 
 impl Words {
     /// Raises a buffer's entry for a context and a usage to a point, where it is less, by one fetch_max. It answers
-    /// the entry after it, which is no less than any value that the seat has seen of it.
+    /// the entry after it, which is no less than any value that the seat has seen of it or raised it to.
     pub fn raise(
         &self,
         seat: &mut Seat,
@@ -28,6 +28,7 @@ impl Words {
         ensures entered { seat.new ≡ with_step seat.old (raise (board_word self.now buffer ctx usage) point result) }
         ensures raised { point ≤ result }
         ensures later { seen seat.old (board_word self.now buffer ctx usage) ≤ result }
+        ensures raises { raised_to seat.old (board_word self.now buffer ctx usage) ≤ result }
         ensures seen { seen seat.new (board_word self.now buffer ctx usage) ≡ result }
     {
         let place = self.entry_place(buffer, ctx, usage);
@@ -35,13 +36,14 @@ impl Words {
     }
 
     /// A buffer's entry for a context and a usage, by one load. It is no less than any value that the seat has seen
-    /// of it.
+    /// of it or raised it to.
     pub fn shown(&self, seat: &mut Seat, buffer: usize, ctx: Context, usage: Usage) -> u64
         requires own { seat.old.words ≡ self.now }
         requires buffer { buffer < self.now.buffers }
         requires context { ctx ≤ self.now.contexts }
         ensures entered { seat.new ≡ with_step seat.old (shown (board_word self.now buffer ctx usage) result) }
         ensures later { seen seat.old (board_word self.now buffer ctx usage) ≤ result }
+        ensures raises { raised_to seat.old (board_word self.now buffer ctx usage) ≤ result }
         ensures seen { seen seat.new (board_word self.now buffer ctx usage) ≡ result }
     {
         let place = self.entry_place(buffer, ctx, usage);
@@ -55,6 +57,7 @@ impl Words {
         ensures entered { seat.new ≡ with_step seat.old (raise place point result) }
         ensures raised { point ≤ result }
         ensures later { seen seat.old place ≤ result }
+        ensures raises { raised_to seat.old place ≤ result }
     {
         let found = self
             .table
@@ -68,6 +71,7 @@ impl Words {
         requires entry { IsBoardWord (sizes_of self.now) place }
         ensures entered { seat.new ≡ with_step seat.old (shown place result) }
         ensures later { seen seat.old place ≤ result }
+        ensures raises { raised_to seat.old place ≤ result }
     {
         self.table.shared.load::<LoadsEntry>(&mut seat.token, place)
     }

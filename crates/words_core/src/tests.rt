@@ -1,7 +1,7 @@
 ghost use Rattle.std.specs.Prelude.{◌≡◌, ◌<◌, ◌≤◌, IfSome};
 ghost use Rattle.words_core.specs.declared.flags.Once.TheVariants as once;
 
-use crate::{BUFFERS, FLAGS, Once, PARTS, Seat, Words};
+use crate::{BUFFERS, FLAGS, Once, PARTS, Seat, Whole, Words};
 use point_core::{CONTEXTS, Context, LimitKind, Refusal, Usage};
 use std::test::Fail;
 use std::thread::join;
@@ -125,6 +125,19 @@ fn raise_all(words: &Words, seat: &mut Seat)
     }
 }
 
+/// The entries of a buffer and a context, from the strongest usage to the weakest.
+fn tops_of(words: &Words, whole: &mut Whole, buffer: usize, ctx: Context) -> (u64, u64, u64, u64)
+    requires own { whole.old.words ≡ words.now }
+    requires entries { (buffer < words.now.buffers) × (ctx ≤ words.now.contexts) }
+    ensures { whole.new.words ≡ words.now }
+{
+    let kernel = whole.top(words, buffer, ctx, Usage::Kernel);
+    let write = whole.top(words, buffer, ctx, Usage::Write);
+    let read = whole.top(words, buffer, ctx, Usage::Read);
+    let bookkeep = whole.top(words, buffer, ctx, Usage::Bookkeep);
+    (kernel, write, read, bookkeep)
+}
+
 #[test]
 fn tops_of_a_whole_seat(rt: HostRuntime) -> Result<(), Fail> {
     let (words, mut seat) = Words::new(rt.alloc(), 2, 2, 1)?;
@@ -135,18 +148,14 @@ fn tops_of_a_whole_seat(rt: HostRuntime) -> Result<(), Fail> {
         panic!(rt; "a part was missing")
     };
     let (first, second) = (Context::at(0), Context::at(1));
-    for (buffer, ctx, usage, point) in [
-        (0, first, Usage::Kernel, 1),
-        (0, first, Usage::Bookkeep, 4),
-        (0, second, Usage::Kernel, 11),
-        (0, second, Usage::Bookkeep, 14),
-        (1, first, Usage::Write, 102),
-        (1, second, Usage::Read, 113),
-        (1, second, Usage::Bookkeep, 114),
-    ] {
-        let top = whole.top(&words, buffer, ctx, usage);
-        assert!(rt; top == point);
-    }
+    let tops = tops_of(&words, &mut whole, 0, first);
+    assert!(rt; tops == (1, 2, 3, 4));
+    let tops = tops_of(&words, &mut whole, 0, second);
+    assert!(rt; tops == (11, 12, 13, 14));
+    let tops = tops_of(&words, &mut whole, 1, first);
+    assert!(rt; tops == (101, 102, 103, 104));
+    let tops = tops_of(&words, &mut whole, 1, second);
+    assert!(rt; tops == (111, 112, 113, 114));
     let values = (whole.value(&words, first), whole.value(&words, second));
     let flag = whole.flag(&words, 0);
     assert!(rt; values == (0, 0) && flag);
