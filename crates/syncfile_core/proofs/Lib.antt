@@ -1,6 +1,7 @@
 pub mod Causes
 pub mod Kept
 pub mod Merging
+pub mod Polling
 pub mod Reached
 pub mod Statuses
 pub mod Unions

@@ -1,4 +1,5 @@
 pub mod Files
 pub mod Merge
+pub mod Running
 pub mod Status
 pub mod SyncFile

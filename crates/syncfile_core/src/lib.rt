@@ -5,6 +5,7 @@
 
 mod files;
 mod merge;
+mod running;
 mod status;
 mod sync_file;
 #[cfg(test)]

@@ -1,0 +1,17 @@
+use Rattle.std.proofs.Common.{sym, ap, ◌∙◌, inr}
+use Rattle.std.proofs.lemmas.Result.{err_from_is_err_and}
+use Rattle.words_core.specs.Seat.{SeatModel}
+use Rattle.syncfile_core.proofs.Polling.{HasRunOut-more, HasPolled-last}
+use Rattle.syncfile_core.proofs.sync_file.SyncFile.wait_for.Goals as goal
+
+pub returns-in_err-poll-clause-refused : goal.returns-in_err-poll-clause-refused
+returns-in_err-poll-clause-refused c =
+    let p = err_from_is_err_and c.from_residual.result c.from_residual.ensures.1 in
+    let told = c.in_err-poll.ensures.foreign in
+    rw (p.1, p.2) (inr (told.0, HasPolled-last c.args.tries c.loop-test.true c.loop.invariant.0 c.poll.ensures.loaded, told.1))
+
+pub loop-preserved : goal.loop-preserved
+loop-preserved c =
+    let status = sym c.in_ok-poll.ensures.status ∙ c.in-Active.is in
+    let words = ap (λ (s : SeatModel). s.words) c.poll.ensures.loaded ∙ c.loop.invariant.1 in
+    (HasRunOut-more c.loop.invariant.0 c.poll.ensures.loaded c.in_ok-poll.ensures.borne_out status, words)
