@@ -1,8 +1,11 @@
--- No word is of two kinds.
-use Rattle.std.proofs.Common.{◌≡◌, ◌≢◌, ℕ, ◌+◌, ◌<◌, inl, inr, arith}
+-- Each word has a kind, and none has two.
+use Rattle.std.proofs.Common.{◌≡◌, ◌≢◌, ℕ, ◌+◌, ◌/◌, ◌%◌, ◌<◌, ◌⊎◌, inl, inr, arith}
+use mathlib.Core.Logic.{dite}
+use native.Mathlib.Decide.{ℕ_discrete}
 use Rattle.std.proofs.lemmas.Bool.{cases_lt}
 use Rattle.words_core.specs.declared.words.Sizes.{Sizes}
-use Rattle.words_core.specs.Layout.{value_place, claim_place, board_start, flags_start, IsClaimOrFlag, IsBoardWord, IsUnused}
+use Rattle.words_core.specs.declared.words.TheConstants.{LINE_WORDS, USAGES}
+use Rattle.words_core.specs.Layout.{value_place, claim_place, board_start, flags_start, word_count, IsValueOf, IsClaimOrFlag, IsBoardWord, IsUnused}
 
 pub IsClaimOrFlag-claim : (z : Sizes) (c : ℕ) → c < z.contexts → IsClaimOrFlag z (claim_place c)
 IsClaimOrFlag-claim z c low = record { inside = omega arith; claim = λ _. omega arith; flag = λ past. absurd (omega arith) }
@@ -33,3 +36,20 @@ IsUnused-not_entry z j k entry is e = let from = entry.from in let place = entry
 
 pub IsClaimOrFlag-flag : (z : Sizes) (k flag : ℕ) → k ≡ flags_start z + flag → flag < z.flags → IsClaimOrFlag z k
 IsClaimOrFlag-flag z k flag e low = record { inside = omega arith; claim = λ before. absurd (omega arith); flag = λ _. omega arith }
+
+pub each_word : (z : Sizes) (k : ℕ) → k < word_count z → IsValueOf z k (k / LINE_WORDS) ⊎ IsClaimOrFlag z k ⊎ IsBoardWord z k ⊎ IsUnused z k
+each_word z k inside = elim (cases_lt k (board_start z)) [
+  | inl low ↦ elim (cases_lt (k % LINE_WORDS) 2) [
+    | inl one ↦ dite (ℕ_discrete (k % LINE_WORDS) 0)
+        (λ e. inl (omega arith, omega arith))
+        (λ ne. inr (inl record { inside = inside; claim = λ _. omega arith; flag = λ past. absurd (omega arith) }))
+    | inr more ↦ inr (inr (inr record { to = omega arith; context = λ _. more; board = λ past. absurd (omega arith) }))
+  ]
+  | inr past ↦ elim (cases_lt k (flags_start z)) [
+    | inl to ↦ elim (cases_lt (k % LINE_WORDS) USAGES) [
+      | inl entry ↦ inr (inr (inl record { from = past; to = to; entry = entry }))
+      | inr behind ↦ inr (inr (inr record { to = to; context = λ low. absurd (omega arith); board = λ _. behind }))
+    ]
+    | inr flag ↦ inr (inl record { inside = inside; claim = λ low. absurd (omega arith); flag = λ _. flag })
+  ]
+]

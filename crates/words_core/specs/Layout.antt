@@ -42,6 +42,10 @@ board_word words buffer ctx usage = board_place (sizes_of words) buffer (ctx - 1
 abbrev pub flag_word : WordsModel → ℕ → ℕ
 flag_word words flag = flags_start (sizes_of words) + flag
 
+-- the word k is the value of the context at a place
+abbrev pub IsValueOf : Sizes → ℕ → ℕ → Type 0
+IsValueOf sizes k place = (place < sizes.contexts) × (k ≡ value_place place)
+
 -- the word k is a claim or a flag
 pub record IsClaimOrFlag (sizes : Sizes) (k : ℕ) : Type 0 where
   pub inside : k < word_count sizes

@@ -1,9 +1,10 @@
 //! What holds of all words and seats: each law is the contract of a function with an empty body.
-ghost use Rattle.std.specs.Prelude.{◌≡◌, ℕ, ◌+◌, ◌/◌, ◌≤◌};
+ghost use Rattle.std.specs.Prelude.{◌≡◌, ℕ, ◌+◌, ◌/◌, ◌<◌, ◌≤◌, ◌⊎◌};
 ghost use Rattle.point_core.specs.declared.entry.Usage.{Usage};
 ghost use Rattle.words_core.specs.declared.trace.Step.{Step};
 ghost use Rattle.words_core.specs.declared.words.TheConstants.{LINE_WORDS};
-ghost use Rattle.words_core.specs.Layout.{board_word};
+ghost use Rattle.words_core.specs.declared.words.Sizes.{Sizes};
+ghost use Rattle.words_core.specs.Layout.{board_word, word_count, IsValueOf, IsClaimOrFlag, IsBoardWord, IsUnused};
 ghost use Rattle.words_core.specs.Seat.{SeatModel, seen, tests_of, with_step, parted, both_of};
 ghost use Rattle.words_core.specs.Words.{WordsModel};
 
@@ -17,6 +18,14 @@ pub fn entries_lie_apart()
         1 ≤ ctx → ctx ≤ words.contexts → 1 ≤ other_ctx → other_ctx ≤ words.contexts →
         board_word words buffer ctx usage / LINE_WORDS ≡ board_word words other other_ctx other_usage / LINE_WORDS →
         (buffer ≡ other) × (ctx ≡ other_ctx) }
+{}
+
+/// Each word is the value of a context, a claim or a flag, an entry of the board, or unused. So the rule tells all that
+/// a word can be.
+pub fn each_word_has_a_kind()
+    ensures { (sizes : Sizes) (k : ℕ) →
+        k < word_count sizes →
+        IsValueOf sizes k (k / LINE_WORDS) ⊎ IsClaimOrFlag sizes k ⊎ IsBoardWord sizes k ⊎ IsUnused sizes k }
 {}
 
 /// What a seat has seen, and what it knows to have been won or lost, stays so, goes to each seat that is parted from

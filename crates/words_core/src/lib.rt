@@ -20,7 +20,7 @@ mod words;
 
 pub use driver::Driver;
 pub use flags::{Once, Won};
-pub use laws::{entries_lie_apart, what_is_known_stays_known};
+pub use laws::{each_word_has_a_kind, entries_lie_apart, what_is_known_stays_known};
 pub use seat::{PARTS, Seat};
 pub use whole::Whole;
 pub use words::{BUFFERS, FLAGS, LINE_WORDS, USAGES, Words, WordsId};
