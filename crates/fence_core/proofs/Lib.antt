@@ -1,3 +1,5 @@
 pub mod Causes
 pub mod Firing
+pub mod Held
 pub mod Pending
+pub mod Signalling

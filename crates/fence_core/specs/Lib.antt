@@ -1,3 +1,6 @@
+pub mod Callbacks
 pub mod Fence
+pub mod SharedFence
+pub mod Signal
 pub mod Watch
 pub mod Watches
