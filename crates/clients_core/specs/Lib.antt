@@ -1,2 +1,5 @@
 pub mod LockedBuffer
 pub use Rattle.resv_core.specs.Resv
+pub use Rattle.resv_core.specs.Settled
+pub use Rattle.resv_core.specs.Shared
+pub use Rattle.words_core.specs.Words

@@ -4,9 +4,13 @@
 //! that are kept say the same above the floor as all that was ever put.
 #![tactic(auto)]
 
+mod expected;
+mod gathered;
 mod locked_buffer;
+mod locked_table;
 
 pub use locked_buffer::LockedBuffer;
+pub use locked_table::LockedTable;
 
 #[cfg(test)]
 mod tests;

@@ -2,7 +2,7 @@
 ghost use Rattle.std.specs.Prelude.{◌≡◌, ◌⊎◌, ◌++◌, ◌∷◌, [], Ok, Err, IfErr, IfOk, IsErr, OnErr, OnOk, ◌↔◌, replicate};
 ghost use Rattle.point_core.specs.declared.context.TheConstants.{CONTEXTS};
 ghost use Rattle.point_core.specs.declared.refusal.Refusal.TheVariants as refusal;
-ghost use Rattle.point_core.specs.Agreement.{AgreesAbove, listing};
+ghost use Rattle.point_core.specs.Agreement.{AgreesAbove, AllAbove, HasRisingContexts, listing};
 ghost use Rattle.point_core.specs.Reach.{IsAtLeast};
 ghost use Rattle.point_core.specs.Usage.{usage_number};
 ghost use Rattle.resv_core.specs.Resv.{entry_of, rows_of};
@@ -82,6 +82,8 @@ impl LockedBuffer {
         ensures journal { self.new.journal ≡ self.old.journal }
         ensures points { IfOk result (λ l. l.points ≡ listing self.old.journal (usage_number usage) reach.now) }
         ensures listed { IfOk result (λ l. l.floor ≡ reach.now) }
+        ensures rising { IfOk result (λ l. HasRisingContexts l.points) }
+        ensures above { IfOk result (λ l. AllAbove reach.now l.points) }
     {
         self.rise_to(reach)?;
         let points = self.resv.collect(usage, reach)?;

@@ -1,7 +1,9 @@
-// Worked rows of a buffer under its lock.
-use crate::LockedBuffer;
+// Worked rows of a buffer under its lock, and of a table of them.
+use crate::{LockedBuffer, LockedTable};
 use point_core::{Context, Entry, Point, Reach, Refusal, Usage};
+use resv_core::{Act, Plan, SharedTable};
 use std::test::Fail;
+use words_core::Words;
 
 fn point(number: u16, value: u64) -> Result<Point, Fail> {
     let ctx = Context::new(number).ok_or("no such context")?;
@@ -29,5 +31,23 @@ fn locked_buffer_rows(rt: HostRuntime) -> Result<(), Fail> {
         usage: Usage::Read,
     };
     assert!(rt; matches!(buffer.settle(&[later], &four), Err(Refusal::Torn)));
+    Ok(())
+}
+
+#[test]
+fn locked_table_rows(rt: HostRuntime) -> Result<(), Fail> {
+    let alloc = rt.alloc();
+    let none = Reach::zero();
+    let (words, mut seat) = Words::new(alloc, 1, 1, 0)?;
+    let table = LockedTable::empty(alloc, &words)?;
+    let four = point(1, 4)?;
+    let put = table.put(&rt, alloc, &words, &mut seat, 0, four, Usage::Read);
+    assert!(rt; put.is_ok());
+    let written = table.export(&rt, alloc, &words, &mut seat, 0, Usage::Write)?;
+    assert!(rt; written.points.as_slice().is_empty());
+    assert!(rt; written.floor == none);
+    let read = table.export(&rt, alloc, &words, &mut seat, 0, Usage::Read)?;
+    assert_eq!(rt; read.points.as_slice(), [point(1, 4)?].as_slice());
+    assert!(rt; read.floor == none);
     Ok(())
 }

@@ -4,14 +4,18 @@
 #![tactic(auto)]
 
 mod laws;
+mod plan;
 mod resv;
+mod shared_table;
 mod tops;
 
 pub use laws::{
     a_table_agrees_with_all_that_was_added, a_trimmed_table_has_one_entry_of_each_usage,
     tables_that_agree_tell_the_same,
 };
+pub use plan::{Act, Plan, Settled};
 pub use resv::{PLACES, PLACES_PER_CONTEXT, Resv};
+pub use shared_table::SharedTable;
 
 #[cfg(test)]
 mod tests;

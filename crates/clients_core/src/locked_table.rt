@@ -1,0 +1,110 @@
+// Buffers that clients share, each under a lock of its own.
+ghost use Rattle.std.specs.Prelude.{◌≡◌, vec_len, IfErr, IfOk};
+ghost use Rattle.point_core.specs.declared.refusal.Refusal.TheVariants as refusal;
+
+use crate::expected::expected_in;
+use crate::gathered::{gathered, listed};
+use crate::locked_buffer::LockedBuffer;
+use point_core::{Items, Listing, Point, Refusal, Usage};
+use resv_core::{Plan, Settled, SharedTable};
+use std::alloc::Global;
+use std::marker::Model;
+use std::sync::{Mutex, Wait};
+use words_core::{Seat, Whole, Words, WordsId};
+
+/// Buffers under locks: a lock is held for one call, and none is taken inside another.
+///
+/// Put and export load their reach under the lock of their buffer, so that the floor never is above the reach that
+/// comes next: of two calls on a buffer the later one loads no lower values.
+#[derive(Drop)]
+pub struct LockedTable {
+    buffers: Vec<Mutex<LockedBuffer>>,
+    words: WordsId,
+}
+
+impl Model for LockedTable {
+    ghost use Rattle.std.specs.Prelude.{◌≡◌, vec_len};
+    ghost use Rattle.words_core.specs.Words.{WordsModel};
+
+    ghost Value = { WordsModel };
+
+    ghost view = { λ table. table.words };
+
+    ghost invariant = { λ table. vec_len table.buffers ≡ table.words.buffers };
+}
+
+impl SharedTable for LockedTable {
+    ghost made_for = { λ table. table };
+
+    fn empty(alloc: Global, words: &Words) -> Result<LockedTable, Refusal> {
+        let buffers = empty_buffers(alloc, words.buffers())?;
+        Ok(LockedTable {
+            buffers,
+            words: words.id(),
+        })
+    }
+
+    fn put<R: Wait>(
+        &self,
+        rt: &R,
+        _alloc: Global,
+        words: &Words,
+        seat: &mut Seat,
+        buffer: usize,
+        point: Point,
+        usage: Usage,
+    ) -> Result<(), Refusal> {
+        let mut shared = self.buffers[buffer].lock(rt);
+        let reach = words.load_all(seat);
+        shared.put(point, usage, &reach)
+    }
+
+    fn export<R: Wait>(
+        &self,
+        rt: &R,
+        _alloc: Global,
+        words: &Words,
+        seat: &mut Seat,
+        buffer: usize,
+        usage: Usage,
+    ) -> Result<Listing, Refusal> {
+        let mut shared = self.buffers[buffer].lock(rt);
+        let reach = words.load_all(seat);
+        shared.export(usage, &reach)
+    }
+
+    fn settle<R: Wait>(
+        &self,
+        rt: &R,
+        alloc: Global,
+        words: &Words,
+        all: &mut Whole,
+        plans: &[Plan],
+    ) -> Result<Settled, Refusal> {
+        let reach = gathered(words, all);
+        let values = listed(alloc, &reach, words.contexts())?;
+        let mut tables = Vec::with_capacity(alloc, self.buffers.len())?;
+        for index in 0..self.buffers.len() {
+            let expected = expected_in(alloc, index, plans)?;
+            let rows = self.buffers[index]
+                .lock(rt)
+                .settle(expected.as_slice(), &reach)?;
+            tables.push_reserved(Items::of(rows));
+        }
+        Ok(Settled {
+            values: Items::of(values),
+            tables: Items::of(tables),
+        })
+    }
+}
+
+fn empty_buffers(alloc: Global, count: usize) -> Result<Vec<Mutex<LockedBuffer>>, Refusal>
+    ensures count { IfOk result (λ buffers. vec_len buffers ≡ count) }
+    ensures memory { IfErr result (λ e. e ≡ refusal.Memory) }
+{
+    let mut buffers = Vec::with_capacity(alloc, count)?;
+    for _ in 0..count {
+        buffers.push_reserved(Mutex::new(LockedBuffer::new(alloc)?));
+    }
+    Ok(buffers)
+}

@@ -1,0 +1,86 @@
+// Buffers that clients on threads share.
+ghost use Rattle.std.specs.Prelude.{◌≡◌, ◌<◌, ◌≤◌, ◌⊎◌, length, IfErr, IfOk};
+ghost use Rattle.point_core.specs.declared.refusal.Refusal.TheVariants as refusal;
+ghost use Rattle.point_core.specs.Agreement.{AllAbove, HasRisingContexts};
+ghost use Rattle.words_core.specs.Words.{WordsModel};
+ghost use Rattle.resv_core.specs.Settled.{ArePlansWithin, gathered_values, tables_of};
+ghost use Rattle.resv_core.specs.Shared.{HasLoadedOnce, HasStepped};
+
+use crate::plan::{Plan, Settled};
+use point_core::{Listing, Point, Refusal, Usage};
+use std::alloc::Global;
+use std::sync::Wait;
+use words_core::{Seat, Whole, Words};
+
+/// Buffers that clients share by reference, beside the words of their timelines. Each call is made with the caller's
+/// seat, whose words and parts it keeps; the seat's trace only grows.
+///
+/// Every table is made for one set of words, by `empty`, and is used with these words and their seats alone.
+pub trait SharedTable: Sync + Sized + Drop {
+    ghost made_for: { Self → WordsModel };
+
+    /// The table of as many buffers as the words have. Nothing was put.
+    ///
+    /// Refuses as `Memory` alone.
+    fn empty(alloc: Global, words: &Words) -> Result<Self, Refusal>
+        ensures words { IfOk result (λ table. made_for table ≡ words.now) }
+        ensures memory { IfErr result (λ e. e ≡ refusal.Memory) };
+
+    /// Puts a fence into a buffer.
+    ///
+    /// Refuses as `Torn`, where table and words don't belong together, and as `Memory`, alone.
+    fn put<R: Wait>(
+        &self,
+        rt: &R,
+        alloc: Global,
+        words: &Words,
+        seat: &mut Seat,
+        buffer: usize,
+        point: Point,
+        usage: Usage,
+    ) -> Result<(), Refusal>
+        requires own { (seat.old.words ≡ words.now) × (made_for self.now ≡ words.now) }
+        requires within { (buffer < words.now.buffers) × (point.ctx ≤ words.now.contexts) }
+        ensures stepped { HasStepped seat.old seat.new }
+        ensures refusals { IfErr result (λ e. (e ≡ refusal.Torn) ⊎ (e ≡ refusal.Memory)) };
+
+    /// The pending points of a buffer at the usage or a stronger one, by rising context, above values that are loaded
+    /// in this call, which are the listing's floor.
+    ///
+    /// Refuses as `put` does.
+    fn export<R: Wait>(
+        &self,
+        rt: &R,
+        alloc: Global,
+        words: &Words,
+        seat: &mut Seat,
+        buffer: usize,
+        usage: Usage,
+    ) -> Result<Listing, Refusal>
+        requires own { (seat.old.words ≡ words.now) × (made_for self.now ≡ words.now) }
+        requires within { buffer < words.now.buffers }
+        ensures stepped { HasStepped seat.old seat.new }
+        ensures floor { IfOk result (λ listing. HasLoadedOnce listing.floor seat.old seat.new) }
+        ensures rising { IfOk result (λ listing. HasRisingContexts listing.points) }
+        ensures above { IfOk result (λ listing. AllAbove listing.floor listing.points) }
+        ensures refusals { IfErr result (λ e. (e ≡ refusal.Torn) ⊎ (e ≡ refusal.Memory)) };
+
+    /// The values that the gathered seat knows, and the tables of the plans above them.
+    ///
+    /// Refuses as `Torn`, where what was put is not what the plans put, and as `Memory`, alone.
+    fn settle<R: Wait>(
+        &self,
+        rt: &R,
+        alloc: Global,
+        words: &Words,
+        all: &mut Whole,
+        plans: &[Plan],
+    ) -> Result<Settled, Refusal>
+        requires own { (all.old.words ≡ words.now) × (made_for self.now ≡ words.now) }
+        requires plans { length plans.now ≡ words.now.contexts }
+        requires within { ArePlansWithin words.now.contexts words.now.buffers plans.now }
+        ensures stepped { HasStepped all.old all.new }
+        ensures values { IfOk result (λ settled. settled.values ≡ gathered_values words.now.contexts all.old) }
+        ensures tables { IfOk result (λ settled. settled.tables ≡ tables_of words.now.buffers plans.now settled.values) }
+        ensures refusals { IfErr result (λ e. (e ≡ refusal.Torn) ⊎ (e ≡ refusal.Memory)) };
+}
