@@ -7,6 +7,8 @@ use std::marker::Model;
 /// How many timelines there can be. Every table by context has this length.
 pub const CONTEXTS: usize = 64;
 
+const _: () = prove!(CONTEXTS == 64);
+
 /// The number of a timeline, from 1 to `CONTEXTS`, given out in order of making.
 ///
 /// The kernel's fence contexts are 64-bit numbers that never come again; these are few, so a table by context is

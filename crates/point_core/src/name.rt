@@ -9,6 +9,8 @@ use std::marker::Model;
 /// The most bytes of a name: the kernel's 32 of a sync file's name, less the closing zero.
 pub const NAME_BYTES: usize = 31;
 
+const _: () = prove!(NAME_BYTES == 31);
+
 /// A name: 1 to `NAME_BYTES` letters, digits, `_`, `.` or `-`, held without memory.
 #[derive(Clone, Copy, Debug)]
 pub struct Name {

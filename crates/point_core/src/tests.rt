@@ -1,7 +1,7 @@
 // Values that people worked out.
 use crate::{
-    CONTEXTS, Context, Entry, Items, LimitKind, Listing, NAME_BYTES, Name, Point, Reach, Refusal,
-    Usage, canon, covers, is_signalled,
+    CONTEXTS, Context, Entry, Items, LatestPoints, LimitKind, Listing, NAME_BYTES, Name, Point,
+    Reach, Refusal, Status, Usage, canon, covers, is_signalled,
 };
 use std::test::Fail;
 
@@ -214,6 +214,89 @@ fn the_words_of_limits(rt: HostRuntime) {
     for (kind, word) in table {
         assert_eq!(rt; kind.word(), word);
     }
+}
+
+#[test]
+fn refusals_as_text(rt: HostRuntime) -> Result<(), Fail> {
+    let table = [
+        (Refusal::Syntax, "the line is no command"),
+        (Refusal::NoEntry, "there is no such name, buffer or context"),
+        (
+            Refusal::Exists,
+            "there is such a name, cookie or driver already",
+        ),
+        (Refusal::Overflow, "an increment past the greatest value"),
+        (Refusal::Flags, "these are no sync flags"),
+        (
+            Refusal::Limit(LimitKind::Files),
+            "the limit of files is met",
+        ),
+        (Refusal::Signalled, "it is signalled already"),
+        (Refusal::TimedOut, "it is still active"),
+        (
+            Refusal::Foreign,
+            "these words do not bear the file or point out",
+        ),
+        (
+            Refusal::Torn,
+            "the table or value disagrees with the plans or the words",
+        ),
+        (Refusal::NotAll, "parts of seats are missing"),
+        (Refusal::LongLine, "the line is too long"),
+        (Refusal::Read, "the reader failed"),
+        (Refusal::Write, "the writer failed"),
+        (Refusal::Cancelled, "the timeline is closed"),
+        (Refusal::Memory, "out of memory"),
+    ];
+    for (refusal, text) in table {
+        assert_eq!(rt;
+            format!(in rt.alloc(); "{refusal}")?.as_bytes(),
+            text.as_bytes()
+        );
+    }
+    Ok(())
+}
+
+#[test]
+fn limits_as_text(rt: HostRuntime) -> Result<(), Fail> {
+    for kind in [
+        LimitKind::Timelines,
+        LimitKind::Buffers,
+        LimitKind::Files,
+        LimitKind::Watches,
+        LimitKind::Flags,
+        LimitKind::Clients,
+        LimitKind::Plan,
+        LimitKind::Script,
+    ] {
+        assert_eq!(rt;
+            format!(in rt.alloc(); "{kind}")?.as_bytes(),
+            kind.word().as_bytes()
+        );
+    }
+    Ok(())
+}
+
+#[test]
+fn statuses(rt: HostRuntime) {
+    for (signalled, status, number) in [(false, Status::Active, 0), (true, Status::Signalled, 1)] {
+        assert_eq!(rt; Status::of(signalled), status);
+        assert_eq!(rt; status.number(), number);
+    }
+}
+
+#[test]
+fn latest_points(rt: HostRuntime) -> Result<(), Fail> {
+    let reach = Reach::zero().raised(point(1, 0)?.ctx, 5).ok_or("wraps")?;
+    let mut latest = LatestPoints::above(&reach);
+    latest.put(point(1, 4)?);
+    latest.put_all(&[point(3, 7)?, point(2, 2)?, point(3, 6)?]);
+    for (number, value) in [(1, 5), (2, 2), (3, 7), (4, 0)] {
+        assert_eq!(rt; latest.get(point(number, 0)?.ctx), value, "at {number}");
+    }
+    let points = latest.points(rt.alloc(), &reach)?;
+    assert_eq!(rt; points.as_slice(), [point(2, 2)?, point(3, 7)?].as_slice());
+    Ok(())
 }
 
 #[test]

@@ -3,3 +3,4 @@ pub mod Places
 pub mod Raising
 pub mod Rows
 pub mod Storing
+pub mod Summing

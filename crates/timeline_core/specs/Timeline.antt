@@ -1,9 +1,9 @@
 -- Named timelines, in order of making.
-use Rattle.std.specs.Prelude.{ℕ, ◌+◌, ◌-◌, ◌≤◌, nat_eq, Bool, if◌then◌else◌, List, ◌++◌, length, map, replicate, Option, option_map, unwrap_or, find, slice_get}
-use Rattle.std.specs.List.{list_any, position_from, IsDistinct}
+use Rattle.std.specs.Prelude.{ℕ, ◌+◌, ◌-◌, ◌≤◌, Bool, if◌then◌else◌, List, ◌++◌, length, map, replicate, Option, option_map, unwrap_or, slice_get}
+use Rattle.std.specs.List.{position_from}
 use Rattle.point_core.specs.declared.context.TheConstants.{CONTEXTS}
 use Rattle.point_core.specs.Reach.{value_at}
-use lib.Pointwise.{pointwise}
+use Rattle.point_core.specs.Named.{same_name, has_named, named, HasDistinctNames}
 
 -- a timeline as callers see it
 pub record Timeline : Type 0 where
@@ -20,7 +20,7 @@ new_timeline name = timeline_of name 0
 
 -- whether the timeline has that name
 abbrev pub is_named : List ℕ → Timeline → Bool
-is_named name t = pointwise nat_eq t.name name
+is_named name t = same_name t.name name
 
 -- the names, in order of making
 abbrev pub names_of : List Timeline → List (List ℕ)
@@ -32,11 +32,11 @@ values_of ts = map (λ t. t.value) ts
 
 -- whether there is a timeline of that name
 abbrev pub has_timeline : List Timeline → List ℕ → Bool
-has_timeline ts name = list_any (is_named name) ts
+has_timeline ts name = has_named (λ (t : Timeline). t.name) ts name
 
 -- the timeline of that name
 abbrev pub timeline_at : List Timeline → List ℕ → Option Timeline
-timeline_at ts name = find (is_named name) ts
+timeline_at ts name = named (λ (t : Timeline). t.name) ts name
 
 -- its number by order of making, from 1, or 0 where there is none
 abbrev pub context_of : List Timeline → List ℕ → ℕ
@@ -68,5 +68,5 @@ rows_of ts = map (λ t. (t.name, t.value)) ts
 
 -- names are distinct, and there are no more timelines than contexts
 pub record AreTimelines (ts : List Timeline) : Type 0 where
-  pub distinct : IsDistinct (pointwise nat_eq) (names_of ts)
+  pub distinct : HasDistinctNames (λ (t : Timeline). t.name) ts
   pub room : length ts ≤ CONTEXTS

@@ -1,5 +1,5 @@
 // The timelines of a service, by name and by context.
-ghost use Rattle.std.specs.Prelude.{◌≡◌, ◌+◌, ◌<◌, ◌≤◌, ◌^◌, ◌↔◌, [], ◌∷◌, ◌++◌, true, false, length, map, IsTrue, IsSome, IsOk, IfSome, IfOk, IfErr, OnOk, OnErr};
+ghost use Rattle.std.specs.Prelude.{◌≡◌, ◌+◌, ◌<◌, ◌≤◌, ◌^◌, ◌↔◌, [], ◌∷◌, ◌++◌, true, false, length, map, is_ok, IsTrue, IsSome, IsOk, IfSome, IfOk, IfErr, OnOk, OnErr};
 ghost use Rattle.point_core.specs.declared.context.TheConstants.{CONTEXTS};
 
 use indexmap::IndexSet;
@@ -30,14 +30,12 @@ impl Model for Timelines {
 
 impl Timelines {
     ghost use Rattle.timeline_core.specs.Timeline.{timeline_of, new_timeline, has_timeline, timeline_at, context_of, name_at, reach_of, value_of, raised, rows_of, AreTimelines};
+    ghost use Rattle.timeline_core.specs.Run.{Leaves, Create, Inc};
     ghost use Rattle.point_core.specs.Reach.{with_value, value_at, IsAtLeast};
 
-    /// No timelines.
-    ///
-    /// Refuses as `Memory` alone.
+    /// No timelines. It takes no memory yet, so it is never refused.
     pub fn new(alloc: Global) -> Result<Timelines, Refusal>
-        ensures empty { IfOk result (λ ts. ts ≡ []) }
-        ensures memory { IfErr result (λ e. e ≡ Refusal.Memory) }
+        ensures empty { result ≡ Ok [] }
     {
         Ok(Timelines {
             names: IndexSet::new(alloc),
@@ -52,6 +50,7 @@ impl Timelines {
     pub fn create(&mut self, name: Name) -> Result<Context, Refusal>
         ensures number { IfOk result (λ ctx. ctx ≡ length self.old + 1) }
         ensures added { OnOk result (self.new ≡ self.old ++ new_timeline name ∷ []) }
+        ensures leaves { Leaves (Create name) (is_ok result) self.old self.new }
         ensures found { IfOk result (λ ctx. context_of self.new name ≡ ctx) }
         ensures same_values { reach_of self.new ≡ reach_of self.old }
 
@@ -79,6 +78,7 @@ impl Timelines {
     pub fn inc(&mut self, name: &Name, n: u64) -> Result<u64, Refusal>
         ensures value { IfOk result (λ v. v ≡ value_of self.old name.now + n) }
         ensures raised { OnOk result (self.new ≡ raised self.old name.now n) }
+        ensures leaves { Leaves (Inc name.now n) (is_ok result) self.old self.new }
         ensures reach { OnOk result (reach_of self.new ≡ with_value (reach_of self.old) (context_of self.old name.now) (value_of self.old name.now + n)) }
         ensures never_falls { IsAtLeast (reach_of self.new) (reach_of self.old) }
 

@@ -72,3 +72,6 @@ pub returns-in_err-map_err-clause-exists : goal.returns-in_err-map_err-clause-ex
 returns-in_err-map_err-clause-exists c =
     let memory : IfErr c.from_residual.result (λ e. e ≡ Memory) = search rules in
     (λ is. let same : Exists ≡ Memory = IfErr-at_err (λ e. e ≡ Memory) is memory in cc, λ has. absurd (true≢false (sym has ∙ absent_on_refusal c)))
+
+pub returns-clause-leaves : goal.returns-clause-leaves
+returns-clause-leaves c = ((absent c, room c), returns-clause-added c)

@@ -1,4 +1,4 @@
-use Rattle.std.proofs.Common.{◌≡◌, ◌+◌, true, sym, ap, subst, ◌∙◌, is_some}
+use Rattle.std.proofs.Common.{◌≡◌, ◌+◌, true, sym, ap, subst, ◌∙◌, is_some, arith}
 use Rattle.std.proofs.lemmas.Option.{MatchOption-at_some}
 use Rattle.point_core.specs.Reach.{IsAtLeast}
 use Rattle.timeline_core.specs.Timeline.{has_timeline, context_of, reach_of, value_of, names_of, raised}
@@ -36,3 +36,8 @@ pub returns-clause-never_falls : goal.returns-clause-never_falls
 returns-clause-never_falls c =
     subst (λ r. IsAtLeast r (reach_of c.args.self.now)) (sym (returns-clause-reach c))
     (IsAtLeast-raised (reach_of c.args.self.now) (context_of c.args.self.now c.args.name.now) c.args.n)
+
+pub returns-clause-leaves : goal.returns-clause-leaves
+returns-clause-leaves c =
+    let fits = rw c.in_ok-value.ensures.ok_part at c.checked_add.ensures in
+    ((known c, omega (arith, fits.0, fits.1, summed c)), returns-clause-raised c)

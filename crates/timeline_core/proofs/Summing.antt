@@ -1,0 +1,90 @@
+-- Values are sums of increments.
+use Rattle.std.proofs.Common.{◌≡◌, ℕ, ◌+◌, Bool, true, false, true≢false, ◌||◌, refl, sym, ap, subst, ◌∙◌, List, [], ◌∷◌, ◌++◌, append_assoc, append-nil, if◌then◌else◌, arith, inl, inr}
+use Rattle.std.specs.Cmp.Lexicographic.{same_text}
+use Rattle.std.proofs.lemmas.Bool.{cases_Bool}
+use Rattle.std.proofs.lemmas.List.Sums.{sum_by-append}
+use Rattle.std.proofs.lemmas.List.Elements.{All-nil, All-cons, All-head, All-tail, All-push}
+use Rattle.point_core.specs.Named.{same_name}
+use Rattle.point_core.proofs.Named.{has_named-same_names, named-All}
+use Rattle.timeline_core.specs.Timeline.{Timeline, timeline_of, new_timeline, is_named, has_timeline, value_of, raised_by, raised}
+use Rattle.timeline_core.specs.Run.{Increment, increment, incremented, AreSums, Call, Create, Inc, Leaves, Step, IsRun, last_timelines, increments_of, accepted_increments, all_increments}
+use Rattle.timeline_core.proofs.Places.{timeline_at-value_of}
+use Rattle.timeline_core.proofs.Raising.{names_of-raised}
+
+-- values are sums, and where there is no timeline nothing was added
+record IsSummed (ts : List Timeline) (is : List Increment) : Type 0 where
+  kept : AreSums ts is
+  none : (name : List ℕ) → has_timeline ts name ≡ false → incremented is name ≡ 0
+
+abbrev IsSum : List Increment → Timeline → Type 0
+IsSum is t = t.value ≡ incremented is t.name
+
+part_of : List ℕ → Increment → ℕ
+part_of name i = if same_name name i.name then i.by else 0
+
+incremented-push : (is : List Increment) (name : List ℕ) (n : ℕ) (other : List ℕ) → incremented (is ++ increment name n ∷ []) other ≡ incremented is other + (if same_name other name then n else 0)
+unfolding part_of
+incremented-push is name n other = sum_by-append (part_of other) is (increment name n ∷ []) ∙ omega arith
+
+value-raised_if : (b : Bool) (n sum : ℕ) (t : Timeline) → t.value ≡ sum → (if b then raised_by n t else t).value ≡ sum + (if b then n else 0)
+value-raised_if true n sum t is = ap (λ v. v + n) is
+value-raised_if false n sum t is = is ∙ omega arith
+
+name-raised_if : (b : Bool) (n : ℕ) (t : Timeline) → t.name ≡ (if b then raised_by n t else t).name
+name-raised_if true n t = refl
+name-raised_if false n t = refl
+
+AreSums-raised : (ts : List Timeline) (name : List ℕ) (n : ℕ) (is : List Increment) → AreSums ts is → AreSums (raised ts name n) (is ++ increment name n ∷ [])
+AreSums-raised [] name n is sums = All-nil (IsSum (is ++ increment name n ∷ []))
+AreSums-raised (t ∷ ts) name n is sums =
+    All-cons (IsSum (is ++ increment name n ∷ [])) (if is_named name t then raised_by n t else t) (raised ts name n)
+    (value-raised_if (is_named name t) n (incremented is t.name) t (All-head (IsSum is) t ts sums)
+    ∙ sym (incremented-push is name n t.name)
+    ∙ ap (incremented (is ++ increment name n ∷ [])) (name-raised_if (is_named name t) n t))
+    (AreSums-raised ts name n is (All-tail (IsSum is) t ts sums))
+
+has_timeline-before : (ts : List Timeline) (t : Timeline) (name : List ℕ) → has_timeline (ts ++ t ∷ []) name ≡ false → has_timeline ts name ≡ false
+has_timeline-before [] t name absent = refl
+has_timeline-before (u ∷ ts) t name absent = by (is_named name u) (has_timeline (ts ++ t ∷ []) name) (has_timeline ts name) absent (has_timeline-before ts t name)
+  where
+    by : (b with without : Bool) → (b || with) ≡ false → (with ≡ false → without ≡ false) → (b || without) ≡ false
+    by true with without is rest = absurd (true≢false is)
+    by false with without is rest = rest is
+
+other_name : (ts : List Timeline) (name other : List ℕ) → has_timeline ts name ≡ true → has_timeline ts other ≡ false → same_name other name ≡ false
+other_name ts name other has absent = elim (cases_Bool (same_name other name)) [
+  | inl is ↦ absurd (true≢false (sym has ∙ ap (has_timeline ts) (sym (same_text other name (sym is))) ∙ absent))
+  | inr isnt ↦ isnt
+]
+
+IsSummed-Leaves : (call : Call) (accepted : Bool) (old new : List Timeline) (is : List Increment) → Leaves call accepted old new → IsSummed old is → IsSummed new (is ++ (if accepted then increments_of call else []))
+IsSummed-Leaves call false old new is left before = subst (IsSummed new) (sym (append-nil is)) (subst (λ ts. IsSummed ts is) (sym left) before)
+IsSummed-Leaves (Create name) true old new is left before = subst (IsSummed new) (sym (append-nil is)) (subst (λ ts. IsSummed ts is) (sym left.1) (record {
+  kept = All-push (IsSum is) old (new_timeline name) before.kept (sym (before.none name left.0.0));
+  none = λ other absent. before.none other (has_timeline-before old (new_timeline name) other absent);
+}))
+IsSummed-Leaves (Inc name n) true old new is left before = subst (λ ts. IsSummed ts (is ++ increment name n ∷ [])) (sym left.1) (record {
+  kept = AreSums-raised old name n is before.kept;
+  none = λ other absent.
+      let before_absent = sym (has_named-same_names (λ (t : Timeline). t.name) (λ (t : Timeline). t.name) (raised old name n) old other (names_of-raised old name n)) ∙ absent in
+      incremented-push is name n other
+      ∙ ap (λ b. incremented is other + (if b then n else 0)) (other_name old name other left.0.0 before_absent)
+      ∙ (let none = before.none other before_absent in omega arith);
+})
+
+IsSummed-run : (old : List Timeline) (is : List Increment) (steps : List Step) → IsSummed old is → IsRun old steps → IsSummed (last_timelines old steps) (is ++ all_increments steps)
+IsSummed-run old is [] before run = subst (IsSummed old) (sym (append-nil is)) before
+IsSummed-run old is (step ∷ steps) before run =
+    subst (IsSummed (last_timelines step.left steps)) (append_assoc is (accepted_increments step) (all_increments steps))
+    (IsSummed-run step.left (is ++ accepted_increments step) steps (IsSummed-Leaves step.call step.accepted old step.left is run.0 before) run.1)
+
+IsSummed-all : (steps : List Step) → IsRun [] steps → IsSummed (last_timelines [] steps) (all_increments steps)
+IsSummed-all steps run = IsSummed-run [] [] steps (record { kept = All-nil (IsSum []); none = λ name absent. refl }) run
+
+pub AreSums-run : (steps : List Step) → IsRun [] steps → AreSums (last_timelines [] steps) (all_increments steps)
+AreSums-run steps run = (IsSummed-all steps run).kept
+
+pub value_of-run : (steps : List Step) (name : List ℕ) → IsRun [] steps → has_timeline (last_timelines [] steps) name ≡ true → value_of (last_timelines [] steps) name ≡ incremented (all_increments steps) name
+value_of-run steps name run has =
+    let ts = last_timelines [] steps in
+    named-All (λ (t : Timeline). t.name) (IsSum (all_increments steps)) ts name (timeline_of name (value_of ts name)) (AreSums-run steps run) (timeline_at-value_of ts name has)

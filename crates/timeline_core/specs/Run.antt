@@ -1,0 +1,70 @@
+-- Calls on timelines, one after another, and the increments among them.
+use Rattle.std.specs.Prelude.{◌≡◌, ℕ, ◌+◌, ◌^◌, ◌<◌, Bool, true, false, if◌then◌else◌, List, [], ◌∷◌, ◌++◌, length, All, ⊤}
+use Rattle.std.specs.List.{sum_by}
+use Rattle.point_core.specs.declared.context.TheConstants.{CONTEXTS}
+use Rattle.point_core.specs.Named.{same_name}
+use Rattle.timeline_core.specs.Timeline.{Timeline, new_timeline, has_timeline, value_of, raised}
+
+-- an increment of the timeline of that name
+pub record Increment : Type 0 where
+  pub name : List ℕ
+  pub by : ℕ
+
+abbrev pub increment : List ℕ → ℕ → Increment
+increment name by = record { name = name; by = by }
+
+-- the sum of the increments of the timeline of that name
+abbrev pub incremented : List Increment → List ℕ → ℕ
+incremented is name = sum_by (λ i. if same_name name i.name then i.by else 0) is
+
+-- each value is the sum of the increments of its timeline
+abbrev pub AreSums : List Timeline → List Increment → Type 0
+AreSums ts is = All (λ (t : Timeline). t.value ≡ incremented is t.name) ts
+
+-- a call that may change timelines
+pub data Call : Type 0 where
+  Create : List ℕ → Call
+  Inc : List ℕ → ℕ → Call
+
+-- nothing refuses the call
+abbrev pub IsAllowed : Call → List Timeline → Type 0
+IsAllowed (Create name) ts = (has_timeline ts name ≡ false) × (length ts < CONTEXTS)
+IsAllowed (Inc name n) ts = (has_timeline ts name ≡ true) × (value_of ts name + n < 2 ^ 64)
+
+-- the timelines after an accepted call
+abbrev pub after : Call → List Timeline → List Timeline
+after (Create name) ts = ts ++ new_timeline name ∷ []
+after (Inc name n) ts = raised ts name n
+
+-- what a call leaves, that was accepted or refused
+abbrev pub Leaves : Call → Bool → List Timeline → List Timeline → Type 0
+Leaves call true old new = IsAllowed call old × (new ≡ after call old)
+Leaves call false old new = new ≡ old
+
+-- a call that was made, whether it was accepted, and the timelines that it left
+pub record Step : Type 0 where
+  pub call : Call
+  pub accepted : Bool
+  pub left : List Timeline
+
+-- each call was made on what the one before it left
+abbrev pub IsRun : List Timeline → List Step → Type 0
+IsRun old [] = ⊤
+IsRun old (step ∷ steps) = Leaves step.call step.accepted old step.left × IsRun step.left steps
+
+abbrev pub last_timelines : List Timeline → List Step → List Timeline
+last_timelines old [] = old
+last_timelines old (step ∷ steps) = last_timelines step.left steps
+
+-- what an accepted call adds
+abbrev pub increments_of : Call → List Increment
+increments_of (Create name) = []
+increments_of (Inc name n) = increment name n ∷ []
+
+abbrev pub accepted_increments : Step → List Increment
+accepted_increments step = if step.accepted then increments_of step.call else []
+
+-- the increments of all calls that were accepted
+abbrev pub all_increments : List Step → List Increment
+all_increments [] = []
+all_increments (step ∷ steps) = accepted_increments step ++ all_increments steps
