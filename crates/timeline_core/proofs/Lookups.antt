@@ -9,6 +9,9 @@ use Rattle.point_core.proofs.Named.{has_named-names}
 use Rattle.timeline_core.specs.Timeline.{Timeline, new_timeline, is_named, names_of, has_timeline, context_of, name_at}
 use lib.Pointwise.{pointwise}
 
+pub has_timeline-names_of : (ts : List Timeline) (name : List ℕ) → list_any (pointwise nat_eq name) (names_of ts) ≡ has_timeline ts name
+has_timeline-names_of ts name = has_named-names (λ (t : Timeline). t.name) ts name
+
 position_from-names_of : (ts : List Timeline) (name : List ℕ) (i : ℕ) → position_from (pointwise nat_eq name) i (names_of ts) ≡ position_from (is_named name) i ts
 position_from-names_of [] name i = refl
 position_from-names_of (t ∷ ts) name i =
@@ -37,7 +40,7 @@ context_of-position ts name i found =
 
 -- the same, of the names as they are stored
 pub has_timeline-stored : {names : List (List ℕ)} (ts : List Timeline) (name : List ℕ) → names ≡ names_of ts → list_any (pointwise nat_eq name) names ≡ has_timeline ts name
-has_timeline-stored {names} ts name e = ap (list_any (pointwise nat_eq name)) e ∙ has_named-names (λ (t : Timeline). t.name) ts name
+has_timeline-stored {names} ts name e = ap (list_any (pointwise nat_eq name)) e ∙ has_timeline-names_of ts name
 
 -- what a look-up told
 pub has_timeline-told : {names : List (List ℕ)} {found is : Bool} (ts : List Timeline) (name : List ℕ) → names ≡ names_of ts → found ≡ list_any (pointwise nat_eq name) names → found ≡ is → has_timeline ts name ≡ is
