@@ -16,6 +16,8 @@ use Rattle.desk_core.specs.Desk.{DeskState, Holds, StandsFor, Answers}
 use Rattle.desk_core.specs.Keeping.{Keeps, cause_of, IsDone, answer_of}
 use Rattle.desk_core.proofs.Sound.{IsSound-history}
 use Rattle.desk_core.proofs.Stepping.{causes-keeps}
+use Rattle.dmabuf_core.specs.Buffers.{Buffer}
+use Rattle.timeline_core.specs.Timeline.{Timeline}
 
 -- one more command
 
@@ -32,6 +34,12 @@ is_refused-told w (command.Merge f a b) = refl
 is_refused-told w (command.Close f) = refl
 is_refused-told w (command.Wait f) = refl
 is_refused-told w (command.Info f) = refl
+is_refused-told w (command.Buffer b) = refl
+is_refused-told w (command.Add b t p u) = refl
+is_refused-told w (command.Import b f flags) = refl
+is_refused-told w (command.Export f b flags) = refl
+is_refused-told w (command.Test b u) = refl
+is_refused-told w (command.Trim b) = refl
 
 -- the desk keeps the world of each history that it stands for
 pub Keeps-stands : {desk : DeskState} {history : List Command} → StandsFor desk history → Keeps desk (world_of history)

@@ -1,38 +1,49 @@
 -- What each command does and tells.
-use Rattle.std.proofs.Common.{◌≡◌, ℕ, ◌+◌, ◌≤◌, Bool, true, false, refl, sym, ap, ◌∙◌, subst, List, [], ◌∷◌, ◌++◌, length, map, Option, None, Some, option_map, unwrap_or, nat_lt}
-use Rattle.std.specs.Prelude.{if◌then◌else◌}
+use Rattle.std.proofs.Common.{◌≡◌, ℕ, ◌+◌, ◌≤◌, Bool, true, false, arith, length-append, refl, sym, ap, ◌∙◌, subst, List, [], ◌∷◌, ◌++◌, length, map, Option, None, Some, option_map, unwrap_or, nat_lt, ◌<◌}
+use Rattle.std.specs.Prelude.{if◌then◌else◌, ◌↔◌, IsTrue}
 use Rattle.std.proofs.lemmas.List.Elements.{All-nil, All-push, All-append, All-contains, All-map}
 use Rattle.point_core.specs.declared.entry.Point.{Point}
 use Rattle.point_core.specs.declared.entry.Entry.{Entry}
 use Rattle.point_core.specs.Status.{status_if}
-use Rattle.point_core.specs.Agreement.{as_entry, as_entries, point_of, listing, pending, top}
+use Rattle.point_core.specs.Agreement.{as_entry, as_entries, point_of, listing, pending, top, all_reached, AgreesAbove, IsReached}
 use Rattle.point_core.specs.Reach.{value_at}
-use Rattle.point_core.proofs.Agreement.{listing-All, top-Some}
+use Rattle.point_core.proofs.Agreement.{listing-All, top-Some, AgreesAbove-same}
 use Rattle.desk_core.specs.declared.command.Command.TheVariants as command
 use Rattle.desk_core.specs.declared.answer.Answer.TheVariants as answer
 use Rattle.desk_core.specs.declared.answer.Info.{Info}
 use Rattle.desk_core.specs.declared.answer.FenceRow.{FenceRow}
 use Rattle.timeline_core.specs.Timeline.{Timeline, new_timeline, context_of, reach_of, value_of, raised}
-use Rattle.syncfile_core.specs.SyncFile.{File, plain_file}
+use Rattle.syncfile_core.specs.SyncFile.{File, plain_file, file_of}
 use Rattle.syncfile_core.specs.Files.{file_at as sync_file_at, without_file}
 use Rattle.syncfile_core.specs.Merge.{merge_of}
-use Rattle.desk_core.specs.World.{World, MadeFile, file_named, put_set}
-use Rattle.desk_core.specs.Answer.{points_of, all_reached, fence_row, or_stub, info_of}
+use Rattle.desk_core.specs.World.{World, MadeFile, file_named, put_set, buffer_put_set}
+use Rattle.desk_core.specs.Answer.{points_of, fence_row, or_stub, info_of, number_if}
 use Rattle.desk_core.specs.Desk.{DeskState}
 use Rattle.desk_core.specs.Keeping.{points_at, Keeps, IsDone, AreMade, HaveTimelines, info_at}
-use Rattle.desk_core.proofs.Keeping.{points_of-files_at, sync_file_at-points, sync_file_at-All}
-use Rattle.desk_core.proofs.Signalling.{all_reached-keeps}
-use Rattle.desk_core.proofs.Stepping.{Holds-timeline, Holds-raised, Holds-fence, Holds-close, Holds-merge}
+use Rattle.desk_core.proofs.Keeping.{points_of-files_at, sync_file_at-points, sync_file_at-All, AgreesAbove-keeps}
+use Rattle.desk_core.proofs.Signalling.{all_reached-keeps, IsReached-table}
+use Rattle.desk_core.proofs.Stepping.{Holds-timeline, Holds-raised, Holds-fence, Holds-close, Holds-merge, Holds-buffer, Holds-put, Holds-export, Holds-trim}
+use Rattle.std.proofs.lemmas.Bool.{false≢true}
+use Rattle.point_core.specs.declared.context.TheConstants.{CONTEXTS}
+use Rattle.point_core.specs.declared.entry.Usage.{Usage}
+use Rattle.point_core.specs.Usage.{usage_number}
+use Rattle.point_core.proofs.Reached.{all_reached-IsReached}
+use Rattle.resv_core.specs.Resv.{empty, entry_of}
+use Rattle.dmabuf_core.specs.Buffers.{Buffer, AreBuffers, OnlyChanges, has_buffer, entries_of}
+use Rattle.dmabuf_core.specs.Flags.{imported, export_usage}
+use Rattle.dmabuf_core.proofs.Putting.{AgreesAbove-imported}
+use Rattle.desk_core.proofs.Buffers.{has_buffer-names}
 
-pub IsDone-timeline : (desk : DeskState) (name : List ℕ) (made : List Timeline) (number : ℕ) → made ≡ desk.timelines ++ new_timeline name ∷ [] → number ≡ length desk.timelines + 1 → IsDone desk (command.Timeline name) (answer.Value number) (record { timelines = made; files = desk.files })
-IsDone-timeline desk name made number added is =
+pub IsDone-timeline : (desk : DeskState) (name : List ℕ) (made : List Timeline) (number : ℕ) → made ≡ desk.timelines ++ new_timeline name ∷ [] → length made ≤ CONTEXTS → number ≡ length desk.timelines + 1 → IsDone desk (command.Timeline name) (answer.Value number) (record { timelines = made; files = desk.files; buffers = desk.buffers })
+IsDone-timeline desk name made number added room is =
+    let low : length desk.timelines < CONTEXTS = omega (arith, ap length added, length-append {A = Timeline}) in
     record {
       accepted = refl;
       told = λ world k. ap answer.Value (is ∙ ap (λ ts. length ts + 1) k.holds.timelines);
-      held = λ world k. rw added (Holds-timeline k.holds name);
+      held = λ world k. rw added (Holds-timeline k.holds name low);
     }
 
-pub IsDone-inc : (desk : DeskState) (name : List ℕ) (n : ℕ) (timelines : List Timeline) (value : ℕ) (fired : List ℕ) → timelines ≡ raised desk.timelines name n → value ≡ value_of desk.timelines name + n → fired ≡ [] → IsDone desk (command.Inc name n) (answer.Raised value fired) (record { timelines = timelines; files = desk.files })
+pub IsDone-inc : (desk : DeskState) (name : List ℕ) (n : ℕ) (timelines : List Timeline) (value : ℕ) (fired : List ℕ) → timelines ≡ raised desk.timelines name n → value ≡ value_of desk.timelines name + n → fired ≡ [] → IsDone desk (command.Inc name n) (answer.Raised value fired) (record { timelines = timelines; files = desk.files; buffers = desk.buffers })
 IsDone-inc desk name n timelines value fired risen is none = record {
   accepted = refl;
   told = λ world k. rw none (ap (λ v. answer.Raised v []) (is ∙ ap (λ ts. value_of ts name + n) k.holds.timelines));
@@ -46,25 +57,86 @@ IsDone-value desk name value is = record {
   held = λ world k. k.holds;
 }
 
-pub IsDone-fence : (desk : DeskState) (name t : List ℕ) (files : List File) (ctx p : ℕ) → files ≡ desk.files ++ plain_file name (point_of ctx p) ∷ [] → ctx ≡ context_of desk.timelines t → IsDone desk (command.Fence name t p) answer.Done (record { timelines = desk.timelines; files = files })
+pub IsDone-fence : (desk : DeskState) (name t : List ℕ) (files : List File) (ctx p : ℕ) → files ≡ desk.files ++ plain_file name (point_of ctx p) ∷ [] → ctx ≡ context_of desk.timelines t → IsDone desk (command.Fence name t p) answer.Done (record { timelines = desk.timelines; files = files; buffers = desk.buffers })
 IsDone-fence desk name t files ctx p added is = record {
   accepted = refl;
   told = λ world k. refl;
   held = λ world k. rw added (Holds-fence k.holds name t ctx p is);
 }
 
-pub IsDone-merge : (desk : DeskState) (name a b reach : List ℕ) (files : List File) → files ≡ desk.files ++ merge_of desk.files name (a ∷ b ∷ []) reach ∷ [] → reach ≡ reach_of desk.timelines → IsDone desk (command.Merge name a b) answer.Done (record { timelines = desk.timelines; files = files })
+pub IsDone-merge : (desk : DeskState) (name a b reach : List ℕ) (files : List File) → files ≡ desk.files ++ merge_of desk.files name (a ∷ b ∷ []) reach ∷ [] → reach ≡ reach_of desk.timelines → IsDone desk (command.Merge name a b) answer.Done (record { timelines = desk.timelines; files = files; buffers = desk.buffers })
 IsDone-merge desk name a b reach files added is = record {
   accepted = refl;
   told = λ world k. refl;
   held = λ world k. rw added (Holds-merge k name a b reach is);
 }
 
-pub IsDone-close : (desk : DeskState) (name : List ℕ) (files : List File) → files ≡ without_file desk.files name → IsDone desk (command.Close name) answer.Done (record { timelines = desk.timelines; files = files })
+pub IsDone-close : (desk : DeskState) (name : List ℕ) (files : List File) → files ≡ without_file desk.files name → IsDone desk (command.Close name) answer.Done (record { timelines = desk.timelines; files = files; buffers = desk.buffers })
 IsDone-close desk name files is = record {
   accepted = refl;
   told = λ world k. refl;
   held = λ world k. rw is (Holds-close k.holds name);
+}
+
+-- buffers
+
+pub IsDone-buffer : (desk : DeskState) (b : List ℕ) (new : List Buffer) → new ≡ desk.buffers ++ (b, empty) ∷ [] → AreBuffers new → IsDone desk (command.Buffer b) answer.Done (record { timelines = desk.timelines; files = desk.files; buffers = new })
+IsDone-buffer desk b new added kept = record {
+  accepted = refl;
+  told = λ world k. refl;
+  held = λ world k. rw added (Holds-buffer k.holds b (rw added at kept));
+}
+
+pub IsDone-add : (desk : DeskState) (b t : List ℕ) (ctx p : ℕ) (usage : Usage) (reach : List ℕ) (new : List Buffer) → has_buffer desk.buffers b ≡ true → ctx ≡ context_of desk.timelines t → reach ≡ reach_of desk.timelines → AgreesAbove reach (entries_of new b) (entries_of desk.buffers b ++ entry_of (point_of ctx p) usage ∷ []) → OnlyChanges b desk.buffers new → AreBuffers new → IsDone desk (command.Add b t p usage) answer.Done (record { timelines = desk.timelines; files = desk.files; buffers = new })
+IsDone-add desk b t ctx p usage reach new has is at agrees only kept = record {
+  accepted = refl;
+  told = λ world k. refl;
+  held = λ world k.
+      let put : ctx ≡ context_of world.timelines t = is ∙ ap (λ ts. context_of ts t) k.holds.timelines in
+      Holds-put k.holds b new kept (entry_of (point_of ctx p) usage ∷ []) (entry_of (point_of (context_of world.timelines t) p) usage ∷ [])
+      (sym (has_buffer-names desk.buffers world.buffers b k.holds.buffers) ∙ has) (rw at at agrees)
+      (AgreesAbove-same (reach_of world.timelines) (ap (λ c. entry_of (point_of c p) usage ∷ []) put)) only;
+}
+
+pub IsDone-import : (desk : DeskState) (b f : List ℕ) (flags : ℕ) (reach : List ℕ) (file : File) (new : List Buffer) → has_buffer desk.buffers b ≡ true → sync_file_at desk.files f ≡ Some file → reach ≡ reach_of desk.timelines → AgreesAbove reach (entries_of new b) (entries_of desk.buffers b ++ imported flags (as_entries file.points)) → OnlyChanges b desk.buffers new → AreBuffers new → IsDone desk (command.Import b f flags) answer.Done (record { timelines = desk.timelines; files = desk.files; buffers = new })
+IsDone-import desk b f flags reach file new has found at agrees only kept = record {
+  accepted = refl;
+  told = λ world k. refl;
+  held = λ world k.
+      let listed : points_at desk.files f ≡ file.points = ap (λ o. unwrap_or (option_map (λ (g : File). g.points) o) []) found in
+      let P : List Point → Type 0 = λ ps. AgreesAbove (reach_of world.timelines) (as_entries ps) (put_set world.files f) in
+      Holds-put k.holds b new kept (imported flags (as_entries file.points)) (imported flags (put_set world.files f))
+      (sym (has_buffer-names desk.buffers world.buffers b k.holds.buffers) ∙ has) (rw at at agrees)
+      (AgreesAbove-imported flags (subst P listed (AgreesAbove-keeps k f))) only;
+}
+
+pub IsDone-export : (desk : DeskState) (name b : List ℕ) (flags : ℕ) (reach : List ℕ) (points : List Point) (floor : List ℕ) (files : List File) → files ≡ desk.files ++ file_of name points floor ∷ [] → points ≡ listing (entries_of desk.buffers b) (usage_number (export_usage flags)) reach → reach ≡ reach_of desk.timelines → IsDone desk (command.Export name b flags) answer.Done (record { timelines = desk.timelines; files = files; buffers = desk.buffers })
+IsDone-export desk name b flags reach points floor files added is at = record {
+  accepted = refl;
+  told = λ world k. refl;
+  held = λ world k. rw added (Holds-export k.holds name b flags points floor (is ∙ ap (listing (entries_of desk.buffers b) (usage_number (export_usage flags))) at));
+}
+
+number_if-told : (b : Bool) (P Q : Type 0) (r : Bool) → (P ↔ Q) → ((r ≡ true) ↔ Q) → (IsTrue b ↔ P) → number_if b ≡ number_if r
+number_if-told true P Q r same reached is = ap number_if (sym (reached.1 (same.0 (is.0 refl))))
+number_if-told false P Q true same reached is = absurd (false≢true (is.1 (same.1 (reached.0 refl))))
+number_if-told false P Q false same reached is = refl
+
+pub IsDone-test : (desk : DeskState) (b : List ℕ) (usage : Usage) (reach : List ℕ) (signalled : Bool) → reach ≡ reach_of desk.timelines → IsTrue signalled ↔ IsReached (entries_of desk.buffers b) (usage_number usage) reach → IsDone desk (command.Test b usage) (answer.Value (number_if signalled)) desk
+IsDone-test desk b usage reach signalled at is = record {
+  accepted = refl;
+  told = λ world k.
+      let at' : reach ≡ reach_of world.timelines = at ∙ ap reach_of k.holds.timelines in
+      let here = rw at' at is in
+      ap answer.Value (number_if-told signalled _ _ _ (IsReached-table k b (usage_number usage)) (all_reached-IsReached (reach_of world.timelines) (usage_number usage) (buffer_put_set world.buffers b)) here);
+  held = λ world k. k.holds;
+}
+
+pub IsDone-trim : (desk : DeskState) (b reach : List ℕ) (new : List Buffer) → reach ≡ reach_of desk.timelines → AgreesAbove reach (entries_of desk.buffers b) (entries_of new b) → OnlyChanges b desk.buffers new → AreBuffers new → IsDone desk (command.Trim b) answer.Done (record { timelines = desk.timelines; files = desk.files; buffers = new })
+IsDone-trim desk b reach new at agrees only kept = record {
+  accepted = refl;
+  told = λ world k. refl;
+  held = λ world k. Holds-trim k.holds b new kept (rw at at agrees) only;
 }
 
 -- what is told of a file

@@ -11,11 +11,12 @@ use Rattle.point_core.specs.declared.entry.Usage.TheVariants.{Kernel}
 use Rattle.point_core.specs.Agreement.{AgreesAbove, as_entry, as_entries, listing, HasContexts, pending, pending_top}
 use Rattle.point_core.specs.Reach.{value_at}
 use Rattle.point_core.proofs.Agreement.{AgreesAbove-refl, AgreesAbove-append, AgreesAbove-same, listing-AgreesAbove, pending_top-listing, top-as_entries, as_entries-append}
+use Rattle.point_core.proofs.Named.{has_named-same_names, length-same_names, map-without_named, option_map-named, named-All}
 use Rattle.timeline_core.specs.Timeline.{Timeline, reach_of}
 use Rattle.syncfile_core.specs.SyncFile.{File}
 use Rattle.syncfile_core.specs.Files.{has_file as has_sync_file, without_file, file_at as sync_file_at}
 use Rattle.syncfile_core.specs.Merge.{files_at, points_of as points_of_files}
-use Rattle.desk_core.specs.World.{World, MadeFile, files_without, same_name, has_file, file_named, put_set}
+use Rattle.desk_core.specs.World.{World, MadeFile, files_without, has_file, file_named, put_set}
 use Rattle.desk_core.specs.Answer.{points_of}
 use Rattle.desk_core.specs.Desk.{DeskState}
 use Rattle.desk_core.specs.Sound.{WasMade, IsFilePoint}
@@ -46,79 +47,26 @@ points_of-files_at fs a b = points_of-found (sync_file_at fs a) (sync_file_at fs
 -- by name
 
 pub has_sync_file-names : (ks : List File) (fs : List MadeFile) (name : List ℕ) → kept_names ks ≡ made_names fs → has_sync_file ks name ≡ has_file fs name
-has_sync_file-names [] [] name is = refl
-has_sync_file-names [] (f ∷ fs) name is = absurd (cc)
-has_sync_file-names (k ∷ ks) [] name is = absurd (cc)
-has_sync_file-names (k ∷ ks) (f ∷ fs) name is =
-    let same : k.name ≡ f.name = cc in
-    let rest : kept_names ks ≡ made_names fs = cc in
-    ap (λ n. same_name n name || has_sync_file ks name) same
-    ∙ ap (λ b. same_name f.name name || b) (has_sync_file-names ks fs name rest)
+has_sync_file-names ks fs name is = has_named-same_names (λ (f : File). f.name) (λ (f : MadeFile). f.name) ks fs name is
 
 pub length-names : (ks : List File) (fs : List MadeFile) → kept_names ks ≡ made_names fs → length ks ≡ length fs
-length-names ks fs is = sym (length-map ks (λ (f : File). f.name)) ∙ ap length is ∙ length-map fs (λ (f : MadeFile). f.name)
-
-names-cond : (b : Bool) (k : File) (f : MadeFile) (ks : List File) (fs : List MadeFile) → k.name ≡ f.name → kept_names ks ≡ made_names fs → kept_names (cond (not b) (k ∷ ks) ks) ≡ made_names (cond (not b) (f ∷ fs) fs)
-names-cond true k f ks fs same rest = rest
-names-cond false k f ks fs same rest = rw (same, rest) refl
+length-names ks fs is = length-same_names (λ (f : File). f.name) (λ (f : MadeFile). f.name) ks fs is
 
 -- without the file of a name the others keep theirs
 pub without_file-names : (ks : List File) (fs : List MadeFile) (name : List ℕ) → kept_names ks ≡ made_names fs → kept_names (without_file ks name) ≡ made_names (files_without fs name)
-without_file-names [] [] name is = refl
-without_file-names [] (f ∷ fs) name is = absurd (cc)
-without_file-names (k ∷ ks) [] name is = absurd (cc)
-without_file-names (k ∷ ks) (f ∷ fs) name is =
-    let same : k.name ≡ f.name = cc in
-    let rest : kept_names ks ≡ made_names fs = cc in
-    ap (λ n. kept_names (cond (not (same_name n name)) (k ∷ without_file ks name) (without_file ks name))) same
-    ∙ names-cond (same_name f.name name) k f (without_file ks name) (files_without fs name) same (without_file-names ks fs name rest)
-
-kept-points-cond : (b : Bool) (k : File) (f : MadeFile) (ks : List File) (fs : List MadeFile) → k.points ≡ points_of f → kept_points ks ≡ made_points fs → kept_points (cond (not b) (k ∷ ks) ks) ≡ made_points (cond (not b) (f ∷ fs) fs)
-kept-points-cond true k f ks fs same rest = rest
-kept-points-cond false k f ks fs same rest = rw (same, rest) refl
+without_file-names ks fs name is = map-without_named (λ (f : File). f.name) (λ (f : MadeFile). f.name) (λ (f : File). f.name) (λ (f : MadeFile). f.name) ks fs name is is
 
 pub without_file-points : (ks : List File) (fs : List MadeFile) (name : List ℕ) → kept_names ks ≡ made_names fs → kept_points ks ≡ made_points fs → kept_points (without_file ks name) ≡ made_points (files_without fs name)
-without_file-points [] [] name is points = refl
-without_file-points [] (f ∷ fs) name is points = absurd (cc)
-without_file-points (k ∷ ks) [] name is points = absurd (cc)
-without_file-points (k ∷ ks) (f ∷ fs) name is points =
-    let same : k.name ≡ f.name = cc in
-    let rest : kept_names ks ≡ made_names fs = cc in
-    let same' : k.points ≡ points_of f = cc in
-    let rest' : kept_points ks ≡ made_points fs = cc in
-    ap (λ n. kept_points (cond (not (same_name n name)) (k ∷ without_file ks name) (without_file ks name))) same
-    ∙ kept-points-cond (same_name f.name name) k f (without_file ks name) (files_without fs name) same' (without_file-points ks fs name rest rest')
-
-points-cond : (b : Bool) (k : File) (f : MadeFile) (o : Option File) (p : Option MadeFile) → k.points ≡ points_of f → option_map (λ (x : File). x.points) o ≡ option_map points_of p → option_map (λ (x : File). x.points) (cond b (Some k) o) ≡ option_map points_of (cond b (Some f) p)
-points-cond true k f o p same rest = ap Some same
-points-cond false k f o p same rest = rest
+without_file-points ks fs name is points = map-without_named (λ (f : File). f.name) (λ (f : MadeFile). f.name) (λ (f : File). f.points) points_of ks fs name is points
 
 pub sync_file_at-points : (ks : List File) (fs : List MadeFile) (name : List ℕ) → kept_names ks ≡ made_names fs → kept_points ks ≡ made_points fs → option_map (λ (f : File). f.points) (sync_file_at ks name) ≡ option_map points_of (file_named fs name)
-sync_file_at-points [] [] name is points = refl
-sync_file_at-points [] (f ∷ fs) name is points = absurd (cc)
-sync_file_at-points (k ∷ ks) [] name is points = absurd (cc)
-sync_file_at-points (k ∷ ks) (f ∷ fs) name is points =
-    let same : k.name ≡ f.name = cc in
-    let rest : kept_names ks ≡ made_names fs = cc in
-    let same' : k.points ≡ points_of f = cc in
-    let rest' : kept_points ks ≡ made_points fs = cc in
-    ap (λ n. option_map (λ (x : File). x.points) (cond (same_name n name) (Some k) (sync_file_at ks name))) same
-    ∙ points-cond (same_name f.name name) k f (sync_file_at ks name) (file_named fs name) same' (sync_file_at-points ks fs name rest rest')
-
-found-All : {X : Type 0} (P : X → Type 0) (b : Bool) (x y : X) (rest : Option X) → cond b (Some x) rest ≡ Some y → P x → (rest ≡ Some y → P y) → P y
-found-All P true x y rest is here later = subst P (same_Some x y is) here
-found-All P false x y rest is here later = later is
-
--- what holds of each element holds of the one that is found
-pub find-All : {X : Type 0} (P : X → Type 0) (test : X → Bool) (xs : List X) (x : X) → All P xs → find test xs ≡ Some x → P x
-find-All P test [] x all is = absurd (cc)
-find-All P test (y ∷ ys) x all is = found-All P (test y) y x (find test ys) is (All-head P y ys all) (λ rest. find-All P test ys x (All-tail P y ys all) rest)
+sync_file_at-points ks fs name is points = option_map-named (λ (f : File). f.name) (λ (f : MadeFile). f.name) (λ (f : File). f.points) points_of ks fs name is points
 
 pub file_named-All : (P : MadeFile → Type 0) (fs : List MadeFile) (name : List ℕ) (f : MadeFile) → All P fs → file_named fs name ≡ Some f → P f
-file_named-All P fs name f all is = find-All P (λ (g : MadeFile). same_name g.name name) fs f all is
+file_named-All P fs name f all is = named-All (λ (g : MadeFile). g.name) P fs name f all is
 
 pub sync_file_at-All : (P : File → Type 0) (fs : List File) (name : List ℕ) (f : File) → All P fs → sync_file_at fs name ≡ Some f → P f
-sync_file_at-All P fs name f all is = find-All P (λ (g : File). same_name g.name name) fs f all is
+sync_file_at-All P fs name f all is = named-All (λ (g : File). g.name) P fs name f all is
 
 -- a file's points and what was put into it
 

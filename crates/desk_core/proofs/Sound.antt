@@ -1,9 +1,9 @@
 -- The world of a history is sound.
-use Rattle.std.proofs.Common.{◌≡◌, ℕ, ◌-◌, ◌<◌, ◌≤◌, Bool, true, false, not, suc, zero, refl, sym, subst, List, [], ◌∷◌, ◌++◌, length, get_or, replicate, Option, None, Some, arith, length-append}
+use Rattle.std.proofs.Common.{◌≡◌, ℕ, ◌-◌, ◌<◌, ◌≤◌, Bool, true, false, not, suc, zero, refl, sym, subst, List, [], ◌∷◌, ◌++◌, length, get_or, replicate, Option, None, Some, arith, length-append, All, ◌&&◌, filter}
 use Rattle.std.specs.Prelude.{if◌then◌else◌, nat_le}
-use Rattle.std.proofs.lemmas.Bool.{leb-false}
+use Rattle.std.proofs.lemmas.Bool.{leb-false, and_parts}
 use Rattle.std.proofs.lemmas.List.{length-map}
-use Rattle.std.proofs.lemmas.List.Elements.{All-nil, All-cons, All-push, All-weaker, All-append, All-filter}
+use Rattle.std.proofs.lemmas.List.Elements.{All-nil, All-cons, All-push, All-weaker, All-append, All-filter, All-map}
 use Rattle.point_core.specs.declared.context.TheConstants.{CONTEXTS}
 use Rattle.point_core.specs.declared.entry.Entry.{Entry}
 use Rattle.point_core.specs.declared.refusal.Refusal.{Refusal}
@@ -18,10 +18,14 @@ use Rattle.timeline_core.proofs.Storing.{reach_of-new}
 use Rattle.desk_core.specs.declared.answer.Answer.{Answer}
 use Rattle.desk_core.specs.declared.command.Command.{Command}
 use Rattle.desk_core.specs.declared.command.Command.TheVariants as command
-use Rattle.desk_core.specs.World.{World, MadeFile, same_name, put_set, after, empty_world}
+use Rattle.desk_core.specs.World.{World, MadeFile, MadeBuffer, put_set, has_made_buffer, buffer_put_set, buffer_of, with_put, after, empty_world}
+use Rattle.point_core.specs.Named.{same_name}
+use Rattle.resv_core.specs.Resv.{entry_of}
+use Rattle.dmabuf_core.specs.Flags.{exported, imported, export_usage, import_usage, is_within, at_strongest, with_usage}
 use Rattle.desk_core.specs.Answer.{first_of, cause, making_file, causes, refused_or, is_refused, told}
 use Rattle.desk_core.specs.History.{world_from, world_of, AreAccepted, IsHistory}
-use Rattle.desk_core.specs.Sound.{WasMade, IsFilePoint, IsSound}
+use Rattle.desk_core.specs.Sound.{WasMade, IsFilePoint, IsOfMade, IsOfTimelines, IsSound}
+use Rattle.desk_core.proofs.Buffers.{put_into-All, buffer_put_set-All}
 use Rattle.desk_core.proofs.Keeping.{put_set-made}
 
 -- what is accepted
@@ -54,7 +58,7 @@ WasMade-new ts name low f h = record {
 }
 
 -- as many timelines as before
-length-raised : (ts : List Timeline) (name : List ℕ) (n : ℕ) → length (raised ts name n) ≡ length ts
+pub length-raised : (ts : List Timeline) (name : List ℕ) (n : ℕ) → length (raised ts name n) ≡ length ts
 length-raised ts name n = length-map ts (λ t. if is_named name t then raised_by n t else t)
 
 value-raised_if : (b : Bool) (n : ℕ) (t : Timeline) → t.value ≤ (if b then raised_by n t else t).value
@@ -89,8 +93,28 @@ context_of-made ts name has =
 
 -- each accepted command keeps a world sound
 
+IsOfTimelines-more : (made made' : ℕ) → made ≤ made' → (bs : List MadeBuffer) → All (IsOfTimelines made) bs → All (IsOfTimelines made') bs
+IsOfTimelines-more made made' more bs all =
+    All-weaker (IsOfTimelines made) (IsOfTimelines made') (λ b put. All-weaker (IsOfMade made) (IsOfMade made') (λ e h. (h.0, let within = h.1 in omega arith)) b.put put) bs all
+
 IsSound-file : (w : World) → IsSound w → (f : MadeFile) → WasMade w.timelines f → IsSound (record w { files = w.files ++ f ∷ [] })
-IsSound-file w s f made = record { made = All-push (WasMade w.timelines) w.files f s.made made; room = s.room }
+IsSound-file w s f made = record { made = All-push (WasMade w.timelines) w.files f s.made made; buffers = s.buffers; room = s.room }
+
+IsSound-put : (w : World) → IsSound w → (b : List ℕ) (es : List Entry) → All (IsOfMade (length w.timelines)) es → IsSound (with_put w b es)
+IsSound-put w s b es more = record { made = s.made; buffers = put_into-All (IsOfMade (length w.timelines)) w.buffers b es more s.buffers; room = s.room }
+
+-- what is exported, and what is imported
+
+IsFilePoint-exported : (made : ℕ) (flags : ℕ) (es : List Entry) → All (IsOfMade made) es → All (IsFilePoint made) (exported flags es)
+IsFilePoint-exported made flags es all =
+    All-map (IsFilePoint made) at_strongest (filter (is_within (export_usage flags)) es)
+    (All-weaker (IsOfMade made) (λ e. IsFilePoint made (at_strongest e)) (λ e h. record { usage = refl; timeline = h }) (filter (is_within (export_usage flags)) es)
+    (All-filter (is_within (export_usage flags)) (IsOfMade made) es all))
+
+IsOfMade-imported : (made : ℕ) (flags : ℕ) (es : List Entry) → All (IsFilePoint made) es → All (IsOfMade made) (imported flags es)
+IsOfMade-imported made flags es all =
+    All-map (IsOfMade made) (with_usage (import_usage flags)) es
+    (All-weaker (IsFilePoint made) (λ e. IsOfMade made (with_usage (import_usage flags) e)) (λ e h. h.timeline) es all)
 
 pub IsSound-after : (w : World) (c : Command) → IsSound w → first_of (causes w c) ≡ None → IsSound (after w c)
 IsSound-after w (command.Timeline t) s is =
@@ -98,10 +122,12 @@ IsSound-after w (command.Timeline t) s is =
     let low : length w.timelines < CONTEXTS = leb-false CONTEXTS (length w.timelines) (first_of-none (nat_le CONTEXTS (length w.timelines)) (Limit Timelines) [] free.1).0 in
     record {
       made = All-weaker (WasMade w.timelines) (WasMade (w.timelines ++ new_timeline t ∷ [])) (WasMade-new w.timelines t low) w.files s.made;
+      buffers = IsOfTimelines-more (length w.timelines) (length (w.timelines ++ new_timeline t ∷ [])) (omega (arith, length-append {A = Timeline})) w.buffers s.buffers;
       room = omega (arith, length-append {A = Timeline});
     }
 IsSound-after w (command.Inc t n) s is = record {
   made = All-weaker (WasMade w.timelines) (WasMade (raised w.timelines t n)) (WasMade-later w.timelines (raised w.timelines t n) (length-raised w.timelines t n) (IsAtLeast-raised w.timelines t n)) w.files s.made;
+  buffers = rw (length-raised w.timelines t n) s.buffers;
   room = rw (length-raised w.timelines t n) s.room;
 }
 IsSound-after w (command.Value t) s is = s
@@ -115,13 +141,31 @@ IsSound-after w (command.Merge f a b) s is = IsSound-file w s _ (record {
   since = IsAtLeast-refl (reach_of w.timelines);
   put = All-append (IsFilePoint (length w.timelines)) (put_set w.files a) (put_set w.files b) (put_set-made w.timelines w.files a s.made) (put_set-made w.timelines w.files b s.made);
 })
-IsSound-after w (command.Close f) s is = record { made = All-filter (λ (g : MadeFile). not (same_name g.name f)) (WasMade w.timelines) w.files s.made; room = s.room }
+IsSound-after w (command.Close f) s is = record { made = All-filter (λ (g : MadeFile). not (same_name g.name f)) (WasMade w.timelines) w.files s.made; buffers = s.buffers; room = s.room }
 IsSound-after w (command.Wait f) s is = s
 IsSound-after w (command.Info f) s is = s
+IsSound-after w (command.Buffer b) s is = record {
+  made = s.made;
+  buffers = All-push (IsOfTimelines (length w.timelines)) w.buffers (buffer_of b []) s.buffers (All-nil (IsOfMade (length w.timelines)));
+  room = s.room;
+}
+IsSound-after w (command.Add b t p u) s is =
+    let both = not-false (has_made_buffer w.buffers b && has_timeline w.timelines t) (first_of-none (not (has_made_buffer w.buffers b && has_timeline w.timelines t)) NoEntry [] is).0 in
+    let has = (and_parts (has_made_buffer w.buffers b) (has_timeline w.timelines t) both).1 in
+    IsSound-put w s b (entry_of (point_of (context_of w.timelines t) p) u ∷ [])
+    (All-cons (IsOfMade (length w.timelines)) (entry_of (point_of (context_of w.timelines t) p) u) [] (context_of-made w.timelines t has) (All-nil (IsOfMade (length w.timelines))))
+IsSound-after w (command.Import b f flags) s is =
+    IsSound-put w s b (imported flags (put_set w.files f)) (IsOfMade-imported (length w.timelines) flags (put_set w.files f) (put_set-made w.timelines w.files f s.made))
+IsSound-after w (command.Export f b flags) s is = IsSound-file w s _ (record {
+  since = IsAtLeast-refl (reach_of w.timelines);
+  put = IsFilePoint-exported (length w.timelines) flags (buffer_put_set w.buffers b) (buffer_put_set-All (IsOfMade (length w.timelines)) w.buffers b s.buffers);
+})
+IsSound-after w (command.Test b u) s is = s
+IsSound-after w (command.Trim b) s is = s
 
 IsSound-from : (w : World) (history : List Command) → IsSound w → AreAccepted w history → IsSound (world_from w history)
 IsSound-from w [] s accepted = s
 IsSound-from w (c ∷ history) s accepted = IsSound-from (after w c) history (IsSound-after w c s (causes-accepted w c accepted.0)) accepted.1
 
 pub IsSound-history : (history : List Command) → IsHistory history → IsSound (world_of history)
-IsSound-history history accepted = IsSound-from empty_world history (record { made = All-nil (WasMade []); room = omega arith }) accepted
+IsSound-history history accepted = IsSound-from empty_world history (record { made = All-nil (WasMade []); buffers = All-nil (IsOfTimelines 0); room = omega arith }) accepted

@@ -1,25 +1,38 @@
 -- What a desk keeps after each command.
-use Rattle.std.proofs.Common.{◌≡◌, ℕ, ◌+◌, ◌^◌, ◌≤◌, Bool, true, false, ◌&&◌, refl, sym, ap, ◌∙◌, List, [], ◌∷◌, ◌++◌, length, map, None, Some, nat_le, nat_lt, not}
+use Rattle.std.proofs.Common.{◌≡◌, ℕ, ◌+◌, ◌^◌, ◌≤◌, Bool, true, false, ◌&&◌, refl, sym, ap, ◌∙◌, List, [], ◌∷◌, ◌++◌, length, map, None, Some, nat_le, nat_lt, not, ◌<◌, subst}
 use Rattle.std.specs.Prelude.{if◌then◌else◌}
 use Rattle.std.proofs.lemmas.Bool.{leb-true, leb-false, lt-ltb, le-ltb}
 use Rattle.point_core.specs.declared.context.TheConstants.{CONTEXTS}
 use Rattle.point_core.specs.declared.refusal.Refusal.{Refusal}
-use Rattle.point_core.specs.declared.refusal.Refusal.TheVariants.{NoEntry, Exists, Overflow, Limit, TimedOut}
-use Rattle.point_core.specs.declared.refusal.LimitKind.TheVariants.{Timelines, Files}
-use Rattle.point_core.specs.Agreement.{point_of, as_entries, listing}
+use Rattle.point_core.specs.declared.refusal.Refusal.TheVariants.{NoEntry, Exists, Overflow, Flags, Limit, TimedOut}
+use Rattle.point_core.specs.declared.refusal.LimitKind.TheVariants.{Timelines, Buffers, Files}
+use Rattle.point_core.specs.Agreement.{point_of, as_entries, listing, all_reached, AgreesAbove}
 use Rattle.syncfile_core.specs.declared.files.TheConstants.{FILES}
 use Rattle.desk_core.specs.declared.command.Command.{Command}
 use Rattle.desk_core.specs.declared.command.Command.TheVariants as command
-use Rattle.timeline_core.specs.Timeline.{new_timeline, has_timeline, context_of, reach_of, value_of, raised}
-use Rattle.syncfile_core.specs.SyncFile.{File, plain_file}
+use Rattle.timeline_core.specs.Timeline.{new_timeline, has_timeline, context_of, reach_of, value_of, raised, Timeline}
+use Rattle.syncfile_core.specs.SyncFile.{File, plain_file, file_of}
 use Rattle.syncfile_core.specs.Files.{has_file as has_sync_file, without_file, cause_to_refuse}
 use Rattle.syncfile_core.specs.Merge.{merge_of}
-use Rattle.desk_core.specs.World.{World, MadeFile, has_file, after}
-use Rattle.desk_core.specs.Answer.{first_of, is_signalled, all_reached, causes, making_file, points_of}
+use Rattle.desk_core.specs.World.{World, MadeFile, has_file, after, has_made_buffer, buffer_of, MadeBuffer, with_put}
+use Rattle.desk_core.specs.Answer.{first_of, is_signalled, causes, making_file, points_of}
 use Rattle.desk_core.specs.Desk.{DeskState, Holds}
 use Rattle.desk_core.specs.Keeping.{points_at, Keeps, cause_of}
 use Rattle.desk_core.proofs.Signalling.{all_reached-keeps}
 use Rattle.desk_core.proofs.Keeping.{points_of-files_at, has_sync_file-names, length-names, without_file-names, without_file-points, listing-keeps}
+use Rattle.std.proofs.lemmas.List.{map-append}
+use Rattle.point_core.specs.declared.entry.Point.{Point}
+use Rattle.point_core.specs.declared.entry.Entry.{Entry}
+use Rattle.point_core.specs.Usage.{usage_number}
+use Rattle.point_core.proofs.Agreement.{AgreesAbove-later, AgreesAbove-sym}
+use Rattle.resv_core.specs.Resv.{empty}
+use Rattle.dmabuf_core.specs.declared.buffers.TheConstants.{BUFFERS}
+use Rattle.dmabuf_core.specs.Buffers.{Buffer, AreBuffers, OnlyChanges, has_buffer, entries_of, cause_without, cause_by_flags}
+use Rattle.dmabuf_core.specs.Flags.{is_sync_flags, export_usage}
+use Rattle.dmabuf_core.proofs.Putting.{listing-exported}
+use Rattle.timeline_core.proofs.Storing.{reach_of-new}
+use Rattle.desk_core.proofs.Buffers.{has_buffer-names, length-buffers, entries_of-new, buffer_put_set-new, names-put_into, tables-put, tables-trim}
+use Rattle.desk_core.proofs.Sound.{IsAtLeast-raised}
 
 -- why a command is refused
 
@@ -44,6 +57,24 @@ making_file-keeps {desk} {world} k name =
 and-true : (b : Bool) → (b && true) ≡ b
 and-true true = refl
 and-true false = refl
+
+without_both : (b t : Bool) → (if not (b && t) then Some NoEntry else None) ≡ (if t then (if b then None else Some NoEntry) else Some NoEntry)
+without_both true true = refl
+without_both true false = refl
+without_both false true = refl
+without_both false false = refl
+
+without_both_flags : (b f valid : Bool) → (if not (b && f) then Some NoEntry else (if not valid then Some Flags else None)) ≡ (if f then (if b then (if valid then None else Some Flags) else Some NoEntry) else Some NoEntry)
+without_both_flags true true true = refl
+without_both_flags true true false = refl
+without_both_flags true false valid = refl
+without_both_flags false true valid = refl
+without_both_flags false false valid = refl
+
+cause_without-keeps : {desk : DeskState} {world : World} → Keeps desk world → (b : List ℕ) → (if not (has_made_buffer world.buffers b) then Some NoEntry else None) ≡ cause_without desk.buffers b
+cause_without-keeps {desk} {world} k b =
+    if-not (has_made_buffer world.buffers b) (Some NoEntry) None
+    ∙ ap (λ h. if h then None else Some NoEntry) (sym (has_buffer-names desk.buffers world.buffers b k.holds.buffers))
 
 -- the desk refuses what is refused in the worlds that it keeps, and for the same cause
 pub causes-keeps : {desk : DeskState} {world : World} → Keeps desk world → (c : Command) → first_of (causes world c) ≡ cause_of desk c
@@ -76,6 +107,24 @@ causes-keeps {desk} {world} k (command.Wait f) =
 causes-keeps {desk} {world} k (command.Info f) =
     if-not (has_file world.files f) (Some NoEntry) None
     ∙ ap (λ h. if h then None else Some NoEntry) (sym (has_sync_file-names desk.files world.files f k.holds.names))
+causes-keeps {desk} {world} k (command.Buffer b) =
+    ap (λ h. if h then Some Exists else (if nat_le BUFFERS (length world.buffers) then Some (Limit Buffers) else None)) (sym (has_buffer-names desk.buffers world.buffers b k.holds.buffers))
+    ∙ ap (λ o. if has_buffer desk.buffers b then Some Exists else o)
+    (limit_tests BUFFERS (length world.buffers) (Limit Buffers) ∙ ap (λ n. if nat_lt n BUFFERS then None else Some (Limit Buffers)) (sym (length-buffers desk.buffers world.buffers k.holds.buffers)))
+causes-keeps {desk} {world} k (command.Add b t p u) =
+    without_both (has_made_buffer world.buffers b) (has_timeline world.timelines t)
+    ∙ ap (λ h. if has_timeline world.timelines t then (if h then None else Some NoEntry) else Some NoEntry) (sym (has_buffer-names desk.buffers world.buffers b k.holds.buffers))
+    ∙ ap (λ ts. if has_timeline ts t then cause_without desk.buffers b else Some NoEntry) (sym k.holds.timelines)
+causes-keeps {desk} {world} k (command.Import b f flags) =
+    without_both_flags (has_made_buffer world.buffers b) (has_file world.files f) (is_sync_flags flags)
+    ∙ ap (λ h. if has_file world.files f then (if h then (if is_sync_flags flags then None else Some Flags) else Some NoEntry) else Some NoEntry) (sym (has_buffer-names desk.buffers world.buffers b k.holds.buffers))
+    ∙ ap (λ h. if h then cause_by_flags desk.buffers b flags else Some NoEntry) (sym (has_sync_file-names desk.files world.files f k.holds.names))
+causes-keeps {desk} {world} k (command.Export f b flags) =
+    if-not (has_made_buffer world.buffers b) (Some NoEntry) (if not (is_sync_flags flags) then Some Flags else first_of (making_file world f))
+    ∙ ap (λ o. if has_made_buffer world.buffers b then o else Some NoEntry) (if-not (is_sync_flags flags) (Some Flags) (first_of (making_file world f)) ∙ ap (λ o. if is_sync_flags flags then o else Some Flags) (making_file-keeps k f))
+    ∙ ap (λ h. if h then (if is_sync_flags flags then cause_to_refuse desk.files f else Some Flags) else Some NoEntry) (sym (has_buffer-names desk.buffers world.buffers b k.holds.buffers))
+causes-keeps {desk} {world} k (command.Test b u) = cause_without-keeps k b
+causes-keeps {desk} {world} k (command.Trim b) = cause_without-keeps k b
 
 -- what is held
 
@@ -84,42 +133,99 @@ map-push f [] x = refl
 map-push f (y ∷ ys) x = ap (λ zs. f y ∷ zs) (map-push f ys x)
 
 -- a timeline rises, and the files stay
-pub Holds-raised : {desk : DeskState} {world : World} → Holds desk world → (name : List ℕ) (n : ℕ) → Holds (record { timelines = raised desk.timelines name n; files = desk.files }) (after world (command.Inc name n))
+pub Holds-raised : {desk : DeskState} {world : World} → Holds desk world → (name : List ℕ) (n : ℕ) → Holds (record { timelines = raised desk.timelines name n; files = desk.files; buffers = desk.buffers }) (after world (command.Inc name n))
 Holds-raised {desk} {world} h name n = record {
   timelines = ap (λ ts. raised ts name n) h.timelines;
   names = h.names;
   points = h.points;
+  buffers = h.buffers;
+  kept = h.kept;
+  tables = λ b. AgreesAbove-later (IsAtLeast-raised world.timelines name n) (h.tables b);
 }
 
-pub Holds-timeline : {desk : DeskState} {world : World} → Holds desk world → (name : List ℕ) → Holds (record { timelines = desk.timelines ++ new_timeline name ∷ []; files = desk.files }) (after world (command.Timeline name))
-Holds-timeline {desk} {world} h name = record {
-  timelines = ap (λ ts. ts ++ new_timeline name ∷ []) h.timelines;
-  names = h.names;
-  points = h.points;
-}
+pub Holds-timeline : {desk : DeskState} {world : World} → Holds desk world → (name : List ℕ) → length desk.timelines < CONTEXTS → Holds (record { timelines = desk.timelines ++ new_timeline name ∷ []; files = desk.files; buffers = desk.buffers }) (after world (command.Timeline name))
+Holds-timeline {desk} {world} h name low =
+    let low' : length world.timelines < CONTEXTS = let same = h.timelines in rw same at low in
+    record {
+      timelines = ap (λ ts. ts ++ new_timeline name ∷ []) h.timelines;
+      names = h.names;
+      points = h.points;
+      buffers = h.buffers;
+      kept = h.kept;
+      tables = λ b. rw (reach_of-new world.timelines name low') (h.tables b);
+    }
 
 -- a file is put behind the others
-pub Holds-file : {desk : DeskState} {world : World} → Holds desk world → (kept : File) (f : MadeFile) → kept.name ≡ f.name → kept.points ≡ points_of f → Holds (record { timelines = desk.timelines; files = desk.files ++ kept ∷ [] }) (record world { files = world.files ++ f ∷ [] })
+pub Holds-file : {desk : DeskState} {world : World} → Holds desk world → (kept : File) (f : MadeFile) → kept.name ≡ f.name → kept.points ≡ points_of f → Holds (record { timelines = desk.timelines; files = desk.files ++ kept ∷ []; buffers = desk.buffers }) (record world { files = world.files ++ f ∷ [] })
 Holds-file {desk} {world} h kept f name points = record {
   timelines = h.timelines;
   names = map-push (λ (g : File). g.name) desk.files kept ∙ ap (λ ns. ns ++ kept.name ∷ []) h.names ∙ ap (λ n. map (λ (g : MadeFile). g.name) world.files ++ n ∷ []) name ∙ sym (map-push (λ (g : MadeFile). g.name) world.files f);
   points = map-push (λ (g : File). g.points) desk.files kept ∙ ap (λ ps. ps ++ kept.points ∷ []) h.points ∙ ap (λ p. map points_of world.files ++ p ∷ []) points ∙ sym (map-push points_of world.files f);
+  buffers = h.buffers;
+  kept = h.kept;
+  tables = h.tables;
 }
 
 -- a file is taken out
-pub Holds-close : {desk : DeskState} {world : World} → Holds desk world → (name : List ℕ) → Holds (record { timelines = desk.timelines; files = without_file desk.files name }) (after world (command.Close name))
+pub Holds-close : {desk : DeskState} {world : World} → Holds desk world → (name : List ℕ) → Holds (record { timelines = desk.timelines; files = without_file desk.files name; buffers = desk.buffers }) (after world (command.Close name))
 Holds-close {desk} {world} h name = record {
   timelines = h.timelines;
   names = without_file-names desk.files world.files name h.names;
   points = without_file-points desk.files world.files name h.names h.points;
+  buffers = h.buffers;
+  kept = h.kept;
+  tables = h.tables;
 }
 
-pub Holds-fence : {desk : DeskState} {world : World} → Holds desk world → (name t : List ℕ) (ctx p : ℕ) → ctx ≡ context_of desk.timelines t → Holds (record { timelines = desk.timelines; files = desk.files ++ plain_file name (point_of ctx p) ∷ [] }) (after world (command.Fence name t p))
+pub Holds-fence : {desk : DeskState} {world : World} → Holds desk world → (name t : List ℕ) (ctx p : ℕ) → ctx ≡ context_of desk.timelines t → Holds (record { timelines = desk.timelines; files = desk.files ++ plain_file name (point_of ctx p) ∷ []; buffers = desk.buffers }) (after world (command.Fence name t p))
 Holds-fence {desk} {world} h name t ctx p is =
     Holds-file h (plain_file name (point_of ctx p)) _ refl (ap (λ c. point_of c p ∷ []) (is ∙ ap (λ ts. context_of ts t) h.timelines))
 
-pub Holds-merge : {desk : DeskState} {world : World} → Keeps desk world → (name a b reach : List ℕ) → reach ≡ reach_of desk.timelines → Holds (record { timelines = desk.timelines; files = desk.files ++ merge_of desk.files name (a ∷ b ∷ []) reach ∷ [] }) (after world (command.Merge name a b))
+pub Holds-merge : {desk : DeskState} {world : World} → Keeps desk world → (name a b reach : List ℕ) → reach ≡ reach_of desk.timelines → Holds (record { timelines = desk.timelines; files = desk.files ++ merge_of desk.files name (a ∷ b ∷ []) reach ∷ []; buffers = desk.buffers }) (after world (command.Merge name a b))
 Holds-merge {desk} {world} k name a b reach is =
     let is' : reach ≡ reach_of world.timelines = is ∙ ap reach_of k.holds.timelines in
     Holds-file k.holds (merge_of desk.files name (a ∷ b ∷ []) reach) _ refl
     (ap (λ ps. listing (as_entries ps) 0 reach) (points_of-files_at desk.files a b) ∙ rw is' (listing-keeps k a b))
+
+-- what is exported is what is pending of all that was put into the buffer
+pub Holds-export : {desk : DeskState} {world : World} → Holds desk world → (name b : List ℕ) (flags : ℕ) (points : List Point) (floor : List ℕ) → points ≡ listing (entries_of desk.buffers b) (usage_number (export_usage flags)) (reach_of desk.timelines) → Holds (record { timelines = desk.timelines; files = desk.files ++ file_of name points floor ∷ []; buffers = desk.buffers }) (after world (command.Export name b flags))
+Holds-export {desk} {world} h name b flags points floor is =
+    Holds-file h (file_of name points floor) _ refl
+    (is ∙ ap (λ ts. listing (entries_of desk.buffers b) (usage_number (export_usage flags)) (reach_of ts)) h.timelines ∙ listing-exported flags (h.tables b))
+
+-- a buffer is put behind the others
+pub Holds-buffer : {desk : DeskState} {world : World} → Holds desk world → (b : List ℕ) → AreBuffers (desk.buffers ++ (b, empty) ∷ []) → Holds (record { timelines = desk.timelines; files = desk.files; buffers = desk.buffers ++ (b, empty) ∷ [] }) (after world (command.Buffer b))
+Holds-buffer {desk} {world} h b kept = record {
+  timelines = h.timelines;
+  names = h.names;
+  points = h.points;
+  buffers = map-append (λ (k : Buffer). k.0) desk.buffers ((b, empty) ∷ []) ∙ ap (λ ns. ns ++ b ∷ []) h.buffers ∙ sym (map-append (λ (c : MadeBuffer). c.name) world.buffers (buffer_of b [] ∷ []));
+  kept = kept;
+  tables = λ name. rw (entries_of-new desk.buffers b name, buffer_put_set-new world.buffers b name) (h.tables name);
+}
+
+-- more is put into a buffer
+pub Holds-put : {desk : DeskState} {world : World} → Holds desk world → (b : List ℕ) (new : List Buffer) → AreBuffers new → (added put : List Entry) → has_made_buffer world.buffers b ≡ true → AgreesAbove (reach_of desk.timelines) (entries_of new b) (entries_of desk.buffers b ++ added) → AgreesAbove (reach_of world.timelines) added put → OnlyChanges b desk.buffers new → Holds (record { timelines = desk.timelines; files = desk.files; buffers = new }) (with_put world b put)
+Holds-put {desk} {world} h b new kept added put has now same only =
+    let P : List ℕ → Type 0 = λ reach. AgreesAbove reach (entries_of new b) (entries_of desk.buffers b ++ added) in
+    record {
+      timelines = h.timelines;
+      names = h.names;
+      points = h.points;
+      buffers = only.names ∙ h.buffers ∙ sym (names-put_into world.buffers b put);
+      kept = kept;
+      tables = tables-put (reach_of world.timelines) desk.buffers new world.buffers b added put h.tables has (subst P (ap reach_of h.timelines) now) same only;
+    }
+
+-- a table is trimmed
+pub Holds-trim : {desk : DeskState} {world : World} → Holds desk world → (b : List ℕ) (new : List Buffer) → AreBuffers new → AgreesAbove (reach_of desk.timelines) (entries_of desk.buffers b) (entries_of new b) → OnlyChanges b desk.buffers new → Holds (record { timelines = desk.timelines; files = desk.files; buffers = new }) world
+Holds-trim {desk} {world} h b new kept now only =
+    let P : List ℕ → Type 0 = λ reach. AgreesAbove reach (entries_of desk.buffers b) (entries_of new b) in
+    record {
+      timelines = h.timelines;
+      names = h.names;
+      points = h.points;
+      buffers = only.names ∙ h.buffers;
+      kept = kept;
+      tables = tables-trim (reach_of world.timelines) desk.buffers new world.buffers b h.tables (AgreesAbove-sym (subst P (ap reach_of h.timelines) now)) only;
+    }

@@ -15,12 +15,13 @@ use Rattle.timeline_core.proofs.Raising.{names_of-raised}
 use Rattle.desk_core.specs.declared.answer.Answer.TheVariants as answer
 use Rattle.desk_core.specs.declared.command.Command.{Command}
 use Rattle.desk_core.specs.declared.command.Command.TheVariants as command
-use Rattle.desk_core.specs.World.{World, empty_world, after, same_name}
+use Rattle.desk_core.specs.World.{World, empty_world, after}
+use Rattle.point_core.specs.Named.{same_name}
+use Rattle.point_core.proofs.Named.{find-All}
 use Rattle.desk_core.specs.Answer.{first_of, cause, causes, refused_or}
 use Rattle.desk_core.specs.History.{world_from, world_of, AreAccepted, IsHistory, increment_of, incremented}
 use Rattle.desk_core.specs.Desk.{DeskState, StandsFor}
 use Rattle.desk_core.specs.Headline.{AreSums, TellsSums}
-use Rattle.desk_core.proofs.Keeping.{find-All}
 use Rattle.desk_core.proofs.Sound.{first_of-none, causes-accepted, not-false}
 use lib.Pointwise.{pointwise}
 
@@ -90,6 +91,12 @@ Sums-after w done (command.Merge f a b) s is = let h = Sums-same w done (command
 Sums-after w done (command.Close f) s is = let h = Sums-same w done (command.Close f) (λ name. refl) s in record { kept = h.kept; missing = h.missing }
 Sums-after w done (command.Wait f) s is = Sums-same w done (command.Wait f) (λ name. refl) s
 Sums-after w done (command.Info f) s is = Sums-same w done (command.Info f) (λ name. refl) s
+Sums-after w done (command.Buffer b) s is = let h = Sums-same w done (command.Buffer b) (λ name. refl) s in record { kept = h.kept; missing = h.missing }
+Sums-after w done (command.Add b t p u) s is = let h = Sums-same w done (command.Add b t p u) (λ name. refl) s in record { kept = h.kept; missing = h.missing }
+Sums-after w done (command.Import b f flags) s is = let h = Sums-same w done (command.Import b f flags) (λ name. refl) s in record { kept = h.kept; missing = h.missing }
+Sums-after w done (command.Export f b flags) s is = let h = Sums-same w done (command.Export f b flags) (λ name. refl) s in record { kept = h.kept; missing = h.missing }
+Sums-after w done (command.Test b u) s is = Sums-same w done (command.Test b u) (λ name. refl) s
+Sums-after w done (command.Trim b) s is = Sums-same w done (command.Trim b) (λ name. refl) s
 
 AreSums-from : (w : World) (done history : List Command) → Sums w done → AreAccepted w history → AreSums (world_from w history).timelines (done ++ history)
 AreSums-from w done [] s accepted = rw (append-nil done) s.kept

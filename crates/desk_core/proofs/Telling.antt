@@ -1,10 +1,10 @@
 -- A desk that keeps a world tells what was put into its files.
-use Rattle.std.proofs.Common.{◌≡◌, ℕ, Bool, true, false, not, refl, sym, ap, ◌∙◌, List, [], Option, None, Some, option_map, unwrap_or, arith, inl, inr}
+use Rattle.std.proofs.Common.{◌≡◌, ℕ, Bool, true, false, not, refl, sym, ap, ◌∙◌, List, [], ◌∷◌, Option, None, Some, option_map, unwrap_or, arith, inl, inr, All, ◌≤◌, length}
 use Rattle.std.specs.Prelude.{◌↔◌, if◌then◌else◌, is_some}
-use Rattle.std.proofs.lemmas.Bool.{false≢true}
+use Rattle.std.proofs.lemmas.Bool.{false≢true, cases_Bool}
 use Rattle.point_core.specs.declared.refusal.Refusal.TheVariants.{NoEntry, TimedOut}
 use Rattle.point_core.specs.declared.status.Status.TheVariants.{Signalled}
-use Rattle.point_core.specs.Agreement.{AgreesAbove, as_entries, IsReached}
+use Rattle.point_core.specs.Agreement.{AgreesAbove, as_entries, IsReached, all_reached}
 use Rattle.point_core.proofs.Agreement.{AgreesAbove-trans, AgreesAbove-sym, AgreesAbove-same_entries}
 use Rattle.desk_core.specs.declared.answer.Answer.{Answer}
 use Rattle.desk_core.specs.declared.answer.Answer.TheVariants as answer
@@ -14,16 +14,27 @@ use Rattle.desk_core.specs.declared.answer.Info.{Info}
 use Rattle.timeline_core.specs.Timeline.{reach_of}
 use Rattle.syncfile_core.specs.SyncFile.{File}
 use Rattle.syncfile_core.specs.Files.{file_at as sync_file_at}
-use Rattle.desk_core.specs.World.{World, MadeFile, has_file, file_named, put_set}
-use Rattle.desk_core.specs.Answer.{refused_or, all_reached, is_signalled, points_of, info_of}
+use Rattle.desk_core.specs.World.{World, MadeFile, has_file, file_named, put_set, has_made_buffer}
+use Rattle.desk_core.specs.Answer.{refused_or, is_signalled, points_of, info_of, number_if}
 use Rattle.desk_core.specs.Desk.{DeskState, StandsFor, Answers}
 use Rattle.desk_core.specs.History.{world_of}
 use Rattle.desk_core.specs.Keeping.{points_at, Keeps}
-use Rattle.desk_core.specs.Headline.{TellsWhatWasPut, values_after, put_into_file, IsFileReached}
+use Rattle.desk_core.specs.Headline.{TellsWhatWasPut, values_after, put_into_file, IsFileReached, TellsWhatIsInBuffers, put_into_buffer, IsBufferReached}
 use Rattle.desk_core.proofs.Answering.{Keeps-stands}
 use Rattle.desk_core.proofs.Finding.{has_sync_file-found}
 use Rattle.desk_core.proofs.Keeping.{sync_file_at-points, has_sync_file-names, AgreesAbove-keeps}
-use Rattle.desk_core.proofs.Signalling.{IsReached-keeps, all_reached-IsReached, status_if-Signalled}
+use Rattle.desk_core.proofs.Signalling.{IsReached-keeps}
+use Rattle.std.specs.Map.{values_of}
+use Rattle.std.proofs.lemmas.List.Elements.{All-head, All-tail}
+use Rattle.std.proofs.lemmas.Map.Entries.{lookup_head, lookup_tail}
+use Rattle.point_core.specs.declared.entry.Usage.{Usage}
+use Rattle.point_core.specs.Usage.{usage_number}
+use Rattle.point_core.specs.Named.{same_name}
+use Rattle.point_core.proofs.Reached.{all_reached-IsReached, status_if-Signalled}
+use Rattle.resv_core.specs.Resv.{Reservation, IsTable}
+use Rattle.resv_core.specs.declared.resv.TheConstants.{PLACES}
+use Rattle.dmabuf_core.specs.Buffers.{Buffer, has_buffer, entries_of}
+use Rattle.desk_core.proofs.Buffers.{has_buffer-names}
 
 listed : (fs : List File) (name : List ℕ) (f : File) → sync_file_at fs name ≡ Some f → points_at fs name ≡ f.points
 listed fs name f is = ap (λ o. unwrap_or (option_map (λ (g : File). g.points) o) []) is
@@ -80,4 +91,58 @@ TellsWhatWasPut-stands desk history stands =
           let both = sync_file_at-points desk.files world.files name k.holds.names k.holds.points in
           let some : Some f.points ≡ Some (points_of made) = ap (option_map (λ (g : File). g.points)) (sym is) ∙ both ∙ ap (option_map points_of) is' in
           cc;
+    }
+
+-- buffers
+
+same_Value : (a b : ℕ) → answer.Value a ≡ answer.Value b → a ≡ b
+same_Value a b is = cc
+
+-- what a test answers of a buffer that is there
+tested : (b : Bool) (given : Answer) (value : ℕ) → b ≡ true → given ≡ refused_or (if not b then Some NoEntry else None) (answer.Value value) → given ≡ answer.Value value
+tested true given value has is = is
+tested false given value has is = absurd (cc)
+
+one_if : (reached : Bool) (given : Answer) (P : Type 0) → given ≡ answer.Value (number_if reached) → ((reached ≡ true) ↔ P) → (given ≡ answer.Value 1) ↔ P
+one_if true given P is h = (λ _. h.0 refl, λ _. is)
+one_if false given P is h = (λ one. absurd (omega (arith, same_Value 0 1 (sym is ∙ one))), λ p. absurd (false≢true (h.1 p)))
+
+zero_if : (reached : Bool) (given : Answer) (P : Type 0) → given ≡ answer.Value (number_if reached) → ((reached ≡ true) ↔ P) → (given ≡ answer.Value 0) ↔ (¬ P)
+zero_if true given P is h = (λ none. absurd (omega (arith, same_Value 1 0 (sym is ∙ none))), λ none. absurd (none (h.0 refl)))
+zero_if false given P is h = (λ _ p. absurd (false≢true (h.1 p)), λ _. is)
+
+tested-stands : {desk : DeskState} {history : List Command} → StandsFor desk history → (name : List ℕ) (usage : Usage) (given : Answer) → has_buffer desk.buffers name ≡ true → Answers desk (command.Test name usage) given → given ≡ answer.Value (number_if (all_reached (values_after history) (usage_number usage) (put_into_buffer history name)))
+tested-stands {desk} {history} stands name usage given has answers =
+    let made : has_made_buffer (world_of history).buffers name ≡ true = sym (has_buffer-names desk.buffers (world_of history).buffers name stands.holds.buffers) ∙ has in
+    elim ((answers history stands).told) [
+      | inl told ↦ tested (has_made_buffer (world_of history).buffers name) given (number_if (all_reached (values_after history) (usage_number usage) (put_into_buffer history name))) made told
+      | inr none ↦ absurd (false≢true none.1)
+    ]
+
+-- a table that is found has its places
+places-found : (bs : List Buffer) (name : List ℕ) → All IsTable (values_of bs) → length (entries_of bs name) ≤ PLACES
+places-found [] name all = omega arith
+places-found (b ∷ bs) name all = elim (cases_Bool (same_name name b.0)) [
+  | inl is ↦
+      let found = ap (λ (o : Option Reservation). length (unwrap_or (option_map (λ (t : Reservation). t.entries) o) [])) (lookup_head (same_name name) b bs is) in
+      let places = (All-head IsTable b.1 (values_of bs) all).places in
+      omega arith
+  | inr isnt ↦
+      let found = ap (λ (o : Option Reservation). length (unwrap_or (option_map (λ (t : Reservation). t.entries) o) [])) (lookup_tail (same_name name) b bs isnt) in
+      let rest = places-found bs name (All-tail IsTable b.1 (values_of bs) all) in
+      omega arith
+]
+
+pub TellsWhatIsInBuffers-stands : (desk : DeskState) (history : List Command) → StandsFor desk history → TellsWhatIsInBuffers desk history
+TellsWhatIsInBuffers-stands desk history stands =
+    let k = Keeps-stands stands in
+    let tables = stands.holds.tables in
+    let put_reached = λ (name : List ℕ) (usage : Usage). all_reached-IsReached (values_after history) (usage_number usage) (put_into_buffer history name) in
+    record {
+      agrees = tables;
+      same_put = λ a b same. AgreesAbove-trans (tables a) (AgreesAbove-trans (AgreesAbove-same_entries (values_after history) (put_into_buffer history a) (put_into_buffer history b) same.there same.back) (AgreesAbove-sym (tables b)));
+      same_as_file = λ name b f is same. AgreesAbove-trans (agrees k name f is) (AgreesAbove-trans (AgreesAbove-same_entries (values_after history) (put_into_file history name) (put_into_buffer history b) same.there same.back) (AgreesAbove-sym (tables b)));
+      tested = λ name usage given has answers. one_if _ given (IsBufferReached history name usage) (tested-stands stands name usage given has answers) (put_reached name usage);
+      tested_pending = λ name usage given has answers. zero_if _ given (IsBufferReached history name usage) (tested-stands stands name usage given has answers) (put_reached name usage);
+      places = λ name. places-found desk.buffers name stands.holds.kept.tables;
     }

@@ -1,24 +1,23 @@
 -- What is answered to a check of a file, and to a close.
 use Rattle.std.proofs.Common.{◌≡◌, ℕ, Bool, true, false, ◌||◌, not, refl, sym, ap, ◌∙◌, List, [], ◌∷◌, Option, None, Some, option_map, unwrap_or}
-use Rattle.std.specs.Prelude.{is_some, if◌then◌else◌, IsOk, IsErrAnd, MatchOption, MatchBool, Result, Ok, Err}
+use Rattle.std.specs.Prelude.{is_some, if◌then◌else◌, IsOk, IsOkAnd, IsErrAnd, MatchOption, MatchBool, Result, Ok, Err}
 use Rattle.std.proofs.lemmas.Bool.{false≢true}
 use Rattle.point_core.specs.declared.refusal.Refusal.{Refusal}
 use Rattle.point_core.specs.declared.refusal.Refusal.TheVariants.{NoEntry, TimedOut}
 use Rattle.point_core.specs.declared.status.Status.{Status}
 use Rattle.point_core.specs.declared.status.Status.TheVariants.{Active, Signalled}
 use Rattle.point_core.specs.Status.{status_if}
-use Rattle.point_core.specs.Agreement.{as_entries}
+use Rattle.point_core.specs.Agreement.{as_entries, all_reached}
 use Rattle.timeline_core.specs.Timeline.{reach_of}
 use Rattle.syncfile_core.specs.SyncFile.{File}
 use Rattle.syncfile_core.specs.Status.{is_reached, status_of}
 use Rattle.syncfile_core.specs.Files.{is_named, has_file as has_sync_file, file_at as sync_file_at, without_file, IsRefusedFor}
 use Rattle.desk_core.specs.declared.command.Command.TheVariants as command
-use Rattle.desk_core.specs.Answer.{all_reached}
 use Rattle.desk_core.specs.Desk.{DeskState}
 use Rattle.desk_core.specs.Keeping.{cause_of}
 use Rattle.desk_core.proofs.Finding.{has_sync_file-found}
-use Rattle.desk_core.proofs.Signalling.{all_reached-points}
 use Rattle.std.specs.List.{list_all}
+use Rattle.point_core.proofs.Reached.{all_reached-points}
 
 -- why a check of a file of that status is refused
 abbrev pub cause_if : Status → Option Refusal
@@ -82,3 +81,23 @@ missing_if false r e known err = refl
 
 pub unclosed : (fs new : List File) (name : List ℕ) (r : Result (Unit {0}) Refusal) (e : Refusal) → MatchBool (has_sync_file fs name) (IsOk r) (r ≡ Err NoEntry) → r ≡ Err e → new ≡ without_file fs name → new ≡ fs
 unclosed fs new name r e known err without = without ∙ without_file-missing fs name (missing_if (has_sync_file fs name) r e known err)
+
+-- what is accepted finds what it names
+pub found_if : {T : Type 0} (b : Bool) (o : Option Refusal) (r : Result T Refusal) (t : T) → IsRefusedFor (if b then o else Some NoEntry) r → r ≡ Ok t → b ≡ true
+found_if true o r t refused ok = refl
+found_if false o r t refused ok = absurd (cc)
+
+-- a refusal, told by one call and then by another
+pub refused_again : (T U : Type 0) (o : Option Refusal) (e : Refusal) → IsRefusedFor {T = T} o (Err e) → IsRefusedFor {T = U} o (Err e)
+refused_again T U (Some cause) e refused = let same : e ≡ cause = cc in ap Err same
+refused_again T U None e refused = refused
+
+pub accepted_again : (T U : Type 0) (o : Option Refusal) (t : T) (u : U) → IsRefusedFor {T = T} o (Ok t) → IsRefusedFor {T = U} o (Ok u)
+accepted_again T U (Some cause) t u refused = absurd (cc)
+accepted_again T U None t u refused = tt
+
+-- what a call tells that is refused where there is none of that name
+pub told_where : (b : Bool) (r : Result Bool Refusal) (s : Bool) (P : Bool → Type 0) → MatchBool b (IsOkAnd r P) (r ≡ Err NoEntry) → r ≡ Ok s → P s
+told_where true (Ok s') s P told ok = let same : s' ≡ s = cc in rw (← same) told
+told_where true (Err e) s P told ok = absurd (cc)
+told_where false r s P told ok = absurd (cc)

@@ -5,14 +5,14 @@ use Rattle.point_core.specs.declared.context.TheConstants.{CONTEXTS}
 use Rattle.point_core.specs.declared.entry.Point.{Point}
 use Rattle.point_core.specs.declared.entry.Entry.{Entry}
 use Rattle.point_core.specs.declared.refusal.Refusal.{Refusal}
-use Rattle.point_core.specs.declared.refusal.Refusal.TheVariants.{NoEntry, Exists, Overflow, Limit, TimedOut}
-use Rattle.point_core.specs.declared.refusal.LimitKind.TheVariants.{Timelines, Files}
+use Rattle.point_core.specs.declared.refusal.Refusal.TheVariants.{NoEntry, Exists, Overflow, Flags, Limit, TimedOut}
+use Rattle.point_core.specs.declared.refusal.LimitKind.TheVariants.{Timelines, Buffers, Files}
 use Rattle.point_core.specs.declared.status.Status.{Status}
 use Rattle.point_core.specs.declared.status.Status.TheVariants.{Signalled}
 use Rattle.point_core.specs.Usage.{usage_number}
 use Rattle.point_core.specs.Status.{status_if}
 use Rattle.point_core.specs.Reach.{value_at}
-use Rattle.point_core.specs.Agreement.{listing}
+use Rattle.point_core.specs.Agreement.{listing, all_reached}
 use Rattle.desk_core.specs.declared.command.Command.{Command}
 use Rattle.desk_core.specs.declared.command.Command.TheVariants as command
 use Rattle.desk_core.specs.declared.answer.Answer.{Answer}
@@ -21,7 +21,9 @@ use Rattle.desk_core.specs.declared.answer.Info.{Info}
 use Rattle.desk_core.specs.declared.answer.FenceRow.{FenceRow}
 use Rattle.desk_core.specs.declared.answer.Maker.TheVariants.{SwSync, Stub}
 use Rattle.timeline_core.specs.Timeline.{Timeline, has_timeline, name_at, reach_of, value_of}
-use Rattle.desk_core.specs.World.{MadeFile, World, has_file, file_named, put_set}
+use Rattle.desk_core.specs.World.{MadeFile, World, has_file, file_named, put_set, has_made_buffer, buffer_put_set}
+use Rattle.dmabuf_core.specs.declared.buffers.TheConstants.{BUFFERS}
+use Rattle.dmabuf_core.specs.Flags.{is_sync_flags}
 use Rattle.syncfile_core.specs.declared.files.TheConstants.{FILES}
 
 -- the first refusal whose cause holds
@@ -35,14 +37,6 @@ cause holds refusal = (holds, refusal)
 -- a file of that name can't be made
 abbrev pub making_file : World → List ℕ → List (Bool × Refusal)
 making_file w name = cause (has_file w.files name) Exists ∷ cause (nat_le FILES (length w.files)) (Limit Files) ∷ []
-
--- the entry has been reached
-abbrev pub is_reached : List ℕ → Entry → Bool
-is_reached reach e = nat_le e.point.value (value_at reach e.point.ctx)
-
--- each put entry of the usage or a stronger one has been reached
-abbrev pub all_reached : List ℕ → ℕ → List Entry → Bool
-all_reached reach usage es = list_all (λ e. not (nat_le (usage_number e.usage) usage) || is_reached reach e) es
 
 -- all that was put into the file of that name is reached
 abbrev pub is_signalled : World → List ℕ → Bool
@@ -58,6 +52,16 @@ causes w (command.Merge f a b) = cause (not (has_file w.files a && has_file w.fi
 causes w (command.Close f) = cause (not (has_file w.files f)) NoEntry ∷ []
 causes w (command.Wait f) = cause (not (has_file w.files f)) NoEntry ∷ cause (not (is_signalled w f)) TimedOut ∷ []
 causes w (command.Info f) = cause (not (has_file w.files f)) NoEntry ∷ []
+causes w (command.Buffer b) = cause (has_made_buffer w.buffers b) Exists ∷ cause (nat_le BUFFERS (length w.buffers)) (Limit Buffers) ∷ []
+causes w (command.Add b t p u) = cause (not (has_made_buffer w.buffers b && has_timeline w.timelines t)) NoEntry ∷ []
+causes w (command.Import b f flags) = cause (not (has_made_buffer w.buffers b && has_file w.files f)) NoEntry ∷ cause (not (is_sync_flags flags)) Flags ∷ []
+causes w (command.Export f b flags) = cause (not (has_made_buffer w.buffers b)) NoEntry ∷ cause (not (is_sync_flags flags)) Flags ∷ making_file w f
+causes w (command.Test b u) = cause (not (has_made_buffer w.buffers b)) NoEntry ∷ []
+causes w (command.Trim b) = cause (not (has_made_buffer w.buffers b)) NoEntry ∷ []
+
+-- 1 for yes, 0 for no
+abbrev pub number_if : Bool → ℕ
+number_if b = if b then 1 else 0
 
 -- a file is signalled exactly where all that was put into it is
 abbrev pub status_of : World → MadeFile → Status
@@ -96,6 +100,12 @@ told w (command.Merge f a b) = answer.Done
 told w (command.Close f) = answer.Done
 told w (command.Wait f) = answer.Done
 told w (command.Info f) = answer.Info (info_of w f (file_named w.files f))
+told w (command.Buffer b) = answer.Done
+told w (command.Add b t p u) = answer.Done
+told w (command.Import b f flags) = answer.Done
+told w (command.Export f b flags) = answer.Done
+told w (command.Test b u) = answer.Value (number_if (all_reached (reach_of w.timelines) (usage_number u) (buffer_put_set w.buffers b)))
+told w (command.Trim b) = answer.Done
 
 abbrev pub refused_or : Option Refusal → Answer → Answer
 refused_or None a = a
@@ -111,6 +121,12 @@ takes_memory (command.Merge f a b) = true
 takes_memory (command.Close f) = false
 takes_memory (command.Wait f) = false
 takes_memory (command.Info f) = true
+takes_memory (command.Buffer b) = true
+takes_memory (command.Add b t p u) = true
+takes_memory (command.Import b f flags) = true
+takes_memory (command.Export f b flags) = true
+takes_memory (command.Test b u) = false
+takes_memory (command.Trim b) = false
 
 -- the one answer of the command
 abbrev pub answer_to : World → Command → Answer

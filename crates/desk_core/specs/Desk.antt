@@ -1,22 +1,30 @@
 -- What a desk holds, the histories that it stands for, and the answers that it gives.
-use Rattle.std.specs.Prelude.{◌≡◌, List, map}
-use Rattle.timeline_core.specs.Timeline.{Timeline}
+use Rattle.std.specs.Prelude.{◌≡◌, ℕ, List, map}
+use Rattle.timeline_core.specs.Timeline.{Timeline, reach_of}
 use Rattle.syncfile_core.specs.SyncFile.{File}
-use Rattle.desk_core.specs.World.{MadeFile, World}
+use Rattle.dmabuf_core.specs.Buffers.{Buffer, AreBuffers, names_of, entries_of}
+use Rattle.desk_core.specs.World.{MadeFile, MadeBuffer, World, buffer_put_set}
 use Rattle.desk_core.specs.Answer.{points_of}
 use Rattle.desk_core.specs.declared.answer.Answer.{Answer}
 use Rattle.desk_core.specs.declared.command.Command.{Command}
 use Rattle.desk_core.specs.History.{world_of, IsHistory, IsAnswer}
+use Rattle.point_core.specs.Agreement.{AgreesAbove}
 
 pub record DeskState : Type 0 where
   pub timelines : List Timeline
   pub files : List File
+  pub buffers : List Buffer
 
--- the desk holds what the world has: its timelines, and its files by name and order, each with the points that it lists
+-- the desk holds what the world has: its timelines; its files by name and order, each with the points that it lists;
+-- its buffers by name and order, each with a table that is within its places and agrees above the reach with all that
+-- was put in
 pub record Holds (desk : DeskState) (world : World) : Type 0 where
   pub timelines : desk.timelines ≡ world.timelines
   pub names : map (λ (f : File). f.name) desk.files ≡ map (λ (f : MadeFile). f.name) world.files
   pub points : map (λ (f : File). f.points) desk.files ≡ map points_of world.files
+  pub buffers : names_of desk.buffers ≡ map (λ (b : MadeBuffer). b.name) world.buffers
+  pub kept : AreBuffers desk.buffers
+  pub tables : (name : List ℕ) → AgreesAbove (reach_of world.timelines) (entries_of desk.buffers name) (buffer_put_set world.buffers name)
 
 -- the list of commands is a history, and the desk holds what its world has
 pub record StandsFor (desk : DeskState) (history : List Command) : Type 0 where

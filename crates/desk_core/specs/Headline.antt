@@ -1,7 +1,9 @@
--- What a desk tells of all that was put into its files, and of its timelines.
-use Rattle.std.specs.Prelude.{◌≡◌, ℕ, ◌+◌, ◌↔◌, List, Some, All, Contains}
+-- What a desk tells of all that was put into its files and buffers, and of its timelines.
+use Rattle.std.specs.Prelude.{◌≡◌, ℕ, ◌+◌, ◌≤◌, ◌↔◌, true, List, length, Some, All, Contains}
 use Rattle.point_core.specs.declared.entry.Entry.{Entry}
+use Rattle.point_core.specs.declared.entry.Usage.{Usage}
 use Rattle.point_core.specs.declared.refusal.Refusal.TheVariants.{TimedOut}
+use Rattle.point_core.specs.Usage.{usage_number}
 use Rattle.point_core.specs.declared.status.Status.TheVariants.{Signalled}
 use Rattle.point_core.specs.Agreement.{AgreesAbove, as_entries, IsReached}
 use Rattle.desk_core.specs.declared.command.Command.{Command}
@@ -12,7 +14,9 @@ use Rattle.desk_core.specs.declared.answer.Answer.TheVariants as answer
 use Rattle.timeline_core.specs.Timeline.{Timeline, reach_of}
 use Rattle.syncfile_core.specs.SyncFile.{File}
 use Rattle.syncfile_core.specs.Files.{file_at as sync_file_at}
-use Rattle.desk_core.specs.World.{MadeFile, file_named, put_set}
+use Rattle.resv_core.specs.declared.resv.TheConstants.{PLACES}
+use Rattle.dmabuf_core.specs.Buffers.{has_buffer, entries_of}
+use Rattle.desk_core.specs.World.{MadeFile, file_named, put_set, buffer_put_set}
 use Rattle.desk_core.specs.Answer.{points_of}
 use Rattle.desk_core.specs.History.{world_of, incremented}
 use Rattle.desk_core.specs.Desk.{DeskState, Answers}
@@ -58,6 +62,34 @@ pub record TellsWhatWasPut (desk : DeskState) (history : List Command) : Type 0 
   -- each file lists what was pending when it was made, or its one point
   pub listed : (name : List ℕ) (f : File) (made : MadeFile) → sync_file_at desk.files name ≡ Some f → file_named (world_of history).files name ≡ Some made
       → f.points ≡ points_of made
+
+-- all that a history put into the buffer of that name
+abbrev pub put_into_buffer : List Command → List ℕ → List Entry
+put_into_buffer history name = buffer_put_set (world_of history).buffers name
+
+-- every point that was put into the buffer of that name, at the usage or a stronger one, is reached
+abbrev pub IsBufferReached : List Command → List ℕ → Usage → Type 0
+IsBufferReached history name usage = IsReached (put_into_buffer history name) (usage_number usage) (values_after history)
+
+-- above the timelines' values a reservation says what was put into its buffer, and the desk tells that it is signalled at a
+-- usage exactly when all of that is
+pub record TellsWhatIsInBuffers (desk : DeskState) (history : List Command) : Type 0 where
+  -- each reservation agrees, at every usage, with the union of all that was put into it
+  pub agrees : (name : List ℕ) → AgreesAbove (values_after history) (entries_of desk.buffers name) (put_into_buffer history name)
+  -- reservations with the same put entries agree
+  pub same_put : (a b : List ℕ) → HasSameEntries (put_into_buffer history a) (put_into_buffer history b)
+      → AgreesAbove (values_after history) (entries_of desk.buffers a) (entries_of desk.buffers b)
+  -- a file beside a reservation with the same put entries agrees with it, its points being of the strongest usage
+  pub same_as_file : (name b : List ℕ) (f : File) → sync_file_at desk.files name ≡ Some f
+      → HasSameEntries (put_into_file history name) (put_into_buffer history b)
+      → AgreesAbove (values_after history) (as_entries f.points) (entries_of desk.buffers b)
+  -- `test` answers 1 exactly when every point put in at that usage or a stronger one is reached, and else 0
+  pub tested : (name : List ℕ) (usage : Usage) (given : Answer) → has_buffer desk.buffers name ≡ true → Answers desk (command.Test name usage) given
+      → ((given ≡ answer.Value 1) ↔ IsBufferReached history name usage)
+  pub tested_pending : (name : List ℕ) (usage : Usage) (given : Answer) → has_buffer desk.buffers name ≡ true → Answers desk (command.Test name usage) given
+      → ((given ≡ answer.Value 0) ↔ (¬ IsBufferReached history name usage))
+  -- a reservation never holds more than its places
+  pub places : (name : List ℕ) → length (entries_of desk.buffers name) ≤ PLACES
 
 -- each value is the sum of the accepted increments of that name
 abbrev pub AreSums : List Timeline → List Command → Type 0

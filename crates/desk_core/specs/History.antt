@@ -6,7 +6,8 @@ use Rattle.desk_core.specs.declared.command.Command.{Command}
 use Rattle.desk_core.specs.declared.command.Command.TheVariants as command
 use Rattle.desk_core.specs.declared.answer.Answer.{Answer}
 use Rattle.desk_core.specs.declared.answer.Answer.TheVariants as answer
-use Rattle.desk_core.specs.World.{World, empty_world, after, same_name}
+use Rattle.desk_core.specs.World.{World, empty_world, after}
+use Rattle.point_core.specs.Named.{same_name}
 use Rattle.desk_core.specs.Answer.{answer_to, is_refused, takes_memory}
 
 abbrev pub world_from : World → List Command → World
@@ -36,6 +37,12 @@ increment_of name (command.Merge f a b) = 0
 increment_of name (command.Close f) = 0
 increment_of name (command.Wait f) = 0
 increment_of name (command.Info f) = 0
+increment_of name (command.Buffer b) = 0
+increment_of name (command.Add b t p u) = 0
+increment_of name (command.Import b f flags) = 0
+increment_of name (command.Export f b flags) = 0
+increment_of name (command.Test b u) = 0
+increment_of name (command.Trim b) = 0
 
 -- the sum of the accepted increments of the timeline of that name
 abbrev pub incremented : List Command → List ℕ → ℕ

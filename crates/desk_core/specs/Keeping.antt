@@ -1,23 +1,28 @@
 -- What the contracts of the single commands say, for the proof of `step`.
-use Rattle.std.specs.Prelude.{◌≡◌, ℕ, ◌+◌, ◌^◌, ◌≤◌, false, nat_lt, nat_le, if◌then◌else◌, List, [], ◌∷◌, map, length, All, Option, None, Some, option_map, unwrap_or, Result, Ok, Err}
+use Rattle.std.specs.Prelude.{◌≡◌, ℕ, ◌+◌, ◌^◌, ◌≤◌, ◌<◌, false, nat_lt, nat_le, if◌then◌else◌, List, [], ◌∷◌, map, length, All, Option, None, Some, option_map, unwrap_or, Result, Ok, Err}
 use Rattle.point_core.specs.declared.entry.Point.{Point}
 use Rattle.point_core.specs.declared.context.TheConstants.{CONTEXTS}
 use Rattle.point_core.specs.declared.refusal.Refusal.{Refusal}
-use Rattle.point_core.specs.declared.refusal.Refusal.TheVariants.{NoEntry, Exists, Overflow, Limit, TimedOut}
+use Rattle.point_core.specs.declared.refusal.Refusal.TheVariants.{NoEntry, Exists, Overflow, Flags, Limit, TimedOut}
 use Rattle.point_core.specs.declared.refusal.LimitKind.TheVariants.{Timelines}
-use Rattle.point_core.specs.Agreement.{as_entries}
+use Rattle.point_core.specs.Agreement.{as_entries, all_reached, top}
+use Rattle.point_core.specs.Latest.{raised_to}
+use Rattle.point_core.specs.Reach.{value_at}
+use Rattle.point_core.specs.declared.entry.Entry.{Entry}
 use Rattle.point_core.specs.Status.{status_if}
 use Rattle.timeline_core.specs.Timeline.{Timeline, has_timeline, reach_of, value_of}
 use Rattle.syncfile_core.specs.SyncFile.{File}
 use Rattle.syncfile_core.specs.Files.{has_file as has_sync_file, file_at as sync_file_at, cause_to_refuse}
 use Rattle.syncfile_core.specs.Merge.{cause_to_refuse_merge}
+use Rattle.dmabuf_core.specs.Flags.{is_sync_flags}
+use Rattle.dmabuf_core.specs.Buffers.{Buffer, entries_of, has_buffer, cause_to_refuse as cause_to_refuse_buffer, cause_without, cause_by_flags}
 use Rattle.desk_core.specs.declared.answer.Info.{Info}
 use Rattle.desk_core.specs.declared.answer.Answer.{Answer}
 use Rattle.desk_core.specs.declared.answer.Answer.TheVariants as answer
 use Rattle.desk_core.specs.declared.command.Command.{Command}
 use Rattle.desk_core.specs.declared.command.Command.TheVariants as command
 use Rattle.desk_core.specs.World.{World, after}
-use Rattle.desk_core.specs.Answer.{told, is_refused, all_reached, fence_row, or_stub}
+use Rattle.desk_core.specs.Answer.{told, is_refused, fence_row, or_stub}
 use Rattle.desk_core.specs.Desk.{DeskState, Holds}
 use Rattle.desk_core.specs.Sound.{IsSound}
 
@@ -28,6 +33,15 @@ AreMade made ps = All (λ (p : Point). p.ctx ≤ made) ps
 -- each file lists points of timelines that were made
 abbrev pub HaveTimelines : ℕ → List File → Type 0
 HaveTimelines made fs = All (λ (f : File). AreMade made f.points) fs
+
+-- no context behind those that were made has a pending point
+pub record HasNoneBehind (made : ℕ) (reach : List ℕ) (es : List Entry) : Type 0 where
+  pub tops : (usage ctx : ℕ) → made < ctx → raised_to (value_at reach ctx) (top es usage ctx) ≡ value_at reach ctx
+
+-- files and buffers of a desk have points of timelines that were made
+pub record IsOfItsTimelines (d : DeskState) : Type 0 where
+  pub files : HaveTimelines (length d.timelines) d.files
+  pub buffers : (name : List ℕ) → HasNoneBehind (length d.timelines) (reach_of d.timelines) (entries_of d.buffers name)
 
 -- what is told of a file that lists the points
 abbrev pub info_at : List Timeline → List ℕ → List Point → Info
@@ -52,6 +66,12 @@ cause_of d (command.Merge f a b) = cause_to_refuse_merge d.files f (a ∷ b ∷ 
 cause_of d (command.Close f) = if has_sync_file d.files f then None else Some NoEntry
 cause_of d (command.Wait f) = if has_sync_file d.files f then (if all_reached (reach_of d.timelines) 0 (as_entries (points_at d.files f)) then None else Some TimedOut) else Some NoEntry
 cause_of d (command.Info f) = if has_sync_file d.files f then None else Some NoEntry
+cause_of d (command.Buffer b) = cause_to_refuse_buffer d.buffers b
+cause_of d (command.Add b t p u) = if has_timeline d.timelines t then cause_without d.buffers b else Some NoEntry
+cause_of d (command.Import b f flags) = if has_sync_file d.files f then cause_by_flags d.buffers b flags else Some NoEntry
+cause_of d (command.Export f b flags) = if has_buffer d.buffers b then (if is_sync_flags flags then cause_to_refuse d.files f else Some Flags) else Some NoEntry
+cause_of d (command.Test b u) = cause_without d.buffers b
+cause_of d (command.Trim b) = cause_without d.buffers b
 
 -- the command was done in each world that the desk keeps
 pub record IsDone (old : DeskState) (c : Command) (given : Answer) (new : DeskState) : Type 0 where

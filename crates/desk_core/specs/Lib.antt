@@ -5,6 +5,8 @@ pub mod History
 pub mod Keeping
 pub mod Sound
 pub mod World
+pub use Rattle.dmabuf_core.specs.Buffers
+pub use Rattle.dmabuf_core.specs.Flags
 pub use Rattle.point_core.specs.Agreement
 pub use Rattle.point_core.specs.Reach
 pub use Rattle.point_core.specs.Status

@@ -1,9 +1,10 @@
 -- What the accepted commands so far mean, object by object: all that was ever put into it, whatever was dropped since.
-use Rattle.std.specs.Prelude.{ℕ, nat_eq, Bool, true, false, not, List, [], ◌∷◌, ◌++◌, filter, find, Option, option_map, unwrap_or}
-use Rattle.std.specs.List.{list_any}
-use lib.Pointwise.{pointwise}
+use Rattle.std.specs.Prelude.{ℕ, Bool, true, false, if◌then◌else◌, List, [], ◌∷◌, ◌++◌, map, Option, option_map, unwrap_or}
 use Rattle.point_core.specs.declared.entry.Entry.{Entry}
 use Rattle.point_core.specs.Agreement.{as_entry, point_of}
+use Rattle.point_core.specs.Named.{is_named, has_named, named, without_named}
+use Rattle.resv_core.specs.Resv.{entry_of}
+use Rattle.dmabuf_core.specs.Flags.{exported, imported}
 use Rattle.desk_core.specs.declared.command.Command.{Command}
 use Rattle.desk_core.specs.declared.command.Command.TheVariants as command
 use Rattle.timeline_core.specs.Timeline.{Timeline, new_timeline, context_of, reach_of, raised}
@@ -15,29 +16,53 @@ pub record MadeFile : Type 0 where
   pub is_one_point : Bool
   pub made_at : List ℕ
 
+-- a buffer, with all that was put into it
+pub record MadeBuffer : Type 0 where
+  pub name : List ℕ
+  pub put : List Entry
+
 pub record World : Type 0 where
   pub timelines : List Timeline
   pub files : List MadeFile
+  pub buffers : List MadeBuffer
 
 abbrev pub empty_world : World
-empty_world = record { timelines = []; files = [] }
-
-abbrev pub same_name : List ℕ → List ℕ → Bool
-same_name = pointwise nat_eq
+empty_world = record { timelines = []; files = []; buffers = [] }
 
 abbrev pub has_file : List MadeFile → List ℕ → Bool
-has_file fs name = list_any (λ f. same_name f.name name) fs
+has_file fs name = has_named (λ (f : MadeFile). f.name) fs name
 
 abbrev pub file_named : List MadeFile → List ℕ → Option MadeFile
-file_named fs name = find (λ f. same_name f.name name) fs
+file_named fs name = named (λ (f : MadeFile). f.name) fs name
 
 -- the files but the one of that name
 abbrev pub files_without : List MadeFile → List ℕ → List MadeFile
-files_without fs name = filter (λ f. not (same_name f.name name)) fs
+files_without fs name = without_named (λ (f : MadeFile). f.name) fs name
 
 -- all that was put into the file of that name
 abbrev pub put_set : List MadeFile → List ℕ → List Entry
-put_set fs name = unwrap_or (option_map (λ f. f.put) (file_named fs name)) []
+put_set fs name = unwrap_or (option_map (λ (f : MadeFile). f.put) (file_named fs name)) []
+
+abbrev pub has_made_buffer : List MadeBuffer → List ℕ → Bool
+has_made_buffer bs name = has_named (λ (b : MadeBuffer). b.name) bs name
+
+abbrev pub buffer_named : List MadeBuffer → List ℕ → Option MadeBuffer
+buffer_named bs name = named (λ (b : MadeBuffer). b.name) bs name
+
+-- all that was put into the buffer of that name
+abbrev pub buffer_put_set : List MadeBuffer → List ℕ → List Entry
+buffer_put_set bs name = unwrap_or (option_map (λ (b : MadeBuffer). b.put) (buffer_named bs name)) []
+
+abbrev pub buffer_of : List ℕ → List Entry → MadeBuffer
+buffer_of name put = record { name = name; put = put }
+
+-- the buffer, with more put into it
+abbrev pub with_more : List Entry → MadeBuffer → MadeBuffer
+with_more es b = buffer_of b.name (b.put ++ es)
+
+-- the buffers, with more put into the one of that name
+abbrev pub put_into : List MadeBuffer → List ℕ → List Entry → List MadeBuffer
+put_into bs name es = map (λ (b : MadeBuffer). if is_named (λ (b : MadeBuffer). b.name) name b then with_more es b else b) bs
 
 abbrev pub with_timeline : World → List ℕ → World
 with_timeline w name = record w { timelines = w.timelines ++ new_timeline name ∷ [] }
@@ -49,6 +74,12 @@ with_raised w name n = record w { timelines = raised w.timelines name n }
 abbrev pub with_file : World → List ℕ → List Entry → Bool → World
 with_file w name put is_one_point = record w { files = w.files ++ record { name = name; put = put; is_one_point = is_one_point; made_at = reach_of w.timelines } ∷ [] }
 
+abbrev pub with_buffer : World → List ℕ → World
+with_buffer w name = record w { buffers = w.buffers ++ buffer_of name [] ∷ [] }
+
+abbrev pub with_put : World → List ℕ → List Entry → World
+with_put w name es = record w { buffers = put_into w.buffers name es }
+
 -- the world after an accepted command
 abbrev pub after : World → Command → World
 after w (command.Timeline t) = with_timeline w t
@@ -59,3 +90,9 @@ after w (command.Merge f a b) = with_file w f (put_set w.files a ++ put_set w.fi
 after w (command.Close f) = record w { files = files_without w.files f }
 after w (command.Wait f) = w
 after w (command.Info f) = w
+after w (command.Buffer b) = with_buffer w b
+after w (command.Add b t p u) = with_put w b (entry_of (point_of (context_of w.timelines t) p) u ∷ [])
+after w (command.Import b f flags) = with_put w b (imported flags (put_set w.files f))
+after w (command.Export f b flags) = with_file w f (exported flags (buffer_put_set w.buffers b)) false
+after w (command.Test b u) = w
+after w (command.Trim b) = w

@@ -1,8 +1,8 @@
 // The commands.
 
-use point_core::Name;
+use point_core::{Name, Usage};
 
-/// A command, with the words of its line in a script. Timelines and files have name spaces of their own.
+/// A command, with the words of its line in a script. Timelines, files and buffers have name spaces of their own.
 #[derive(Clone, Copy, Debug, PartialEq, Eq, Hash)]
 pub enum Command {
     /// `timeline T`: makes a timeline at 0, as libsync's `sw_sync_timeline_create`.
@@ -23,4 +23,18 @@ pub enum Command {
     Wait(Name),
     /// `info F`: file information, as libsync's `sync_file_info`.
     Info(Name),
+    /// `buffer B`: makes buffer B, which is never unmade. It stands for the kernel's dma-buf with its reservation.
+    Buffer(Name),
+    /// `add B T P U`: adds a fence of point P on timeline T to buffer B, with usage U, as Linux's `dma_resv_add_fence`.
+    Add(Name, Name, u64, Usage),
+    /// `import B F FLAGS`: adds the fences of file F to buffer B, as Linux's `DMA_BUF_IOCTL_IMPORT_SYNC_FILE`.
+    Import(Name, Name, u32),
+    /// `export F B FLAGS`: makes file F of what an access to buffer B has to wait for, as Linux's
+    /// `DMA_BUF_IOCTL_EXPORT_SYNC_FILE`.
+    Export(Name, Name, u32),
+    /// `test B U`: one check whether each fence of buffer B of usage U or a stronger one is signalled, as Linux's
+    /// `dma_resv_test_signaled`.
+    Test(Name, Usage),
+    /// `trim B`: drops from buffer B the fences that no access needs to wait for. The kernel has no such call.
+    Trim(Name),
 }

@@ -5,31 +5,32 @@ ghost use Rattle.desk_core.specs.declared.command.Command.{Command};
 use crate::answer::Answer;
 use crate::command::Command;
 use crate::info;
-use point_core::{Items, Name, Point, Refusal};
+use dmabuf_core::{Buffers, SyncFlags};
+use point_core::{Items, Name, Point, Refusal, Usage};
 use std::alloc::Global;
 use std::marker::Model;
 use syncfile_core::{Files, Status};
 use timeline_core::Timelines;
 
-/// All timelines and files of a service. It keeps of each file what was pending when it was made, and its answers are
-/// those of all that was ever put into it.
+/// All timelines, files and buffers of a service. It keeps of each file what was pending when it was made, and of each
+/// buffer a table of bounded size; its answers are those of all that was ever put into them.
 #[derive(Drop)]
 pub struct Desk {
     alloc: Global,
     timelines: Timelines,
     files: Files,
+    buffers: Buffers,
 }
 
 impl Model for Desk {
-    ghost use Rattle.std.specs.Prelude.{length};
     ghost use Rattle.desk_core.specs.Desk.{DeskState};
-    ghost use Rattle.desk_core.specs.Keeping.{HaveTimelines};
+    ghost use Rattle.desk_core.specs.Keeping.{IsOfItsTimelines};
 
     ghost Value = { DeskState };
 
-    ghost view = { λ d. record { timelines = d.timelines; files = d.files } };
+    ghost view = { λ d. record { timelines = d.timelines; files = d.files; buffers = d.buffers } };
 
-    ghost invariant = { λ d. HaveTimelines (length d.timelines) d.files };
+    ghost invariant = { λ d. IsOfItsTimelines (record { timelines = d.timelines; files = d.files; buffers = d.buffers }) };
 }
 
 impl Desk {
@@ -39,7 +40,7 @@ impl Desk {
     ghost use Rattle.desk_core.specs.Desk.{StandsFor, Answers};
     ghost use Rattle.desk_core.specs.Keeping.{cause_of, IsDone};
 
-    /// A desk without timelines and files.
+    /// A desk without timelines, files and buffers.
     ///
     /// Refuses as `Memory` alone.
     pub fn new(alloc: Global) -> Result<Desk, Refusal>
@@ -50,11 +51,12 @@ impl Desk {
             alloc,
             timelines: Timelines::new(alloc)?,
             files: Files::new(alloc)?,
+            buffers: Buffers::new(alloc)?,
         })
     }
 
     /// The answer of one command: the first refusal whose cause holds, else what the command tells. `Memory` comes
-    /// last, where a growth was really refused, and `inc`, `value`, `close` and `wait` never answer it. A refused command
+    /// last, where a growth was really refused, and `inc`, `value`, `close`, `wait`, `test` and `trim` never answer it. A refused command
     /// changes nothing.
     pub fn step(&mut self, command: Command) -> Answer
         ensures answer { Answers self.old command result }
@@ -83,6 +85,12 @@ impl Desk {
             Command::Close(name) => self.close(&name),
             Command::Wait(name) => self.wait(&name),
             Command::Info(name) => self.info(name),
+            Command::Buffer(name) => self.buffer(name),
+            Command::Add(name, timeline, value, usage) => self.add(&name, &timeline, value, usage),
+            Command::Import(name, file, flags) => self.import(&name, &file, flags),
+            Command::Export(name, buffer, flags) => self.export(name, &buffer, flags),
+            Command::Test(name, usage) => self.test(&name, usage),
+            Command::Trim(name) => self.trim(&name),
         }
     }
 
@@ -161,5 +169,78 @@ impl Desk {
         let file = self.files.get(&name).ok_or(Refusal::NoEntry)?;
         let info = info::of_points(self.alloc, name, file.points.as_slice(), &self.timelines)?;
         Ok(Answer::Info(info))
+    }
+
+    fn buffer(&mut self, name: Name) -> Result<Answer, Refusal>
+        ensures refused { IsRefusedFor (cause_of self.old (Command.Buffer name)) result }
+        ensures done { IfOk result (λ given. IsDone self.old (Command.Buffer name) given self.new) }
+        ensures unchanged { OnErr result (self.new ≡ self.old) }
+    {
+        self.buffers.create(name)?;
+        Ok(Answer::Done)
+    }
+
+    fn add(
+        &mut self,
+        name: &Name,
+        timeline: &Name,
+        value: u64,
+        usage: Usage,
+    ) -> Result<Answer, Refusal>
+        ensures refused { IsRefusedFor (cause_of self.old (Command.Add name.now timeline.now value usage)) result }
+        ensures done { IfOk result (λ given. IsDone self.old (Command.Add name.now timeline.now value usage) given self.new) }
+        ensures unchanged { OnErr result (self.new ≡ self.old) }
+    {
+        let ctx = self.timelines.context(timeline).ok_or(Refusal::NoEntry)?;
+        let reach = self.timelines.reach();
+        self.buffers.add(name, Point { ctx, value }, usage, &reach)?;
+        Ok(Answer::Done)
+    }
+
+    fn import(&mut self, name: &Name, file: &Name, flags: u32) -> Result<Answer, Refusal>
+        ensures refused { IsRefusedFor (cause_of self.old (Command.Import name.now file.now flags)) result }
+        ensures done { IfOk result (λ given. IsDone self.old (Command.Import name.now file.now flags) given self.new) }
+        ensures unchanged { OnErr result (self.new ≡ self.old) }
+    {
+        let file = self.files.get(file).ok_or(Refusal::NoEntry)?;
+        let reach = self.timelines.reach();
+        self.buffers.import(name, file, flags, &reach)?;
+        Ok(Answer::Done)
+    }
+
+    fn export(&mut self, name: Name, buffer: &Name, flags: u32) -> Result<Answer, Refusal>
+        ensures refused { IsRefusedFor (cause_of self.old (Command.Export name buffer.now flags)) result }
+        ensures done { IfOk result (λ given. IsDone self.old (Command.Export name buffer.now flags) given self.new) }
+        ensures unchanged { OnErr result (self.new ≡ self.old) }
+    {
+        if !self.buffers.has(buffer) {
+            return Err(Refusal::NoEntry);
+        }
+        SyncFlags::of(flags)?;
+        self.files.free(&name)?;
+        let reach = self.timelines.reach();
+        let listing = self.buffers.export(buffer, flags, &reach)?;
+        self.files.adopt(name, listing)?;
+        Ok(Answer::Done)
+    }
+
+    fn test(&self, name: &Name, usage: Usage) -> Result<Answer, Refusal>
+        ensures refused { IsRefusedFor (cause_of self.now (Command.Test name.now usage)) result }
+        ensures sure { IfErr result (λ e. e ≢ Refusal.Memory) }
+        ensures done { IfOk result (λ given. IsDone self.now (Command.Test name.now usage) given self.now) }
+    {
+        let signalled = self.buffers.test(name, usage, &self.timelines.reach())?;
+        Ok(Answer::Value(u64::from(signalled)))
+    }
+
+    fn trim(&mut self, name: &Name) -> Result<Answer, Refusal>
+        ensures refused { IsRefusedFor (cause_of self.old (Command.Trim name.now)) result }
+        ensures sure { IfErr result (λ e. e ≢ Refusal.Memory) }
+        ensures done { IfOk result (λ given. IsDone self.old (Command.Trim name.now) given self.new) }
+        ensures unchanged { OnErr result (self.new ≡ self.old) }
+    {
+        let reach = self.timelines.reach();
+        self.buffers.trim(name, &reach)?;
+        Ok(Answer::Done)
     }
 }

@@ -1,11 +1,11 @@
 // File information.
-ghost use Rattle.std.specs.Prelude.{◌≡◌, ◌≤◌, [], ◌∷◌, length, map, nat_le, IfOk, IfErr};
+ghost use Rattle.std.specs.Prelude.{◌≡◌, ◌≤◌, [], ◌∷◌, length, map, IfOk, IfErr};
 ghost use Rattle.std.specs.List.{list_all};
-ghost use Rattle.point_core.specs.Agreement.{as_entries};
-ghost use Rattle.point_core.specs.Reach.{value_at};
+ghost use Rattle.point_core.specs.Agreement.{all_reached, as_entries};
+ghost use Rattle.point_core.specs.Reach.{is_reached};
 ghost use Rattle.point_core.specs.Status.{status_if};
 ghost use Rattle.timeline_core.specs.Timeline.{reach_of};
-ghost use Rattle.desk_core.specs.Answer.{all_reached, fence_row, stub_row, or_stub};
+ghost use Rattle.desk_core.specs.Answer.{fence_row, stub_row, or_stub};
 ghost use Rattle.desk_core.specs.Keeping.{AreMade, info_at};
 
 use crate::answer::{FenceRow, Info, Maker};
@@ -39,23 +39,13 @@ pub fn of_points(
 fn status_of(points: &[Point], reach: &Reach) -> Status
     ensures { result ≡ status_if (all_reached reach.now 0 (as_entries points.now)) }
 {
-    status_if(are_signalled(points, reach))
+    Status::of(are_signalled(points, reach))
 }
 
 fn are_signalled(points: &[Point], reach: &Reach) -> bool
-    ensures { result ≡ list_all (λ p. nat_le p.value (value_at reach.now p.ctx)) points.now }
+    ensures { result ≡ list_all (is_reached reach.now) points.now }
 {
     points.iter().all(|point| is_signalled(*point, reach))
-}
-
-fn status_if(signalled: bool) -> Status
-    ensures { result ≡ status_if signalled }
-{
-    if signalled {
-        Status::Signalled
-    } else {
-        Status::Active
-    }
 }
 
 /// A row for each point, or the stub's where there is none.
@@ -92,7 +82,7 @@ fn row_of(point: Point, timelines: &Timelines, reach: &Reach) -> FenceRow
         timeline: timelines.name(ctx).unwrap(),
         driver: Maker::SwSync,
         point: value,
-        status: status_if(is_signalled(point, reach)),
+        status: Status::of(is_signalled(point, reach)),
     }
 }
 

@@ -5,10 +5,10 @@ ghost use Rattle.desk_core.specs.declared.command.Command.{Command};
 ghost use Rattle.desk_core.specs.History.{world_of, IsHistory};
 ghost use Rattle.desk_core.specs.Sound.{IsSound};
 ghost use Rattle.desk_core.specs.Desk.{DeskState, StandsFor};
-ghost use Rattle.desk_core.specs.Headline.{AreSums, TellsSums, TellsWhatWasPut};
+ghost use Rattle.desk_core.specs.Headline.{AreSums, TellsSums, TellsWhatWasPut, TellsWhatIsInBuffers};
 
-/// What was put into a file is of timelines that were made, and no value has fallen since; there are no more timelines
-/// than contexts.
+/// What was put into files and buffers is of timelines that were made, and no value has fallen since; there are no more
+/// timelines than contexts.
 pub fn a_history_makes_a_sound_world()
     ensures { (history : List Command) → IsHistory history → IsSound (world_of history) }
 {}
@@ -18,8 +18,10 @@ pub fn a_value_is_the_sum_of_its_increments()
     ensures { (history : List Command) → IsHistory history → AreSums (world_of history).timelines history }
 {}
 
-/// A desk that stands for a history tells the sums of its increments, and what was put into its files.
+/// A desk that stands for a history tells the sums of its increments, and what was put into its files and
+/// buffers.
 pub fn a_desk_tells_its_history()
     ensures sums { (desk : DeskState) (history : List Command) → StandsFor desk history → TellsSums desk history }
     ensures files { (desk : DeskState) (history : List Command) → StandsFor desk history → TellsWhatWasPut desk history }
+    ensures buffers { (desk : DeskState) (history : List Command) → StandsFor desk history → TellsWhatIsInBuffers desk history }
 {}

@@ -1,17 +1,12 @@
-use Rattle.std.proofs.Common.{length, not, refl}
-use Rattle.std.proofs.lemmas.List.Elements.{All-filter}
+use Rattle.std.proofs.Common.{refl}
 use Rattle.std.proofs.lemmas.Result.{err_from_is_err_and}
-use Rattle.syncfile_core.specs.SyncFile.{File}
-use Rattle.syncfile_core.specs.Files.{is_named}
-use Rattle.desk_core.specs.Keeping.{AreMade}
 use Rattle.desk_core.proofs.Doing.{IsDone-close}
+use Rattle.desk_core.proofs.Inside.{inside-close}
 use Rattle.desk_core.proofs.Waiting.{unclosed}
 use Rattle.desk_core.proofs.desk.Desk.close.Goals as goal
 
 pub invariant_of-self : goal.invariant_of-self
-invariant_of-self c =
-    rw c.close.ensures.without
-    (All-filter (λ (f : File). not (is_named c.args.name.now f)) (λ (f : File). AreMade (length c.self.inside.timelines) f.points) c.self.inside.files c.self.invariant)
+invariant_of-self c = inside-close c.close.new.self c.args.name.now c.close.ensures.without c.self.invariant
 
 pub returns-in_err-close-clause-unchanged : goal.returns-in_err-close-clause-unchanged
 returns-in_err-close-clause-unchanged c =
@@ -20,9 +15,7 @@ returns-in_err-close-clause-unchanged c =
     rw (← c.self.view_is, p.1, same) refl
 
 pub invariant_of-self-2 : goal.invariant_of-self-2
-invariant_of-self-2 c =
-    rw c.close.ensures.without
-    (All-filter (λ (f : File). not (is_named c.args.name.now f)) (λ (f : File). AreMade (length c.self.inside.timelines) f.points) c.self.inside.files c.self.invariant)
+invariant_of-self-2 c = inside-close c.close.new.self c.args.name.now c.close.ensures.without c.self.invariant
 
 pub returns-clause-done : goal.returns-clause-done
 returns-clause-done c =

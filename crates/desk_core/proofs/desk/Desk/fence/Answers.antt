@@ -1,5 +1,12 @@
 use Rattle.desk_core.proofs.Doing.{IsDone-fence}
+use Rattle.desk_core.proofs.Inside.{inside-fence}
 use Rattle.desk_core.proofs.desk.Desk.fence.Goals as goal
+
+pub invariant_of-self-2 : goal.invariant_of-self-2
+invariant_of-self-2 c =
+    let some = c.in_ok-ctx.ensures.ok_part in
+    let made = rw some at c.context.ensures.made in
+    inside-fence c.create.new.self c.args.name c.in_ok-ctx.ctx c.args.value c.in_ok-create.ensures.last made.1 c.self.invariant
 
 pub returns-clause-done : goal.returns-clause-done
 returns-clause-done c =

@@ -19,7 +19,7 @@ returns-in_err-file-clause-refused c =
 pub of_points-requires : goal.of_points-requires
 of_points-requires c =
     let some = accepted_look_up c.self.inside.files c.args.name _ _ _ c.get.ensures.found (sym c.ok_or.ensures.value ∙ c.in_ok-file.was) in
-    let made = sync_file_at-All (λ (f : File). AreMade (length c.self.inside.timelines) f.points) c.self.inside.files c.args.name _ c.self.invariant some in
+    let made = sync_file_at-All (λ (f : File). AreMade (length c.self.inside.timelines) f.points) c.self.inside.files c.args.name _ c.self.invariant.files some in
     let listed : c.as_slice.result.now ≡ c.in_ok-file.file.now.points = c.as_slice.ensures ∙ ap (λ (f : File). f.points) c.file.view_is in
     record { made = rw listed made }
 

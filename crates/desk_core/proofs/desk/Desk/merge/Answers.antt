@@ -1,10 +1,9 @@
-use Rattle.desk_core.proofs.Doing.{IsDone-merge, HaveTimelines-merge}
+use Rattle.desk_core.proofs.Doing.{IsDone-merge}
+use Rattle.desk_core.proofs.Inside.{inside-merge}
 use Rattle.desk_core.proofs.desk.Desk.merge.Goals as goal
 
 pub invariant_of-self-2 : goal.invariant_of-self-2
-invariant_of-self-2 c =
-    let last = c.in_ok-merge.ensures.last in
-    rw last (HaveTimelines-merge _ c.self.inside.files c.args.name c.args.first.now c.args.second.now c.reach-reach.result c.self.invariant)
+invariant_of-self-2 c = inside-merge c.merge.new.self c.args.name c.args.first.now c.args.second.now c.reach-reach.result c.in_ok-merge.ensures.last c.self.invariant
 
 pub returns-clause-done : goal.returns-clause-done
 returns-clause-done c =

@@ -1,0 +1,21 @@
+use Rattle.std.proofs.Common.{◌≡◌, ℕ, Bool, true, false}
+use Rattle.std.specs.Prelude.{◌↔◌, IsTrue}
+use mir.Val.{bool_byte}
+use Rattle.point_core.specs.Usage.{usage_number}
+use Rattle.point_core.specs.Agreement.{IsReached}
+use Rattle.dmabuf_core.specs.Buffers.{has_buffer, entries_of}
+use Rattle.desk_core.specs.Answer.{number_if}
+use Rattle.desk_core.proofs.Doing.{IsDone-test}
+use Rattle.desk_core.proofs.Waiting.{told_where}
+use Rattle.desk_core.proofs.desk.Desk.test.Goals as goal
+
+as_number : (b : Bool) (n : ℕ) → n ≡ bool_byte b → n ≡ number_if b
+as_number true n is = is
+as_number false n is = is
+
+pub returns-clause-done : goal.returns-clause-done
+returns-clause-done c =
+    let told = told_where (has_buffer c.self.inside.buffers c.args.name.now) c.test.result c.in_ok-signalled.signalled (λ (told : Bool). IsTrue told ↔ IsReached (entries_of c.self.inside.buffers c.args.name.now) (usage_number c.args.usage) c.reach.result) c.test.ensures c.in_ok-signalled.was in
+    let value = as_number c.in_ok-signalled.signalled c.from.result c.from.ensures in
+    rw (← c.self.view_is, value)
+    (IsDone-test _ c.args.name.now c.args.usage c.reach.result c.in_ok-signalled.signalled c.reach.ensures.value told)
