@@ -28,7 +28,7 @@ AllByRecursion-cookies_filter P p (w ∷ ws) h = by (p w) (AllByRecursion-cookie
     by true rest = (h.0, rest)
     by false rest = rest
 
-IsDistinct-cookies_filter : (p : Watch → Bool) (ws : List Watch) → IsDistinct nat_eq (cookies_of ws) → IsDistinct nat_eq (cookies_of (filter p ws))
+pub IsDistinct-cookies_filter : (p : Watch → Bool) (ws : List Watch) → IsDistinct nat_eq (cookies_of ws) → IsDistinct nat_eq (cookies_of (filter p ws))
 unfolding IsDistinct
 IsDistinct-cookies_filter p [] h = h
 IsDistinct-cookies_filter p (w ∷ ws) h = by (p w) (AllByRecursion-cookies_filter (λ y. nat_eq w.cookie y ≡ false) p ws h.0) (IsDistinct-cookies_filter p ws h.1)
@@ -48,7 +48,7 @@ ArePending-filter {ws} p h = record {
   room = let shorter = length-filter_le p ws in let room = h.room in omega arith;
 }
 
-list_any-cookies_of : (cookie : ℕ) (ws : List Watch) → list_any (nat_eq cookie) (cookies_of ws) ≡ list_any (is_for cookie) ws
+pub list_any-cookies_of : (cookie : ℕ) (ws : List Watch) → list_any (nat_eq cookie) (cookies_of ws) ≡ list_any (is_for cookie) ws
 list_any-cookies_of cookie [] = refl
 list_any-cookies_of cookie (w ∷ ws) =
     ap (λ b. b || list_any (nat_eq cookie) (cookies_of ws)) (nat_eq_equiv.symm cookie w.cookie)
@@ -70,7 +70,7 @@ filter-other cookie (w ∷ ws) none = by (is_for cookie w) none (filter-other co
     by true none rest = absurd (cc)
     by false none rest = ap (λ vs. w ∷ vs) (rest none)
 
-apart-any : (cookie : ℕ) (ws : List Watch) → AllByRecursion (λ y. nat_eq cookie y ≡ false) (cookies_of ws) → list_any (is_for cookie) ws ≡ false
+pub apart-any : (cookie : ℕ) (ws : List Watch) → AllByRecursion (λ y. nat_eq cookie y ≡ false) (cookies_of ws) → list_any (is_for cookie) ws ≡ false
 apart-any cookie [] apart = refl
 apart-any cookie (w ∷ ws) apart =
     ap (λ b. b || list_any (is_for cookie) ws) (nat_eq_equiv.symm w.cookie cookie ∙ apart.0)

@@ -1,5 +1,6 @@
 pub mod Callbacks
 pub mod Fence
+pub mod Run
 pub mod SharedFence
 pub mod Signal
 pub mod Watch

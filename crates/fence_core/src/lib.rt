@@ -7,10 +7,12 @@
 
 mod callback_list;
 mod fence;
+mod laws;
 mod shared_fence;
 mod watches;
 
 pub use callback_list::{CALLBACKS, CallbackList};
 pub use fence::{Fence, FenceArray};
+pub use laws::a_watch_fires_once;
 pub use shared_fence::{SharedFence, Signal};
 pub use watches::{WATCHES, WATCHES_EVER, Watches};

@@ -85,6 +85,7 @@ impl SharedFence {
         ensures not_yet { IfNotYet result (λ ctx value. IsPendingAt self.now.points seat.old seat.new ctx value) }
         ensures first { IfFirst result (λ token. (token ≡ token_of self.now) × SetsFlag self.now seat.old seat.new won) }
         ensures once { IfFirst result (λ _. wins_of (flag_word self.now.words self.now.flag) seat.new.trace ≡ 1) }
+        ensures same { (seat.new.words ≡ seat.old.words) × (seat.new.parts ≡ seat.old.parts) }
         ensures already { IfAlready result (SetsFlag self.now seat.old seat.new lost) }
     {
         for point in self.fence.members() {

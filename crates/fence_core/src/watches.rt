@@ -4,7 +4,7 @@ ghost use Rattle.point_core.specs.declared.refusal.Refusal.TheVariants.{Memory};
 ghost use Rattle.point_core.specs.Reach.{IsAtLeast};
 ghost use Rattle.point_core.specs.Refusal.{IsRefusedFor};
 ghost use Rattle.fence_core.specs.Fence.{members_of};
-ghost use Rattle.fence_core.specs.Watch.{is_for};
+ghost use Rattle.fence_core.specs.Watch.{is_for, ArePending};
 ghost use Rattle.fence_core.specs.Watches.{no_watches, has_watch, cause_to_refuse, cause_to_refuse_watch, with_watch, without_watch, fired_by, after_rise_to};
 
 use crate::fence::Fence;
@@ -132,6 +132,7 @@ impl Watches {
         ensures memory { IfErr result (λ e. e ≡ Memory) }
         ensures none_fires { fired_by self.old reach.now ≡ [] → IsOk result }
         ensures unchanged { OnErr result (self.new ≡ self.old) }
+        ensures pending { ArePending self.old.pending }
     {
         let mut cookies = Vec::new(*self.pending.allocator());
         for watch in &self.pending {
@@ -153,3 +154,6 @@ impl Watches {
         self.pending.iter().position(|watch| watch.cookie == cookie)
     }
 }
+
+#[cfg(test)]
+mod tests;
