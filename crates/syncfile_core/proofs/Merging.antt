@@ -1,34 +1,20 @@
 -- What a merge gathers, input by input.
-use Rattle.std.proofs.Common.{◌≡◌, ℕ, ◌+◌, ◌<◌, ◌≤◌, max, refl, sym, ap, ◌∙◌, subst, List, [], ◌∷◌, ◌++◌, length, get_or, take, arith, append_assoc, append-nil}
-use Rattle.std.proofs.lemmas.List.Elements.{All-cons, All-nil, All-push}
+use Rattle.std.proofs.Common.{◌≡◌, ℕ, ◌≤◌, refl, sym, ap, ◌∙◌, subst, List, [], ◌∷◌, ◌++◌, length, append-nil}
+use Rattle.std.proofs.lemmas.List.Elements.{All-nil, All-push}
 use Rattle.std.proofs.lemmas.Grind.{flat_map-append}
 use Rattle.std.proofs.lemmas.List.Sums.{fold-append}
 use Rattle.point_core.specs.declared.context.TheConstants.{CONTEXTS}
 use Rattle.point_core.specs.declared.entry.Point.{Point}
 use Rattle.point_core.specs.declared.entry.Entry.{Entry}
-use Rattle.point_core.specs.Agreement.{as_entry, as_entries, listing, HasContexts}
+use Rattle.point_core.specs.Agreement.{as_entries, listing, HasContexts}
 use Rattle.point_core.specs.Latest.{IsLatest, points_above}
-use Rattle.point_core.specs.Reach.{value_at, with_value, later_values}
+use Rattle.point_core.specs.Reach.{later_values}
 use Rattle.point_core.proofs.Agreement.{as_entries-append, HasContexts-append}
-use Rattle.point_core.proofs.Latest.{IsLatest-put, IsLatest-empty}
-use Rattle.point_core.proofs.Listings.{as_entries-take_more, points_above-IsLatest}
+use Rattle.point_core.proofs.Latest.{IsLatest-empty}
+use Rattle.point_core.proofs.Listings.{points_above-IsLatest}
 use Rattle.syncfile_core.specs.SyncFile.{File, file_of}
 use Rattle.syncfile_core.specs.Merge.{points_of, merged_file, IsGathered}
 use Rattle.syncfile_core.proofs.Unions.{length-floor_of}
-
-HasContexts-single : (p : Point) → (1 ≤ p.ctx) × (p.ctx ≤ CONTEXTS) → HasContexts (as_entry p ∷ [])
-HasContexts-single p has = All-cons (λ (e : Entry). (1 ≤ e.point.ctx) × (e.point.ctx ≤ CONTEXTS)) (as_entry p) [] has (All-nil (λ (e : Entry). (1 ≤ e.point.ctx) × (e.point.ctx ≤ CONTEXTS)))
-
--- one more point of the list
-pub HasContexts-take_more : (ps : List Point) (i : ℕ) (p : Point) → i < length ps → p ≡ get_or ps i p → (1 ≤ p.ctx) × (p.ctx ≤ CONTEXTS) → HasContexts (as_entries (take i ps)) → HasContexts (as_entries (take (i + 1) ps))
-HasContexts-take_more ps i p low is has before =
-    subst HasContexts (sym (as_entries-take_more ps i p low is)) (HasContexts-append (as_entries (take i ps)) (as_entry p ∷ []) before (HasContexts-single p has))
-
-pub IsLatest-take_more : {table reach : List ℕ} (es : List Entry) (ps : List Point) (i : ℕ) (p : Point) → i < length ps → p ≡ get_or ps i p → (1 ≤ p.ctx) × (p.ctx ≤ CONTEXTS) → length table ≡ CONTEXTS → IsLatest table reach (es ++ as_entries (take i ps)) 0 → IsLatest (with_value table p.ctx (max (value_at table p.ctx) p.value)) reach (es ++ as_entries (take (i + 1) ps)) 0
-IsLatest-take_more {table} {reach} es ps i p low is has full before =
-    let put = IsLatest-put (as_entry p) before (omega arith) has.0 (omega arith) in
-    let more : (es ++ as_entries (take i ps)) ++ as_entry p ∷ [] ≡ es ++ as_entries (take (i + 1) ps) = append_assoc es (as_entries (take i ps)) (as_entry p ∷ []) ∙ ap (λ fs. es ++ fs) (sym (as_entries-take_more ps i p low is)) in
-    subst (λ fs. IsLatest (with_value table p.ctx (max (value_at table p.ctx) p.value)) reach fs 0) more put
 
 points_of-last : (inputs : List File) (f : File) → points_of (inputs ++ f ∷ []) ≡ points_of inputs ++ f.points
 points_of-last inputs f = flat_map-append (λ (g : File). g.points) inputs (f ∷ []) ∙ ap (λ ps. points_of inputs ++ ps) (append-nil f.points)

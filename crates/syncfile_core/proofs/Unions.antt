@@ -1,24 +1,15 @@
 -- What a merged file stands for.
-use Rattle.std.proofs.Common.{◌≡◌, ℕ, refl, sym, ◌∙◌, List, [], ◌∷◌, length, arith}
+use Rattle.std.proofs.Common.{◌≡◌, ℕ, refl, sym, ◌∙◌, List, [], ◌∷◌, length}
 use Rattle.std.specs.Prelude.{flat_map}
-use Rattle.std.specs.List.{AllZip, zip}
-use Rattle.std.proofs.lemmas.List.{length-map}
+use Rattle.std.specs.List.{AllZip}
 use Rattle.std.proofs.lemmas.List.Elements.{All-head, All-tail}
 use Rattle.point_core.specs.declared.entry.Entry.{Entry}
 use Rattle.point_core.specs.Agreement.{as_entries, AgreesAbove, HasContexts}
 use Rattle.point_core.specs.Reach.{later_values, IsAtLeast}
 use Rattle.point_core.proofs.Agreement.{as_entries-append, AgreesAbove-refl, AgreesAbove-trans, AgreesAbove-append, AgreesAbove-same, AgreesAbove-later, AgreesAbove-listing}
-use Rattle.point_core.proofs.Values.{IsAtLeast-refl, IsAtLeast-trans, IsAtLeast-later_values_left, IsAtLeast-later_values_right}
+use Rattle.point_core.proofs.Values.{length-later_values, IsAtLeast-refl, IsAtLeast-trans, IsAtLeast-later_values_left, IsAtLeast-later_values_right}
 use Rattle.syncfile_core.specs.SyncFile.{File, StandsFor}
 use Rattle.syncfile_core.specs.Merge.{points_of, floor_of, merged_file, HaveFloors, StandsForUnion}
-
-length-zip_same : {A B : Type 0} (xs : List A) (ys : List B) → length xs ≡ length ys → length (zip xs ys) ≡ length xs
-length-zip_same [] ys same = refl
-length-zip_same (x ∷ xs) [] same = absurd (omega arith)
-length-zip_same (x ∷ xs) (y ∷ ys) same = let rest = length-zip_same xs ys (omega arith) in omega arith
-
-pub length-later_values : (reach other : List ℕ) → length reach ≡ length other → length (later_values reach other) ≡ length reach
-length-later_values reach other same = length-map (zip reach other) _ ∙ length-zip_same reach other same
 
 abbrev has_floor : ℕ → File → Type 0
 has_floor n f = length f.floor ≡ n

@@ -1,8 +1,9 @@
 -- What is told of a file at a reach.
-use Rattle.std.specs.Prelude.{◌≡◌, ◌↔◌, ℕ, List, [], ◌∷◌, Bool, nat_le, map, None, Some}
+use Rattle.std.specs.Prelude.{◌≡◌, ◌↔◌, ℕ, List, [], ◌∷◌, map, None, Some}
 use Rattle.std.specs.List.{list_all}
 use Rattle.point_core.specs.declared.entry.Point.{Point}
-use Rattle.point_core.specs.Reach.{value_at, IsAtLeast}
+use Rattle.point_core.specs.Reach.{IsAtLeast}
+pub use Rattle.point_core.specs.Reach.{is_reached}
 use Rattle.point_core.specs.Agreement.{IsReached}
 use Rattle.point_core.specs.declared.entry.Entry.{Entry}
 use Rattle.point_core.specs.declared.status.Status.{Status}
@@ -11,10 +12,6 @@ use Rattle.point_core.specs.Status.{status_if}
 use Rattle.syncfile_core.specs.declared.status.FenceInfo.{FenceInfo}
 use Rattle.syncfile_core.specs.declared.status.FileInfo.{FileInfo}
 use Rattle.syncfile_core.specs.SyncFile.{File, StandsFor}
-
--- the value of the point's context has reached it
-abbrev pub is_reached : List ℕ → Point → Bool
-is_reached reach p = nat_le p.value (value_at reach p.ctx)
 
 -- signalled where each point is, so also where there is none
 abbrev pub status_of : List Point → List ℕ → Status

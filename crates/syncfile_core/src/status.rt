@@ -1,6 +1,5 @@
 // Whether a file and its fences are signalled.
 ghost use Rattle.std.specs.Prelude.{◌≡◌, IfOk};
-ghost use Rattle.point_core.specs.Status.{status_if};
 ghost use Rattle.syncfile_core.specs.Status.{status_of, fence_of, fences_of, stub};
 
 use point_core::{Context, Items, Name, Point, Reach, Status, is_signalled};
@@ -30,7 +29,7 @@ impl FenceInfo {
         FenceInfo {
             ctx: Some(point.ctx),
             point: point.value,
-            status: status_if(is_signalled(*point, reach)),
+            status: Status::of(is_signalled(*point, reach)),
         }
     }
 
@@ -49,17 +48,7 @@ impl FenceInfo {
 pub(crate) fn status_of(points: &[Point], reach: &Reach) -> Status
     ensures status { result ≡ status_of points.now reach.now }
 {
-    status_if(points.iter().all(|point| is_signalled(*point, reach)))
-}
-
-fn status_if(signalled: bool) -> Status
-    ensures status { result ≡ status_if signalled }
-{
-    if signalled {
-        Status::Signalled
-    } else {
-        Status::Active
-    }
+    Status::of(points.iter().all(|point| is_signalled(*point, reach)))
 }
 
 /// A fence for each of the points, or the stub.

@@ -1,8 +1,9 @@
 use Rattle.std.proofs.Common.{◌≤◌, arith, refl, sym, ap, ◌∙◌, is_some, length}
-use Rattle.syncfile_core.specs.Files.{without_file, files_in}
+use Rattle.point_core.proofs.Named.{things_in-remove_entry}
+use Rattle.syncfile_core.specs.Files.{file_name, without_file, files_in}
 use Rattle.syncfile_core.specs.declared.files.TheConstants.{FILES}
 use Rattle.syncfile_core.proofs.Causes.{MatchBool-true, MatchBool-false}
-use Rattle.syncfile_core.proofs.Kept.{has_file-is, IsKept-remove_entry, files_in-remove_entry}
+use Rattle.syncfile_core.proofs.Kept.{has_file-is, IsKept-remove_entry}
 use Rattle.syncfile_core.proofs.files.Files.close.Goals as goal
 use Rattle.syncfile_core.proofs.files.Files.close.Goals.{in-Some, in-None}
 
@@ -23,5 +24,5 @@ returns-clause-known c =
 pub returns-clause-without : goal.returns-clause-without
 returns-clause-without c =
     ap (files_in (λ b. b.value)) c.shift_remove.ensures.entries
-    ∙ files_in-remove_entry (λ b. b.value) c.args.name.now c.self.inside.by_name.entries c.self.invariant.keyed c.self.invariant.distinct
+    ∙ things_in-remove_entry file_name (λ b. b.value) c.args.name.now c.self.inside.by_name.entries c.self.invariant.keyed c.self.invariant.distinct
     ∙ ap (λ fs. without_file fs c.args.name.now) c.self.view_is

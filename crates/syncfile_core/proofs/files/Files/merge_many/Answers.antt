@@ -2,16 +2,17 @@ use Rattle.std.proofs.Common.{◌≡◌, ◌++◌, [], ◌∷◌, sym, subst}
 use Rattle.std.specs.Prelude.{OnOk}
 use Rattle.std.proofs.lemmas.List.{take_all}
 use Rattle.point_core.specs.declared.refusal.Refusal.TheVariants.{NoEntry}
-use Rattle.syncfile_core.specs.Files.{has_file}
+use Rattle.point_core.proofs.Named.{has_named-Some, has_named-None}
+use Rattle.syncfile_core.specs.Files.{file_name, has_file}
 use Rattle.syncfile_core.specs.Merge.{files_at, IsGathered}
 use Rattle.syncfile_core.proofs.Causes.{OnOk-always, IsRefusedFor-Err, cause_to_refuse_merge-absent}
-use Rattle.syncfile_core.proofs.Kept.{files_at-take_more, has_file-found, has_file-absent, list_all-take_more, list_all-fails}
+use Rattle.syncfile_core.proofs.Kept.{files_at-take_more, list_all-take_more, list_all-fails}
 use Rattle.syncfile_core.proofs.Unions.{StandsForUnion-merged_file}
 use Rattle.syncfile_core.proofs.files.Files.merge_many.Goals as goal
 
 pub returns-in_err-known-clause-refused : goal.returns-in_err-known-clause-refused
 returns-in_err-known-clause-refused c =
-    let absent = has_file-absent c.args.self.now c.input-item.result c.in_err-known.ensures.absent in
+    let absent = has_named-None file_name c.args.self.now c.input-item.result c.in_err-known.ensures.absent in
     let fails = list_all-fails (has_file c.args.self.now) c.args.inputs.now c.loop-input.input-index c.input-item.result c.loop-input-test.true c.input-item.is absent in
     IsRefusedFor-Err _ c.from_residual.result NoEntry c.in_err-known.field-0.0
     (cause_to_refuse_merge-absent c.args.self.now c.args.name c.args.inputs.now fails) c.in_err-known.ensures.unknown c.from_residual.ensures.1
@@ -22,7 +23,7 @@ loop-input-preserved c =
       subst (λ files. IsGathered c.add.new.self.latest c.add.new.self.floor c.args.reach.now files)
           (sym (files_at-take_more c.args.self.now c.args.inputs.now c.loop-input.input-index c.input-item.result c.in_ok-known.field-0.now c.loop-input-test.true c.input-item.is found))
           (c.add.ensures.more c.args.reach.now _ c.loop-input.invariant.0),
-      list_all-take_more (has_file c.args.self.now) c.args.inputs.now c.loop-input.input-index c.input-item.result c.loop-input-test.true c.input-item.is c.loop-input.invariant.1 (has_file-found c.args.self.now c.input-item.result c.in_ok-known.field-0.now found),
+      list_all-take_more (has_file c.args.self.now) c.args.inputs.now c.loop-input.input-index c.input-item.result c.loop-input-test.true c.input-item.is c.loop-input.invariant.1 (has_named-Some file_name c.args.self.now c.input-item.result c.in_ok-known.field-0.now found),
     )
 
 pub returns-clause-last : goal.returns-clause-last
