@@ -144,6 +144,7 @@ impl Buffers {
         ensures refused { IsRefusedFor (cause_by_flags self.now name.now flags) result }
         ensures points { IfOk result (λ l. l.points ≡ listing (entries_of self.now name.now) (usage_number (export_usage flags)) reach.now) }
         ensures floor { IfOk result (λ l. l.floor ≡ reach.now) }
+        ensures rising { IfOk result (λ l. HasRisingContexts l.points) }
     {
         let table = self.known(name)?;
         let usage = SyncFlags::of(flags)?.export_usage();
