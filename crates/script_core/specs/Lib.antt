@@ -6,5 +6,6 @@ pub mod Output
 pub mod Script
 pub mod Table
 pub mod Text
+pub mod Usages
 pub mod Word
 pub mod Words

@@ -48,7 +48,8 @@ abbrev pub AreLineAnswers : List Command → List Line → List Answer → Type 
 AreLineAnswers history [] [] = Unit {0}
 AreLineAnswers history [] (a ∷ rest) = ⊥
 AreLineAnswers history (l ∷ ls) [] = ⊥
-AreLineAnswers history (l ∷ ls) (a ∷ rest) = IsLineAnswer history l.body a × AreLineAnswers (history_after_line history l.body a) ls rest
+AreLineAnswers history (l ∷ ls) (a ∷ rest) =
+    IsLineAnswer history l.body a × AreLineAnswers (history_after_line history l.body a) ls rest
 
 abbrev pub texts_of : List Line → List Answer → List ℕ
 texts_of [] given = []

@@ -21,10 +21,12 @@ driver_of SwSync = codes "sw_sync"
 driver_of Stub = codes "stub"
 
 abbrev pub fence_text : FenceRow → List ℕ
-fence_text row = line_text (codes "fence" ∷ row.timeline ∷ driver_of row.driver ∷ decimal row.point ∷ decimal (status.status_number row.status) ∷ [])
+fence_text row = line_text
+    (codes "fence" ∷ row.timeline ∷ driver_of row.driver ∷ decimal row.point ∷ decimal (status.status_number row.status) ∷ [])
 
 abbrev pub info_line : Info → List ℕ
-info_line info = line_text (codes "ok" ∷ info.name ∷ decimal (status.status_number info.status) ∷ decimal (length info.fences) ∷ [])
+info_line info = line_text
+    (codes "ok" ∷ info.name ∷ decimal (status.status_number info.status) ∷ decimal (length info.fences) ∷ [])
 
 abbrev pub info_text : Info → List ℕ
 info_text info = info_line info ++ flat_map fence_text info.fences
@@ -59,7 +61,8 @@ details number Cancelled = []
 details number Memory = []
 
 abbrev pub refusal_text : ℕ → Refusal → List ℕ
-refusal_text number r = line_text (codes "err" ∷ decimal (refusal.refusal_number r) ∷ refusal.refusal_name r ∷ details number r)
+refusal_text number r = line_text
+    (codes "err" ∷ decimal (refusal.refusal_number r) ∷ refusal.refusal_name r ∷ details number r)
 
 -- the text of the answer of the line of that number
 abbrev pub text_of : ℕ → Answer → List ℕ

@@ -26,3 +26,7 @@ two_of (a ∷ more) = option_map (λ b. (a, b)) (one_of more)
 abbrev pub three_of : {A : Type 0} → List A → Option (A × A × A)
 three_of [] = None
 three_of (a ∷ more) = option_map (λ w. (a, w.0, w.1)) (two_of more)
+
+abbrev pub four_of : {A : Type 0} → List A → Option (A × A × A × A)
+four_of [] = None
+four_of (a ∷ more) = option_map (λ w. (a, w.0, w.1, w.2)) (three_of more)

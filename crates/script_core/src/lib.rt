@@ -14,6 +14,7 @@ mod table;
 mod tests;
 mod text;
 mod totals;
+mod usages;
 mod words;
 mod writing;
 

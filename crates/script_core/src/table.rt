@@ -1,13 +1,13 @@
 // The table of commands.
 ghost use Rattle.std.specs.Prelude.{◌≡◌};
-ghost use Rattle.std.specs.Str.{bytes_eq};
 ghost use Rattle.script_core.specs.Words.{words_of};
-ghost use Rattle.script_core.specs.Table.{name_of, one_name, name_and_number, two_names_and_number, three_names, command_from};
+ghost use Rattle.script_core.specs.Table.{name_of, one_name, name_and_number, two_names_and_number, three_names, two_names_number_and_usage, two_names_and_flags, name_and_usage, command_from, file_command_from, buffer_command_from};
 
 use crate::number::number;
-use crate::words::{one, three, two};
+use crate::usages::{flags, usage};
+use crate::words::{four, is, one, three, two};
 use desk_core::Command;
-use point_core::Name;
+use point_core::{Name, Usage};
 
 /// The command of a line, by its first word and the bytes behind it, or none where they fit no row.
 pub(crate) fn command(word: &[u8], rest: &[u8]) -> Option<Command>
@@ -20,7 +20,15 @@ pub(crate) fn command(word: &[u8], rest: &[u8]) -> Option<Command>
         Some(Command::Inc(timeline, count))
     } else if is(word, "value") {
         Some(Command::Value(one_name(rest)?))
-    } else if is(word, "fence") {
+    } else {
+        file_command(word, rest)
+    }
+}
+
+fn file_command(word: &[u8], rest: &[u8]) -> Option<Command>
+    ensures command { result ≡ file_command_from word.now (words_of rest.now) }
+{
+    if is(word, "fence") {
         let (file, timeline, point) = two_names_and_number(rest)?;
         Some(Command::Fence(file, timeline, point))
     } else if is(word, "merge") {
@@ -33,14 +41,32 @@ pub(crate) fn command(word: &[u8], rest: &[u8]) -> Option<Command>
     } else if is(word, "info") {
         Some(Command::Info(one_name(rest)?))
     } else {
-        None
+        buffer_command(word, rest)
     }
 }
 
-fn is(word: &[u8], text: &str) -> bool
-    ensures same { result ≡ bytes_eq word.now text.now }
+fn buffer_command(word: &[u8], rest: &[u8]) -> Option<Command>
+    ensures command { result ≡ buffer_command_from word.now (words_of rest.now) }
 {
-    word == text.as_bytes()
+    if is(word, "buffer") {
+        Some(Command::Buffer(one_name(rest)?))
+    } else if is(word, "add") {
+        let (buffer, timeline, point, usage) = two_names_number_and_usage(rest)?;
+        Some(Command::Add(buffer, timeline, point, usage))
+    } else if is(word, "import") {
+        let (buffer, file, flags) = two_names_and_flags(rest)?;
+        Some(Command::Import(buffer, file, flags))
+    } else if is(word, "export") {
+        let (file, buffer, flags) = two_names_and_flags(rest)?;
+        Some(Command::Export(file, buffer, flags))
+    } else if is(word, "test") {
+        let (buffer, usage) = name_and_usage(rest)?;
+        Some(Command::Test(buffer, usage))
+    } else if is(word, "trim") {
+        Some(Command::Trim(one_name(rest)?))
+    } else {
+        None
+    }
 }
 
 fn one_name(rest: &[u8]) -> Option<Name>
@@ -68,6 +94,27 @@ fn three_names(rest: &[u8]) -> Option<(Name, Name, Name)>
 {
     let (first, second, third) = three(rest)?;
     Some((name(first)?, name(second)?, name(third)?))
+}
+
+fn two_names_number_and_usage(rest: &[u8]) -> Option<(Name, Name, u64, Usage)>
+    ensures words { result ≡ two_names_number_and_usage (words_of rest.now) }
+{
+    let (first, second, third, fourth) = four(rest)?;
+    Some((name(first)?, name(second)?, number(third)?, usage(fourth)?))
+}
+
+fn two_names_and_flags(rest: &[u8]) -> Option<(Name, Name, u32)>
+    ensures words { result ≡ two_names_and_flags (words_of rest.now) }
+{
+    let (first, second, third) = three(rest)?;
+    Some((name(first)?, name(second)?, flags(third)?))
+}
+
+fn name_and_usage(rest: &[u8]) -> Option<(Name, Usage)>
+    ensures words { result ≡ name_and_usage (words_of rest.now) }
+{
+    let (first, second) = two(rest)?;
+    Some((name(first)?, usage(second)?))
 }
 
 fn name(word: &[u8]) -> Option<Name>

@@ -384,7 +384,7 @@ fn script_limit(rt: HostRuntime) -> Result<(), Fail> {
     let totals = engine(alloc, &mut reader, &mut writer)?;
     assert_eq!(rt; writer.as_slice(), b"ok 1\nerr 6 Limit script\n".as_slice());
     assert_totals(&rt, totals, (2, 1, 1));
-    assert_eq!(rt; reader.script.len(), script.len() - SCRIPT_BYTES - 1);
+    assert_eq!(rt; reader.script.len(), 11);
     Ok(())
 }
 

@@ -1,7 +1,8 @@
 // Words of a line: runs of bytes other than the space.
 ghost use Rattle.std.specs.Prelude.{◌≡◌, ◌∷◌, [], option_map, MatchOption, length, ◌≤◌, unwrap_or, position, not};
 ghost use Rattle.std.specs.List.{prefix_len, position_or_len};
-ghost use Rattle.script_core.specs.Words.{is_space, words_of, one_of, two_of, three_of};
+ghost use Rattle.std.specs.Str.{bytes_eq};
+ghost use Rattle.script_core.specs.Words.{is_space, words_of, one_of, two_of, three_of, four_of};
 
 /// The first word, and the bytes behind it.
 pub(crate) fn first_word(bytes: &[u8]) -> Option<(&[u8], &[u8])>
@@ -54,4 +55,20 @@ pub(crate) fn three(bytes: &[u8]) -> Option<(&[u8], &[u8], &[u8])>
     let (first, rest) = first_word(bytes)?;
     let (second, third) = two(rest)?;
     Some((first, second, third))
+}
+
+/// The words, where there are exactly four.
+pub(crate) fn four(bytes: &[u8]) -> Option<(&[u8], &[u8], &[u8], &[u8])>
+    ensures words { option_map (λ w. (w.0.now, w.1.now, w.2.now, w.3.now)) result ≡ four_of (words_of bytes.now) }
+{
+    let (first, rest) = first_word(bytes)?;
+    let (second, third, fourth) = three(rest)?;
+    Some((first, second, third, fourth))
+}
+
+/// Whether the word is that text.
+pub(crate) fn is(word: &[u8], text: &str) -> bool
+    ensures same { result ≡ bytes_eq word.now text.now }
+{
+    word == text.as_bytes()
 }

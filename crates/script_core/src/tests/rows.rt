@@ -1,8 +1,8 @@
 // Worked rows: scripts with the bytes and totals of their answers.
-use super::{assert_answers, assert_answers_by};
+use super::{assert_answers, assert_answers_by, push_copies};
 use crate::{Body, print, read_script};
 use desk_core::{Answer, Command, run};
-use point_core::{Items, Name, Refusal};
+use point_core::{Items, Name, Refusal, Usage};
 use std::alloc::Global;
 use std::process::Abort;
 use std::test::Fail;
@@ -76,13 +76,96 @@ fn file_limit(rt: HostRuntime) -> Result<(), Fail> {
     )
 }
 
+#[test]
+fn export_levels(rt: HostRuntime) -> Result<(), Fail> {
+    let script = b"timeline a\nbuffer B\nadd B a 9 read\nadd B a 5 kernel\n\
+        export r B read\nexport w B write\ninfo r\ninfo w\n";
+    let wanted = b"ok 1\nok\nok\nok\nok\nok\nok r 0 1\nfence a sw_sync 5 0\n\
+        ok w 0 1\nfence a sw_sync 9 0\n";
+    assert_answers(&rt, rt.alloc(), script, wanted, (8, 8, 0))
+}
+
+#[test]
+fn later_write_beside_read(rt: HostRuntime) -> Result<(), Fail> {
+    let script = b"timeline a\nbuffer B\nadd B a 5 read\nadd B a 7 write\n\
+        export r B read\nexport w B write\ninfo r\ninfo w\n";
+    let wanted = b"ok 1\nok\nok\nok\nok\nok\nok r 0 1\nfence a sw_sync 7 0\n\
+        ok w 0 1\nfence a sw_sync 7 0\n";
+    assert_answers(&rt, rt.alloc(), script, wanted, (8, 8, 0))
+}
+
+#[test]
+fn earlier_write_behind_later(rt: HostRuntime) -> Result<(), Fail> {
+    let script = b"timeline a\nbuffer B\nadd B a 7 write\nadd B a 4 write\n\
+        export r B read\nexport w B write\ninfo r\ninfo w\n";
+    let wanted = b"ok 1\nok\nok\nok\nok\nok\nok r 0 1\nfence a sw_sync 7 0\n\
+        ok w 0 1\nfence a sw_sync 7 0\n";
+    assert_answers(&rt, rt.alloc(), script, wanted, (8, 8, 0))
+}
+
+#[test]
+fn import_for_reading(rt: HostRuntime) -> Result<(), Fail> {
+    let script = b"timeline a\nbuffer B\nfence f a 3\nimport B f read\n\
+        export r B read\nexport w B write\ninfo r\ninfo w\ntest B write\ntest B read\n";
+    let wanted = b"ok 1\nok\nok\nok\nok\nok\nok r 1 1\nfence stub stub 0 1\n\
+        ok w 0 1\nfence a sw_sync 3 0\nok 1\nok 0\n";
+    assert_answers(&rt, rt.alloc(), script, wanted, (10, 10, 0))
+}
+
+#[test]
+fn fence_at_zero(rt: HostRuntime) -> Result<(), Fail> {
+    let script =
+        b"timeline a\nbuffer B\nfence f a 0\ninfo f\nadd B a 0 kernel\nexport w B write\ninfo w\n";
+    let wanted = b"ok 1\nok\nok\nok f 1 1\nfence a sw_sync 0 1\nok\nok\n\
+        ok w 1 1\nfence stub stub 0 1\n";
+    assert_answers(&rt, rt.alloc(), script, wanted, (7, 7, 0))
+}
+
+#[test]
+fn bad_lines(rt: HostRuntime) -> Result<(), Fail> {
+    let mut script = Vec::from_slice(rt.alloc(), b"buffer B\nimport B x read\ntimeline ")?;
+    push_copies(&mut script, b't', 32)?;
+    script.push(b'\n')?;
+    push_copies(&mut script, b'z', 257)?;
+    script.extend_from_slice(b"\n\nimport B x none\ntimeline a\nvalue a")?;
+    let wanted = b"ok\nerr 2 NoEntry\nerr 1 Syntax line 3\nerr 12 LongLine line 4\n\
+        err 1 Syntax line 6\nok 1\nok 0\n";
+    assert_answers(&rt, rt.alloc(), script.as_slice(), wanted, (7, 3, 4))
+}
+
+#[test]
+fn buffer_limit(rt: HostRuntime) -> Result<(), Fail> {
+    let alloc = rt.alloc();
+    let mut script = String::new(alloc);
+    let mut wanted = String::new(alloc);
+    for number in 1..=65 {
+        let line = format!(in alloc; "buffer b{number}\n")?;
+        script.push_str(line.as_str())?;
+        wanted.push_str(if number <= 64 {
+            "ok\n"
+        } else {
+            "err 6 Limit buffers\n"
+        })?;
+    }
+    script.push_str("buffer b1\n")?;
+    wanted.push_str("err 3 Exists\n")?;
+    assert_answers_by(
+        &rt,
+        alloc,
+        script.as_bytes(),
+        wanted.as_bytes(),
+        (66, 64, 2),
+        4096,
+    )
+}
+
 // Each command's line, and lines with a word too few, too many or of another kind.
 #[test]
 fn lines_of_the_table(rt: HostRuntime) -> Result<(), Fail> {
     let a = name(&rt, "a");
     let b = name(&rt, "b");
     let c = name(&rt, "c");
-    let cases: [(&[u8], Option<Command>); 16] = [
+    let cases: [(&[u8], Option<Command>); 38] = [
         (b"timeline a", Some(Command::Timeline(a))),
         (b"inc a 7", Some(Command::Inc(a, 7))),
         (b"inc a", None),
@@ -99,6 +182,37 @@ fn lines_of_the_table(rt: HostRuntime) -> Result<(), Fail> {
         (b"wait a 1", None),
         (b"wait", None),
         (b"info a", Some(Command::Info(a))),
+        (b"buffer a", Some(Command::Buffer(a))),
+        (b"buffer a b", None),
+        (
+            b"add a b 7 kernel",
+            Some(Command::Add(a, b, 7, Usage::Kernel)),
+        ),
+        (
+            b"add a b 7 write",
+            Some(Command::Add(a, b, 7, Usage::Write)),
+        ),
+        (b"add a b 7 read", Some(Command::Add(a, b, 7, Usage::Read))),
+        (
+            b"add a b 7 bookkeep",
+            Some(Command::Add(a, b, 7, Usage::Bookkeep)),
+        ),
+        (b"add a b 7 rw", None),
+        (b"add a b 7 rea", None),
+        (b"add a b 7 reads", None),
+        (b"add a b 7", None),
+        (b"add a b 7 read 1", None),
+        (b"add a b c read", None),
+        (b"import a b read", Some(Command::Import(a, b, 1))),
+        (b"import a b write", Some(Command::Import(a, b, 2))),
+        (b"import a b rw", Some(Command::Import(a, b, 3))),
+        (b"import a b 1", None),
+        (b"import a b r", None),
+        (b"export a b rw", Some(Command::Export(a, b, 3))),
+        (b"export a b kernel", None),
+        (b"test a bookkeep", Some(Command::Test(a, Usage::Bookkeep))),
+        (b"test a", None),
+        (b"trim a", Some(Command::Trim(a))),
     ];
     for (line, wanted) in cases {
         let lines = read_script(rt.alloc(), line)?;
