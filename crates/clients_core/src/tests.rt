@@ -1,7 +1,7 @@
 // Worked rows of a buffer under its lock, and of a table of them.
 use crate::{LockedBuffer, LockedTable};
 use point_core::{Context, Entry, Point, Reach, Refusal, Usage};
-use resv_core::{Act, Plan, SharedTable};
+use resv_core::SharedTable;
 use std::test::Fail;
 use words_core::Words;
 
@@ -40,7 +40,8 @@ fn locked_table_rows(rt: HostRuntime) -> Result<(), Fail> {
     let none = Reach::zero();
     let (words, mut seat) = Words::new(alloc, 1, 1, 0)?;
     let table = LockedTable::empty(alloc, &words)?;
-    let four = point(1, 4)?;
+    let ctx = Context::at(0);
+    let four = Point { ctx, value: 4 };
     let put = table.put(&rt, alloc, &words, &mut seat, 0, four, Usage::Read);
     assert!(rt; put.is_ok());
     let written = table.export(&rt, alloc, &words, &mut seat, 0, Usage::Write)?;
