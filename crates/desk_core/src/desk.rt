@@ -1,5 +1,5 @@
 // One command in, one answer out.
-ghost use Rattle.std.specs.Prelude.{◌≡◌, ◌≢◌, false, List, [], IfOk, IfErr, OnErr};
+ghost use Rattle.std.specs.Prelude.{◌≡◌, ◌≢◌, false, List, [], IsOk, IfOk, IfErr, OnErr};
 ghost use Rattle.desk_core.specs.declared.command.Command.{Command};
 
 use crate::answer::Answer;
@@ -30,7 +30,8 @@ impl Model for Desk {
 
     ghost view = { λ d. record { timelines = d.timelines; files = d.files; buffers = d.buffers } };
 
-    ghost invariant = { λ d. IsOfItsTimelines (record { timelines = d.timelines; files = d.files; buffers = d.buffers }) };
+    ghost invariant = { λ d.
+        IsOfItsTimelines (record { timelines = d.timelines; files = d.files; buffers = d.buffers }) };
 }
 
 impl Desk {
@@ -40,12 +41,10 @@ impl Desk {
     ghost use Rattle.desk_core.specs.Desk.{StandsFor, Answers};
     ghost use Rattle.desk_core.specs.Keeping.{cause_of, IsDone};
 
-    /// A desk without timelines, files and buffers.
-    ///
-    /// Refuses as `Memory` alone.
+    /// A desk without timelines, files and buffers. It takes no memory yet, so it is never refused.
     pub fn new(alloc: Global) -> Result<Desk, Refusal>
+        ensures taken { IsOk result }
         ensures empty { IfOk result (λ desk. StandsFor desk []) }
-        ensures memory { IfErr result (λ e. e ≡ Refusal.Memory) }
     {
         Ok(Desk {
             alloc,
@@ -56,8 +55,8 @@ impl Desk {
     }
 
     /// The answer of one command: the first refusal whose cause holds, else what the command tells. `Memory` comes
-    /// last, where a growth was really refused, and `inc`, `value`, `close`, `wait`, `test` and `trim` never answer it. A refused command
-    /// changes nothing.
+    /// last, where a growth was really refused, and `inc`, `value`, `close`, `wait`, `test` and `trim` never answer it. A
+    /// refused command changes nothing.
     pub fn step(&mut self, command: Command) -> Answer
         ensures answer { Answers self.old command result }
         ensures stands { (history : List Command) →
@@ -188,7 +187,8 @@ impl Desk {
         usage: Usage,
     ) -> Result<Answer, Refusal>
         ensures refused { IsRefusedFor (cause_of self.old (Command.Add name.now timeline.now value usage)) result }
-        ensures done { IfOk result (λ given. IsDone self.old (Command.Add name.now timeline.now value usage) given self.new) }
+        ensures done { IfOk result (λ given.
+            IsDone self.old (Command.Add name.now timeline.now value usage) given self.new) }
         ensures unchanged { OnErr result (self.new ≡ self.old) }
     {
         let ctx = self.timelines.context(timeline).ok_or(Refusal::NoEntry)?;

@@ -23,5 +23,6 @@ pub fn a_value_is_the_sum_of_its_increments()
 pub fn a_desk_tells_its_history()
     ensures sums { (desk : DeskState) (history : List Command) → StandsFor desk history → TellsSums desk history }
     ensures files { (desk : DeskState) (history : List Command) → StandsFor desk history → TellsWhatWasPut desk history }
-    ensures buffers { (desk : DeskState) (history : List Command) → StandsFor desk history → TellsWhatIsInBuffers desk history }
+    ensures buffers { (desk : DeskState) (history : List Command) →
+        StandsFor desk history → TellsWhatIsInBuffers desk history }
 {}
