@@ -1,4 +1,5 @@
 -- Each exit is told by how far the answers have come.
+use Rattle.std.proofs.Common.{inr}
 use Rattle.std.proofs.lemmas.Result.{err_from_is_err_and}
 use Rattle.std.proofs.KnownBytes.{Appends-kept}
 use Rattle.script_core.specs.Lines.{lines_left}
@@ -14,6 +15,12 @@ pub with-totals-requires : goal.with-totals-requires
 with-totals-requires g c =
     let e = lines-next _ _ _ _ _ c.loop-line.invariant.0 c.in-Some.ensures.steps in
     Progress-room _ _ _ _ _ _ _ _ _ _ c.loop-line.invariant.1 e c.requires
+
+pub returns-in_err-print-clause-refusals : goal.returns-in_err-print-clause-refusals
+returns-in_err-print-clause-refusals g c =
+    let p = err_from_is_err_and c.from_residual-in_err-print.result c.from_residual-in_err-print.ensures.1 in
+    let memory = c.in_err-print.ensures.err.0 in
+    rw (p.1, p.2) (inr (cc))
 
 pub returns-in_err-write_many-clause-err : goal.returns-in_err-write_many-clause-err
 returns-in_err-write_many-clause-err g c =
