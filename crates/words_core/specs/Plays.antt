@@ -29,7 +29,9 @@ loads_value s me found after = (after ≡ (view_with me.0 (load s.word found), m
 
 -- a word is won where it was 0, and then nobody was known to have won or lost it
 abbrev pub sets_once : TableStep (Unit {0}) → Holder → ℕ → Holder → Type 0
-sets_once s me found after = (after ≡ (view_with me.0 (set_once_step s.word found), me.1)) × (found ≡ 0 → (tests_by s.word me.0 ≡ 0) × (wins_of s.word me.0.trace ≡ 0))
+sets_once s me found after =
+    (after ≡ (view_with me.0 (set_once_step s.word found), me.1))
+    × (found ≡ 0 → (tests_by s.word me.0 ≡ 0) × (wins_of s.word me.0.trace ≡ 0))
 
 -- where a claim is won, nothing was added to the context's value, the word before it
 abbrev pub claims_context : TableStep (Unit {0}) → Holder → ℕ → Holder → Type 0
@@ -37,7 +39,9 @@ claims_context s me found after = sets_once s me found after × (found ≡ 0 →
 
 -- the word was all that the seat had added
 abbrev pub adds_to_value : TableStep (Unit {0}) → Holder → ℕ → Holder → Type 0
-adds_to_value s me found after = (after ≡ (view_with me.0 (add s.word s.first (found + s.first)), me.1)) × (found ≡ added (on s.word me.0.trace))
+adds_to_value s me found after =
+    (after ≡ (view_with me.0 (add s.word s.first (found + s.first)), me.1))
+    × (found ≡ added (on s.word me.0.trace))
 
 -- nothing is entered. The seat's parts are seen to be no more than all, and its wins of each word no more than one
 abbrev pub counts_parts : TableStep (Unit {0}) → Holder → ℕ → Holder → Type 0
@@ -45,22 +49,42 @@ counts_parts s me found after = (after ≡ me) × (me.0.parts ≤ PARTS) × ((w 
 
 -- a seat with all parts has added all that the word is, and its claim is the word after it
 abbrev pub loads_total : TableStep (Unit {0}) → Holder → ℕ → Holder → Type 0
-loads_total s me found after = (after ≡ (view_with me.0 (load s.word found), me.1)) × (seen_by s.word me.0 ≤ found) × (found ≡ added (on s.word me.0.trace)) × LoadsWereLeft s.word me.0.trace × IsDecided (s.word + 1) me.0.trace
+loads_total s me found after =
+    (after ≡ (view_with me.0 (load s.word found), me.1))
+    × (seen_by s.word me.0 ≤ found)
+    × (found ≡ added (on s.word me.0.trace))
+    × LoadsWereLeft s.word me.0.trace
+    × IsDecided (s.word + 1) me.0.trace
 
 -- a flag is how often a seat with all parts has won it
 abbrev pub loads_flag : TableStep (Unit {0}) → Holder → ℕ → Holder → Type 0
-loads_flag s me found after = (after ≡ (view_with me.0 (load s.word found), me.1)) × (seen_by s.word me.0 ≤ found) × (found ≡ wins_of s.word me.0.trace) × IsDecided s.word me.0.trace × (0 < tests_by s.word me.0 → found ≡ 1)
+loads_flag s me found after =
+    (after ≡ (view_with me.0 (load s.word found), me.1))
+    × (seen_by s.word me.0 ≤ found)
+    × (found ≡ wins_of s.word me.0.trace)
+    × IsDecided s.word me.0.trace
+    × (0 < tests_by s.word me.0 → found ≡ 1)
 
 -- what an entry of the board shows is at least what was seen, and what the seat raised it to
 abbrev pub loads_entry : TableStep (Unit {0}) → Holder → ℕ → Holder → Type 0
-loads_entry s me found after = (after ≡ (view_with me.0 (shown s.word found), me.1)) × (seen_by s.word me.0 ≤ found) × (raised (on s.word me.0.trace) ≤ found)
+loads_entry s me found after =
+    (after ≡ (view_with me.0 (shown s.word found), me.1))
+    × (seen_by s.word me.0 ≤ found)
+    × (raised (on s.word me.0.trace) ≤ found)
 
 abbrev pub raises_entry : TableStep (Unit {0}) → Holder → ℕ → Holder → Type 0
-raises_entry s me found after = (after ≡ (view_with me.0 (raise s.word s.first (max found s.first)), me.1)) × (seen_by s.word me.0 ≤ found) × (raised (on s.word me.0.trace) ≤ found)
+raises_entry s me found after =
+    (after ≡ (view_with me.0 (raise s.word s.first (max found s.first)), me.1))
+    × (seen_by s.word me.0 ≤ found)
+    × (raised (on s.word me.0.trace) ≤ found)
 
 -- a seat with all parts has made all raises of an entry
 abbrev pub loads_top : TableStep (Unit {0}) → Holder → ℕ → Holder → Type 0
-loads_top s me found after = (after ≡ (view_with me.0 (shown s.word found), me.1)) × (seen_by s.word me.0 ≤ found) × (found ≡ raised (on s.word me.0.trace)) × SightsWereRaised s.word me.0.trace
+loads_top s me found after =
+    (after ≡ (view_with me.0 (shown s.word found), me.1))
+    × (seen_by s.word me.0 ≤ found)
+    × (found ≡ raised (on s.word me.0.trace))
+    × SightsWereRaised s.word me.0.trace
 
 -- a new seat knows how many words there are
 abbrev pub tells_sizes : TableStep (Unit {0}) → Holder → ℕ → Holder → Type 0

@@ -29,7 +29,9 @@ impl Model for Driver {
 
     ghost view = { λ d. record { seat = d.seat; ctx = d.ctx; value = d.value } };
 
-    ghost invariant = { λ d. (0 < wins_of (claim_word d.ctx) d.seat.trace) × (d.value ≡ added_to d.seat d.ctx) × (d.ctx ≤ d.seat.words.contexts) };
+    ghost invariant = { λ d.
+        (0 < wins_of (claim_word d.ctx) d.seat.trace) × (d.value ≡ added_to d.seat d.ctx) ×
+        (d.ctx ≤ d.seat.words.contexts) };
 }
 
 impl Driver {
@@ -40,7 +42,8 @@ impl Driver {
     pub fn inc(&mut self, words: &Words, n: u64) -> Result<u64, Refusal>
         requires own { self.old.seat.words ≡ words.now }
         ensures value { IfOk result (λ value. value ≡ self.old.value + n) }
-        ensures added { IfOk result (λ value. self.new ≡ record { seat = with_step self.old.seat (add (value_word self.old.ctx) n value); ctx = self.old.ctx; value = value }) }
+        ensures added { IfOk result (λ value.
+            self.new ≡ record { seat = with_step self.old.seat (add (value_word self.old.ctx) n value); ctx = self.old.ctx; value = value }) }
         ensures overflow { IsErr result ↔ (2 ^ 64 ≤ self.old.value + n) }
         ensures refusal { IfErr result (λ e. e ≡ refusal.Overflow) }
         ensures unchanged { OnErr result (self.new ≡ self.old) }

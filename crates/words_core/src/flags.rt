@@ -51,8 +51,10 @@ impl Words {
     pub fn set_once(&self, seat: &mut Seat, flag: usize) -> Once
         requires own { seat.old.words ≡ self.now }
         requires flag { flag < self.now.flags }
-        ensures first { IfFirst result (λ token. (token ≡ record { words = self.now; flag = flag }) × (seat.new ≡ with_step seat.old (won (flag_word self.now flag)))) }
-        ensures free { IfFirst result (λ _. (tests_of seat.old (flag_word self.now flag) ≡ 0) × (wins_of (flag_word self.now flag) seat.old.trace ≡ 0)) }
+        ensures first { IfFirst result (λ token.
+            (token ≡ record { words = self.now; flag = flag }) × (seat.new ≡ with_step seat.old (won (flag_word self.now flag)))) }
+        ensures free { IfFirst result (λ _.
+            (tests_of seat.old (flag_word self.now flag) ≡ 0) × (wins_of (flag_word self.now flag) seat.old.trace ≡ 0)) }
         ensures once { IfFirst result (λ _. wins_of (flag_word self.now flag) seat.new.trace ≡ 1) }
         ensures already { IfAlready result (seat.new ≡ with_step seat.old (lost (flag_word self.now flag))) }
         ensures set { tests_of seat.new (flag_word self.now flag) ≡ tests_of seat.old (flag_word self.now flag) + 1 }
@@ -72,7 +74,8 @@ impl Words {
         requires own { seat.old.words ≡ self.now }
         requires flag { flag < self.now.flags }
         ensures entered { seat.new ≡ with_step seat.old (set_once_step (flag_word self.now flag) result) }
-        ensures first { result ≡ 0 → (tests_of seat.old (flag_word self.now flag) ≡ 0) × (wins_of (flag_word self.now flag) seat.old.trace ≡ 0) }
+        ensures first { result ≡ 0 →
+            (tests_of seat.old (flag_word self.now flag) ≡ 0) × (wins_of (flag_word self.now flag) seat.old.trace ≡ 0) }
     {
         let place = self.flag_place(flag);
         self.table

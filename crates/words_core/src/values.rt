@@ -42,8 +42,11 @@ impl Words {
     fn claim(&self, seat: &mut Seat, ctx: Context) -> bool
         requires own { seat.old.words ≡ self.now }
         requires context { ctx ≤ self.now.contexts }
-        ensures entered { MatchBool result (seat.new ≡ with_step seat.old (won (claim_word ctx))) (seat.new ≡ with_step seat.old (lost (claim_word ctx))) }
-        ensures first { result ≡ true → (tests_of seat.old (claim_word ctx) ≡ 0) × (wins_of (claim_word ctx) seat.old.trace ≡ 0) × (added_to seat.old ctx ≡ 0) }
+        ensures entered { MatchBool result
+            (seat.new ≡ with_step seat.old (won (claim_word ctx)))
+            (seat.new ≡ with_step seat.old (lost (claim_word ctx))) }
+        ensures first { result ≡ true →
+            (tests_of seat.old (claim_word ctx) ≡ 0) × (wins_of (claim_word ctx) seat.old.trace ≡ 0) × (added_to seat.old ctx ≡ 0) }
     {
         self.table
             .shared

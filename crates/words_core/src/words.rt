@@ -63,7 +63,10 @@ impl Model for Words {
 
     ghost view = { λ w. words_of w.table.shared.table_id w.sizes };
 
-    ghost invariant = { λ w. (w.table.shared.key ≡ w.sizes) × (w.table.shared.table_id.words ≡ word_count w.sizes) × (1 ≤ w.sizes.contexts) × (w.sizes.contexts ≤ CONTEXTS) × (w.sizes.buffers ≤ BUFFERS) × (w.sizes.flags ≤ FLAGS) };
+    ghost invariant = { λ w.
+        (w.table.shared.key ≡ w.sizes) × (w.table.shared.table_id.words ≡ word_count w.sizes) ×
+        (1 ≤ w.sizes.contexts) × (w.sizes.contexts ≤ CONTEXTS) ×
+        (w.sizes.buffers ≤ BUFFERS) × (w.sizes.flags ≤ FLAGS) };
 }
 
 impl Words {
@@ -81,9 +84,12 @@ impl Words {
         ensures limits { IfOk result (λ r. (1 ≤ contexts) × (contexts ≤ CONTEXTS) × (buffers ≤ BUFFERS) × (flags ≤ FLAGS)) }
         ensures seat { IfOk result (λ r. r.1 ≡ record { words = r.0; parts = PARTS; start = []; trace = [] }) }
         ensures timelines { (contexts < 1) ⊎ (CONTEXTS < contexts) → IfErr result (λ e. e ≡ refusal.Limit limit.Timelines) }
-        ensures buffers { 1 ≤ contexts → contexts ≤ CONTEXTS → BUFFERS < buffers → IfErr result (λ e. e ≡ refusal.Limit limit.Buffers) }
-        ensures flags { 1 ≤ contexts → contexts ≤ CONTEXTS → buffers ≤ BUFFERS → FLAGS < flags → IfErr result (λ e. e ≡ refusal.Limit limit.Flags) }
-        ensures memory { 1 ≤ contexts → contexts ≤ CONTEXTS → buffers ≤ BUFFERS → flags ≤ FLAGS → IfErr result (λ e. e ≡ refusal.Memory) }
+        ensures buffers { 1 ≤ contexts → contexts ≤ CONTEXTS →
+            BUFFERS < buffers → IfErr result (λ e. e ≡ refusal.Limit limit.Buffers) }
+        ensures flags { 1 ≤ contexts → contexts ≤ CONTEXTS → buffers ≤ BUFFERS →
+            FLAGS < flags → IfErr result (λ e. e ≡ refusal.Limit limit.Flags) }
+        ensures memory { 1 ≤ contexts → contexts ≤ CONTEXTS → buffers ≤ BUFFERS → flags ≤ FLAGS →
+            IfErr result (λ e. e ≡ refusal.Memory) }
     {
         if contexts < 1 || contexts > CONTEXTS {
             return Err(Refusal::Limit(LimitKind::Timelines));
