@@ -9,7 +9,6 @@ use Rattle.std.proofs.lemmas.List.FromFn.{get_or-map-range_with_len, length-map-
 use Rattle.point_core.specs.declared.entry.Entry.{Entry}
 use Rattle.point_core.specs.declared.entry.Usage.{Usage}
 use Rattle.point_core.specs.declared.entry.Usage.TheVariants.{Kernel, Write, Read, Bookkeep}
-use Rattle.point_core.specs.declared.context.TheConstants.{CONTEXTS}
 use Rattle.point_core.specs.Usage.{usage_number}
 use Rattle.point_core.specs.Reach.{value_at, with_value}
 use Rattle.point_core.specs.Agreement.{top, pending}

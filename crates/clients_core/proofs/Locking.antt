@@ -1,5 +1,5 @@
 -- What a call under a lock does to its seat.
-use Rattle.std.proofs.Common.{◌≡◌, ℕ, List, [], ◌++◌, refl, sym, ap, ◌∙◌, Ok, Err, Result, IfOk}
+use Rattle.std.proofs.Common.{◌≡◌, ℕ, List, [], refl, sym, ap, ◌∙◌, Ok, Err, Result, IfOk}
 use Rattle.std.proofs.lemmas.List.{append-nil}
 use Rattle.point_core.specs.declared.listing.Listing.{Listing}
 use Rattle.point_core.specs.declared.refusal.Refusal.{Refusal}
