@@ -8,7 +8,7 @@ const ABOUT: &str = "Runs a script of GPU fence commands, and prints their answe
 const HELP: &str = "\
 The script is read from standard input, one command a line; a line that begins with # is a note.
 
-Commands:
+Lines of a script:
   timeline T         makes timeline T at value 0             ok CONTEXT
   inc T N            adds N to the value of timeline T       ok VALUE
   value T            reads the value of timeline T           ok VALUE
@@ -17,6 +17,14 @@ Commands:
   close F            closes file F; its name is free again   ok
   wait F             one check: is file F signalled?         ok
   info F             what file F waits for                   ok F STATUS COUNT, then COUNT fence lines
+  buffer B           makes buffer B                          ok
+  add B T P U        adds point P on T to B, for usage U     ok
+  import B F FLAGS   adds the fences of file F to buffer B   ok
+  export F B FLAGS   makes file F of what B waits for        ok
+  test B U           are B's fences up to usage U reached?   ok 1 or ok 0
+  trim B             drops needless fences from buffer B     ok
+
+U is kernel, write, read or bookkeep; FLAGS is read, write or rw.
 
 A refused line is answered `err NUMBER NAME`, and changes nothing.
 
