@@ -31,6 +31,7 @@ impl SyncFile {
         seat: &mut Seat,
     ) -> Result<SyncFile, Refusal>
         requires own { seat.old.words ≡ words.now }
+        ensures kept { (seat.new.words ≡ seat.old.words) × (seat.new.parts ≡ seat.old.parts) }
         ensures loaded { HasLoadedAll seat.old seat.new }
         ensures file { IfOk result (λ f.
             f ≡ file_of name (merged (reach_seen seat.new) a.now.points b.now.points) (reach_seen seat.new)) }
@@ -61,6 +62,7 @@ impl SyncFile {
     /// Refuses as `Foreign`, as `merge_with` does. Takes no memory.
     pub fn poll(&self, words: &Words, seat: &mut Seat) -> Result<Status, Refusal>
         requires own { seat.old.words ≡ words.now }
+        ensures kept { (seat.new.words ≡ seat.old.words) × (seat.new.parts ≡ seat.old.parts) }
         ensures loaded { HasLoadedAll seat.old seat.new }
         ensures status { IfOk result (λ status. status ≡ status_of self.now.points (reach_seen seat.new)) }
         ensures borne_out { OnOk result (IsBorneOut seat.new self.now) }
@@ -79,6 +81,7 @@ impl SyncFile {
     /// `Foreign` at the first poll that is. Takes no memory.
     pub fn wait_for(&self, words: &Words, seat: &mut Seat, tries: u32) -> Result<(), Refusal>
         requires own { seat.old.words ≡ words.now }
+        ensures kept { (seat.new.words ≡ seat.old.words) × (seat.new.parts ≡ seat.old.parts) }
         ensures polled { OnOk result (HasPolled self.now tries seat.old seat.new) }
         ensures signalled { OnOk result
             (IsBorneOut seat.new self.now × (status_of self.now.points (reach_seen seat.new) ≡ Signalled)) }
@@ -102,6 +105,7 @@ impl SyncFile {
 /// Loads the value of each context once, by rising number.
 fn load_all(words: &Words, seat: &mut Seat) -> Reach
     requires own { seat.old.words ≡ words.now }
+    ensures kept { (seat.new.words ≡ seat.old.words) × (seat.new.parts ≡ seat.old.parts) }
     ensures loaded { HasLoadedAll seat.old seat.new }
     ensures seen { result ≡ reach_seen seat.new }
     ensures contexts { seat.new.words.contexts ≡ words.now.contexts }

@@ -1,6 +1,5 @@
-use Rattle.std.proofs.Common.{sym, ap, ◌∙◌, inr}
+use Rattle.std.proofs.Common.{sym, ◌∙◌, inr}
 use Rattle.std.proofs.lemmas.Result.{err_from_is_err_and}
-use Rattle.words_core.specs.Seat.{SeatModel}
 use Rattle.syncfile_core.proofs.Polling.{HasRunOut-more, HasPolled-last}
 use Rattle.syncfile_core.proofs.sync_file.SyncFile.wait_for.Goals as goal
 
@@ -13,5 +12,5 @@ returns-in_err-poll-clause-refused c =
 pub loop-preserved : goal.loop-preserved
 loop-preserved c =
     let status = sym c.in_ok-poll.ensures.status ∙ c.in-Active.is in
-    let words = ap (λ (s : SeatModel). s.words) c.poll.ensures.loaded ∙ c.loop.invariant.1 in
-    (HasRunOut-more c.loop.invariant.0 c.poll.ensures.loaded c.in_ok-poll.ensures.borne_out status, words)
+    let kept = c.poll.ensures.kept in
+    (HasRunOut-more c.loop.invariant.0 c.poll.ensures.loaded c.in_ok-poll.ensures.borne_out status, kept.0 ∙ c.loop.invariant.1, kept.0 ∙ c.loop.invariant.2, kept.1 ∙ c.loop.invariant.3)
