@@ -85,7 +85,7 @@ impl Buffers {
     /// Adds one fence to a buffer, as Linux's `dma_resv_add_fence` after a `dma_resv_reserve_fences` of one.
     ///
     /// Refuses as `NoEntry`, then as `Memory`, and then leaves every table as it was. Memory is taken by the first fence of
-    /// a buffer alone.
+    /// a buffer alone, as `Resv::reserve` says.
     pub fn add(
         &mut self,
         name: &Name,
@@ -94,7 +94,8 @@ impl Buffers {
         reach: &Reach,
     ) -> Result<(), Refusal>
         ensures refused { IsRefusedFor (cause_without self.old name.now) result }
-        ensures agrees { OnOk result (AgreesAbove reach.now (entries_of self.new name.now) (entries_of self.old name.now ++ entry_of point usage ∷ [])) }
+        ensures agrees { OnOk result (AgreesAbove reach.now (entries_of self.new name.now)
+            (entries_of self.old name.now ++ entry_of point usage ∷ [])) }
         ensures others { OnlyChanges name.now self.old self.new }
         ensures unchanged { OnErr result (self.new ≡ self.old) }
         ensures kept { AreBuffers self.new }
@@ -121,7 +122,8 @@ impl Buffers {
         reach: &Reach,
     ) -> Result<(), Refusal>
         ensures refused { IsRefusedFor (cause_by_flags self.old name.now flags) result }
-        ensures agrees { OnOk result (AgreesAbove reach.now (entries_of self.new name.now) (entries_of self.old name.now ++ imported flags (as_entries file.now.points))) }
+        ensures agrees { OnOk result (AgreesAbove reach.now (entries_of self.new name.now)
+            (entries_of self.old name.now ++ imported flags (as_entries file.now.points))) }
         ensures others { OnlyChanges name.now self.old self.new }
         ensures nothing { file.now.points ≡ [] → self.new ≡ self.old }
         ensures unchanged { OnErr result (self.new ≡ self.old) }
@@ -142,7 +144,8 @@ impl Buffers {
     /// Refuses as `NoEntry`, then as `Flags` any number but 1, 2 and 3, then as `Memory`.
     pub fn export(&self, name: &Name, flags: u32, reach: &Reach) -> Result<Listing, Refusal>
         ensures refused { IsRefusedFor (cause_by_flags self.now name.now flags) result }
-        ensures points { IfOk result (λ l. l.points ≡ listing (entries_of self.now name.now) (usage_number (export_usage flags)) reach.now) }
+        ensures points { IfOk result (λ l.
+            l.points ≡ listing (entries_of self.now name.now) (usage_number (export_usage flags)) reach.now) }
         ensures floor { IfOk result (λ l. l.floor ≡ reach.now) }
         ensures rising { IfOk result (λ l. HasRisingContexts l.points) }
     {
@@ -158,7 +161,10 @@ impl Buffers {
     ///
     /// Refuses as `NoEntry`. Takes no memory.
     pub fn test(&self, name: &Name, usage: Usage, reach: &Reach) -> Result<bool, Refusal>
-        ensures { MatchBool (has_buffer self.now name.now) (IsOkAnd result (λ told. IsTrue told ↔ IsReached (entries_of self.now name.now) (usage_number usage) reach.now)) (result ≡ Err NoEntry) }
+        ensures { MatchBool (has_buffer self.now name.now)
+            (IsOkAnd result (λ told.
+            IsTrue told ↔ IsReached (entries_of self.now name.now) (usage_number usage) reach.now))
+            (result ≡ Err NoEntry) }
     {
         Ok(self.known(name)?.test(usage, reach))
     }
@@ -221,7 +227,8 @@ impl Buffers {
 fn add_all(table: &mut Resv, points: &[Point], usage: Usage, reach: &Reach) -> Result<(), Refusal>
     requires rising { HasRisingContexts points.now }
     ensures table { IsTable table.new }
-    ensures agrees { OnOk result (AgreesAbove reach.now table.new.entries (table.old.entries ++ map (with_usage usage) (as_entries points.now))) }
+    ensures agrees { OnOk result (AgreesAbove reach.now table.new.entries
+        (table.old.entries ++ map (with_usage usage) (as_entries points.now))) }
     ensures nothing { points.now ≡ [] → table.new ≡ table.old }
     ensures unchanged { OnErr result (table.new ≡ table.old) }
     ensures memory { IfErr result (λ e. e ≡ Memory) }
