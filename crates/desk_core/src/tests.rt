@@ -355,11 +355,14 @@ fn the_file_in_the_middle_is_closed(rt: HostRuntime) -> Result<(), Fail> {
         info(&rt, "m"),
     ];
     let (_, answers) = run(rt.alloc(), &commands)?;
+    let wanted = [
+        active(&rt, rt.alloc(), "f", &[active_row(&rt, "a", 1)]),
+        active(&rt, rt.alloc(), "g", &[active_row(&rt, "a", 8)]),
+        active(&rt, rt.alloc(), "h", &[active_row(&rt, "a", 3)]),
+        active(&rt, rt.alloc(), "m", &[active_row(&rt, "a", 2)]),
+    ];
     assert_eq!(rt; answers.len(), 11);
-    for (place, file, point) in [(7, "f", 1), (8, "g", 8), (9, "h", 3), (10, "m", 2)] {
-        let wanted = active(&rt, rt.alloc(), file, &[active_row(&rt, "a", point)]);
-        assert_eq!(rt; answers[place], wanted, "{file}");
-    }
+    assert_eq!(rt; &answers.as_slice()[7..], wanted.as_slice());
     Ok(())
 }
 
