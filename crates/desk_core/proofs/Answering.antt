@@ -12,7 +12,7 @@ use Rattle.syncfile_core.specs.Files.{IsRefusedFor}
 use Rattle.desk_core.specs.World.{World, empty_world, after}
 use Rattle.desk_core.specs.Answer.{first_of, causes, told, answer_to, refused_or, is_refused, takes_memory, OnRefused}
 use Rattle.desk_core.specs.History.{world_from, world_of, AreAccepted, IsAnswer, history_after, history_of, AreAnswers}
-use Rattle.desk_core.specs.Desk.{DeskState, Holds, StandsFor, Answers}
+use Rattle.desk_core.specs.Desk.{DeskState, Holds, HasHistory, Answers}
 use Rattle.desk_core.specs.Keeping.{Keeps, cause_of, IsDone, answer_of}
 use Rattle.desk_core.proofs.Sound.{IsSound-history}
 use Rattle.desk_core.proofs.Stepping.{causes-keeps}
@@ -42,7 +42,7 @@ is_refused-told w (command.Test b u) = refl
 is_refused-told w (command.Trim b) = refl
 
 -- the desk keeps the world of each history that it stands for
-pub Keeps-stands : {desk : DeskState} {history : List Command} → StandsFor desk history → Keeps desk (world_of history)
+pub Keeps-stands : {desk : DeskState} {history : List Command} → HasHistory desk history → Keeps desk (world_of history)
 Keeps-stands {desk} {history} stands = record { holds = stands.holds; sound = IsSound-history history stands.accepted }
 
 AreAccepted-push : (w : World) (history : List Command) (c : Command) → AreAccepted w history → is_refused (answer_to (world_from w history) c) ≡ false → AreAccepted w (history ++ c ∷ [])
@@ -74,8 +74,8 @@ accepted-cause (Some e) a refused = absurd (cc)
 accepted-cause None a refused = refl
 
 -- the desk stands for the history after it
-pub StandsFor-outcome : (old new : DeskState) (c : Command) (r : Result Answer Refusal) → IsRefusedFor (cause_of old c) r → OnErr r (new ≡ old) → IfOk r (λ a. IsDone old c a new) → (history : List Command) → StandsFor old history → StandsFor new (history_after history c (answer_of r))
-StandsFor-outcome old new c (Ok a) refused unchanged done history stands =
+pub HasHistory-outcome : (old new : DeskState) (c : Command) (r : Result Answer Refusal) → IsRefusedFor (cause_of old c) r → OnErr r (new ≡ old) → IfOk r (λ a. IsDone old c a new) → (history : List Command) → HasHistory old history → HasHistory new (history_after history c (answer_of r))
+HasHistory-outcome old new c (Ok a) refused unchanged done history stands =
     let keeps = Keeps-stands stands in
     let P : World → Type 0 = λ w. Holds new w in
     let uncaused = causes-keeps keeps c ∙ accepted-cause (cause_of old c) a refused in
@@ -85,8 +85,8 @@ StandsFor-outcome old new c (Ok a) refused unchanged done history stands =
       accepted = AreAccepted-push empty_world history c stands.accepted is;
       holds = subst P (sym (world_from-push empty_world history c)) (done.held (world_of history) keeps);
     })
-StandsFor-outcome old new c (Err e) refused unchanged done history stands =
-    let P : DeskState → Type 0 = λ d. StandsFor d history in
+HasHistory-outcome old new c (Err e) refused unchanged done history stands =
+    let P : DeskState → Type 0 = λ d. HasHistory d history in
     subst P (sym unchanged) stands
 
 accepted_OnRefused : (given : Answer) (fact : Type 0) → is_refused given ≡ false → OnRefused given fact
@@ -118,14 +118,14 @@ AreAnswers-push history (d ∷ cs) (b ∷ given) c a are is = (are.0, AreAnswers
 -- the desk and the answers after those commands
 pub record HasRun (desk : DeskState) (cs : List Command) (given : List Answer) : Type 0 where
   pub answers : AreAnswers [] cs given
-  pub stands : StandsFor desk (history_of [] cs given)
+  pub stands : HasHistory desk (history_of [] cs given)
   pub each : length cs ≡ length given
 
-pub HasRun-push : {desk : DeskState} {cs : List Command} {given : List Answer} (new : DeskState) (c : Command) (a : Answer) → HasRun desk cs given → Answers desk c a → ((history : List Command) → StandsFor desk history → StandsFor new (history_after history c a)) → HasRun new (cs ++ c ∷ []) (given ++ a ∷ [])
+pub HasRun-push : {desk : DeskState} {cs : List Command} {given : List Answer} (new : DeskState) (c : Command) (a : Answer) → HasRun desk cs given → Answers desk c a → ((history : List Command) → HasHistory desk history → HasHistory new (history_after history c a)) → HasRun new (cs ++ c ∷ []) (given ++ a ∷ [])
 HasRun-push {desk} {cs} {given} new c a run answer stands = record {
   answers = AreAnswers-push [] cs given c a run.answers (answer (history_of [] cs given) run.stands);
   stands =
-      let P : List Command → Type 0 = λ history. StandsFor new history in
+      let P : List Command → Type 0 = λ history. HasHistory new history in
       subst P (sym (history_of-push [] cs given c a run.each)) (stands (history_of [] cs given) run.stands);
   each = omega (arith, run.each, length-append {A = Command}, length-append {A = Answer});
 }

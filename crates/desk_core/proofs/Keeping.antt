@@ -15,9 +15,9 @@ use Rattle.point_core.proofs.Named.{has_named-same_names, length-same_names, map
 use Rattle.timeline_core.specs.Timeline.{Timeline, reach_of}
 use Rattle.syncfile_core.specs.SyncFile.{File}
 use Rattle.syncfile_core.specs.Files.{has_file as has_sync_file, without_file, file_at as sync_file_at}
-use Rattle.syncfile_core.specs.Merge.{files_at, points_of as points_of_files}
+use Rattle.syncfile_core.specs.Merge.{files_at, points_of}
 use Rattle.desk_core.specs.World.{World, MadeFile, files_without, has_file, file_named, put_set}
-use Rattle.desk_core.specs.Answer.{points_of}
+use Rattle.desk_core.specs.Answer.{listed_points}
 use Rattle.desk_core.specs.Desk.{DeskState}
 use Rattle.desk_core.specs.Sound.{WasMade, IsFilePoint}
 use Rattle.desk_core.specs.Keeping.{points_at, Keeps}
@@ -32,16 +32,16 @@ abbrev pub made_names : List MadeFile → List (List ℕ)
 made_names fs = map (λ (f : MadeFile). f.name) fs
 
 abbrev pub made_points : List MadeFile → List (List Point)
-made_points fs = map points_of fs
+made_points fs = map listed_points fs
 
-points_of-found : (o p : Option File) → points_of_files (cons_option o (cons_option p [])) ≡ unwrap_or (option_map (λ (f : File). f.points) o) [] ++ unwrap_or (option_map (λ (f : File). f.points) p) []
+points_of-found : (o p : Option File) → points_of (cons_option o (cons_option p [])) ≡ unwrap_or (option_map (λ (f : File). f.points) o) [] ++ unwrap_or (option_map (λ (f : File). f.points) p) []
 points_of-found None None = refl
 points_of-found None (Some g) = append-nil g.points
 points_of-found (Some f) None = refl
 points_of-found (Some f) (Some g) = ap (λ ps. f.points ++ ps) (append-nil g.points)
 
 -- the points of two files, one after the other
-pub points_of-files_at : (fs : List File) (a b : List ℕ) → points_of_files (files_at fs (a ∷ b ∷ [])) ≡ points_at fs a ++ points_at fs b
+pub points_of-files_at : (fs : List File) (a b : List ℕ) → points_of (files_at fs (a ∷ b ∷ [])) ≡ points_at fs a ++ points_at fs b
 points_of-files_at fs a b = points_of-found (sync_file_at fs a) (sync_file_at fs b)
 
 -- by name
@@ -57,10 +57,10 @@ pub without_file-names : (ks : List File) (fs : List MadeFile) (name : List ℕ)
 without_file-names ks fs name is = map-without_named (λ (f : File). f.name) (λ (f : MadeFile). f.name) (λ (f : File). f.name) (λ (f : MadeFile). f.name) ks fs name is is
 
 pub without_file-points : (ks : List File) (fs : List MadeFile) (name : List ℕ) → kept_names ks ≡ made_names fs → kept_points ks ≡ made_points fs → kept_points (without_file ks name) ≡ made_points (files_without fs name)
-without_file-points ks fs name is points = map-without_named (λ (f : File). f.name) (λ (f : MadeFile). f.name) (λ (f : File). f.points) points_of ks fs name is points
+without_file-points ks fs name is points = map-without_named (λ (f : File). f.name) (λ (f : MadeFile). f.name) (λ (f : File). f.points) listed_points ks fs name is points
 
-pub sync_file_at-points : (ks : List File) (fs : List MadeFile) (name : List ℕ) → kept_names ks ≡ made_names fs → kept_points ks ≡ made_points fs → option_map (λ (f : File). f.points) (sync_file_at ks name) ≡ option_map points_of (file_named fs name)
-sync_file_at-points ks fs name is points = option_map-named (λ (f : File). f.name) (λ (f : MadeFile). f.name) (λ (f : File). f.points) points_of ks fs name is points
+pub sync_file_at-points : (ks : List File) (fs : List MadeFile) (name : List ℕ) → kept_names ks ≡ made_names fs → kept_points ks ≡ made_points fs → option_map (λ (f : File). f.points) (sync_file_at ks name) ≡ option_map listed_points (file_named fs name)
+sync_file_at-points ks fs name is points = option_map-named (λ (f : File). f.name) (λ (f : MadeFile). f.name) (λ (f : File). f.points) listed_points ks fs name is points
 
 pub file_named-All : (P : MadeFile → Type 0) (fs : List MadeFile) (name : List ℕ) (f : MadeFile) → All P fs → file_named fs name ≡ Some f → P f
 file_named-All P fs name f all is = named-All (λ (g : MadeFile). g.name) P fs name f all is
@@ -89,23 +89,23 @@ pending_top-points reach made es usage at ctx all =
     ∙ ap (pending (value_at reach ctx)) (top-as_entries (map (λ (e : Entry). e.point) es) usage at ctx)
     ∙ ap (λ ds. pending_top reach ds at ctx) (as_entries-points made es all)
 
-points_of-if : (one : Bool) (reach : List ℕ) (ts : List Timeline) (f : MadeFile) → WasMade ts f → length ts ≤ CONTEXTS → AgreesAbove (reach_of ts) (as_entries (if one then map (λ (e : Entry). e.point) f.put else listing f.put 0 f.made_at)) f.put
-points_of-if true reach ts f made room = AgreesAbove-same (reach_of ts) (as_entries-points (length ts) f.put made.put)
-points_of-if false reach ts f made room = record {
+listed_points-if : (one : Bool) (reach : List ℕ) (ts : List Timeline) (f : MadeFile) → WasMade ts f → length ts ≤ CONTEXTS → AgreesAbove (reach_of ts) (as_entries (if one then map (λ (e : Entry). e.point) f.put else listing f.put 0 f.made_at)) f.put
+listed_points-if true reach ts f made room = AgreesAbove-same (reach_of ts) (as_entries-points (length ts) f.put made.put)
+listed_points-if false reach ts f made room = record {
   tops = λ usage ctx. pending_top-listing f.put 0 usage ctx (HasContexts-put (length ts) f.put room made.put) made.since ∙ pending_top-points (reach_of ts) (length ts) f.put 0 usage ctx made.put;
 }
 
 -- above the timelines' values a file's points agree with all that was put into it
-pub AgreesAbove-points_of : (ts : List Timeline) (f : MadeFile) → WasMade ts f → length ts ≤ CONTEXTS → AgreesAbove (reach_of ts) (as_entries (points_of f)) f.put
-AgreesAbove-points_of ts f made room = points_of-if f.is_one_point (reach_of ts) ts f made room
+pub AgreesAbove-listed_points : (ts : List Timeline) (f : MadeFile) → WasMade ts f → length ts ≤ CONTEXTS → AgreesAbove (reach_of ts) (as_entries (listed_points f)) f.put
+AgreesAbove-listed_points ts f made room = listed_points-if f.is_one_point (reach_of ts) ts f made room
 
-put-found : (ts : List Timeline) (o : Option MadeFile) → ((f : MadeFile) → o ≡ Some f → WasMade ts f) → length ts ≤ CONTEXTS → AgreesAbove (reach_of ts) (as_entries (unwrap_or (option_map points_of o) [])) (unwrap_or (option_map (λ (f : MadeFile). f.put) o) [])
+put-found : (ts : List Timeline) (o : Option MadeFile) → ((f : MadeFile) → o ≡ Some f → WasMade ts f) → length ts ≤ CONTEXTS → AgreesAbove (reach_of ts) (as_entries (unwrap_or (option_map listed_points o) [])) (unwrap_or (option_map (λ (f : MadeFile). f.put) o) [])
 put-found ts None made room = AgreesAbove-refl (reach_of ts) []
-put-found ts (Some f) made room = AgreesAbove-points_of ts f (made f refl) room
+put-found ts (Some f) made room = AgreesAbove-listed_points ts f (made f refl) room
 
 -- what the desk lists of a name
 
-pub points_at-keeps : {desk : DeskState} {world : World} → Keeps desk world → (name : List ℕ) → points_at desk.files name ≡ unwrap_or (option_map points_of (file_named world.files name)) []
+pub points_at-keeps : {desk : DeskState} {world : World} → Keeps desk world → (name : List ℕ) → points_at desk.files name ≡ unwrap_or (option_map listed_points (file_named world.files name)) []
 points_at-keeps {desk} {world} k name = ap (λ o. unwrap_or o []) (sync_file_at-points desk.files world.files name k.holds.names k.holds.points)
 
 pub AgreesAbove-keeps : {desk : DeskState} {world : World} → Keeps desk world → (name : List ℕ) → AgreesAbove (reach_of world.timelines) (as_entries (points_at desk.files name)) (put_set world.files name)

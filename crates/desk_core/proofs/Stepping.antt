@@ -15,7 +15,7 @@ use Rattle.syncfile_core.specs.SyncFile.{File, plain_file, file_of}
 use Rattle.syncfile_core.specs.Files.{has_file as has_sync_file, without_file, cause_to_refuse}
 use Rattle.syncfile_core.specs.Merge.{merge_of}
 use Rattle.desk_core.specs.World.{World, MadeFile, has_file, after, has_made_buffer, buffer_of, MadeBuffer, with_put}
-use Rattle.desk_core.specs.Answer.{first_of, is_signalled, causes, making_file, points_of}
+use Rattle.desk_core.specs.Answer.{first_of, is_signalled, causes, making_file, listed_points}
 use Rattle.desk_core.specs.Desk.{DeskState, Holds}
 use Rattle.desk_core.specs.Keeping.{points_at, Keeps, cause_of}
 use Rattle.desk_core.proofs.Signalling.{all_reached-keeps}
@@ -156,11 +156,11 @@ Holds-timeline {desk} {world} h name low =
     }
 
 -- a file is put behind the others
-pub Holds-file : {desk : DeskState} {world : World} → Holds desk world → (kept : File) (f : MadeFile) → kept.name ≡ f.name → kept.points ≡ points_of f → Holds (record { timelines = desk.timelines; files = desk.files ++ kept ∷ []; buffers = desk.buffers }) (record world { files = world.files ++ f ∷ [] })
+pub Holds-file : {desk : DeskState} {world : World} → Holds desk world → (kept : File) (f : MadeFile) → kept.name ≡ f.name → kept.points ≡ listed_points f → Holds (record { timelines = desk.timelines; files = desk.files ++ kept ∷ []; buffers = desk.buffers }) (record world { files = world.files ++ f ∷ [] })
 Holds-file {desk} {world} h kept f name points = record {
   timelines = h.timelines;
   names = map-push (λ (g : File). g.name) desk.files kept ∙ ap (λ ns. ns ++ kept.name ∷ []) h.names ∙ ap (λ n. map (λ (g : MadeFile). g.name) world.files ++ n ∷ []) name ∙ sym (map-push (λ (g : MadeFile). g.name) world.files f);
-  points = map-push (λ (g : File). g.points) desk.files kept ∙ ap (λ ps. ps ++ kept.points ∷ []) h.points ∙ ap (λ p. map points_of world.files ++ p ∷ []) points ∙ sym (map-push points_of world.files f);
+  points = map-push (λ (g : File). g.points) desk.files kept ∙ ap (λ ps. ps ++ kept.points ∷ []) h.points ∙ ap (λ p. map listed_points world.files ++ p ∷ []) points ∙ sym (map-push listed_points world.files f);
   buffers = h.buffers;
   kept = h.kept;
   tables = h.tables;

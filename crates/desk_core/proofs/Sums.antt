@@ -4,11 +4,13 @@ use Rattle.std.specs.Prelude.{if◌then◌else◌, nat_le, ◌^◌}
 use Rattle.std.specs.List.{list_any}
 use Rattle.std.specs.Cmp.Lexicographic.{same_text}
 use Rattle.std.proofs.lemmas.List.Sums.{sum_by-append}
+use Rattle.std.proofs.lemmas.Grind.{flat_map-append}
 use Rattle.std.proofs.lemmas.List.Elements.{All-nil, All-push, All-weaker, All-map}
 use Rattle.point_core.specs.declared.context.TheConstants.{CONTEXTS}
 use Rattle.point_core.specs.declared.refusal.Refusal.TheVariants.{NoEntry, Exists, Overflow, Limit}
 use Rattle.point_core.specs.declared.refusal.LimitKind.TheVariants.{Timelines}
 use Rattle.timeline_core.specs.Timeline.{Timeline, new_timeline, has_timeline, timeline_of, value_of, raised, is_named, raised_by}
+use Rattle.timeline_core.specs.Run.{Increment, incremented, AreSums}
 use Rattle.timeline_core.proofs.Lookups.{has_timeline-names_of}
 use Rattle.timeline_core.proofs.Places.{timeline_at-value_of}
 use Rattle.timeline_core.proofs.Raising.{names_of-raised}
@@ -19,24 +21,36 @@ use Rattle.desk_core.specs.World.{World, empty_world, after}
 use Rattle.point_core.specs.Named.{same_name}
 use Rattle.point_core.proofs.Named.{find-All}
 use Rattle.desk_core.specs.Answer.{first_of, cause, causes, refused_or}
-use Rattle.desk_core.specs.History.{world_from, world_of, AreAccepted, IsHistory, increment_of, incremented}
-use Rattle.desk_core.specs.Desk.{DeskState, StandsFor}
-use Rattle.desk_core.specs.Headline.{AreSums, TellsSums}
+use Rattle.desk_core.specs.History.{world_from, world_of, AreAccepted, IsHistory, increment_in, increments_in}
+use Rattle.desk_core.specs.Desk.{DeskState, HasHistory}
+use Rattle.desk_core.specs.Headline.{TellsSums}
 use Rattle.desk_core.proofs.Sound.{first_of-none, causes-accepted, not-false}
 use lib.Pointwise.{pointwise}
 
-incremented-push : (done : List Command) (c : Command) (name : List ℕ) → incremented (done ++ c ∷ []) name ≡ incremented done name + increment_of name c
-incremented-push done c name = omega (arith, sum_by-append (increment_of name) done (c ∷ []))
+increments_in-push : (done : List Command) (c : Command) → increments_in (done ++ c ∷ []) ≡ increments_in done ++ increment_in c
+increments_in-push done c = flat_map-append increment_in done (c ∷ []) ∙ ap (λ is. increments_in done ++ is) (append-nil (increment_in c))
+
+part_of : List ℕ → Increment → ℕ
+part_of name i = if same_name name i.name then i.by else 0
+
+incremented-push : (done : List Command) (c : Command) (name : List ℕ) → incremented (increments_in (done ++ c ∷ [])) name ≡ incremented (increments_in done) name + incremented (increment_in c) name
+unfolding part_of
+incremented-push done c name =
+    ap (λ is. incremented is name) (increments_in-push done c)
+    ∙ sum_by-append (part_of name) (increments_in done) (increment_in c)
+
+incremented-inc : (done : List Command) (t : List ℕ) (n : ℕ) (name : List ℕ) → incremented (increments_in (done ++ command.Inc t n ∷ [])) name ≡ incremented (increments_in done) name + (if same_name name t then n else 0)
+incremented-inc done t n name = incremented-push done (command.Inc t n) name ∙ omega arith
 
 -- each value is the sum, and a name that means nothing has no increments
 record Sums (w : World) (done : List Command) : Type 0 where
-  kept : AreSums w.timelines done
-  missing : (name : List ℕ) → has_timeline w.timelines name ≡ false → incremented done name ≡ 0
+  kept : AreSums w.timelines (increments_in done)
+  missing : (name : List ℕ) → has_timeline w.timelines name ≡ false → incremented (increments_in done) name ≡ 0
 
 -- a command that adds nothing
-Sums-same : (w : World) (done : List Command) (c : Command) → ((name : List ℕ) → increment_of name c ≡ 0) → Sums w done → Sums w (done ++ c ∷ [])
+Sums-same : (w : World) (done : List Command) (c : Command) → ((name : List ℕ) → incremented (increment_in c) name ≡ 0) → Sums w done → Sums w (done ++ c ∷ [])
 Sums-same w done c none s = record {
-  kept = All-weaker (λ (t : Timeline). t.value ≡ incremented done t.name) (λ (t : Timeline). t.value ≡ incremented (done ++ c ∷ []) t.name) (λ t is. omega (arith, incremented-push done c t.name, none t.name)) w.timelines s.kept;
+  kept = All-weaker (λ (t : Timeline). t.value ≡ incremented (increments_in done) t.name) (λ (t : Timeline). t.value ≡ incremented (increments_in (done ++ c ∷ [])) t.name) (λ t is. omega (arith, incremented-push done c t.name, none t.name)) w.timelines s.kept;
   missing = λ name is. omega (arith, s.missing name is, incremented-push done c name, none name);
 }
 
@@ -65,15 +79,15 @@ added_none false n h = refl
 Sums-inc : (w : World) (done : List Command) (t : List ℕ) (n : ℕ) → has_timeline w.timelines t ≡ true → Sums w done → Sums (after w (command.Inc t n)) (done ++ command.Inc t n ∷ [])
 Sums-inc w done t n has s =
     let done' : List Command = done ++ command.Inc t n ∷ [] in
-    let P : Timeline → Type 0 = λ u. u.value ≡ incremented done' u.name in
+    let P : Timeline → Type 0 = λ u. u.value ≡ incremented (increments_in done') u.name in
     record {
       kept = All-map P (λ u. if is_named t u then raised_by n u else u) w.timelines
-          (All-weaker (λ (u : Timeline). u.value ≡ incremented done u.name) (λ (u : Timeline). P (if is_named t u then raised_by n u else u))
-          (λ u is. raised-sum (is_named t u) n u (incremented done) (incremented done') is (incremented-push done (command.Inc t n) u.name)) w.timelines s.kept);
+          (All-weaker (λ (u : Timeline). u.value ≡ incremented (increments_in done) u.name) (λ (u : Timeline). P (if is_named t u then raised_by n u else u))
+          (λ u is. raised-sum (is_named t u) n u (incremented (increments_in done)) (incremented (increments_in done')) is (incremented-inc done t n u.name)) w.timelines s.kept);
       missing = λ name is.
           let absent : has_timeline w.timelines name ≡ false = sym (has_timeline-raised w.timelines t n name) ∙ is in
           let none = added_none (same_name name t) n (λ same. let is' = same_text name t (sym same) in absurd (cc)) in
-          omega (arith, s.missing name absent, incremented-push done (command.Inc t n) name, none);
+          omega (arith, s.missing name absent, incremented-inc done t n name, none);
     }
 
 Sums-after : (w : World) (done : List Command) (c : Command) → Sums w done → first_of (causes w c) ≡ None → Sums (after w c) (done ++ c ∷ [])
@@ -81,7 +95,7 @@ Sums-after w done (command.Timeline t) s is =
     let absent = (first_of-none (has_timeline w.timelines t) Exists (cause (nat_le CONTEXTS (length w.timelines)) (Limit Timelines) ∷ []) is).0 in
     let same = Sums-same w done (command.Timeline t) (λ name. refl) s in
     record {
-      kept = All-push (λ (u : Timeline). u.value ≡ incremented (done ++ command.Timeline t ∷ []) u.name) w.timelines (new_timeline t) same.kept (sym (same.missing t absent));
+      kept = All-push (λ (u : Timeline). u.value ≡ incremented (increments_in (done ++ command.Timeline t ∷ [])) u.name) w.timelines (new_timeline t) same.kept (sym (same.missing t absent));
       missing = λ name is'. same.missing name (has_timeline-append w.timelines (new_timeline t) name is');
     }
 Sums-after w done (command.Inc t n) s is = Sums-inc w done t n (not-false (has_timeline w.timelines t) (first_of-none (not (has_timeline w.timelines t)) NoEntry (cause (nat_le (2 ^ 64) (value_of w.timelines t + n)) Overflow ∷ []) is).0) s
@@ -98,21 +112,21 @@ Sums-after w done (command.Export f b flags) s is = let h = Sums-same w done (co
 Sums-after w done (command.Test b u) s is = Sums-same w done (command.Test b u) (λ name. refl) s
 Sums-after w done (command.Trim b) s is = Sums-same w done (command.Trim b) (λ name. refl) s
 
-AreSums-from : (w : World) (done history : List Command) → Sums w done → AreAccepted w history → AreSums (world_from w history).timelines (done ++ history)
+AreSums-from : (w : World) (done history : List Command) → Sums w done → AreAccepted w history → AreSums (world_from w history).timelines (increments_in (done ++ history))
 AreSums-from w done [] s accepted = rw (append-nil done) s.kept
 AreSums-from w done (c ∷ history) s accepted =
-    let P : List Command → Type 0 = λ all. AreSums (world_from w (c ∷ history)).timelines all in
+    let P : List Command → Type 0 = λ all. AreSums (world_from w (c ∷ history)).timelines (increments_in all) in
     subst P (append_assoc done (c ∷ []) history)
     (AreSums-from (after w c) (done ++ c ∷ []) history (Sums-after w done c s (causes-accepted w c accepted.0)) accepted.1)
 
-pub AreSums-history : (history : List Command) → IsHistory history → AreSums (world_of history).timelines history
+pub AreSums-history : (history : List Command) → IsHistory history → AreSums (world_of history).timelines (increments_in history)
 AreSums-history history accepted = AreSums-from empty_world [] history (record { kept = All-nil (λ (t : Timeline). t.value ≡ 0); missing = λ name is. refl }) accepted
 
 -- what is told
 
 -- the value of a name is its sum
-value_of-sum : (ts : List Timeline) (history : List Command) (name : List ℕ) → AreSums ts history → has_timeline ts name ≡ true → value_of ts name ≡ incremented history name
-value_of-sum ts history name sums has = find-All (λ (t : Timeline). t.value ≡ incremented history t.name) (is_named name) ts (timeline_of name (value_of ts name)) sums (timeline_at-value_of ts name has)
+value_of-sum : (ts : List Timeline) (history : List Command) (name : List ℕ) → AreSums ts (increments_in history) → has_timeline ts name ≡ true → value_of ts name ≡ incremented (increments_in history) name
+value_of-sum ts history name sums has = find-All (λ (t : Timeline). t.value ≡ incremented (increments_in history) t.name) (is_named name) ts (timeline_of name (value_of ts name)) sums (timeline_at-value_of ts name has)
 
 told_value : (b : Bool) (value v : ℕ) → answer.Value value ≡ refused_or (if not b then Some NoEntry else None) (answer.Value v) → (b ≡ true) × (value ≡ v)
 told_value true value v is = (refl, cc)
@@ -123,7 +137,7 @@ told_raised true true value v fired rest is = absurd (cc)
 told_raised true false value v fired rest is = (refl, cc)
 told_raised false past value v fired rest is = absurd (cc)
 
-pub TellsSums-stands : (desk : DeskState) (history : List Command) → StandsFor desk history → TellsSums desk history
+pub TellsSums-stands : (desk : DeskState) (history : List Command) → HasHistory desk history → TellsSums desk history
 TellsSums-stands desk history stands =
     let sums = AreSums-history history stands.accepted in
     record {

@@ -15,8 +15,8 @@ use Rattle.timeline_core.specs.Timeline.{reach_of}
 use Rattle.syncfile_core.specs.SyncFile.{File}
 use Rattle.syncfile_core.specs.Files.{file_at as sync_file_at}
 use Rattle.desk_core.specs.World.{World, MadeFile, has_file, file_named, put_set, has_made_buffer}
-use Rattle.desk_core.specs.Answer.{refused_or, is_signalled, points_of, info_of, number_if}
-use Rattle.desk_core.specs.Desk.{DeskState, StandsFor, Answers}
+use Rattle.desk_core.specs.Answer.{refused_or, is_signalled, listed_points, info_of, number_if}
+use Rattle.desk_core.specs.Desk.{DeskState, HasHistory, Answers}
 use Rattle.desk_core.specs.History.{world_of}
 use Rattle.desk_core.specs.Keeping.{points_at, Keeps}
 use Rattle.desk_core.specs.Headline.{TellsWhatWasPut, values_after, put_into_file, IsFileReached, TellsWhatIsInBuffers, put_into_buffer, IsBufferReached}
@@ -64,7 +64,7 @@ timed_out_if : (reached : Bool) (given : Answer) (P : Type 0) → given ≡ (if 
 timed_out_if true given P is h = (λ out. absurd (cc), λ none. absurd (none (h.0 refl)))
 timed_out_if false given P is h = (λ _ p. absurd (false≢true (h.1 p)), λ _. is)
 
-waited-stands : {desk : DeskState} {history : List Command} → StandsFor desk history → (name : List ℕ) (f : File) (given : Answer) → sync_file_at desk.files name ≡ Some f → Answers desk (command.Wait name) given → given ≡ (if is_signalled (world_of history) name then answer.Done else answer.Refused TimedOut)
+waited-stands : {desk : DeskState} {history : List Command} → HasHistory desk history → (name : List ℕ) (f : File) (given : Answer) → sync_file_at desk.files name ≡ Some f → Answers desk (command.Wait name) given → given ≡ (if is_signalled (world_of history) name then answer.Done else answer.Refused TimedOut)
 waited-stands {desk} {history} stands name f given is answers =
     let has : has_file (world_of history).files name ≡ true = sym (has_sync_file-names desk.files (world_of history).files name stands.holds.names) ∙ has_sync_file-found desk.files name ∙ ap is_some is in
     elim ((answers history stands).told) [
@@ -72,7 +72,7 @@ waited-stands {desk} {history} stands name f given is answers =
       | inr none ↦ absurd (false≢true none.1)
     ]
 
-pub TellsWhatWasPut-stands : (desk : DeskState) (history : List Command) → StandsFor desk history → TellsWhatWasPut desk history
+pub TellsWhatWasPut-stands : (desk : DeskState) (history : List Command) → HasHistory desk history → TellsWhatWasPut desk history
 TellsWhatWasPut-stands desk history stands =
     let k = Keeps-stands stands in
     let world : World = world_of history in
@@ -89,7 +89,7 @@ TellsWhatWasPut-stands desk history stands =
       timed_out = λ name f given is answers. timed_out_if (is_signalled world name) given (IsFileReached history name) (waited-stands stands name f given is answers) (put_reached name);
       listed = λ name f made is is'.
           let both = sync_file_at-points desk.files world.files name k.holds.names k.holds.points in
-          let some : Some f.points ≡ Some (points_of made) = ap (option_map (λ (g : File). g.points)) (sym is) ∙ both ∙ ap (option_map points_of) is' in
+          let some : Some f.points ≡ Some (listed_points made) = ap (option_map (λ (g : File). g.points)) (sym is) ∙ both ∙ ap (option_map listed_points) is' in
           cc;
     }
 
@@ -111,7 +111,7 @@ zero_if : (reached : Bool) (given : Answer) (P : Type 0) → given ≡ answer.Va
 zero_if true given P is h = (λ none. absurd (omega (arith, same_Value 1 0 (sym is ∙ none))), λ none. absurd (none (h.0 refl)))
 zero_if false given P is h = (λ _ p. absurd (false≢true (h.1 p)), λ _. is)
 
-tested-stands : {desk : DeskState} {history : List Command} → StandsFor desk history → (name : List ℕ) (usage : Usage) (given : Answer) → has_buffer desk.buffers name ≡ true → Answers desk (command.Test name usage) given → given ≡ answer.Value (number_if (all_reached (values_after history) (usage_number usage) (put_into_buffer history name)))
+tested-stands : {desk : DeskState} {history : List Command} → HasHistory desk history → (name : List ℕ) (usage : Usage) (given : Answer) → has_buffer desk.buffers name ≡ true → Answers desk (command.Test name usage) given → given ≡ answer.Value (number_if (all_reached (values_after history) (usage_number usage) (put_into_buffer history name)))
 tested-stands {desk} {history} stands name usage given has answers =
     let made : has_made_buffer (world_of history).buffers name ≡ true = sym (has_buffer-names desk.buffers (world_of history).buffers name stands.holds.buffers) ∙ has in
     elim ((answers history stands).told) [
@@ -133,7 +133,7 @@ places-found (b ∷ bs) name all = elim (cases_Bool (same_name name b.0)) [
       omega arith
 ]
 
-pub TellsWhatIsInBuffers-stands : (desk : DeskState) (history : List Command) → StandsFor desk history → TellsWhatIsInBuffers desk history
+pub TellsWhatIsInBuffers-stands : (desk : DeskState) (history : List Command) → HasHistory desk history → TellsWhatIsInBuffers desk history
 TellsWhatIsInBuffers-stands desk history stands =
     let k = Keeps-stands stands in
     let tables = stands.holds.tables in

@@ -44,8 +44,10 @@ is_signalled w name = all_reached (reach_of w.timelines) 0 (put_set w.files name
 
 -- the causes, in the order in which they are told
 abbrev pub causes : World → Command → List (Bool × Refusal)
-causes w (command.Timeline t) = cause (has_timeline w.timelines t) Exists ∷ cause (nat_le CONTEXTS (length w.timelines)) (Limit Timelines) ∷ []
-causes w (command.Inc t n) = cause (not (has_timeline w.timelines t)) NoEntry ∷ cause (nat_le (2 ^ 64) (value_of w.timelines t + n)) Overflow ∷ []
+causes w (command.Timeline t) =
+    cause (has_timeline w.timelines t) Exists ∷ cause (nat_le CONTEXTS (length w.timelines)) (Limit Timelines) ∷ []
+causes w (command.Inc t n) =
+    cause (not (has_timeline w.timelines t)) NoEntry ∷ cause (nat_le (2 ^ 64) (value_of w.timelines t + n)) Overflow ∷ []
 causes w (command.Value t) = cause (not (has_timeline w.timelines t)) NoEntry ∷ []
 causes w (command.Fence f t p) = cause (not (has_timeline w.timelines t)) NoEntry ∷ making_file w f
 causes w (command.Merge f a b) = cause (not (has_file w.files a && has_file w.files b)) NoEntry ∷ making_file w f
@@ -54,8 +56,10 @@ causes w (command.Wait f) = cause (not (has_file w.files f)) NoEntry ∷ cause (
 causes w (command.Info f) = cause (not (has_file w.files f)) NoEntry ∷ []
 causes w (command.Buffer b) = cause (has_made_buffer w.buffers b) Exists ∷ cause (nat_le BUFFERS (length w.buffers)) (Limit Buffers) ∷ []
 causes w (command.Add b t p u) = cause (not (has_made_buffer w.buffers b && has_timeline w.timelines t)) NoEntry ∷ []
-causes w (command.Import b f flags) = cause (not (has_made_buffer w.buffers b && has_file w.files f)) NoEntry ∷ cause (not (is_sync_flags flags)) Flags ∷ []
-causes w (command.Export f b flags) = cause (not (has_made_buffer w.buffers b)) NoEntry ∷ cause (not (is_sync_flags flags)) Flags ∷ making_file w f
+causes w (command.Import b f flags) =
+    cause (not (has_made_buffer w.buffers b && has_file w.files f)) NoEntry ∷ cause (not (is_sync_flags flags)) Flags ∷ []
+causes w (command.Export f b flags) =
+    cause (not (has_made_buffer w.buffers b)) NoEntry ∷ cause (not (is_sync_flags flags)) Flags ∷ making_file w f
 causes w (command.Test b u) = cause (not (has_made_buffer w.buffers b)) NoEntry ∷ []
 causes w (command.Trim b) = cause (not (has_made_buffer w.buffers b)) NoEntry ∷ []
 
@@ -64,19 +68,24 @@ abbrev pub number_if : Bool → ℕ
 number_if b = if b then 1 else 0
 
 -- a file is signalled exactly where all that was put into it is
-abbrev pub status_of : World → MadeFile → Status
-status_of w f = status_if (all_reached (reach_of w.timelines) 0 f.put)
+abbrev pub file_status : World → MadeFile → Status
+file_status w f = status_if (all_reached (reach_of w.timelines) 0 f.put)
 
 -- a file made of one point lists it, any other what was pending when it was made
-abbrev pub points_of : MadeFile → List Point
-points_of f = if f.is_one_point then map (λ e. e.point) f.put else listing f.put 0 f.made_at
+abbrev pub listed_points : MadeFile → List Point
+listed_points f = if f.is_one_point then map (λ e. e.point) f.put else listing f.put 0 f.made_at
 
 -- the name of a context that was made
 abbrev pub name_of : List Timeline → ℕ → List ℕ
 name_of ts ctx = unwrap_or (name_at ts ctx) []
 
 abbrev pub fence_row : List Timeline → Point → FenceRow
-fence_row ts p = record { timeline = name_of ts p.ctx; driver = SwSync; point = p.value; status = status_if (nat_le p.value (value_at (reach_of ts) p.ctx)) }
+fence_row ts p = record {
+  timeline = name_of ts p.ctx;
+  driver = SwSync;
+  point = p.value;
+  status = status_if (nat_le p.value (value_at (reach_of ts) p.ctx));
+}
 
 abbrev pub stub_row : FenceRow
 stub_row = record { timeline = codes "stub"; driver = Stub; point = 0; status = Signalled }
@@ -88,7 +97,7 @@ or_stub (r ∷ rs) = r ∷ rs
 
 abbrev pub info_of : World → List ℕ → Option MadeFile → Info
 info_of w name None = record { name = name; status = Signalled; fences = [] }
-info_of w name (Some f) = record { name = name; status = status_of w f; fences = or_stub (map (fence_row w.timelines) (points_of f)) }
+info_of w name (Some f) = record { name = name; status = file_status w f; fences = or_stub (map (fence_row w.timelines) (listed_points f)) }
 
 -- what the accepted command tells
 abbrev pub told : World → Command → Answer

@@ -4,7 +4,7 @@ use Rattle.timeline_core.specs.Timeline.{Timeline, reach_of}
 use Rattle.syncfile_core.specs.SyncFile.{File}
 use Rattle.dmabuf_core.specs.Buffers.{Buffer, AreBuffers, names_of, entries_of}
 use Rattle.desk_core.specs.World.{MadeFile, MadeBuffer, World, buffer_put_set}
-use Rattle.desk_core.specs.Answer.{points_of}
+use Rattle.desk_core.specs.Answer.{listed_points}
 use Rattle.desk_core.specs.declared.answer.Answer.{Answer}
 use Rattle.desk_core.specs.declared.command.Command.{Command}
 use Rattle.desk_core.specs.History.{world_of, IsHistory, IsAnswer}
@@ -21,16 +21,16 @@ pub record DeskState : Type 0 where
 pub record Holds (desk : DeskState) (world : World) : Type 0 where
   pub timelines : desk.timelines ≡ world.timelines
   pub names : map (λ (f : File). f.name) desk.files ≡ map (λ (f : MadeFile). f.name) world.files
-  pub points : map (λ (f : File). f.points) desk.files ≡ map points_of world.files
+  pub points : map (λ (f : File). f.points) desk.files ≡ map listed_points world.files
   pub buffers : names_of desk.buffers ≡ map (λ (b : MadeBuffer). b.name) world.buffers
   pub kept : AreBuffers desk.buffers
   pub tables : (name : List ℕ) → AgreesAbove (reach_of world.timelines) (entries_of desk.buffers name) (buffer_put_set world.buffers name)
 
 -- the list of commands is a history, and the desk holds what its world has
-pub record StandsFor (desk : DeskState) (history : List Command) : Type 0 where
+pub record HasHistory (desk : DeskState) (history : List Command) : Type 0 where
   pub accepted : IsHistory history
   pub holds : Holds desk (world_of history)
 
 -- the desk may give that answer: for each history that it stands for it is the command's one answer, or Memory
 abbrev pub Answers : DeskState → Command → Answer → Type 0
-Answers desk command given = (history : List Command) → StandsFor desk history → IsAnswer history command given
+Answers desk command given = (history : List Command) → HasHistory desk history → IsAnswer history command given

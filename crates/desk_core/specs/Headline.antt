@@ -1,5 +1,5 @@
 -- What a desk tells of all that was put into its files and buffers, and of its timelines.
-use Rattle.std.specs.Prelude.{◌≡◌, ℕ, ◌+◌, ◌≤◌, ◌↔◌, true, List, length, Some, All, Contains}
+use Rattle.std.specs.Prelude.{◌≡◌, ℕ, ◌+◌, ◌≤◌, ◌↔◌, true, List, length, Some, Contains}
 use Rattle.point_core.specs.declared.entry.Entry.{Entry}
 use Rattle.point_core.specs.declared.entry.Usage.{Usage}
 use Rattle.point_core.specs.declared.refusal.Refusal.TheVariants.{TimedOut}
@@ -11,14 +11,15 @@ use Rattle.desk_core.specs.declared.command.Command.TheVariants as command
 use Rattle.desk_core.specs.declared.answer.Info.{Info}
 use Rattle.desk_core.specs.declared.answer.Answer.{Answer}
 use Rattle.desk_core.specs.declared.answer.Answer.TheVariants as answer
-use Rattle.timeline_core.specs.Timeline.{Timeline, reach_of}
+use Rattle.timeline_core.specs.Timeline.{reach_of}
+use Rattle.timeline_core.specs.Run.{incremented, AreSums}
 use Rattle.syncfile_core.specs.SyncFile.{File}
 use Rattle.syncfile_core.specs.Files.{file_at as sync_file_at}
 use Rattle.resv_core.specs.declared.resv.TheConstants.{PLACES}
 use Rattle.dmabuf_core.specs.Buffers.{has_buffer, entries_of}
 use Rattle.desk_core.specs.World.{MadeFile, file_named, put_set, buffer_put_set}
-use Rattle.desk_core.specs.Answer.{points_of}
-use Rattle.desk_core.specs.History.{world_of, incremented}
+use Rattle.desk_core.specs.Answer.{listed_points}
+use Rattle.desk_core.specs.History.{world_of, increments_in}
 use Rattle.desk_core.specs.Desk.{DeskState, Answers}
 
 -- both have the same entries, in whatever order and however often
@@ -55,13 +56,13 @@ pub record TellsWhatWasPut (desk : DeskState) (history : List Command) : Type 0 
   pub signalled : (name : List ℕ) (told : Info) → Answers desk (command.Info name) (answer.Info told)
       → ((told.status ≡ Signalled) ↔ IsFileReached history name)
   -- a `wait` is done exactly when every point put into the file is reached, and else it has timed out
-  pub waited : (name : List ℕ) (f : File) (given : Answer) → sync_file_at desk.files name ≡ Some f → Answers desk (command.Wait name) given
-      → ((given ≡ answer.Done) ↔ IsFileReached history name)
-  pub timed_out : (name : List ℕ) (f : File) (given : Answer) → sync_file_at desk.files name ≡ Some f → Answers desk (command.Wait name) given
-      → ((given ≡ answer.Refused TimedOut) ↔ (¬ IsFileReached history name))
+  pub waited : (name : List ℕ) (f : File) (given : Answer) → sync_file_at desk.files name ≡ Some f
+      → Answers desk (command.Wait name) given → ((given ≡ answer.Done) ↔ IsFileReached history name)
+  pub timed_out : (name : List ℕ) (f : File) (given : Answer) → sync_file_at desk.files name ≡ Some f
+      → Answers desk (command.Wait name) given → ((given ≡ answer.Refused TimedOut) ↔ (¬ IsFileReached history name))
   -- each file lists what was pending when it was made, or its one point
-  pub listed : (name : List ℕ) (f : File) (made : MadeFile) → sync_file_at desk.files name ≡ Some f → file_named (world_of history).files name ≡ Some made
-      → f.points ≡ points_of made
+  pub listed : (name : List ℕ) (f : File) (made : MadeFile) → sync_file_at desk.files name ≡ Some f
+      → file_named (world_of history).files name ≡ Some made → f.points ≡ listed_points made
 
 -- all that a history put into the buffer of that name
 abbrev pub put_into_buffer : List Command → List ℕ → List Entry
@@ -84,22 +85,19 @@ pub record TellsWhatIsInBuffers (desk : DeskState) (history : List Command) : Ty
       → HasSameEntries (put_into_file history name) (put_into_buffer history b)
       → AgreesAbove (values_after history) (as_entries f.points) (entries_of desk.buffers b)
   -- `test` answers 1 exactly when every point put in at that usage or a stronger one is reached, and else 0
-  pub tested : (name : List ℕ) (usage : Usage) (given : Answer) → has_buffer desk.buffers name ≡ true → Answers desk (command.Test name usage) given
-      → ((given ≡ answer.Value 1) ↔ IsBufferReached history name usage)
-  pub tested_pending : (name : List ℕ) (usage : Usage) (given : Answer) → has_buffer desk.buffers name ≡ true → Answers desk (command.Test name usage) given
-      → ((given ≡ answer.Value 0) ↔ (¬ IsBufferReached history name usage))
+  pub tested : (name : List ℕ) (usage : Usage) (given : Answer) → has_buffer desk.buffers name ≡ true
+      → Answers desk (command.Test name usage) given → ((given ≡ answer.Value 1) ↔ IsBufferReached history name usage)
+  pub tested_pending : (name : List ℕ) (usage : Usage) (given : Answer) → has_buffer desk.buffers name ≡ true
+      → Answers desk (command.Test name usage) given → ((given ≡ answer.Value 0) ↔ (¬ IsBufferReached history name usage))
   -- a reservation never holds more than its places
   pub places : (name : List ℕ) → length (entries_of desk.buffers name) ≤ PLACES
 
--- each value is the sum of the accepted increments of that name
-abbrev pub AreSums : List Timeline → List Command → Type 0
-AreSums ts history = All (λ (t : Timeline). t.value ≡ incremented history t.name) ts
-
 -- values are sums of increments, and the desk tells them
 pub record TellsSums (desk : DeskState) (history : List Command) : Type 0 where
-  pub kept : AreSums desk.timelines history
+  pub kept : AreSums desk.timelines (increments_in history)
   -- `value` tells the sum
-  pub told : (name : List ℕ) (value : ℕ) → Answers desk (command.Value name) (answer.Value value) → value ≡ incremented history name
+  pub told : (name : List ℕ) (value : ℕ) → Answers desk (command.Value name) (answer.Value value)
+      → value ≡ incremented (increments_in history) name
   -- `inc` tells the sum with the new increment
   pub raised : (name : List ℕ) (n value : ℕ) (fired : List ℕ) → Answers desk (command.Inc name n) (answer.Raised value fired)
-      → value ≡ incremented history name + n
+      → value ≡ incremented (increments_in history) name + n

@@ -1,13 +1,13 @@
 -- A history is the list of the accepted commands, and means a world.
 use Rattle.std.specs.Prelude.{◌≡◌, ◌⊎◌, ℕ, true, false, if◌then◌else◌, List, [], ◌∷◌, ◌++◌, ⊤}
-use Rattle.std.specs.List.{sum_by}
+use Rattle.std.specs.List.{flat_map}
 use Rattle.point_core.specs.declared.refusal.Refusal.TheVariants.{Memory}
 use Rattle.desk_core.specs.declared.command.Command.{Command}
 use Rattle.desk_core.specs.declared.command.Command.TheVariants as command
 use Rattle.desk_core.specs.declared.answer.Answer.{Answer}
 use Rattle.desk_core.specs.declared.answer.Answer.TheVariants as answer
 use Rattle.desk_core.specs.World.{World, empty_world, after}
-use Rattle.point_core.specs.Named.{same_name}
+use Rattle.timeline_core.specs.Run.{Increment, increment}
 use Rattle.desk_core.specs.Answer.{answer_to, is_refused, takes_memory}
 
 abbrev pub world_from : World → List Command → World
@@ -27,30 +27,31 @@ AreAccepted w (c ∷ cs) = (is_refused (answer_to w c) ≡ false) × AreAccepted
 abbrev pub IsHistory : List Command → Type 0
 IsHistory history = AreAccepted empty_world history
 
--- what the command adds to the value of the timeline of that name
-abbrev pub increment_of : List ℕ → Command → ℕ
-increment_of name (command.Inc t n) = if same_name name t then n else 0
-increment_of name (command.Timeline t) = 0
-increment_of name (command.Value t) = 0
-increment_of name (command.Fence f t p) = 0
-increment_of name (command.Merge f a b) = 0
-increment_of name (command.Close f) = 0
-increment_of name (command.Wait f) = 0
-increment_of name (command.Info f) = 0
-increment_of name (command.Buffer b) = 0
-increment_of name (command.Add b t p u) = 0
-increment_of name (command.Import b f flags) = 0
-increment_of name (command.Export f b flags) = 0
-increment_of name (command.Test b u) = 0
-increment_of name (command.Trim b) = 0
+-- what the command adds
+abbrev pub increment_in : Command → List Increment
+increment_in (command.Inc t n) = increment t n ∷ []
+increment_in (command.Timeline t) = []
+increment_in (command.Value t) = []
+increment_in (command.Fence f t p) = []
+increment_in (command.Merge f a b) = []
+increment_in (command.Close f) = []
+increment_in (command.Wait f) = []
+increment_in (command.Info f) = []
+increment_in (command.Buffer b) = []
+increment_in (command.Add b t p u) = []
+increment_in (command.Import b f flags) = []
+increment_in (command.Export f b flags) = []
+increment_in (command.Test b u) = []
+increment_in (command.Trim b) = []
 
--- the sum of the accepted increments of the timeline of that name
-abbrev pub incremented : List Command → List ℕ → ℕ
-incremented history name = sum_by (increment_of name) history
+-- the accepted increments
+abbrev pub increments_in : List Command → List Increment
+increments_in history = flat_map increment_in history
 
 -- the one answer of the command, or Memory where that is no refusal and the command takes memory
 pub record IsAnswer (history : List Command) (command : Command) (given : Answer) : Type 0 where
-  pub told : (given ≡ answer_to (world_of history) command) ⊎ ((given ≡ answer.Refused Memory) × (takes_memory command ≡ true) × (is_refused (answer_to (world_of history) command) ≡ false))
+  pub told : (given ≡ answer_to (world_of history) command)
+      ⊎ ((given ≡ answer.Refused Memory) × (takes_memory command ≡ true) × (is_refused (answer_to (world_of history) command) ≡ false))
 
 -- the history after a command that was answered so
 abbrev pub history_after : List Command → Command → Answer → List Command

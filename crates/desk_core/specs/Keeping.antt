@@ -45,7 +45,11 @@ pub record IsOfItsTimelines (d : DeskState) : Type 0 where
 
 -- what is told of a file that lists the points
 abbrev pub info_at : List Timeline → List ℕ → List Point → Info
-info_at ts name ps = record { name = name; status = status_if (all_reached (reach_of ts) 0 (as_entries ps)); fences = or_stub (map (fence_row ts) ps) }
+info_at ts name ps = record {
+  name = name;
+  status = status_if (all_reached (reach_of ts) 0 (as_entries ps));
+  fences = or_stub (map (fence_row ts) ps);
+}
 
 -- the desk holds what a sound world has
 pub record Keeps (desk : DeskState) (world : World) : Type 0 where
@@ -58,18 +62,24 @@ points_at fs name = unwrap_or (option_map (λ (f : File). f.points) (sync_file_a
 
 -- why the desk refuses a command, by what it keeps
 abbrev pub cause_of : DeskState → Command → Option Refusal
-cause_of d (command.Timeline t) = if has_timeline d.timelines t then Some Exists else if nat_lt (length d.timelines) CONTEXTS then None else Some (Limit Timelines)
-cause_of d (command.Inc t n) = if has_timeline d.timelines t then (if nat_le (2 ^ 64) (value_of d.timelines t + n) then Some Overflow else None) else Some NoEntry
+cause_of d (command.Timeline t) =
+    if has_timeline d.timelines t then Some Exists else if nat_lt (length d.timelines) CONTEXTS then None else Some (Limit Timelines)
+cause_of d (command.Inc t n) =
+    if has_timeline d.timelines t then (if nat_le (2 ^ 64) (value_of d.timelines t + n) then Some Overflow else None) else Some NoEntry
 cause_of d (command.Value t) = if has_timeline d.timelines t then None else Some NoEntry
 cause_of d (command.Fence f t p) = if has_timeline d.timelines t then cause_to_refuse d.files f else Some NoEntry
 cause_of d (command.Merge f a b) = cause_to_refuse_merge d.files f (a ∷ b ∷ [])
 cause_of d (command.Close f) = if has_sync_file d.files f then None else Some NoEntry
-cause_of d (command.Wait f) = if has_sync_file d.files f then (if all_reached (reach_of d.timelines) 0 (as_entries (points_at d.files f)) then None else Some TimedOut) else Some NoEntry
+cause_of d (command.Wait f) =
+    if has_sync_file d.files f
+    then (if all_reached (reach_of d.timelines) 0 (as_entries (points_at d.files f)) then None else Some TimedOut)
+    else Some NoEntry
 cause_of d (command.Info f) = if has_sync_file d.files f then None else Some NoEntry
 cause_of d (command.Buffer b) = cause_to_refuse_buffer d.buffers b
 cause_of d (command.Add b t p u) = if has_timeline d.timelines t then cause_without d.buffers b else Some NoEntry
 cause_of d (command.Import b f flags) = if has_sync_file d.files f then cause_by_flags d.buffers b flags else Some NoEntry
-cause_of d (command.Export f b flags) = if has_buffer d.buffers b then (if is_sync_flags flags then cause_to_refuse d.files f else Some Flags) else Some NoEntry
+cause_of d (command.Export f b flags) =
+    if has_buffer d.buffers b then (if is_sync_flags flags then cause_to_refuse d.files f else Some Flags) else Some NoEntry
 cause_of d (command.Test b u) = cause_without d.buffers b
 cause_of d (command.Trim b) = cause_without d.buffers b
 

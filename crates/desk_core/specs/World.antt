@@ -72,7 +72,9 @@ abbrev pub with_raised : World → List ℕ → ℕ → World
 with_raised w name n = record w { timelines = raised w.timelines name n }
 
 abbrev pub with_file : World → List ℕ → List Entry → Bool → World
-with_file w name put is_one_point = record w { files = w.files ++ record { name = name; put = put; is_one_point = is_one_point; made_at = reach_of w.timelines } ∷ [] }
+with_file w name put is_one_point = record w {
+  files = w.files ++ record { name = name; put = put; is_one_point = is_one_point; made_at = reach_of w.timelines } ∷ [];
+}
 
 abbrev pub with_buffer : World → List ℕ → World
 with_buffer w name = record w { buffers = w.buffers ++ buffer_of name [] ∷ [] }

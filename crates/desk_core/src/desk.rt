@@ -38,13 +38,13 @@ impl Desk {
     ghost use Rattle.desk_core.specs.Answer.{OnRefused, takes_memory};
     ghost use Rattle.syncfile_core.specs.Files.{IsRefusedFor};
     ghost use Rattle.desk_core.specs.History.{history_after};
-    ghost use Rattle.desk_core.specs.Desk.{StandsFor, Answers};
+    ghost use Rattle.desk_core.specs.Desk.{HasHistory, Answers};
     ghost use Rattle.desk_core.specs.Keeping.{cause_of, IsDone};
 
     /// A desk without timelines, files and buffers. It takes no memory yet, so it is never refused.
     pub fn new(alloc: Global) -> Result<Desk, Refusal>
         ensures taken { IsOk result }
-        ensures empty { IfOk result (λ desk. StandsFor desk []) }
+        ensures empty { IfOk result (λ desk. HasHistory desk []) }
     {
         Ok(Desk {
             alloc,
@@ -60,7 +60,7 @@ impl Desk {
     pub fn step(&mut self, command: Command) -> Answer
         ensures answer { Answers self.old command result }
         ensures stands { (history : List Command) →
-            StandsFor self.old history → StandsFor self.new (history_after history command result) }
+            HasHistory self.old history → HasHistory self.new (history_after history command result) }
         ensures unchanged { OnRefused result (self.new ≡ self.old) }
     {
         match self.outcome(command) {

@@ -30,13 +30,13 @@ pub fn of_points(
     let reach = timelines.reach();
     Ok(Info {
         name,
-        status: status_of(points, &reach),
+        status: common_status(points, &reach),
         fences: Items::of(rows_of(alloc, points, timelines, &reach)?),
     })
 }
 
 /// Signalled where every point is.
-fn status_of(points: &[Point], reach: &Reach) -> Status
+fn common_status(points: &[Point], reach: &Reach) -> Status
     ensures { result ≡ status_if (all_reached reach.now 0 (as_entries points.now)) }
 {
     Status::of(are_signalled(points, reach))

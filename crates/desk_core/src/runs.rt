@@ -1,7 +1,7 @@
 // A run over a list of commands.
 ghost use Rattle.std.specs.Prelude.{◌≡◌, [], IfOk, IfErr};
 ghost use Rattle.desk_core.specs.History.{history_of, AreAnswers};
-ghost use Rattle.desk_core.specs.Desk.{StandsFor};
+ghost use Rattle.desk_core.specs.Desk.{HasHistory};
 ghost use Rattle.desk_core.specs.Headline.{TellsSums, TellsWhatWasPut, TellsWhatIsInBuffers};
 
 use crate::answer::Answer;
@@ -15,7 +15,7 @@ use std::alloc::Global;
 /// Refuses as `Memory` alone, where there is none for the desk or for the list of answers.
 pub fn run(alloc: Global, commands: &[Command]) -> Result<(Desk, Vec<Answer>), Refusal>
     ensures answers { IfOk result (λ r. AreAnswers [] commands.now r.1.items) }
-    ensures stands { IfOk result (λ r. StandsFor r.0 (history_of [] commands.now r.1.items)) }
+    ensures stands { IfOk result (λ r. HasHistory r.0 (history_of [] commands.now r.1.items)) }
     ensures sums { IfOk result (λ r. TellsSums r.0 (history_of [] commands.now r.1.items)) }
     ensures files { IfOk result (λ r. TellsWhatWasPut r.0 (history_of [] commands.now r.1.items)) }
     ensures buffers { IfOk result (λ r. TellsWhatIsInBuffers r.0 (history_of [] commands.now r.1.items)) }

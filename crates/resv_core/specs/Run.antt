@@ -25,7 +25,8 @@ pub record Step : Type 0 where
 -- each call was made on what the one before it left, and at no lower reach
 abbrev pub IsRun : List ℕ → List Entry → List Step → Type 0
 IsRun reach before [] = ⊤
-IsRun reach before (step ∷ steps) = IsAtLeast step.reach reach × Leaves step.call step.reach before step.after × IsRun step.reach step.after steps
+IsRun reach before (step ∷ steps) =
+    IsAtLeast step.reach reach × Leaves step.call step.reach before step.after × IsRun step.reach step.after steps
 
 abbrev pub last_reach : List ℕ → List Step → List ℕ
 last_reach reach [] = reach

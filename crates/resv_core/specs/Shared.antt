@@ -15,4 +15,7 @@ is_load s = if_kind Load s.kind 1
 
 -- one load of each context, by rising number, which found the reach's values, and then no other load
 abbrev pub HasLoadedOnce : List ℕ → SeatModel → SeatModel → Type 0
-HasLoadedOnce reach before after = (steps : List Step) × (after ≡ with_steps before (loads_of reach before.words.contexts ++ steps)) × (total is_load steps ≡ 0)
+HasLoadedOnce reach before after =
+    (steps : List Step)
+    × (after ≡ with_steps before (loads_of reach before.words.contexts ++ steps))
+    × (total is_load steps ≡ 0)

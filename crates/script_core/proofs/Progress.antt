@@ -8,7 +8,7 @@ use Rattle.std.proofs.KnownBytes.{Appends-nil, Appends-trans}
 use Rattle.desk_core.specs.declared.command.Command.{Command}
 use Rattle.desk_core.specs.declared.answer.Answer.{Answer}
 use Rattle.desk_core.specs.Answer.{is_refused}
-use Rattle.desk_core.specs.Desk.{DeskState, StandsFor}
+use Rattle.desk_core.specs.Desk.{DeskState, HasHistory}
 use Rattle.script_core.specs.declared.line.Line.{Line}
 use Rattle.script_core.specs.declared.totals.Totals.{Totals}
 use Rattle.script_core.specs.Bytes.{AppendsFront}
@@ -52,18 +52,18 @@ count_by_push p xs x = sum_by-append (λ y. cond (p y) 1 0) xs (x ∷ []) ∙ ap
 pub record Progress (done : List Line) (desk : DeskState) (out : List ℕ) (totals : Totals) (old new : Option (List ℕ)) : Type 0 where
   pub given : List Answer
   pub each : AreLineAnswers [] done given
-  pub stands : StandsFor desk (history_along [] done given)
+  pub stands : HasHistory desk (history_along [] done given)
   pub front : List ℕ
   pub texts : texts_of done given ≡ front ++ out
   pub appended : Appends old new front
   pub counts : Counts totals given
 
-pub Progress-none : (desk : DeskState) (totals : Totals) (contents : Option (List ℕ)) → StandsFor desk [] → Counts totals [] → Progress [] desk [] totals contents contents
+pub Progress-none : (desk : DeskState) (totals : Totals) (contents : Option (List ℕ)) → HasHistory desk [] → Counts totals [] → Progress [] desk [] totals contents contents
 Progress-none desk totals contents stands counts = record { given = []; each = tt; stands = stands; front = []; texts = refl; appended = Appends-nil contents; counts = counts }
 
 pub Progress-line : (done : List Line) (desk desk' : DeskState) (out out' : List ℕ) (totals totals' : Totals) (old new : Option (List ℕ)) (l : Line) (a : Answer) → Progress done desk out totals old new
-    → ((history : List Command) → StandsFor desk history → IsLineAnswer history l.body a)
-    → ((history : List Command) → StandsFor desk history → StandsFor desk' (history_after_line history l.body a))
+    → ((history : List Command) → HasHistory desk history → IsLineAnswer history l.body a)
+    → ((history : List Command) → HasHistory desk history → HasHistory desk' (history_after_line history l.body a))
     → out' ≡ out ++ text_of l.number a
     → totals'.lines ≡ totals.lines + 1
     → totals'.refused ≡ totals.refused + cond (is_refused a) 1 0
@@ -73,7 +73,7 @@ Progress-line done desk desk' out out' totals totals' old new l a p is stands e 
     record {
       given = p.given ++ a ∷ [];
       each = AreLineAnswers-push [] done p.given l a p.each (is before p.stands);
-      stands = subst (StandsFor desk') (sym (history_along-push [] done p.given l a p.each)) (stands before p.stands);
+      stands = subst (HasHistory desk') (sym (history_along-push [] done p.given l a p.each)) (stands before p.stands);
       front = p.front;
       texts = texts_of-push [] done p.given l a p.each ∙ ap (λ text. text ++ text_of l.number a) p.texts ∙ append_assoc p.front out (text_of l.number a) ∙ ap (λ text. p.front ++ text) (sym e);
       appended = p.appended;

@@ -4,7 +4,7 @@ ghost use Rattle.std.specs.Io.KnownBytes.{Keeps, Consumes};
 ghost use Rattle.point_core.specs.declared.refusal.Refusal.TheVariants.{Read as ReadFault, Write as WriteFault, Memory};
 ghost use Rattle.desk_core.specs.declared.command.Command.{Command};
 ghost use Rattle.desk_core.specs.declared.answer.Answer.{Answer};
-ghost use Rattle.desk_core.specs.Desk.{StandsFor};
+ghost use Rattle.desk_core.specs.Desk.{HasHistory};
 ghost use Rattle.script_core.specs.Lines.{lines_left};
 ghost use Rattle.script_core.specs.Bytes.{ConsumesAtMost};
 ghost use Rattle.script_core.specs.Output.{IsLineAnswer, history_after_line, WritesAnswers, WritesFront, Counts, IsInput, AnswersScript, AnswersEndedLines};
@@ -91,10 +91,10 @@ fn answer_lines<W: Write>(
 }
 
 fn answer_line(desk: &mut Desk, body: Body) -> Answer
-    ensures answer { (history : List Command) → StandsFor desk.old history
+    ensures answer { (history : List Command) → HasHistory desk.old history
         → IsLineAnswer history body result }
-    ensures stands { (history : List Command) → StandsFor desk.old history
-        → StandsFor desk.new (history_after_line history body result) }
+    ensures stands { (history : List Command) → HasHistory desk.old history
+        → HasHistory desk.new (history_after_line history body result) }
 {
     match body {
         Body::Cmd(command) => desk.step(command),

@@ -29,7 +29,8 @@ impl Model for Timelines {
 }
 
 impl Timelines {
-    ghost use Rattle.timeline_core.specs.Timeline.{timeline_of, new_timeline, has_timeline, timeline_at, context_of, name_at, reach_of, value_of, raised, rows_of, AreTimelines};
+    ghost use Rattle.timeline_core.specs.Timeline.{timeline_of, new_timeline, has_timeline, timeline_at, context_of};
+    ghost use Rattle.timeline_core.specs.Timeline.{name_at, reach_of, value_of, raised, rows_of, AreTimelines};
     ghost use Rattle.timeline_core.specs.Run.{Leaves, Create, Inc};
     ghost use Rattle.point_core.specs.Reach.{with_value, value_at, IsAtLeast};
 
@@ -55,7 +56,8 @@ impl Timelines {
         ensures same_values { reach_of self.new ≡ reach_of self.old }
 
         ensures exists { (result ≡ Err Refusal.Exists) ↔ IsTrue (has_timeline self.old name) }
-        ensures limit { (result ≡ Err (Refusal.Limit LimitKind.Timelines)) ↔ ((has_timeline self.old name ≡ false) × (length self.old ≡ CONTEXTS)) }
+        ensures limit { (result ≡ Err (Refusal.Limit LimitKind.Timelines)) ↔
+            ((has_timeline self.old name ≡ false) × (length self.old ≡ CONTEXTS)) }
         ensures memory { IfErr result (λ e. has_timeline self.old name ≡ false → length self.old < CONTEXTS → e ≡ Refusal.Memory) }
         ensures err { OnErr result (self.new ≡ self.old) }
         ensures timelines { AreTimelines self.new }
@@ -79,12 +81,14 @@ impl Timelines {
         ensures value { IfOk result (λ v. v ≡ value_of self.old name.now + n) }
         ensures raised { OnOk result (self.new ≡ raised self.old name.now n) }
         ensures leaves { Leaves (Inc name.now n) (is_ok result) self.old self.new }
-        ensures reach { OnOk result (reach_of self.new ≡ with_value (reach_of self.old) (context_of self.old name.now) (value_of self.old name.now + n)) }
+        ensures reach { OnOk result (reach_of self.new ≡
+            with_value (reach_of self.old) (context_of self.old name.now) (value_of self.old name.now + n)) }
         ensures never_falls { IsAtLeast (reach_of self.new) (reach_of self.old) }
 
         ensures accepted { IsOk result ↔ (IsTrue (has_timeline self.old name.now) × (value_of self.old name.now + n < 2 ^ 64)) }
         ensures missing { (result ≡ Err Refusal.NoEntry) ↔ (has_timeline self.old name.now ≡ false) }
-        ensures overflow { (result ≡ Err Refusal.Overflow) ↔ (IsTrue (has_timeline self.old name.now) × (2 ^ 64 ≤ value_of self.old name.now + n)) }
+        ensures overflow { (result ≡ Err Refusal.Overflow) ↔
+            (IsTrue (has_timeline self.old name.now) × (2 ^ 64 ≤ value_of self.old name.now + n)) }
         ensures err { OnErr result (self.new ≡ self.old) }
     {
         let ctx = self.context(name).ok_or(Refusal::NoEntry)?;
