@@ -26,7 +26,7 @@ use Rattle.point_core.specs.declared.entry.Entry.{Entry}
 use Rattle.point_core.specs.Usage.{usage_number}
 use Rattle.point_core.proofs.Agreement.{AgreesAbove-later, AgreesAbove-sym}
 use Rattle.resv_core.specs.Resv.{empty}
-use Rattle.dmabuf_core.specs.declared.buffers.TheConstants.{BUFFERS}
+use Rattle.point_core.specs.declared.limits.TheConstants.{BUFFERS}
 use Rattle.dmabuf_core.specs.Buffers.{Buffer, AreBuffers, OnlyChanges, has_buffer, entries_of, cause_without, cause_by_flags}
 use Rattle.dmabuf_core.specs.Flags.{is_sync_flags, export_usage}
 use Rattle.dmabuf_core.proofs.Putting.{listing-exported}

@@ -16,7 +16,7 @@ use Rattle.point_core.specs.Agreement.{AgreesAbove}
 use Rattle.point_core.proofs.Agreement.{AgreesAbove-sym, AgreesAbove-trans, AgreesAbove-append, AgreesAbove-refl}
 use Rattle.resv_core.specs.Resv.{Reservation, IsTable, empty}
 use Rattle.point_core.specs.declared.context.TheConstants.{CONTEXTS}
-use Rattle.dmabuf_core.specs.declared.buffers.TheConstants.{BUFFERS}
+use Rattle.point_core.specs.declared.limits.TheConstants.{BUFFERS}
 use Rattle.dmabuf_core.specs.Buffers.{Buffer, AreBuffers, names_of, table_at, has_buffer, entries_of}
 
 -- one buffer has another table

@@ -8,7 +8,7 @@ use Rattle.point_core.specs.declared.refusal.Refusal.{Refusal}
 use Rattle.point_core.specs.declared.refusal.Refusal.TheVariants.{NoEntry, Exists, Flags, Limit}
 use Rattle.point_core.specs.declared.refusal.LimitKind.TheVariants.{Buffers as BuffersKind}
 use Rattle.resv_core.specs.Resv.{Reservation, IsTable}
-use Rattle.dmabuf_core.specs.declared.buffers.TheConstants.{BUFFERS}
+use Rattle.point_core.specs.declared.limits.TheConstants.{BUFFERS}
 use Rattle.dmabuf_core.specs.Flags.{is_sync_flags}
 
 -- a buffer is its name and its table

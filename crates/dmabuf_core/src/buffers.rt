@@ -11,16 +11,13 @@ ghost use Rattle.dmabuf_core.specs.Buffers.{AreBuffers, OnlyChanges, cause_by_fl
 
 use crate::flags::SyncFlags;
 use indexmap::IndexMap;
-use point_core::{CONTEXTS, Items, LimitKind, Listing, Name, Point, Reach, Refusal, TopRow, Usage};
+use point_core::{
+    BUFFERS, CONTEXTS, Items, LimitKind, Listing, Name, Point, Reach, Refusal, TopRow, Usage,
+};
 use resv_core::Resv;
 use std::alloc::Global;
 use std::marker::Model;
 use syncfile_core::SyncFile;
-
-/// How many buffers there can be. A buffer is never unmade.
-pub const BUFFERS: usize = 64;
-
-const _: () = prove!(BUFFERS == 64);
 
 /// The buffers that were made, by the order of making, each with its reservation, as Linux's `struct dma_buf` and its
 /// `resv`.

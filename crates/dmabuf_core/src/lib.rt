@@ -8,7 +8,7 @@ mod buffers;
 mod flags;
 mod laws;
 
-pub use buffers::{BUFFERS, Buffers};
+pub use buffers::Buffers;
 pub use flags::SyncFlags;
 pub use laws::{
     an_export_lists_what_was_put_in, an_import_puts_in_what_a_file_stands_for,

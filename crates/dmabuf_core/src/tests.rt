@@ -1,6 +1,8 @@
 // Worked rows of buffers.
-use crate::{BUFFERS, Buffers, SyncFlags};
-use point_core::{CONTEXTS, Context, LimitKind, Name, Point, Reach, Refusal, TopRow, Usage};
+use crate::{Buffers, SyncFlags};
+use point_core::{
+    BUFFERS, CONTEXTS, Context, LimitKind, Name, Point, Reach, Refusal, TopRow, Usage,
+};
 use std::alloc::Global;
 use std::process::Abort;
 use std::test::Fail;

@@ -23,4 +23,4 @@ pub use flags::{Once, Won};
 pub use laws::{each_word_has_a_kind, entries_lie_apart, what_is_known_stays_known};
 pub use seat::{PARTS, Seat};
 pub use whole::Whole;
-pub use words::{BUFFERS, FLAGS, LINE_WORDS, USAGES, Words, WordsId};
+pub use words::{FLAGS, LINE_WORDS, USAGES, Words, WordsId};

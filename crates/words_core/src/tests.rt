@@ -1,8 +1,8 @@
 ghost use Rattle.std.specs.Prelude.{◌≡◌, ◌<◌, ◌≤◌, IfSome};
 ghost use Rattle.words_core.specs.declared.flags.Once.TheVariants as once;
 
-use crate::{BUFFERS, FLAGS, Once, PARTS, Seat, Whole, Words};
-use point_core::{CONTEXTS, Context, LimitKind, Refusal, Usage};
+use crate::{FLAGS, Once, PARTS, Seat, Whole, Words};
+use point_core::{BUFFERS, CONTEXTS, Context, LimitKind, Refusal, Usage};
 use std::test::Fail;
 use std::thread::join;
 

@@ -1,10 +1,11 @@
 // A set of words, and its seats.
 ghost use Rattle.std.specs.Prelude.{◌≡◌, ℕ, ◌+◌, ◌<◌, ◌≤◌, ◌⊎◌, [], IfOk, IfErr, max};
 ghost use Rattle.point_core.specs.declared.context.TheConstants.{CONTEXTS};
+ghost use Rattle.point_core.specs.declared.limits.TheConstants.{BUFFERS};
 ghost use Rattle.point_core.specs.declared.refusal.LimitKind.TheVariants as limit;
 ghost use Rattle.point_core.specs.declared.refusal.Refusal.TheVariants as refusal;
 ghost use Rattle.words_core.specs.declared.seat.TheConstants.{PARTS};
-ghost use Rattle.words_core.specs.declared.words.TheConstants.{BUFFERS, FLAGS};
+ghost use Rattle.words_core.specs.declared.words.TheConstants.{FLAGS};
 ghost use Rattle.words_core.specs.Seat.{seen, without_parts, parted, both_of};
 ghost use Rattle.words_core.specs.Trace.{wins_of};
 
@@ -12,14 +13,9 @@ use crate::plays::{CountsParts, JoinSeats, PartCount, SplitParts, TellsSizes, Wo
 use crate::seat::{PARTS, Seat};
 use crate::trace::View;
 use atomic_table::Table;
-use point_core::{CONTEXTS, LimitKind, Refusal};
+use point_core::{BUFFERS, CONTEXTS, LimitKind, Refusal};
 use std::alloc::Global;
 use std::marker::{Brand, Model};
-
-/// The most buffers of a set of words.
-pub const BUFFERS: usize = 64;
-
-const _: () = prove!(BUFFERS == 64);
 
 /// The most flags of a set of words.
 pub const FLAGS: usize = 65_536;
@@ -55,7 +51,8 @@ pub struct Words {
 impl Model for Words {
     ghost use Rattle.std.specs.Prelude.{◌≡◌, ◌≤◌};
     ghost use Rattle.point_core.specs.declared.context.TheConstants.{CONTEXTS};
-    ghost use Rattle.words_core.specs.declared.words.TheConstants.{BUFFERS, FLAGS};
+    ghost use Rattle.point_core.specs.declared.limits.TheConstants.{BUFFERS};
+    ghost use Rattle.words_core.specs.declared.words.TheConstants.{FLAGS};
     ghost use Rattle.words_core.specs.Layout.{word_count};
     ghost use Rattle.words_core.specs.Words.{WordsModel, words_of};
 

@@ -2,7 +2,7 @@ use Rattle.std.proofs.Common.{◌≡◌, ◌<◌, ◌++◌, ◌∷◌, [], false
 use Rattle.std.specs.List.{IsDistinct}
 use lib.Pointwise.{pointwise}
 use Rattle.resv_core.specs.Resv.{empty}
-use Rattle.dmabuf_core.specs.declared.buffers.TheConstants.{BUFFERS}
+use Rattle.point_core.specs.declared.limits.TheConstants.{BUFFERS}
 use Rattle.dmabuf_core.specs.Buffers.{AreBuffers, has_buffer, names_of}
 use Rattle.dmabuf_core.proofs.Tables.{AreBuffers-append, IsTable-empty, insert_entry-last}
 use Rattle.dmabuf_core.proofs.buffers.Buffers.create.Goals as goal
