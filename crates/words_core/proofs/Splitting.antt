@@ -3,14 +3,14 @@ use Rattle.std.proofs.Common.{◌≡◌, ℕ, ◌+◌, ◌-◌, ◌<◌, ◌≤�
 use mathlib.Core.Option.{some}
 use lib.ListN.{get_elem?}
 use Rattle.std.proofs.lemmas.List.{map-append}
-use Rattle.atomic_table.specs.Table.{Splits, Enters}
+use Rattle.atomic_table.specs.Table.{Splits}
 use Rattle.atomic_table.proofs.Lists.{at_map}
 use Rattle.words_core.specs.declared.trace.Step.{Step}
 use Rattle.words_core.specs.declared.trace.View.{View}
 use Rattle.words_core.specs.declared.words.Sizes.{Sizes}
 use Rattle.words_core.specs.Layout.{value_place}
 use Rattle.words_core.specs.Trace.{on, amount_of, total, greatest, is_win, is_test, is_load_of, is_add_to, is_raise_to, is_sight_of}
-use Rattle.words_core.specs.Rule.{spent_view, WordTrace, context_trace, word_trace, made_in, known_in, wins_on, IsAtMost, RaisesNoMore, HasSums, AddsAsDriver, parts_of, IsEmptyIfSpent, KnowsSizes, IsTraced, IsValue, IsSetOnce, IsEntry, IsKept}
+use Rattle.words_core.specs.Rule.{WordTrace, context_trace, word_trace, made_in, known_in, wins_on, IsAtMost, RaisesNoMore, HasSums, AddsAsDriver, parts_of, IsEmptyIfSpent, KnowsSizes, IsTraced, IsValue, IsSetOnce, IsEntry, IsKept}
 use Rattle.words_core.specs.Plays.{parent_view, child_view}
 use Rattle.words_core.proofs.Totals.{total-set, total-append, total_at, Each-set, Each-at, Each-last, map-set_same}
 use Rattle.words_core.proofs.Traces.{on-append, greatest-append_le}
@@ -115,24 +115,3 @@ split-allowed z id n v pos less s h at =
       entries = λ k is. same_word IsEntry _ _ _ _ refl (word_trace-parted k n views id v at) (IsEntry-parted (slice_index s.words k) (map (word_trace k) views) id (word_trace k v) (at_map (word_trace k) views id v at) (h.entries k is));
       unused = h.unused;
     }
-
--- a spent seat may come at any time
-IsKept-spent : (z : Sizes) (words : List ℕ) (views : List View) → IsKept z words views → IsKept z words (views ++ spent_view z ∷ [])
-IsKept-spent z words views h =
-    let spent : View = spent_view z in
-    let two : total parts_of (views ++ spent ∷ []) ≡ total parts_of views + (0 + 0) = total-append parts_of views (spent ∷ []) in
-    let all = h.parts in
-    record {
-      counted = h.counted;
-      parts = omega arith;
-      spent = Each-last IsEmptyIfSpent views spent h.spent (λ _. (refl, refl));
-      sized = Each-last (KnowsSizes z) views spent h.sized (λ _. refl);
-      won_once = λ w. let few = h.won_once w in let a : total (wins_on w) (views ++ spent ∷ []) ≡ total (wins_on w) views + (0 + 0) = total-append (wins_on w) views (spent ∷ []) in omega arith;
-      values = λ c low. same_word IsValue _ _ _ _ refl (map-append (context_trace c) views (spent ∷ [])) (IsValue-started (slice_index words (value_place c)) (map (context_trace c) views) [] (omega arith) (λ x. omega arith) (h.values c low));
-      set_once = λ k is. same_word IsSetOnce _ _ _ _ refl (map-append (word_trace k) views (spent ∷ [])) (IsSetOnce-started (slice_index words k) (map (word_trace k) views) [] (omega arith) (omega arith) (h.set_once k is));
-      entries = λ k is. same_word IsEntry _ _ _ _ refl (map-append (word_trace k) views (spent ∷ [])) (IsEntry-started (slice_index words k) (map (word_trace k) views) [] (omega arith) (λ x. omega arith) (h.entries k is));
-      unused = h.unused;
-    }
-
-pub spent-allowed : (z : Sizes) (slots i : ℕ) → Enters {S = Unit {0}} (λ s. IsKept z s.words s.views) slots i (λ n w. w.sizes ≡ z)
-spent-allowed z slots i s h homes small = (spent_view z, IsKept-spent z s.words s.views h, refl)

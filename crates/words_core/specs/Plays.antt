@@ -86,10 +86,6 @@ loads_top s me found after =
     × (found ≡ raised (on s.word me.0.trace))
     × SightsWereRaised s.word me.0.trace
 
--- a new seat knows how many words there are
-abbrev pub tells_sizes : TableStep (Unit {0}) → Holder → ℕ → Holder → Type 0
-tells_sizes s me found after = after.0.sizes ≡ me.0.sizes
-
 -- the parent's view when n parts go to a child
 abbrev pub parent_view : ℕ → View → View
 parent_view n v = view v.sizes (v.parts - n) v.start v.trace

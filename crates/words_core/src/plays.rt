@@ -1,7 +1,7 @@
 // The rule of the words, what each kind of step tells, and how views are split and joined.
 ghost use Rattle.std.specs.Prelude.{ℕ};
 ghost use Rattle.words_core.specs.Rule.{IsKept, first_view};
-ghost use Rattle.words_core.specs.Plays.{loads_value, claims_context, adds_to_value, counts_parts, loads_total, sets_once, loads_flag, loads_entry, raises_entry, loads_top, tells_sizes, parent_view, child_view, joined_view, joined_from};
+ghost use Rattle.words_core.specs.Plays.{loads_value, claims_context, adds_to_value, counts_parts, loads_total, sets_once, loads_flag, loads_entry, raises_entry, loads_top, parent_view, child_view, joined_view, joined_from};
 
 use crate::trace::View;
 use crate::words::Sizes;
@@ -77,12 +77,6 @@ pub struct LoadsTop;
 
 impl Play<(), View> for LoadsTop {
     ghost then = { loads_top };
-}
-
-pub struct TellsSizes;
-
-impl Play<(), View> for TellsSizes {
-    ghost then = { tells_sizes };
 }
 
 // The number of parts that go to a new seat, which each call picks.

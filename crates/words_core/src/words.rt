@@ -9,13 +9,14 @@ ghost use Rattle.words_core.specs.declared.words.TheConstants.{FLAGS};
 ghost use Rattle.words_core.specs.Seat.{seen, without_parts, parted, both_of};
 ghost use Rattle.words_core.specs.Trace.{wins_of};
 
-use crate::plays::{CountsParts, JoinSeats, PartCount, SplitParts, TellsSizes, WordsRule};
+use crate::plays::{CountsParts, JoinSeats, PartCount, SplitParts, WordsRule};
 use crate::seat::{PARTS, Seat};
 use crate::trace::View;
 use atomic_table::Table;
 use point_core::{BUFFERS, CONTEXTS, LimitKind, Refusal};
 use std::alloc::Global;
 use std::marker::{Brand, Model};
+use std::snapshot::Snapshot;
 
 /// The most flags of a set of words.
 pub const FLAGS: usize = 65_536;
@@ -192,25 +193,26 @@ impl Words {
         seat.parts += parts;
     }
 
-    /// A name of these words. It costs one load, which tells no word.
+    /// A name of these words. It reads none of them.
     pub fn id(&self) -> WordsId
         ensures { result ≡ self.now }
     {
-        let (_, token) = self.table.shared.load_new_seat::<TellsSizes>(0);
-        WordsId { token }
+        WordsId {
+            words: Snapshot::of(self),
+        }
     }
 }
 
 /// Names a set of words, for a value that goes with them. It has no bytes, and no step is made with it.
 #[derive(Drop)]
 pub struct WordsId {
-    pub(crate) token: atomic_table::Seat<(), View>,
+    words: Snapshot<Words>,
 }
 
 impl Model for WordsId {
-    ghost use Rattle.words_core.specs.Words.{WordsModel, words_of};
+    ghost use Rattle.words_core.specs.Words.{WordsModel};
 
     ghost Value = { WordsModel };
 
-    ghost view = { λ id. words_of id.token.table_id id.token.me.0.sizes };
+    ghost view = { λ id. id.words.value };
 }
