@@ -50,7 +50,7 @@ pub enum Signal {
 }
 
 impl SharedFence {
-    /// A fence of these points, with a list that holds no callbacks. It makes one load, which tells nothing.
+    /// A fence of these points, with a list that holds no callbacks. It reads none of the words.
     ///
     /// Refuses as `Foreign` where a context is past those of the words, and as `Memory`.
     pub fn new(
