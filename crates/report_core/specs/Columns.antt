@@ -1,0 +1,17 @@
+-- Columns: a text, and spaces up to the column's width. 32 is the space.
+use Rattle.std.specs.Prelude.{ℕ, ◌-◌, List, [], ◌∷◌, ◌++◌, length, replicate}
+
+abbrev pub spaces : ℕ → List ℕ
+spaces count = replicate count 32
+
+-- the text on the left of a column
+abbrev pub left : ℕ → List ℕ → List ℕ
+left width text = text ++ spaces (width - length text)
+
+-- the same, and a space that parts it from the next column
+abbrev pub column : ℕ → List ℕ → List ℕ
+column width text = left width text ++ 32 ∷ []
+
+-- the text on the right of a column
+abbrev pub right : ℕ → List ℕ → List ℕ
+right width text = spaces (width - length text) ++ text

@@ -1,0 +1,5 @@
+pub mod Columns
+pub mod Kind
+pub mod Row
+pub mod Subject
+pub mod Tables

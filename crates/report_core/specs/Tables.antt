@@ -1,0 +1,29 @@
+-- The texts of tables, row by row.
+use Rattle.std.specs.Prelude.{ℕ, List, ◌∷◌, ◌++◌, length}
+use Rattle.std.specs.List.{flat_map}
+use Rattle.report_core.specs.declared.kind.Kind.TheVariants.{Timeline, Buffer, Level}
+use Rattle.report_core.specs.declared.tables.ShowRow.{ShowRow}
+use Rattle.report_core.specs.declared.tables.BufferRows.{BufferRows}
+use Rattle.report_core.specs.declared.tables.Report.{Report}
+use Rattle.report_core.specs.Row.{row_text, file_row_text}
+
+abbrev pub show_row_text : ShowRow → List ℕ
+show_row_text row = row_text (Level row.usage) row.timeline row.point
+
+-- the table of one buffer
+abbrev pub show_text : List ShowRow → List ℕ
+show_text rows = flat_map show_row_text rows
+
+abbrev pub timeline_text : List ℕ × ℕ → List ℕ
+timeline_text timeline = row_text Timeline timeline.0 timeline.1
+
+-- a buffer's row has the number of the rows that follow it
+abbrev pub buffer_text : BufferRows → List ℕ
+buffer_text buffer = row_text Buffer buffer.name (length buffer.rows) ++ show_text buffer.rows
+
+-- the timelines, then the files, then the buffers
+abbrev pub report_text : Report → List ℕ
+report_text report =
+    flat_map timeline_text report.timelines
+    ++ flat_map file_row_text report.files
+    ++ flat_map buffer_text report.buffers

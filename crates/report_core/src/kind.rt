@@ -1,0 +1,40 @@
+// What a row tells of.
+ghost use Rattle.std.specs.Prelude.{◌≡◌};
+ghost use Rattle.report_core.specs.Kind.{usage_word, kind_word};
+
+use point_core::Usage;
+
+/// What a row tells of: its first column.
+#[derive(Clone, Copy, Debug, PartialEq, Eq, Hash)]
+pub enum Kind {
+    Timeline,
+    File,
+    Buffer,
+    /// The pending points of a buffer at a usage or a stronger one.
+    Level(Usage),
+}
+
+impl Kind {
+    /// The word of the first column.
+    pub fn word(self) -> &'static str
+        ensures { result.now ≡ kind_word self }
+    {
+        match self {
+            Kind::Timeline => "timeline",
+            Kind::File => "file",
+            Kind::Buffer => "buffer",
+            Kind::Level(usage) => usage_word(usage),
+        }
+    }
+}
+
+fn usage_word(usage: Usage) -> &'static str
+    ensures { result.now ≡ usage_word usage }
+{
+    match usage {
+        Usage::Kernel => "kernel",
+        Usage::Write => "write",
+        Usage::Read => "read",
+        Usage::Bookkeep => "bookkeep",
+    }
+}

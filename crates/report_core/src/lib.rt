@@ -1,0 +1,17 @@
+//! Tables as text: rows of fixed columns, as `show`, `report` and runs of clients print them.
+//!
+//! What a row's text is stands in `specs/`, by its columns.
+#![tactic(auto)]
+
+mod columns;
+mod kind;
+mod report;
+mod rows;
+mod tables;
+
+pub use kind::Kind;
+pub use report::{report_text, show_text};
+pub use rows::{
+    COUNT_WIDTH, FILE_ROW_BYTES, KIND_WIDTH, NUMBER_WIDTH, ROW_BYTES, SUBJECT_WIDTH, file_row, row,
+};
+pub use tables::{BufferRows, FileRow, Report, ShowRow};

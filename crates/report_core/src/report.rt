@@ -1,0 +1,79 @@
+// The texts of tables.
+ghost use Rattle.std.specs.Prelude.{◌≡◌, ◌++◌, OnOk, OnErr, Err};
+ghost use Rattle.std.specs.List.{flat_map};
+ghost use Rattle.std.specs.Io.{StartsWith};
+ghost use Rattle.point_core.specs.declared.refusal.Refusal.TheVariants.{Memory};
+ghost use Rattle.report_core.specs.Row.{file_row_text};
+ghost use Rattle.report_core.specs.Tables.{show_text, timeline_text, buffer_text, report_text};
+
+use crate::kind::Kind;
+use crate::rows::{file_row, row};
+use crate::tables::{BufferRows, FileRow, Report, ShowRow};
+use point_core::{Name, Refusal};
+
+/// Writes the table of one buffer behind `out`, a row each.
+///
+/// Refused as Memory alone. `out` then begins with what it was.
+pub fn show_text(rows: &[ShowRow], out: &mut Vec<u8>) -> Result<(), Refusal>
+    ensures ok { OnOk result (out.new.items ≡ out.old.items ++ show_text rows.now) }
+    ensures err { OnErr result ((result ≡ Err Memory) × StartsWith out.new.items out.old.items) }
+{
+    for shown in rows {
+        row(Kind::Level(shown.usage), &shown.timeline, shown.point, out)?;
+    }
+    Ok(())
+}
+
+/// Writes a report behind `out`: a row for each timeline with its value, one for each file, and for each buffer a row
+/// with the number of its rows, and these.
+///
+/// Refused as Memory alone. `out` then begins with what it was.
+pub fn report_text(report: &Report, out: &mut Vec<u8>) -> Result<(), Refusal>
+    ensures ok { OnOk result (out.new.items ≡ out.old.items ++ report_text report.now) }
+    ensures err { OnErr result ((result ≡ Err Memory) × StartsWith out.new.items out.old.items) }
+{
+    push_timelines(out, report.timelines.as_slice())?;
+    push_files(out, report.files.as_slice())?;
+    push_buffers(out, report.buffers.as_slice())?;
+    Ok(())
+}
+
+fn push_timelines(out: &mut Vec<u8>, timelines: &[(Name, u64)]) -> Result<(), Refusal>
+    ensures ok { OnOk result (out.new.items ≡ out.old.items ++ flat_map timeline_text timelines.now) }
+    ensures err { OnErr result ((result ≡ Err Memory) × StartsWith out.new.items out.old.items) }
+{
+    for (name, value) in timelines {
+        row(Kind::Timeline, name, *value, out)?;
+    }
+    Ok(())
+}
+
+fn push_files(out: &mut Vec<u8>, files: &[FileRow]) -> Result<(), Refusal>
+    ensures ok { OnOk result (out.new.items ≡ out.old.items ++ flat_map file_row_text files.now) }
+    ensures err { OnErr result ((result ≡ Err Memory) × StartsWith out.new.items out.old.items) }
+{
+    for file in files {
+        file_row(file, out)?;
+    }
+    Ok(())
+}
+
+fn push_buffers(out: &mut Vec<u8>, buffers: &[BufferRows]) -> Result<(), Refusal>
+    ensures ok { OnOk result (out.new.items ≡ out.old.items ++ flat_map buffer_text buffers.now) }
+    ensures err { OnErr result ((result ≡ Err Memory) × StartsWith out.new.items out.old.items) }
+{
+    for buffer in buffers {
+        push_buffer(out, buffer)?;
+    }
+    Ok(())
+}
+
+fn push_buffer(out: &mut Vec<u8>, buffer: &BufferRows) -> Result<(), Refusal>
+    ensures ok { OnOk result (out.new.items ≡ out.old.items ++ buffer_text buffer.now) }
+    ensures err { OnErr result ((result ≡ Err Memory) × StartsWith out.new.items out.old.items) }
+{
+    let rows = buffer.rows.as_slice();
+    row(Kind::Buffer, &buffer.name, rows.len() as u64, out)?;
+    show_text(rows, out)?;
+    Ok(())
+}

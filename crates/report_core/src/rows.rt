@@ -1,0 +1,96 @@
+// The text of one row.
+ghost use Rattle.std.specs.Prelude.{◌≡◌, ◌++◌, ◌+◌, ◌<◌, ◌^◌, OnOk, OnErr, Err, length};
+ghost use Rattle.std.specs.Io.{StartsWith};
+ghost use Rattle.point_core.specs.declared.refusal.Refusal.TheVariants.{Memory};
+ghost use Rattle.report_core.specs.Subject.{subject_text};
+ghost use Rattle.report_core.specs.Row.{row_text, file_row_text};
+
+use crate::columns::{Subject, push_columns, push_number};
+use crate::kind::Kind;
+use crate::tables::FileRow;
+use point_core::{NAME_BYTES, Name, Refusal};
+
+/// The places of a row's first column: the longest words, `timeline` and `bookkeep`, fill it.
+pub const KIND_WIDTH: usize = 8;
+
+/// The places of the second column: the longest name fills it.
+pub const SUBJECT_WIDTH: usize = NAME_BYTES;
+
+/// The places of the third column: the greatest number fills it.
+pub const NUMBER_WIDTH: usize = 20;
+
+/// The places of a file row's last column.
+pub const COUNT_WIDTH: usize = 3;
+
+/// The bytes of a row with its line feed.
+pub const ROW_BYTES: usize = KIND_WIDTH + 1 + SUBJECT_WIDTH + 1 + NUMBER_WIDTH + 1;
+
+/// The bytes of a file's row with its line feed, where its count fits the column.
+pub const FILE_ROW_BYTES: usize = ROW_BYTES + 1 + COUNT_WIDTH;
+
+const _: () = prove!(KIND_WIDTH == 8);
+
+const _: () = prove!(SUBJECT_WIDTH == 31);
+
+const _: () = prove!(NUMBER_WIDTH == 20);
+
+const _: () = prove!(COUNT_WIDTH == 3);
+
+const _: () = prove!(ROW_BYTES == 62);
+
+const _: () = prove!(FILE_ROW_BYTES == 66);
+
+/// Writes a row behind `out`: the kind's word on the left of its column, a space, the name on the left of its column, a
+/// space, the number in decimal on the right of its column, and a line feed.
+///
+/// Refused as Memory alone. `out` then begins with what it was.
+pub fn row(kind: Kind, name: &Name, number: u64, out: &mut Vec<u8>) -> Result<(), Refusal>
+    ensures ok { OnOk result (out.new.items ≡ out.old.items ++ row_text kind name.now number) }
+    ensures width { OnOk result (length out.new.items ≡ length out.old.items + ROW_BYTES) }
+    ensures err { OnErr result ((result ≡ Err Memory) × StartsWith out.new.items out.old.items) }
+{
+    prove!(name.as_bytes().len() <= NAME_BYTES);
+    push_row(out, kind, Subject::Named(*name), number)?;
+    Ok(())
+}
+
+/// Writes a file's row behind `out`: as `row`, with its status for the number, and before the line feed a space and the
+/// count on the right of a column of its own.
+///
+/// Refused as Memory alone. `out` then begins with what it was.
+pub fn file_row(file: &FileRow, out: &mut Vec<u8>) -> Result<(), Refusal>
+    ensures ok { OnOk result (out.new.items ≡ out.old.items ++ file_row_text file.now) }
+    ensures width { OnOk result (file.now.count < 10 ^ COUNT_WIDTH →
+        length out.new.items ≡ length out.old.items + FILE_ROW_BYTES) }
+    ensures err { OnErr result ((result ≡ Err Memory) × StartsWith out.new.items out.old.items) }
+{
+    prove!(file.name.as_bytes().len() <= NAME_BYTES);
+    push_file_row(out, file)?;
+    Ok(())
+}
+
+fn push_file_row(out: &mut Vec<u8>, file: &FileRow) -> Result<(), Refusal>
+    ensures ok { OnOk result (out.new.items ≡ out.old.items ++ file_row_text file.now) }
+    ensures err { OnErr result ((result ≡ Err Memory) × StartsWith out.new.items out.old.items) }
+{
+    let status = u64::from(file.status.number());
+    push_columns(out, Kind::File, Subject::Named(file.name), status)?;
+    out.extend_from_slice(b" ")?;
+    push_number(out, file.count, COUNT_WIDTH)?;
+    out.extend_from_slice(b"\n")?;
+    Ok(())
+}
+
+pub(crate) fn push_row(
+    out: &mut Vec<u8>,
+    kind: Kind,
+    subject: Subject,
+    number: u64,
+) -> Result<(), Refusal>
+    ensures ok { OnOk result (out.new.items ≡ out.old.items ++ row_text kind (subject_text subject) number) }
+    ensures err { OnErr result ((result ≡ Err Memory) × StartsWith out.new.items out.old.items) }
+{
+    push_columns(out, kind, subject, number)?;
+    out.extend_from_slice(b"\n")?;
+    Ok(())
+}
