@@ -1,5 +1,6 @@
 pub mod Columns
 pub mod Kind
 pub mod Row
+pub mod Settled
 pub mod Subject
 pub mod Tables

@@ -1,0 +1,80 @@
+// The text of what clients settled.
+ghost use Rattle.std.specs.Prelude.{◌≡◌, ◌++◌, ◌+◌, ◌<◌, ◌^◌, OnOk, OnErr, Err, length};
+ghost use Rattle.std.specs.List.{flat_map, enumerate_from};
+ghost use Rattle.std.specs.Io.{StartsWith};
+ghost use Rattle.point_core.specs.declared.refusal.Refusal.TheVariants.{Memory};
+ghost use Rattle.report_core.specs.Settled.{client_text, top_text, table_text, settled_text};
+
+use crate::columns::Subject;
+use crate::kind::Kind;
+use crate::rows::push_row;
+use point_core::{Items, Refusal, TopRow};
+use resv_core::Settled;
+
+/// Writes what clients settled behind `out`: a row for each client's timeline with its value, and for each buffer a row
+/// with the number of its rows, and these. Clients are named `c1`, `c2` and so on, buffers `b0`, `b1` and so on.
+///
+/// Refused as Memory alone. `out` then begins with what it was.
+pub fn settled_text(settled: &Settled, out: &mut Vec<u8>) -> Result<(), Refusal>
+    ensures ok { OnOk result (out.new.items ≡ out.old.items ++ settled_text settled.now) }
+    ensures err { OnErr result ((result ≡ Err Memory) × StartsWith out.new.items out.old.items) }
+{
+    push_clients(out, settled.values.as_slice())?;
+    push_tables(out, settled.tables.as_slice())?;
+    Ok(())
+}
+
+fn push_clients(out: &mut Vec<u8>, values: &[u64]) -> Result<(), Refusal>
+    ensures ok { OnOk result (out.new.items ≡ out.old.items ++ flat_map client_text (enumerate_from 1 values.now)) }
+    ensures err { OnErr result ((result ≡ Err Memory) × StartsWith out.new.items out.old.items) }
+{
+    for (place, value) in values.iter().enumerate() {
+        push_row(out, Kind::Timeline, client(place as u64 + 1), *value)?;
+    }
+    Ok(())
+}
+
+fn push_tables(out: &mut Vec<u8>, tables: &[Items<TopRow>]) -> Result<(), Refusal>
+    ensures ok { OnOk result (out.new.items ≡ out.old.items ++ flat_map table_text (enumerate_from 0 tables.now)) }
+    ensures err { OnErr result ((result ≡ Err Memory) × StartsWith out.new.items out.old.items) }
+{
+    for (buffer, rows) in tables.iter().enumerate() {
+        push_table(out, buffer as u64, rows.as_slice())?;
+    }
+    Ok(())
+}
+
+fn push_table(out: &mut Vec<u8>, buffer: u64, rows: &[TopRow]) -> Result<(), Refusal>
+    ensures ok { OnOk result (out.new.items ≡ out.old.items ++ table_text (buffer, rows.now)) }
+    ensures err { OnErr result ((result ≡ Err Memory) × StartsWith out.new.items out.old.items) }
+{
+    push_row(
+        out,
+        Kind::Buffer,
+        Subject::Numbered(b'b', buffer),
+        rows.len() as u64,
+    )?;
+    push_tops(out, rows)?;
+    Ok(())
+}
+
+fn push_tops(out: &mut Vec<u8>, rows: &[TopRow]) -> Result<(), Refusal>
+    ensures ok { OnOk result (out.new.items ≡ out.old.items ++ flat_map top_text rows.now) }
+    ensures err { OnErr result ((result ≡ Err Memory) × StartsWith out.new.items out.old.items) }
+{
+    for row in rows {
+        push_row(
+            out,
+            Kind::Level(row.usage),
+            client(u64::from(row.ctx.number())),
+            row.point,
+        )?;
+    }
+    Ok(())
+}
+
+fn client(number: u64) -> Subject
+    ensures { result ≡ Subject.Numbered 99 number }
+{
+    Subject::Numbered(b'c', number)
+}
