@@ -50,7 +50,7 @@ HasOnlyLoaded-more first seat ctx value h =
     )
 
 -- so it has added what it had
-added_to-HasOnlyLoaded : (first seat : SeatModel) (ctx : ℕ) → HasOnlyLoaded first seat → added_to seat ctx ≡ added_to first ctx
+pub added_to-HasOnlyLoaded : (first seat : SeatModel) (ctx : ℕ) → HasOnlyLoaded first seat → added_to seat ctx ≡ added_to first ctx
 added_to-HasOnlyLoaded first seat ctx h =
     let none = h.2 (value_word ctx) in
     ap (λ (s : SeatModel). added_to s ctx) h.1 ∙ added-append (value_word ctx) first.trace h.0 ∙ (omega arith)

@@ -1,3 +1,5 @@
+pub mod Adding
 pub mod Gathering
 pub mod Keeping
 pub mod Locking
+pub mod Settling

@@ -1,4 +1,7 @@
+pub mod Clients
 pub mod LockedBuffer
+pub mod Looks
+pub mod Plans
 pub use Rattle.resv_core.specs.Resv
 pub use Rattle.resv_core.specs.Settled
 pub use Rattle.resv_core.specs.Shared

@@ -15,6 +15,7 @@ use words_core::{Whole, Words};
 pub(crate) fn gathered(words: &Words, all: &mut Whole) -> Reach
     requires own { all.old.words ≡ words.now }
     ensures stepped { HasStepped all.old all.new }
+    ensures same { (ctx : ℕ) → added_to all.new ctx ≡ added_to all.old ctx }
     ensures values { (ctx : ℕ) → 1 ≤ ctx → ctx ≤ words.now.contexts → value_at result ctx ≡ added_to all.old ctx }
     ensures past { (ctx : ℕ) → words.now.contexts < ctx → value_at result ctx ≡ 0 }
 {

@@ -4,13 +4,22 @@
 //! that are kept say the same above the floor as all that was ever put.
 #![tactic(auto)]
 
+mod client;
+mod clients;
 mod expected;
+mod gate;
 mod gathered;
 mod locked_buffer;
 mod locked_table;
+mod looks;
+mod plans;
+mod workers;
 
+pub use clients::run_clients;
+pub use gate::{Gate, OpenGate};
 pub use locked_buffer::LockedBuffer;
 pub use locked_table::LockedTable;
+pub use plans::{ACTS, CLIENTS};
 
 #[cfg(test)]
 mod tests;

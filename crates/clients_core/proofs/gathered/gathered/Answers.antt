@@ -4,7 +4,7 @@ use Rattle.point_core.specs.declared.context.TheConstants.{CONTEXTS}
 use Rattle.point_core.specs.Reach.{value_at, with_value}
 use Rattle.point_core.proofs.Values.{value_at-replicate}
 use Rattle.words_core.specs.Seat.{SeatModel, added_to}
-use Rattle.clients_core.proofs.Gathering.{HasOnlyLoaded, HasOnlyLoaded-none, HasOnlyLoaded-more, values-more, past-more, raised_from_zero}
+use Rattle.clients_core.proofs.Gathering.{HasOnlyLoaded, HasOnlyLoaded-none, HasOnlyLoaded-more, added_to-HasOnlyLoaded, values-more, past-more, raised_from_zero}
 use Rattle.clients_core.proofs.gathered.gathered.Goals as goal
 
 pub loop-index-init : goal.loop-index-init
@@ -36,3 +36,6 @@ loop-index-preserved c =
 
 pub returns-clause-stepped : goal.returns-clause-stepped
 returns-clause-stepped c = (c.loop-index.invariant.loaded.0, c.loop-index.invariant.loaded.1)
+
+pub returns-clause-same : goal.returns-clause-same
+returns-clause-same c = λ ctx. added_to-HasOnlyLoaded c.args.all.now c.loop-index.all ctx c.loop-index.invariant.loaded

@@ -1,0 +1,12 @@
+use Rattle.std.proofs.Common.{◌≡◌, ◌+◌, ◌*◌, All, length, vec_len, vec_capacity}
+use Rattle.clients_core.specs.Clients.{IsWorkerOf}
+use Rattle.clients_core.proofs.workers.start_all.Given as goal
+
+abbrev pub invariant-loop-index : goal.invariant-loop-index
+invariant-loop-index g l = record {
+  words : l.all.words ≡ l.shared.words.now;
+  parts : l.all.parts + 2 * l.index ≡ l.initial.all.parts;
+  len : vec_len l.workers ≡ l.index;
+  places : vec_capacity l.workers ≡ length l.plans;
+  promises : All (IsWorkerOf l.shared.words.now) l.workers.items;
+}

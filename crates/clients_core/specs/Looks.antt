@@ -1,0 +1,26 @@
+-- What a client's look must show of its own puts.
+use Rattle.std.specs.Prelude.{ℕ, ◌==◌, nat_le, Bool, not, ◌&&◌, ◌||◌}
+use Rattle.std.specs.List.{list_all, list_any}
+use Rattle.point_core.specs.declared.entry.Point.{Point}
+use Rattle.point_core.specs.declared.entry.Entry.{Entry}
+use Rattle.point_core.specs.declared.listing.Listing.{Listing}
+use Rattle.point_core.specs.Reach.{is_reached}
+use Rattle.point_core.specs.Usage.{usage_number}
+use Rattle.resv_core.specs.declared.plan.Act.{Act}
+use Rattle.resv_core.specs.Settled.{put_by}
+
+-- the point is of the same context and at least as late
+abbrev pub is_as_late : Point → Point → Bool
+is_as_late point listed = (listed.ctx == point.ctx) && nat_le point.value listed.value
+
+-- the listing has such a point, or its floor has reached it
+abbrev pub shows_point : Listing → Point → Bool
+shows_point listing point = is_reached listing.floor point || list_any (is_as_late point) listing.points
+
+-- it does where the entry is of the usage or a stronger one
+abbrev pub shows_entry : Listing → ℕ → Entry → Bool
+shows_entry listing usage e = not (nat_le (usage_number e.usage) usage) || shows_point listing e.point
+
+-- it does for what the act puts into the buffer
+abbrev pub shows_act : Listing → ℕ → ℕ → Act → Bool
+shows_act listing usage buffer act = list_all (shows_entry listing usage) (put_by buffer act)

@@ -1,0 +1,93 @@
+// What one client does.
+ghost use Rattle.std.specs.Prelude.{◌≡◌, ◌+◌, ◌^◌, ◌<◌, ◌≤◌, All, IfErr, OnOk};
+ghost use Rattle.clients_core.specs.Clients.{IsClientRefusal, IsSinglePart, IsDriving};
+ghost use Rattle.resv_core.specs.Settled.{IsWithin, increment_by, increments_of};
+
+use crate::gate::Gate;
+use crate::looks::shows_puts;
+use point_core::Refusal;
+use resv_core::{Act, SharedTable};
+use std::alloc::Global;
+use std::sync::Wait;
+use words_core::{Driver, Seat, Words};
+
+/// What all clients share.
+#[derive(Drop)]
+pub(crate) struct Shared<'a, R, T, G> {
+    pub rt: &'a R,
+    pub alloc: Global,
+    pub words: &'a Words,
+    pub table: &'a T,
+    pub gate: &'a G,
+}
+
+/// The acts of a client, in order, each between the gate's two calls.
+///
+/// Ends at the first act that is refused: as `TimedOut` where the gate gave up, as `Torn` and as `Memory`.
+pub(crate) fn act_all<R: Wait, T: SharedTable, G: Gate>(
+    shared: &Shared<R, T, G>,
+    client: usize,
+    acts: &[Act],
+    driver: &mut Driver,
+    seat: &mut Seat,
+) -> Result<(), Refusal>
+    requires own { (T.made_for shared.now.table.now ≡ shared.now.words.now) × IsSinglePart shared.now.words.now seat.old }
+    requires driver { IsDriving shared.now.words.now driver.old }
+    requires within { All (IsWithin shared.now.words.now.contexts shared.now.words.now.buffers) acts.now }
+    requires fits { driver.old.value + increments_of acts.now < 2 ^ 64 }
+    ensures seats { IsSinglePart shared.now.words.now seat.new × IsDriving shared.now.words.now driver.new }
+    ensures refusals { IfErr result IsClientRefusal }
+{
+    for (place, act) in acts.iter().enumerate() {
+        if !shared.gate.enter(client, place) {
+            return Err(Refusal::TimedOut);
+        }
+        let done = act_once(shared, act, &acts[..place], driver, seat);
+        shared.gate.leave(client, place);
+        done?;
+    }
+    Ok(())
+}
+
+/// One act, after those before it.
+fn act_once<R: Wait, T: SharedTable, G: Gate>(
+    shared: &Shared<R, T, G>,
+    act: &Act,
+    before: &[Act],
+    driver: &mut Driver,
+    seat: &mut Seat,
+) -> Result<(), Refusal>
+    requires own { (T.made_for shared.now.table.now ≡ shared.now.words.now) × IsSinglePart shared.now.words.now seat.old }
+    requires driver { IsDriving shared.now.words.now driver.old }
+    requires within { IsWithin shared.now.words.now.contexts shared.now.words.now.buffers act.now }
+    requires fits { driver.old.value + increment_by act.now < 2 ^ 64 }
+    ensures seats { IsSinglePart shared.now.words.now seat.new × IsDriving shared.now.words.now driver.new }
+    ensures advanced { OnOk result (driver.new.value ≡ driver.old.value + increment_by act.now) }
+    ensures refusals { IfErr result IsClientRefusal }
+{
+    match *act {
+        Act::Inc(n) => {
+            driver.inc(shared.words, n)?;
+        }
+        Act::Put(buffer, point, usage) => {
+            shared.table.put(
+                shared.rt,
+                shared.alloc,
+                shared.words,
+                seat,
+                buffer,
+                point,
+                usage,
+            )?;
+        }
+        Act::Look(buffer, usage) => {
+            let listing = shared
+                .table
+                .export(shared.rt, shared.alloc, shared.words, seat, buffer, usage)?;
+            if !shows_puts(&listing, buffer, usage, before) {
+                return Err(Refusal::Torn);
+            }
+        }
+    }
+    Ok(())
+}

@@ -1,0 +1,27 @@
+// What lets a client's acts begin.
+ghost use Rattle.std.specs.Prelude.{◌≡◌, true};
+
+/// Stands round every act of every client. Clients are numbered from 1, and the acts of each from 0.
+pub trait Gate: Sync {
+    /// Before an act. Where it is false the client ends there, refused as `TimedOut`.
+    fn enter(&self, client: usize, act: usize) -> bool;
+
+    /// After an act, also one that was refused.
+    fn leave(&self, client: usize, act: usize);
+}
+
+/// A gate that is always open.
+#[derive(Clone, Copy, Debug)]
+pub struct OpenGate;
+
+impl Gate for OpenGate {
+    /// True at once.
+    fn enter(&self, _client: usize, _act: usize) -> bool
+        ensures open { result ≡ true }
+    {
+        true
+    }
+
+    /// Does nothing.
+    fn leave(&self, _client: usize, _act: usize) {}
+}

@@ -1,0 +1,117 @@
+// Which plans clients are started with.
+ghost use Rattle.std.specs.Prelude.{◌≡◌, true, ◌^◌, ◌<◌, ◌≤◌, ◌↔◌, nat_lt, nat_le, length, None, Some, IfErr, IfSome, IsSome, OnOk};
+ghost use Rattle.std.specs.List.{list_all};
+ghost use Rattle.point_core.specs.declared.limits.TheConstants.{BUFFERS};
+ghost use Rattle.clients_core.specs.declared.plans.TheConstants.{CLIENTS};
+ghost use Rattle.clients_core.specs.Plans.{cause_to_refuse_plans, is_within, are_within, has_few_acts, never_wraps};
+ghost use Rattle.resv_core.specs.Settled.{increment_by, increments_of};
+
+use point_core::{BUFFERS, LimitKind, Refusal};
+use resv_core::{Act, Plan};
+
+/// The most clients.
+pub const CLIENTS: usize = 8;
+
+const _: () = prove!(CLIENTS == 8);
+
+/// The most acts of a plan.
+pub const ACTS: usize = 65_536;
+
+const _: () = prove!(ACTS == 65_536);
+
+/// Whether clients may be started with these plans, one for each.
+///
+/// Refuses, in this order: as `NoEntry`, as `Limit` of the clients, the buffers and the plan, and as `Overflow`.
+pub(crate) fn check_plans(buffers: usize, plans: &[Plan]) -> Result<(), Refusal>
+    ensures refused { IfErr result (λ e. cause_to_refuse_plans buffers plans.now ≡ Some e) }
+    ensures none { OnOk result (cause_to_refuse_plans buffers plans.now ≡ None) }
+    ensures within { OnOk result (are_within (length plans.now) buffers plans.now ≡ true) }
+    ensures clients { OnOk result ((1 ≤ length plans.now) × (length plans.now ≤ CLIENTS)) }
+    ensures few_buffers { OnOk result (buffers ≤ BUFFERS) }
+    ensures fits { OnOk result (list_all never_wraps plans.now ≡ true) }
+{
+    if !are_within(plans, plans.len(), buffers) {
+        return Err(Refusal::NoEntry);
+    }
+    if plans.is_empty() || plans.len() > CLIENTS {
+        return Err(Refusal::Limit(LimitKind::Clients));
+    }
+    if buffers > BUFFERS {
+        return Err(Refusal::Limit(LimitKind::Buffers));
+    }
+    if !have_few_acts(plans) {
+        return Err(Refusal::Limit(LimitKind::Plan));
+    }
+    if !never_wrap(plans) {
+        return Err(Refusal::Overflow);
+    }
+    Ok(())
+}
+
+/// Whether each act is on a context and a buffer that there is.
+fn are_within(plans: &[Plan], contexts: usize, buffers: usize) -> bool
+    ensures { result ≡ are_within contexts buffers plans.now }
+{
+    plans
+        .iter()
+        .all(|plan| is_plan_within(plan.as_slice(), contexts, buffers))
+}
+
+fn is_plan_within(acts: &[Act], contexts: usize, buffers: usize) -> bool
+    ensures { result ≡ list_all (is_within contexts buffers) acts.now }
+{
+    acts.iter().all(|act| is_within(act, contexts, buffers))
+}
+
+fn is_within(act: &Act, contexts: usize, buffers: usize) -> bool
+    ensures { result ≡ is_within contexts buffers act.now }
+{
+    match *act {
+        Act::Inc(_) => true,
+        Act::Put(buffer, point, _) => {
+            buffer < buffers && usize::from(point.ctx.number()) <= contexts
+        }
+        Act::Look(buffer, _) => buffer < buffers,
+    }
+}
+
+/// Whether no plan is too long.
+fn have_few_acts(plans: &[Plan]) -> bool
+    ensures { result ≡ list_all has_few_acts plans.now }
+{
+    plans.iter().all(|plan| plan.as_slice().len() <= ACTS)
+}
+
+/// Whether no plan advances its timeline past the greatest u64.
+fn never_wrap(plans: &[Plan]) -> bool
+    ensures { result ≡ list_all never_wraps plans.now }
+{
+    plans.iter().all(|plan| never_wraps(plan.as_slice()))
+}
+
+fn never_wraps(acts: &[Act]) -> bool
+    ensures { result ≡ never_wraps acts.now }
+{
+    total_increment(acts).is_some()
+}
+
+/// By how much the acts advance their client's timeline, or none past the greatest u64.
+pub(crate) fn total_increment(acts: &[Act]) -> Option<u64>
+    ensures fits { IsSome result ↔ (increments_of acts.now < 2 ^ 64) }
+    ensures total { IfSome result (λ total. total ≡ increments_of acts.now) }
+{
+    let mut total = 0u64;
+    for act in acts {
+        total = total.checked_add(increment_of(act))?;
+    }
+    Some(total)
+}
+
+fn increment_of(act: &Act) -> u64
+    ensures { result ≡ increment_by act.now }
+{
+    match *act {
+        Act::Inc(n) => n,
+        Act::Put(_, _, _) | Act::Look(_, _) => 0,
+    }
+}

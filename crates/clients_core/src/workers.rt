@@ -1,0 +1,245 @@
+// A thread for each plan.
+ghost use Rattle.std.specs.Prelude.{◌≡◌, ◌+◌, ◌*◌, ◌^◌, ◌<◌, ◌≤◌, length, All, IfErr, IfOk, OnOk, vec_len, vec_capacity};
+ghost use Rattle.point_core.specs.declared.context.TheConstants.{CONTEXTS};
+ghost use Rattle.clients_core.specs.Clients.{IsClientRefusal, IsSinglePart, IsGivenBack, IsPlan, ArePlans, IsWorkerOf};
+ghost use Rattle.resv_core.specs.Settled.{IsWithin, increments_of};
+
+use crate::client::{Shared, act_all};
+use crate::gate::Gate;
+use point_core::{Context, Refusal};
+use resv_core::{Act, Plan, SharedTable};
+use std::alloc::Global;
+use std::sync::Wait;
+use std::thread;
+use std::thread::{Promise, PromisedHandle, Scope, Threads};
+use words_core::{Seat, Words};
+
+/// What a worker gives back: its two seats, and how its acts ended.
+#[derive(Drop)]
+pub(crate) struct Ended {
+    pub driving: Seat,
+    pub looking: Seat,
+    pub answer: Result<(), Refusal>,
+}
+
+/// A worker's promise: it gives both seats of these words back.
+#[derive(Clone, Copy)]
+pub(crate) struct Loan<'a> {
+    pub words: &'a Words,
+}
+
+impl<'a> Promise<Ended> for Loan<'a> {
+    ghost use Rattle.clients_core.specs.Clients.{IsGivenBack};
+
+    ghost kept_by = { λ loan ended. IsGivenBack loan.words.now ended };
+}
+
+/// A client's acts, with two seats: its driver has one, and its puts and looks are made with the other. Wherever it
+/// ends it gives both back.
+fn work<R: Wait, T: SharedTable, G: Gate>(
+    shared: &Shared<R, T, G>,
+    index: usize,
+    acts: &[Act],
+    driving: Seat,
+    mut looking: Seat,
+) -> Ended
+    requires own { T.made_for shared.now.table.now ≡ shared.now.words.now }
+    requires seats { IsSinglePart shared.now.words.now driving × IsSinglePart shared.now.words.now looking }
+    requires client { (index < shared.now.words.now.contexts) × (index < CONTEXTS) }
+    requires plan { IsPlan shared.now.words.now acts.now }
+    ensures { IsGivenBack shared.now.words.now result }
+{
+    let mut driver = match shared.words.driver(driving, Context::at(index)) {
+        Ok(driver) => driver,
+        Err((refusal, driving)) => {
+            return Ended {
+                driving,
+                looking,
+                answer: Err(refusal),
+            };
+        }
+    };
+    let answer = act_all(shared, index + 1, acts, &mut driver, &mut looking);
+    Ended {
+        driving: driver.finish(),
+        looking,
+        answer,
+    }
+}
+
+/// Starts a worker in a thread of its own.
+///
+/// Refuses as `Memory` where that thread cannot be started. Both seats are lost then.
+fn start<'s, E, R: Wait + Sync, T: SharedTable, G: Gate>(
+    scope: &Scope<'s, E>,
+    shared: &Shared<'s, R, T, G>,
+    index: usize,
+    acts: &'s [Act],
+    driving: Seat,
+    looking: Seat,
+) -> Result<PromisedHandle<Ended, Loan<'s>>, Refusal>
+    requires own { T.made_for shared.now.table.now ≡ shared.now.words.now }
+    requires seats { IsSinglePart shared.now.words.now driving × IsSinglePart shared.now.words.now looking }
+    requires client { (index < shared.now.words.now.contexts) × (index < CONTEXTS) }
+    requires plan { IsPlan shared.now.words.now acts.now }
+    ensures promise { IfOk result (λ worker. worker.promise.words.now ≡ shared.now.words.now) }
+    ensures refusals { IfErr result IsClientRefusal }
+{
+    let Shared {
+        rt,
+        alloc,
+        words,
+        table,
+        gate,
+    } = *shared;
+    let started = scope.spawn_with(
+        Loan { words },
+        move || -> Ended
+            requires own { T.made_for table.now ≡ words.now }
+            requires seats { IsSinglePart words.now driving × IsSinglePart words.now looking }
+            requires client { (index < words.now.contexts) × (index < CONTEXTS) }
+            requires plan { IsPlan words.now acts.now }
+            ensures { IsGivenBack words.entry.now result }
+        {
+            let shared = Shared {
+                rt,
+                alloc,
+                words,
+                table,
+                gate,
+            };
+            work(&shared, index, acts, driving, looking)
+        },
+    );
+    match started {
+        Ok(worker) => Ok(worker),
+        Err(_) => Err(Refusal::Memory),
+    }
+}
+
+/// Starts a worker for each plan, in order, with two seats of one part.
+///
+/// Refuses as `Memory` at the first that cannot be started. Those before it run, and are among the workers.
+fn start_all<'s, E, R: Wait + Sync, T: SharedTable, G: Gate>(
+    scope: &Scope<'s, E>,
+    shared: &Shared<'s, R, T, G>,
+    plans: &'s [Plan],
+    all: &mut Seat,
+    workers: &mut Vec<PromisedHandle<Ended, Loan<'s>>>,
+) -> Result<(), Refusal>
+    requires own { (T.made_for shared.now.table.now ≡ shared.now.words.now) × (all.old.words ≡ shared.now.words.now) }
+    requires plans { ArePlans shared.now.words.now plans.now }
+    requires parts { 2 * CONTEXTS < all.old.parts }
+    requires room { (vec_len workers.old ≡ 0) × (vec_capacity workers.old ≡ length plans.now) }
+    ensures words { all.new.words ≡ all.old.words }
+    ensures promises { All (IsWorkerOf shared.now.words.now) workers.new.items }
+    ensures parts { OnOk result (all.new.parts + 2 * vec_len workers.new ≡ all.old.parts) }
+    ensures refusals { IfErr result IsClientRefusal }
+{
+    for (index, plan) in plans.iter().enumerate() {
+        let driving = shared.words.part(all, 1);
+        let looking = shared.words.part(all, 1);
+        let worker = start(scope, shared, index, plan.as_slice(), driving, looking)?;
+        workers.push_reserved(worker);
+    }
+    Ok(())
+}
+
+/// Joins the workers and takes their seats in. The refusal is that of the first that was refused.
+fn join_all<R: Threads>(
+    rt: &R,
+    words: &Words,
+    workers: Vec<PromisedHandle<Ended, Loan<'_>>>,
+    all: &mut Seat,
+) -> Result<(), Refusal>
+    requires own { all.old.words ≡ words.now }
+    requires promises { All (IsWorkerOf words.now) workers.items }
+    ensures words { all.new.words ≡ all.old.words }
+    ensures parts { all.new.parts ≡ all.old.parts + 2 * vec_len workers.entry }
+    ensures refusals { IfErr result IsClientRefusal }
+{
+    let mut answer = Ok(());
+    for worker in workers {
+        let ended = take_in(words, worker.join(rt), all);
+        answer = answer.and(ended);
+    }
+    answer
+}
+
+/// Takes in both seats that a worker gave back.
+fn take_in(words: &Words, ended: Ended, all: &mut Seat) -> Result<(), Refusal>
+    requires own { (all.old.words ≡ words.now) × IsGivenBack words.now ended }
+    ensures words { all.new.words ≡ all.old.words }
+    ensures parts { all.new.parts ≡ all.old.parts + 2 }
+    ensures answer { result ≡ ended.answer }
+{
+    let Ended {
+        driving,
+        looking,
+        answer,
+    } = ended;
+    words.join(all, driving);
+    words.join(all, looking);
+    answer
+}
+
+/// Starts the workers, joins them, and has all parts again.
+fn work_in<'s, E, R: Threads + Wait + Sync, T: SharedTable, G: Gate>(
+    scope: &Scope<'s, E>,
+    shared: &Shared<'s, R, T, G>,
+    plans: &'s [Plan],
+    mut all: Seat,
+) -> Result<Seat, Refusal>
+    requires own { (T.made_for shared.now.table.now ≡ shared.now.words.now) × (all.words ≡ shared.now.words.now) }
+    requires plans { ArePlans shared.now.words.now plans.now }
+    requires parts { 2 * CONTEXTS < all.parts }
+    ensures whole { IfOk result (λ seat. (seat.words ≡ all.words) × (seat.parts ≡ all.parts)) }
+    ensures refusals { IfErr result IsClientRefusal }
+{
+    let mut workers = Vec::with_capacity(shared.alloc, plans.len())?;
+    let started = start_all(scope, shared, plans, &mut all, &mut workers);
+    let ended = join_all(shared.rt, shared.words, workers, &mut all);
+    ended.and(started)?;
+    Ok(all)
+}
+
+/// A worker in a thread of its own for each plan, all of which have ended when it returns. The seat comes back with
+/// all of its parts.
+///
+/// Refuses as the client with the least number that was refused: as `Exists`, `TimedOut` and `Torn`, and as `Memory`.
+pub(crate) fn work_all<R: Threads + Wait + Sync, T: SharedTable, G: Gate>(
+    rt: &R,
+    alloc: Global,
+    words: &Words,
+    table: &T,
+    gate: &G,
+    plans: &[Plan],
+    all: Seat,
+) -> Result<Seat, Refusal>
+    requires own { (T.made_for table.now ≡ words.now) × (all.words ≡ words.now) }
+    requires plans { ArePlans words.now plans.now }
+    requires parts { 2 * CONTEXTS < all.parts }
+    ensures whole { IfOk result (λ seat. (seat.words ≡ all.words) × (seat.parts ≡ all.parts)) }
+    ensures refusals { IfErr result IsClientRefusal }
+{
+    thread::scope(
+        thread::scope_env(),
+        rt,
+        move |scope| -> Result<Seat, Refusal>
+            requires own { (T.made_for table.now ≡ words.now) × (all.words ≡ words.now) }
+            requires plans { ArePlans words.now plans.now }
+            requires parts { 2 * CONTEXTS < all.parts }
+            ensures whole { IfOk result (λ seat. (seat.words ≡ all.words) × (seat.parts ≡ all.parts)) }
+            ensures refusals { IfErr result IsClientRefusal }
+        {
+            let shared = Shared {
+                rt,
+                alloc,
+                words,
+                table,
+                gate,
+            };
+            work_in(scope, &shared, plans, all)
+        },
+    )
+}
