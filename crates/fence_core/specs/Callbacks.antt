@@ -27,7 +27,9 @@ with_callback Taken cookie = Taken
 
 -- why the cookie may not be added
 abbrev pub cause_to_refuse_callback : Callbacks → ℕ → Option Refusal
-cause_to_refuse_callback (Held cookies) cookie = if list_any (nat_eq cookie) cookies then Some Exists else if nat_lt (length cookies) CALLBACKS then None else Some (Limit WatchesKind)
+cause_to_refuse_callback (Held cookies) cookie =
+    if list_any (nat_eq cookie) cookies then Some Exists
+    else if nat_lt (length cookies) CALLBACKS then None else Some (Limit WatchesKind)
 cause_to_refuse_callback Taken cookie = Some Signalled
 
 -- no cookie is there twice, there are no more than there can be, and a taken list holds none

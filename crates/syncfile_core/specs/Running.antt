@@ -18,7 +18,8 @@ value_seen seat ctx = if nat_le ctx seat.words.contexts then seen seat (value_wo
 abbrev pub reach_seen : SeatModel → List ℕ
 reach_seen seat = map (value_seen seat) contexts
 
--- one load of each context of the words was entered in the seat's trace, by rising number, and nothing else; they found what it has now seen
+-- one load of each context of the words was entered in the seat's trace, by rising number, and nothing else; they found
+-- what it has now seen
 abbrev pub HasLoadedAll : SeatModel → SeatModel → Type 0
 HasLoadedAll before after = after ≡ with_steps before (loads_of (reach_seen after) before.words.contexts)
 

@@ -35,4 +35,5 @@ info_of f reach = record { name = f.name; status = status_of f.points reach; fen
 -- for a set that the file stands for, with a floor that has been reached: signalled exactly where each of its points is
 abbrev pub TellsSetsOf : File → List ℕ → Type 0
 TellsSetsOf f reach =
-    (set : List Entry) → StandsFor f set → IsAtLeast reach f.floor → ((status_of f.points reach ≡ Signalled) ↔ IsReached set 0 reach)
+    (set : List Entry) → StandsFor f set → IsAtLeast reach f.floor
+    → ((status_of f.points reach ≡ Signalled) ↔ IsReached set 0 reach)
