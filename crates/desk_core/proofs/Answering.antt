@@ -9,19 +9,18 @@ use Rattle.desk_core.specs.declared.command.Command.TheVariants as command
 use Rattle.desk_core.specs.declared.answer.Answer.{Answer}
 use Rattle.desk_core.specs.declared.answer.Answer.TheVariants as answer
 use Rattle.syncfile_core.specs.Files.{IsRefusedFor}
-use Rattle.desk_core.specs.World.{World, empty_world, after}
+use Rattle.desk_core.specs.World.{World, empty_world, after, fires_some}
 use Rattle.desk_core.specs.Answer.{first_of, causes, told, answer_to, refused_or, is_refused, takes_memory, OnRefused}
 use Rattle.desk_core.specs.History.{world_from, world_of, AreAccepted, IsAnswer, history_after, history_of, AreAnswers}
 use Rattle.desk_core.specs.Desk.{DeskState, Holds, HasHistory, Answers}
-use Rattle.desk_core.specs.Keeping.{Keeps, cause_of, IsDone, answer_of}
+use Rattle.desk_core.specs.Keeping.{Keeps, cause_of, fires_kept, IsDone, answer_of}
 use Rattle.desk_core.proofs.Sound.{IsSound-history}
 use Rattle.desk_core.proofs.Stepping.{causes-keeps}
-use Rattle.dmabuf_core.specs.Buffers.{Buffer}
-use Rattle.timeline_core.specs.Timeline.{Timeline}
+use Rattle.desk_core.proofs.Watching.{fires_kept-holds}
 
 -- one more command
 
-world_from-push : (w : World) (history : List Command) (c : Command) → world_from w (history ++ c ∷ []) ≡ after (world_from w history) c
+pub world_from-push : (w : World) (history : List Command) (c : Command) → world_from w (history ++ c ∷ []) ≡ after (world_from w history) c
 world_from-push w [] c = refl
 world_from-push w (d ∷ history) c = world_from-push (after w d) history c
 
@@ -40,6 +39,8 @@ is_refused-told w (command.Import b f flags) = refl
 is_refused-told w (command.Export f b flags) = refl
 is_refused-told w (command.Test b u) = refl
 is_refused-told w (command.Trim b) = refl
+is_refused-told w (command.Watch f cookie) = refl
+is_refused-told w (command.Unwatch cookie) = refl
 
 -- the desk keeps the world of each history that it stands for
 pub Keeps-stands : {desk : DeskState} {history : List Command} → HasHistory desk history → Keeps desk (world_of history)
@@ -49,22 +50,41 @@ AreAccepted-push : (w : World) (history : List Command) (c : Command) → AreAcc
 AreAccepted-push w [] c accepted is = (is, tt)
 AreAccepted-push w (d ∷ history) c accepted is = (accepted.0, AreAccepted-push (after w d) history c accepted.1 is)
 
-answered : (old new : DeskState) (c : Command) (r : Result Answer Refusal) (cause : Option Refusal) (history : List Command) → IsRefusedFor cause r → (takes_memory c ≡ false → IfErr r (λ e. e ≢ Memory)) → IfOk r (λ a. IsDone old c a new) → Keeps old (world_of history) → first_of (causes (world_of history) c) ≡ cause → IsAnswer history c (answer_of r)
+-- a command takes memory for the desk exactly where it does in the world
+takes_memory-holds : {desk : DeskState} {world : World} → Holds desk world → (c : Command) → takes_memory (fires_kept desk) c ≡ takes_memory (fires_some world) c
+takes_memory-holds h (command.Inc t n) = fires_kept-holds h t n
+takes_memory-holds h (command.Timeline t) = refl
+takes_memory-holds h (command.Value t) = refl
+takes_memory-holds h (command.Fence f t p) = refl
+takes_memory-holds h (command.Merge f a b) = refl
+takes_memory-holds h (command.Close f) = refl
+takes_memory-holds h (command.Wait f) = refl
+takes_memory-holds h (command.Info f) = refl
+takes_memory-holds h (command.Buffer b) = refl
+takes_memory-holds h (command.Add b t p u) = refl
+takes_memory-holds h (command.Import b f flags) = refl
+takes_memory-holds h (command.Export f b flags) = refl
+takes_memory-holds h (command.Test b u) = refl
+takes_memory-holds h (command.Trim b) = refl
+takes_memory-holds h (command.Watch f cookie) = refl
+takes_memory-holds h (command.Unwatch cookie) = refl
+
+answered : (old new : DeskState) (c : Command) (r : Result Answer Refusal) (cause : Option Refusal) (history : List Command) → IsRefusedFor cause r → (takes_memory (fires_kept old) c ≡ false → IfErr r (λ e. e ≢ Memory)) → IfOk r (λ a. IsDone old c a new) → Keeps old (world_of history) → first_of (causes (world_of history) c) ≡ cause → IsAnswer history c (answer_of r)
 answered old new c (Ok a) (Some e) history refused sure done keeps is = absurd (cc)
 answered old new c (Ok a) None history refused sure done keeps is = record { told = inl (done.told (world_of history) keeps ∙ ap (λ o. refused_or o (told (world_of history) c)) (sym is)) }
 answered old new c (Err e') (Some e) history refused sure done keeps is =
     let same : e' ≡ e = cc in
     record { told = inl (ap answer.Refused same ∙ ap (λ o. refused_or o (told (world_of history) c)) (sym is)) }
 answered old new c (Err e) None history refused sure done keeps is =
-    elim (cases_Bool (takes_memory c)) [
+    elim (cases_Bool (takes_memory (fires_kept old) c)) [
       | inl takes ↦ record {
-        told = inr (ap answer.Refused refused, takes, ap (λ o. is_refused (refused_or o (told (world_of history) c))) is ∙ is_refused-told (world_of history) c);
+        told = inr (ap answer.Refused refused, sym (takes_memory-holds keeps.holds c) ∙ takes, ap (λ o. is_refused (refused_or o (told (world_of history) c))) is ∙ is_refused-told (world_of history) c);
       }
       | inr takes_none ↦ absurd (sure takes_none refused)
     ]
 
 -- the answer is the one of each history that the desk stands for
-pub Answers-outcome : (old new : DeskState) (c : Command) (r : Result Answer Refusal) → IsRefusedFor (cause_of old c) r → (takes_memory c ≡ false → IfErr r (λ e. e ≢ Memory)) → IfOk r (λ a. IsDone old c a new) → Answers old c (answer_of r)
+pub Answers-outcome : (old new : DeskState) (c : Command) (r : Result Answer Refusal) → IsRefusedFor (cause_of old c) r → (takes_memory (fires_kept old) c ≡ false → IfErr r (λ e. e ≢ Memory)) → IfOk r (λ a. IsDone old c a new) → Answers old c (answer_of r)
 Answers-outcome old new c r refused sure done history stands =
     let keeps = Keeps-stands stands in
     answered old new c r (cause_of old c) history refused sure done keeps (causes-keeps keeps c)

@@ -1,13 +1,13 @@
 -- No context behind those that were made has a pending point in a table.
-use Rattle.std.proofs.Common.{◌≡◌, ℕ, ◌<◌, ◌≤◌, max, refl, sym, ap, ◌∙◌, List, [], ◌∷◌, ◌++◌, Option, None, Some, arith, All, Contains, inl, inr}
+use Rattle.std.proofs.Common.{◌≡◌, ℕ, ◌<◌, ◌≤◌, ap, ◌∙◌, List, ◌++◌, None, arith, All, inl, inr}
 use Rattle.std.proofs.lemmas.Bool.{cases_lt}
 use Rattle.std.proofs.lemmas.List.Elements.{All-contains}
 use Rattle.point_core.specs.declared.entry.Point.{Point}
 use Rattle.point_core.specs.declared.entry.Entry.{Entry}
-use Rattle.point_core.specs.Agreement.{AgreesAbove, top, point_of, listing, pending, pending_top}
+use Rattle.point_core.specs.Agreement.{AgreesAbove, top, listing, pending_top}
 use Rattle.point_core.specs.Latest.{raised_to}
 use Rattle.point_core.specs.Reach.{value_at, IsAtLeast}
-use Rattle.point_core.proofs.Agreement.{AgreesAbove-raised, raised_to-top-union, raised_to-higher, pending-same, pending-raised_to, top-is_none, listing-All}
+use Rattle.point_core.proofs.Agreement.{AgreesAbove-raised, raised_to-top-union, raised_to-higher, pending-same, top-is_none, listing-All}
 use Rattle.desk_core.specs.Keeping.{AreMade, HasNoneBehind}
 
 pub HasNoneBehind-AgreesAbove : {made : ℕ} {reach : List ℕ} {es fs : List Entry} → AgreesAbove reach fs es → HasNoneBehind made reach es → HasNoneBehind made reach fs

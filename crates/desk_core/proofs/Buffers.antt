@@ -1,10 +1,9 @@
 -- The desk's buffers and the world's: by name, and after a making or a put.
-use Rattle.std.proofs.Common.{◌≡◌, ◌≢◌, ℕ, Bool, true, false, cond, ◌||◌, refl, sym, ap, subst, ◌∙◌, List, [], ◌∷◌, ◌++◌, length, map, Option, None, Some, option_map, unwrap_or, inl, inr, is_some, All, if◌then◌else◌, ◌⊎◌}
+use Rattle.std.proofs.Common.{◌≡◌, ◌≢◌, ℕ, Bool, true, false, cond, ◌||◌, refl, sym, ap, ◌∙◌, List, [], ◌∷◌, ◌++◌, length, map, Option, None, Some, option_map, unwrap_or, inl, inr, All, if◌then◌else◌, ◌⊎◌}
 use Rattle.std.specs.List.{list_any}
-use Rattle.std.specs.Map.{lookup, keys_of}
 use Rattle.std.specs.Cmp.Lexicographic.{same_text, nat_list_eq_equiv}
 use Rattle.std.proofs.lemmas.Bool.{cases_Bool, false≢true}
-use Rattle.std.proofs.lemmas.List.{length-map, map-append}
+use Rattle.std.proofs.lemmas.List.{length-map}
 use Rattle.std.proofs.lemmas.List.Elements.{All-nil, All-append, All-map, All-weaker}
 use Rattle.std.proofs.lemmas.Map.Entries.{length-keys_of, lookup_head, lookup_tail}
 use Rattle.std.proofs.lemmas.Map.Made.{is_some-lookup}
@@ -14,7 +13,7 @@ use Rattle.point_core.specs.Named.{same_name}
 use Rattle.point_core.proofs.Agreement.{AgreesAbove-append, AgreesAbove-trans}
 use Rattle.point_core.proofs.Named.{has_named-names, named-All}
 use Rattle.resv_core.specs.Resv.{Reservation, empty}
-use Rattle.dmabuf_core.specs.Buffers.{Buffer, table_at, has_buffer, entries_of, names_of, OnlyChanges}
+use Rattle.dmabuf_core.specs.Buffers.{Buffer, has_buffer, entries_of, names_of, OnlyChanges}
 use Rattle.desk_core.specs.World.{MadeBuffer, has_made_buffer, buffer_named, buffer_put_set, buffer_of, with_more, put_into}
 
 abbrev pub made_buffer_names : List MadeBuffer → List (List ℕ)

@@ -22,7 +22,11 @@ use Rattle.desk_core.specs.Desk.{DeskState}
 use Rattle.desk_core.specs.Keeping.{points_at, Keeps, IsDone, AreMade, HaveTimelines, info_at}
 use Rattle.desk_core.proofs.Keeping.{points_of-files_at, sync_file_at-points, sync_file_at-All, AgreesAbove-keeps}
 use Rattle.desk_core.proofs.Signalling.{all_reached-keeps, IsReached-table}
-use Rattle.desk_core.proofs.Stepping.{Holds-timeline, Holds-raised, Holds-fence, Holds-close, Holds-merge, Holds-buffer, Holds-put, Holds-export, Holds-trim}
+use Rattle.desk_core.proofs.Stepping.{Holds-timeline, Holds-raised, Holds-fence, Holds-close, Holds-merge, Holds-buffer, Holds-put, Holds-export, Holds-trim, Holds-watch, Holds-unwatch}
+use Rattle.fence_core.specs.Watch.{Registry}
+use Rattle.fence_core.specs.Watches.{has_watch, fired_by, after_rise_to, with_watch, without_watch}
+use Rattle.desk_core.proofs.Watching.{fired-holds, has_watch-holds}
+use mir.Val.{bool_byte}
 use Rattle.std.proofs.lemmas.Bool.{false≢true}
 use Rattle.point_core.specs.declared.context.TheConstants.{CONTEXTS}
 use Rattle.point_core.specs.declared.entry.Usage.{Usage}
@@ -34,7 +38,7 @@ use Rattle.dmabuf_core.specs.Flags.{imported, export_usage}
 use Rattle.dmabuf_core.proofs.Putting.{AgreesAbove-imported}
 use Rattle.desk_core.proofs.Buffers.{has_buffer-names}
 
-pub IsDone-timeline : (desk : DeskState) (name : List ℕ) (made : List Timeline) (number : ℕ) → made ≡ desk.timelines ++ new_timeline name ∷ [] → length made ≤ CONTEXTS → number ≡ length desk.timelines + 1 → IsDone desk (command.Timeline name) (answer.Value number) (record { timelines = made; files = desk.files; buffers = desk.buffers })
+pub IsDone-timeline : (desk : DeskState) (name : List ℕ) (made : List Timeline) (number : ℕ) → made ≡ desk.timelines ++ new_timeline name ∷ [] → length made ≤ CONTEXTS → number ≡ length desk.timelines + 1 → IsDone desk (command.Timeline name) (answer.Value number) (record { timelines = made; files = desk.files; buffers = desk.buffers; watches = desk.watches })
 IsDone-timeline desk name made number added room is =
     let low : length desk.timelines < CONTEXTS = omega (arith, ap length added, length-append {A = Timeline}) in
     record {
@@ -43,11 +47,13 @@ IsDone-timeline desk name made number added room is =
       held = λ world k. rw added (Holds-timeline k.holds name low);
     }
 
-pub IsDone-inc : (desk : DeskState) (name : List ℕ) (n : ℕ) (timelines : List Timeline) (value : ℕ) (fired : List ℕ) → timelines ≡ raised desk.timelines name n → value ≡ value_of desk.timelines name + n → fired ≡ [] → IsDone desk (command.Inc name n) (answer.Raised value fired) (record { timelines = timelines; files = desk.files; buffers = desk.buffers })
-IsDone-inc desk name n timelines value fired risen is none = record {
+pub IsDone-inc : (desk : DeskState) (name : List ℕ) (n : ℕ) (timelines : List Timeline) (value : ℕ) (reach : List ℕ) (fired : List ℕ) (watches : Registry) → timelines ≡ raised desk.timelines name n → value ≡ value_of desk.timelines name + n → reach ≡ reach_of (raised desk.timelines name n) → fired ≡ fired_by desk.watches reach → watches ≡ after_rise_to desk.watches reach → IsDone desk (command.Inc name n) (answer.Raised value fired) (record { timelines = timelines; files = desk.files; buffers = desk.buffers; watches = watches })
+IsDone-inc desk name n timelines value reach fired watches risen is at told left = record {
   accepted = refl;
-  told = λ world k. rw none (ap (λ v. answer.Raised v []) (is ∙ ap (λ ts. value_of ts name + n) k.holds.timelines));
-  held = λ world k. rw risen (Holds-raised k.holds name n);
+  told = λ world k.
+      ap (λ v. answer.Raised v fired) (is ∙ ap (λ ts. value_of ts name + n) k.holds.timelines)
+      ∙ ap (answer.Raised (value_of world.timelines name + n)) (told ∙ ap (fired_by desk.watches) at ∙ fired-holds k.holds name n);
+  held = λ world k. rw (risen, left, at) (Holds-raised k.holds name n);
 }
 
 pub IsDone-value : (desk : DeskState) (name : List ℕ) (value : ℕ) → value ≡ value_of desk.timelines name → IsDone desk (command.Value name) (answer.Value value) desk
@@ -57,21 +63,21 @@ IsDone-value desk name value is = record {
   held = λ world k. k.holds;
 }
 
-pub IsDone-fence : (desk : DeskState) (name t : List ℕ) (files : List File) (ctx p : ℕ) → files ≡ desk.files ++ plain_file name (point_of ctx p) ∷ [] → ctx ≡ context_of desk.timelines t → IsDone desk (command.Fence name t p) answer.Done (record { timelines = desk.timelines; files = files; buffers = desk.buffers })
+pub IsDone-fence : (desk : DeskState) (name t : List ℕ) (files : List File) (ctx p : ℕ) → files ≡ desk.files ++ plain_file name (point_of ctx p) ∷ [] → ctx ≡ context_of desk.timelines t → IsDone desk (command.Fence name t p) answer.Done (record { timelines = desk.timelines; files = files; buffers = desk.buffers; watches = desk.watches })
 IsDone-fence desk name t files ctx p added is = record {
   accepted = refl;
   told = λ world k. refl;
   held = λ world k. rw added (Holds-fence k.holds name t ctx p is);
 }
 
-pub IsDone-merge : (desk : DeskState) (name a b reach : List ℕ) (files : List File) → files ≡ desk.files ++ merge_of desk.files name (a ∷ b ∷ []) reach ∷ [] → reach ≡ reach_of desk.timelines → IsDone desk (command.Merge name a b) answer.Done (record { timelines = desk.timelines; files = files; buffers = desk.buffers })
+pub IsDone-merge : (desk : DeskState) (name a b reach : List ℕ) (files : List File) → files ≡ desk.files ++ merge_of desk.files name (a ∷ b ∷ []) reach ∷ [] → reach ≡ reach_of desk.timelines → IsDone desk (command.Merge name a b) answer.Done (record { timelines = desk.timelines; files = files; buffers = desk.buffers; watches = desk.watches })
 IsDone-merge desk name a b reach files added is = record {
   accepted = refl;
   told = λ world k. refl;
   held = λ world k. rw added (Holds-merge k name a b reach is);
 }
 
-pub IsDone-close : (desk : DeskState) (name : List ℕ) (files : List File) → files ≡ without_file desk.files name → IsDone desk (command.Close name) answer.Done (record { timelines = desk.timelines; files = files; buffers = desk.buffers })
+pub IsDone-close : (desk : DeskState) (name : List ℕ) (files : List File) → files ≡ without_file desk.files name → IsDone desk (command.Close name) answer.Done (record { timelines = desk.timelines; files = files; buffers = desk.buffers; watches = desk.watches })
 IsDone-close desk name files is = record {
   accepted = refl;
   told = λ world k. refl;
@@ -80,14 +86,14 @@ IsDone-close desk name files is = record {
 
 -- buffers
 
-pub IsDone-buffer : (desk : DeskState) (b : List ℕ) (new : List Buffer) → new ≡ desk.buffers ++ (b, empty) ∷ [] → AreBuffers new → IsDone desk (command.Buffer b) answer.Done (record { timelines = desk.timelines; files = desk.files; buffers = new })
+pub IsDone-buffer : (desk : DeskState) (b : List ℕ) (new : List Buffer) → new ≡ desk.buffers ++ (b, empty) ∷ [] → AreBuffers new → IsDone desk (command.Buffer b) answer.Done (record { timelines = desk.timelines; files = desk.files; buffers = new; watches = desk.watches })
 IsDone-buffer desk b new added kept = record {
   accepted = refl;
   told = λ world k. refl;
   held = λ world k. rw added (Holds-buffer k.holds b (rw added at kept));
 }
 
-pub IsDone-add : (desk : DeskState) (b t : List ℕ) (ctx p : ℕ) (usage : Usage) (reach : List ℕ) (new : List Buffer) → has_buffer desk.buffers b ≡ true → ctx ≡ context_of desk.timelines t → reach ≡ reach_of desk.timelines → AgreesAbove reach (entries_of new b) (entries_of desk.buffers b ++ entry_of (point_of ctx p) usage ∷ []) → OnlyChanges b desk.buffers new → AreBuffers new → IsDone desk (command.Add b t p usage) answer.Done (record { timelines = desk.timelines; files = desk.files; buffers = new })
+pub IsDone-add : (desk : DeskState) (b t : List ℕ) (ctx p : ℕ) (usage : Usage) (reach : List ℕ) (new : List Buffer) → has_buffer desk.buffers b ≡ true → ctx ≡ context_of desk.timelines t → reach ≡ reach_of desk.timelines → AgreesAbove reach (entries_of new b) (entries_of desk.buffers b ++ entry_of (point_of ctx p) usage ∷ []) → OnlyChanges b desk.buffers new → AreBuffers new → IsDone desk (command.Add b t p usage) answer.Done (record { timelines = desk.timelines; files = desk.files; buffers = new; watches = desk.watches })
 IsDone-add desk b t ctx p usage reach new has is at agrees only kept = record {
   accepted = refl;
   told = λ world k. refl;
@@ -98,7 +104,7 @@ IsDone-add desk b t ctx p usage reach new has is at agrees only kept = record {
       (AgreesAbove-same (reach_of world.timelines) (ap (λ c. entry_of (point_of c p) usage ∷ []) put)) only;
 }
 
-pub IsDone-import : (desk : DeskState) (b f : List ℕ) (flags : ℕ) (reach : List ℕ) (file : File) (new : List Buffer) → has_buffer desk.buffers b ≡ true → sync_file_at desk.files f ≡ Some file → reach ≡ reach_of desk.timelines → AgreesAbove reach (entries_of new b) (entries_of desk.buffers b ++ imported flags (as_entries file.points)) → OnlyChanges b desk.buffers new → AreBuffers new → IsDone desk (command.Import b f flags) answer.Done (record { timelines = desk.timelines; files = desk.files; buffers = new })
+pub IsDone-import : (desk : DeskState) (b f : List ℕ) (flags : ℕ) (reach : List ℕ) (file : File) (new : List Buffer) → has_buffer desk.buffers b ≡ true → sync_file_at desk.files f ≡ Some file → reach ≡ reach_of desk.timelines → AgreesAbove reach (entries_of new b) (entries_of desk.buffers b ++ imported flags (as_entries file.points)) → OnlyChanges b desk.buffers new → AreBuffers new → IsDone desk (command.Import b f flags) answer.Done (record { timelines = desk.timelines; files = desk.files; buffers = new; watches = desk.watches })
 IsDone-import desk b f flags reach file new has found at agrees only kept = record {
   accepted = refl;
   told = λ world k. refl;
@@ -110,7 +116,7 @@ IsDone-import desk b f flags reach file new has found at agrees only kept = reco
       (AgreesAbove-imported flags (subst P listed (AgreesAbove-keeps k f))) only;
 }
 
-pub IsDone-export : (desk : DeskState) (name b : List ℕ) (flags : ℕ) (reach : List ℕ) (points : List Point) (floor : List ℕ) (files : List File) → files ≡ desk.files ++ file_of name points floor ∷ [] → points ≡ listing (entries_of desk.buffers b) (usage_number (export_usage flags)) reach → reach ≡ reach_of desk.timelines → IsDone desk (command.Export name b flags) answer.Done (record { timelines = desk.timelines; files = files; buffers = desk.buffers })
+pub IsDone-export : (desk : DeskState) (name b : List ℕ) (flags : ℕ) (reach : List ℕ) (points : List Point) (floor : List ℕ) (files : List File) → files ≡ desk.files ++ file_of name points floor ∷ [] → points ≡ listing (entries_of desk.buffers b) (usage_number (export_usage flags)) reach → reach ≡ reach_of desk.timelines → IsDone desk (command.Export name b flags) answer.Done (record { timelines = desk.timelines; files = files; buffers = desk.buffers; watches = desk.watches })
 IsDone-export desk name b flags reach points floor files added is at = record {
   accepted = refl;
   told = λ world k. refl;
@@ -132,11 +138,31 @@ IsDone-test desk b usage reach signalled at is = record {
   held = λ world k. k.holds;
 }
 
-pub IsDone-trim : (desk : DeskState) (b reach : List ℕ) (new : List Buffer) → reach ≡ reach_of desk.timelines → AgreesAbove reach (entries_of desk.buffers b) (entries_of new b) → OnlyChanges b desk.buffers new → AreBuffers new → IsDone desk (command.Trim b) answer.Done (record { timelines = desk.timelines; files = desk.files; buffers = new })
+pub IsDone-trim : (desk : DeskState) (b reach : List ℕ) (new : List Buffer) → reach ≡ reach_of desk.timelines → AgreesAbove reach (entries_of desk.buffers b) (entries_of new b) → OnlyChanges b desk.buffers new → AreBuffers new → IsDone desk (command.Trim b) answer.Done (record { timelines = desk.timelines; files = desk.files; buffers = new; watches = desk.watches })
 IsDone-trim desk b reach new at agrees only kept = record {
   accepted = refl;
   told = λ world k. refl;
   held = λ world k. Holds-trim k.holds b new kept (rw at at agrees) only;
+}
+
+-- watches
+
+pub as_number : (b : Bool) (n : ℕ) → n ≡ bool_byte b → n ≡ number_if b
+as_number true n is = is
+as_number false n is = is
+
+pub IsDone-watch : (desk : DeskState) (f : List ℕ) (cookie : ℕ) (points : List Point) (reach : List ℕ) (watches : Registry) → points ≡ points_at desk.files f → watches ≡ with_watch desk.watches cookie points reach → IsDone desk (command.Watch f cookie) answer.Done (record { timelines = desk.timelines; files = desk.files; buffers = desk.buffers; watches = watches })
+IsDone-watch desk f cookie points reach watches is last = record {
+  accepted = refl;
+  told = λ world k. refl;
+  held = λ world k. rw last (Holds-watch k f cookie points reach is);
+}
+
+pub IsDone-unwatch : (desk : DeskState) (cookie : ℕ) (removed : Bool) (watches : Registry) → removed ≡ has_watch desk.watches cookie → watches ≡ without_watch desk.watches cookie → IsDone desk (command.Unwatch cookie) (answer.Value (number_if removed)) (record { timelines = desk.timelines; files = desk.files; buffers = desk.buffers; watches = watches })
+IsDone-unwatch desk cookie removed watches is without = record {
+  accepted = refl;
+  told = λ world k. ap (λ b. answer.Value (number_if b)) (is ∙ has_watch-holds k.holds cookie);
+  held = λ world k. rw without (Holds-unwatch k.holds cookie);
 }
 
 -- what is told of a file

@@ -1,7 +1,7 @@
 -- A file is signalled where all that was put into it is, and so is a buffer.
 use Rattle.std.proofs.Common.{◌≡◌, ℕ, List}
 use Rattle.std.specs.Prelude.{◌↔◌}
-use Rattle.point_core.specs.Agreement.{AgreesAbove, as_entries, IsReached, all_reached}
+use Rattle.point_core.specs.Agreement.{as_entries, IsReached, all_reached}
 use Rattle.point_core.proofs.Agreement.{AgreesAbove-sym}
 use Rattle.point_core.proofs.Reached.{IsReached-AgreesAbove, all_reached-AgreesAbove}
 use Rattle.timeline_core.specs.Timeline.{reach_of}

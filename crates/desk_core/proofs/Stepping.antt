@@ -10,16 +10,16 @@ use Rattle.point_core.specs.Agreement.{point_of, as_entries, listing, all_reache
 use Rattle.syncfile_core.specs.declared.files.TheConstants.{FILES}
 use Rattle.desk_core.specs.declared.command.Command.{Command}
 use Rattle.desk_core.specs.declared.command.Command.TheVariants as command
-use Rattle.timeline_core.specs.Timeline.{new_timeline, has_timeline, context_of, reach_of, value_of, raised, Timeline}
+use Rattle.timeline_core.specs.Timeline.{new_timeline, has_timeline, context_of, reach_of, value_of, raised}
 use Rattle.syncfile_core.specs.SyncFile.{File, plain_file, file_of}
 use Rattle.syncfile_core.specs.Files.{has_file as has_sync_file, without_file, cause_to_refuse}
 use Rattle.syncfile_core.specs.Merge.{merge_of}
-use Rattle.desk_core.specs.World.{World, MadeFile, has_file, after, has_made_buffer, buffer_of, MadeBuffer, with_put}
-use Rattle.desk_core.specs.Answer.{first_of, is_signalled, causes, making_file, listed_points}
-use Rattle.desk_core.specs.Desk.{DeskState, Holds}
+use Rattle.desk_core.specs.World.{World, MadeFile, has_file, after, has_made_buffer, buffer_of, MadeBuffer, with_put, has_made_watch, raised_reach, left_watches}
+use Rattle.desk_core.specs.Answer.{first_of, is_signalled, is_full, causes, making_file, listed_points}
+use Rattle.desk_core.specs.Desk.{DeskState, AreWatchesOf, Holds}
 use Rattle.desk_core.specs.Keeping.{points_at, Keeps, cause_of}
 use Rattle.desk_core.proofs.Signalling.{all_reached-keeps}
-use Rattle.desk_core.proofs.Keeping.{points_of-files_at, has_sync_file-names, length-names, without_file-names, without_file-points, listing-keeps}
+use Rattle.desk_core.proofs.Keeping.{points_of-files_at, has_sync_file-names, length-names, without_file-names, without_file-points, listing-keeps, AgreesAbove-keeps}
 use Rattle.std.proofs.lemmas.List.{map-append}
 use Rattle.point_core.specs.declared.entry.Point.{Point}
 use Rattle.point_core.specs.declared.entry.Entry.{Entry}
@@ -33,6 +33,11 @@ use Rattle.dmabuf_core.proofs.Putting.{listing-exported}
 use Rattle.timeline_core.proofs.Storing.{reach_of-new}
 use Rattle.desk_core.proofs.Buffers.{has_buffer-names, length-buffers, entries_of-new, buffer_put_set-new, names-put_into, tables-put, tables-trim}
 use Rattle.desk_core.proofs.Sound.{IsAtLeast-raised}
+use Rattle.std.proofs.Common.{filter}
+use Rattle.fence_core.specs.Watch.{Watch, watch_of}
+use Rattle.fence_core.specs.Watches.{fires, cause_to_refuse_watch, after_rise_to, without_watch, with_watch as with_kept_watch}
+use Rattle.fence_core.proofs.Firing.{AllZip-left, AllZip-without, AllZip-push}
+use Rattle.desk_core.proofs.Watching.{cookie_of, put_of, watches-raised, watch_cause, watch_cause-keeps}
 
 -- why a command is refused
 
@@ -125,6 +130,11 @@ causes-keeps {desk} {world} k (command.Export f b flags) =
     ∙ ap (λ h. if h then (if is_sync_flags flags then cause_to_refuse desk.files f else Some Flags) else Some NoEntry) (sym (has_buffer-names desk.buffers world.buffers b k.holds.buffers))
 causes-keeps {desk} {world} k (command.Test b u) = cause_without-keeps k b
 causes-keeps {desk} {world} k (command.Trim b) = cause_without-keeps k b
+causes-keeps {desk} {world} k (command.Watch f cookie) =
+    if-not (has_file world.files f) (Some NoEntry) (watch_cause (has_made_watch world.watches cookie) (is_full world) (is_signalled world f))
+    ∙ ap (λ o. if has_file world.files f then o else Some NoEntry) (watch_cause-keeps k f cookie)
+    ∙ ap (λ h. if h then cause_to_refuse_watch desk.watches cookie (points_at desk.files f) (reach_of desk.timelines) else Some NoEntry) (sym (has_sync_file-names desk.files world.files f k.holds.names))
+causes-keeps {desk} {world} k (command.Unwatch cookie) = refl
 
 -- what is held
 
@@ -132,8 +142,8 @@ map-push : {X Y : Type 0} (f : X → Y) (xs : List X) (x : X) → map f (xs ++ x
 map-push f [] x = refl
 map-push f (y ∷ ys) x = ap (λ zs. f y ∷ zs) (map-push f ys x)
 
--- a timeline rises, and the files stay
-pub Holds-raised : {desk : DeskState} {world : World} → Holds desk world → (name : List ℕ) (n : ℕ) → Holds (record { timelines = raised desk.timelines name n; files = desk.files; buffers = desk.buffers }) (after world (command.Inc name n))
+-- a timeline rises, files and buffers stay, and the watches that this fires go out
+pub Holds-raised : {desk : DeskState} {world : World} → Holds desk world → (name : List ℕ) (n : ℕ) → Holds (record { timelines = raised desk.timelines name n; files = desk.files; buffers = desk.buffers; watches = after_rise_to desk.watches (reach_of (raised desk.timelines name n)) }) (after world (command.Inc name n))
 Holds-raised {desk} {world} h name n = record {
   timelines = ap (λ ts. raised ts name n) h.timelines;
   names = h.names;
@@ -141,9 +151,13 @@ Holds-raised {desk} {world} h name n = record {
   buffers = h.buffers;
   kept = h.kept;
   tables = λ b. AgreesAbove-later (IsAtLeast-raised world.timelines name n) (h.tables b);
+  watches =
+      let P : List ℕ → Type 0 = λ reach. AreWatchesOf (raised_reach world name n) (filter (λ (w : Watch). not (fires reach w)) desk.watches.pending) (left_watches world name n) in
+      subst P (sym (ap (λ ts. reach_of (raised ts name n)) h.timelines)) (AllZip-left cookie_of put_of (raised_reach world name n) desk.watches.pending world.watches (watches-raised h name n));
+  watches_made = h.watches_made;
 }
 
-pub Holds-timeline : {desk : DeskState} {world : World} → Holds desk world → (name : List ℕ) → length desk.timelines < CONTEXTS → Holds (record { timelines = desk.timelines ++ new_timeline name ∷ []; files = desk.files; buffers = desk.buffers }) (after world (command.Timeline name))
+pub Holds-timeline : {desk : DeskState} {world : World} → Holds desk world → (name : List ℕ) → length desk.timelines < CONTEXTS → Holds (record { timelines = desk.timelines ++ new_timeline name ∷ []; files = desk.files; buffers = desk.buffers; watches = desk.watches }) (after world (command.Timeline name))
 Holds-timeline {desk} {world} h name low =
     let low' : length world.timelines < CONTEXTS = let same = h.timelines in rw same at low in
     record {
@@ -153,10 +167,12 @@ Holds-timeline {desk} {world} h name low =
       buffers = h.buffers;
       kept = h.kept;
       tables = λ b. rw (reach_of-new world.timelines name low') (h.tables b);
+      watches = rw (reach_of-new world.timelines name low') h.watches;
+      watches_made = h.watches_made;
     }
 
 -- a file is put behind the others
-pub Holds-file : {desk : DeskState} {world : World} → Holds desk world → (kept : File) (f : MadeFile) → kept.name ≡ f.name → kept.points ≡ listed_points f → Holds (record { timelines = desk.timelines; files = desk.files ++ kept ∷ []; buffers = desk.buffers }) (record world { files = world.files ++ f ∷ [] })
+pub Holds-file : {desk : DeskState} {world : World} → Holds desk world → (kept : File) (f : MadeFile) → kept.name ≡ f.name → kept.points ≡ listed_points f → Holds (record { timelines = desk.timelines; files = desk.files ++ kept ∷ []; buffers = desk.buffers; watches = desk.watches }) (record world { files = world.files ++ f ∷ [] })
 Holds-file {desk} {world} h kept f name points = record {
   timelines = h.timelines;
   names = map-push (λ (g : File). g.name) desk.files kept ∙ ap (λ ns. ns ++ kept.name ∷ []) h.names ∙ ap (λ n. map (λ (g : MadeFile). g.name) world.files ++ n ∷ []) name ∙ sym (map-push (λ (g : MadeFile). g.name) world.files f);
@@ -164,10 +180,12 @@ Holds-file {desk} {world} h kept f name points = record {
   buffers = h.buffers;
   kept = h.kept;
   tables = h.tables;
+  watches = h.watches;
+  watches_made = h.watches_made;
 }
 
 -- a file is taken out
-pub Holds-close : {desk : DeskState} {world : World} → Holds desk world → (name : List ℕ) → Holds (record { timelines = desk.timelines; files = without_file desk.files name; buffers = desk.buffers }) (after world (command.Close name))
+pub Holds-close : {desk : DeskState} {world : World} → Holds desk world → (name : List ℕ) → Holds (record { timelines = desk.timelines; files = without_file desk.files name; buffers = desk.buffers; watches = desk.watches }) (after world (command.Close name))
 Holds-close {desk} {world} h name = record {
   timelines = h.timelines;
   names = without_file-names desk.files world.files name h.names;
@@ -175,26 +193,28 @@ Holds-close {desk} {world} h name = record {
   buffers = h.buffers;
   kept = h.kept;
   tables = h.tables;
+  watches = h.watches;
+  watches_made = h.watches_made;
 }
 
-pub Holds-fence : {desk : DeskState} {world : World} → Holds desk world → (name t : List ℕ) (ctx p : ℕ) → ctx ≡ context_of desk.timelines t → Holds (record { timelines = desk.timelines; files = desk.files ++ plain_file name (point_of ctx p) ∷ []; buffers = desk.buffers }) (after world (command.Fence name t p))
+pub Holds-fence : {desk : DeskState} {world : World} → Holds desk world → (name t : List ℕ) (ctx p : ℕ) → ctx ≡ context_of desk.timelines t → Holds (record { timelines = desk.timelines; files = desk.files ++ plain_file name (point_of ctx p) ∷ []; buffers = desk.buffers; watches = desk.watches }) (after world (command.Fence name t p))
 Holds-fence {desk} {world} h name t ctx p is =
     Holds-file h (plain_file name (point_of ctx p)) _ refl (ap (λ c. point_of c p ∷ []) (is ∙ ap (λ ts. context_of ts t) h.timelines))
 
-pub Holds-merge : {desk : DeskState} {world : World} → Keeps desk world → (name a b reach : List ℕ) → reach ≡ reach_of desk.timelines → Holds (record { timelines = desk.timelines; files = desk.files ++ merge_of desk.files name (a ∷ b ∷ []) reach ∷ []; buffers = desk.buffers }) (after world (command.Merge name a b))
+pub Holds-merge : {desk : DeskState} {world : World} → Keeps desk world → (name a b reach : List ℕ) → reach ≡ reach_of desk.timelines → Holds (record { timelines = desk.timelines; files = desk.files ++ merge_of desk.files name (a ∷ b ∷ []) reach ∷ []; buffers = desk.buffers; watches = desk.watches }) (after world (command.Merge name a b))
 Holds-merge {desk} {world} k name a b reach is =
     let is' : reach ≡ reach_of world.timelines = is ∙ ap reach_of k.holds.timelines in
     Holds-file k.holds (merge_of desk.files name (a ∷ b ∷ []) reach) _ refl
     (ap (λ ps. listing (as_entries ps) 0 reach) (points_of-files_at desk.files a b) ∙ rw is' (listing-keeps k a b))
 
 -- what is exported is what is pending of all that was put into the buffer
-pub Holds-export : {desk : DeskState} {world : World} → Holds desk world → (name b : List ℕ) (flags : ℕ) (points : List Point) (floor : List ℕ) → points ≡ listing (entries_of desk.buffers b) (usage_number (export_usage flags)) (reach_of desk.timelines) → Holds (record { timelines = desk.timelines; files = desk.files ++ file_of name points floor ∷ []; buffers = desk.buffers }) (after world (command.Export name b flags))
+pub Holds-export : {desk : DeskState} {world : World} → Holds desk world → (name b : List ℕ) (flags : ℕ) (points : List Point) (floor : List ℕ) → points ≡ listing (entries_of desk.buffers b) (usage_number (export_usage flags)) (reach_of desk.timelines) → Holds (record { timelines = desk.timelines; files = desk.files ++ file_of name points floor ∷ []; buffers = desk.buffers; watches = desk.watches }) (after world (command.Export name b flags))
 Holds-export {desk} {world} h name b flags points floor is =
     Holds-file h (file_of name points floor) _ refl
     (is ∙ ap (λ ts. listing (entries_of desk.buffers b) (usage_number (export_usage flags)) (reach_of ts)) h.timelines ∙ listing-exported flags (h.tables b))
 
 -- a buffer is put behind the others
-pub Holds-buffer : {desk : DeskState} {world : World} → Holds desk world → (b : List ℕ) → AreBuffers (desk.buffers ++ (b, empty) ∷ []) → Holds (record { timelines = desk.timelines; files = desk.files; buffers = desk.buffers ++ (b, empty) ∷ [] }) (after world (command.Buffer b))
+pub Holds-buffer : {desk : DeskState} {world : World} → Holds desk world → (b : List ℕ) → AreBuffers (desk.buffers ++ (b, empty) ∷ []) → Holds (record { timelines = desk.timelines; files = desk.files; buffers = desk.buffers ++ (b, empty) ∷ []; watches = desk.watches }) (after world (command.Buffer b))
 Holds-buffer {desk} {world} h b kept = record {
   timelines = h.timelines;
   names = h.names;
@@ -202,10 +222,12 @@ Holds-buffer {desk} {world} h b kept = record {
   buffers = map-append (λ (k : Buffer). k.0) desk.buffers ((b, empty) ∷ []) ∙ ap (λ ns. ns ++ b ∷ []) h.buffers ∙ sym (map-append (λ (c : MadeBuffer). c.name) world.buffers (buffer_of b [] ∷ []));
   kept = kept;
   tables = λ name. rw (entries_of-new desk.buffers b name, buffer_put_set-new world.buffers b name) (h.tables name);
+  watches = h.watches;
+  watches_made = h.watches_made;
 }
 
 -- more is put into a buffer
-pub Holds-put : {desk : DeskState} {world : World} → Holds desk world → (b : List ℕ) (new : List Buffer) → AreBuffers new → (added put : List Entry) → has_made_buffer world.buffers b ≡ true → AgreesAbove (reach_of desk.timelines) (entries_of new b) (entries_of desk.buffers b ++ added) → AgreesAbove (reach_of world.timelines) added put → OnlyChanges b desk.buffers new → Holds (record { timelines = desk.timelines; files = desk.files; buffers = new }) (with_put world b put)
+pub Holds-put : {desk : DeskState} {world : World} → Holds desk world → (b : List ℕ) (new : List Buffer) → AreBuffers new → (added put : List Entry) → has_made_buffer world.buffers b ≡ true → AgreesAbove (reach_of desk.timelines) (entries_of new b) (entries_of desk.buffers b ++ added) → AgreesAbove (reach_of world.timelines) added put → OnlyChanges b desk.buffers new → Holds (record { timelines = desk.timelines; files = desk.files; buffers = new; watches = desk.watches }) (with_put world b put)
 Holds-put {desk} {world} h b new kept added put has now same only =
     let P : List ℕ → Type 0 = λ reach. AgreesAbove reach (entries_of new b) (entries_of desk.buffers b ++ added) in
     record {
@@ -215,10 +237,12 @@ Holds-put {desk} {world} h b new kept added put has now same only =
       buffers = only.names ∙ h.buffers ∙ sym (names-put_into world.buffers b put);
       kept = kept;
       tables = tables-put (reach_of world.timelines) desk.buffers new world.buffers b added put h.tables has (subst P (ap reach_of h.timelines) now) same only;
+      watches = h.watches;
+      watches_made = h.watches_made;
     }
 
 -- a table is trimmed
-pub Holds-trim : {desk : DeskState} {world : World} → Holds desk world → (b : List ℕ) (new : List Buffer) → AreBuffers new → AgreesAbove (reach_of desk.timelines) (entries_of desk.buffers b) (entries_of new b) → OnlyChanges b desk.buffers new → Holds (record { timelines = desk.timelines; files = desk.files; buffers = new }) world
+pub Holds-trim : {desk : DeskState} {world : World} → Holds desk world → (b : List ℕ) (new : List Buffer) → AreBuffers new → AgreesAbove (reach_of desk.timelines) (entries_of desk.buffers b) (entries_of new b) → OnlyChanges b desk.buffers new → Holds (record { timelines = desk.timelines; files = desk.files; buffers = new; watches = desk.watches }) world
 Holds-trim {desk} {world} h b new kept now only =
     let P : List ℕ → Type 0 = λ reach. AgreesAbove reach (entries_of desk.buffers b) (entries_of new b) in
     record {
@@ -228,4 +252,32 @@ Holds-trim {desk} {world} h b new kept now only =
       buffers = only.names ∙ h.buffers;
       kept = kept;
       tables = tables-trim (reach_of world.timelines) desk.buffers new world.buffers b h.tables (AgreesAbove-sym (subst P (ap reach_of h.timelines) now)) only;
+      watches = h.watches;
+      watches_made = h.watches_made;
     }
+
+-- a watch is put behind the others, with the points that its file lists
+pub Holds-watch : {desk : DeskState} {world : World} → Keeps desk world → (f : List ℕ) (cookie : ℕ) (points : List Point) (reach : List ℕ) → points ≡ points_at desk.files f → Holds (record { timelines = desk.timelines; files = desk.files; buffers = desk.buffers; watches = with_kept_watch desk.watches cookie points reach }) (after world (command.Watch f cookie))
+Holds-watch {desk} {world} k f cookie points reach is = record {
+  timelines = k.holds.timelines;
+  names = k.holds.names;
+  points = k.holds.points;
+  buffers = k.holds.buffers;
+  kept = k.holds.kept;
+  tables = k.holds.tables;
+  watches = AllZip-push cookie_of put_of (reach_of world.timelines) desk.watches.pending world.watches (watch_of cookie points) _ k.holds.watches (record { cookie = refl; agrees = rw is (AgreesAbove-keeps k f) });
+  watches_made = ap (λ m. m + 1) k.holds.watches_made;
+}
+
+-- a watch is taken out
+pub Holds-unwatch : {desk : DeskState} {world : World} → Holds desk world → (cookie : ℕ) → Holds (record { timelines = desk.timelines; files = desk.files; buffers = desk.buffers; watches = without_watch desk.watches cookie }) (after world (command.Unwatch cookie))
+Holds-unwatch {desk} {world} h cookie = record {
+  timelines = h.timelines;
+  names = h.names;
+  points = h.points;
+  buffers = h.buffers;
+  kept = h.kept;
+  tables = h.tables;
+  watches = AllZip-without cookie_of put_of (reach_of world.timelines) cookie desk.watches.pending world.watches h.watches;
+  watches_made = h.watches_made;
+}

@@ -17,7 +17,7 @@ use Rattle.timeline_core.proofs.Raising.{names_of-raised}
 use Rattle.desk_core.specs.declared.answer.Answer.TheVariants as answer
 use Rattle.desk_core.specs.declared.command.Command.{Command}
 use Rattle.desk_core.specs.declared.command.Command.TheVariants as command
-use Rattle.desk_core.specs.World.{World, empty_world, after}
+use Rattle.desk_core.specs.World.{World, empty_world, after, fired_watches, cookies_of}
 use Rattle.point_core.specs.Named.{same_name}
 use Rattle.point_core.proofs.Named.{find-All}
 use Rattle.desk_core.specs.Answer.{first_of, cause, causes, refused_or}
@@ -111,6 +111,8 @@ Sums-after w done (command.Import b f flags) s is = let h = Sums-same w done (co
 Sums-after w done (command.Export f b flags) s is = let h = Sums-same w done (command.Export f b flags) (λ name. refl) s in record { kept = h.kept; missing = h.missing }
 Sums-after w done (command.Test b u) s is = Sums-same w done (command.Test b u) (λ name. refl) s
 Sums-after w done (command.Trim b) s is = Sums-same w done (command.Trim b) (λ name. refl) s
+Sums-after w done (command.Watch f cookie) s is = let h = Sums-same w done (command.Watch f cookie) (λ name. refl) s in record { kept = h.kept; missing = h.missing }
+Sums-after w done (command.Unwatch cookie) s is = let h = Sums-same w done (command.Unwatch cookie) (λ name. refl) s in record { kept = h.kept; missing = h.missing }
 
 AreSums-from : (w : World) (done history : List Command) → Sums w done → AreAccepted w history → AreSums (world_from w history).timelines (increments_in (done ++ history))
 AreSums-from w done [] s accepted = rw (append-nil done) s.kept
@@ -132,9 +134,9 @@ told_value : (b : Bool) (value v : ℕ) → answer.Value value ≡ refused_or (i
 told_value true value v is = (refl, cc)
 told_value false value v is = absurd (cc)
 
-told_raised : (b past : Bool) (value v : ℕ) (fired rest : List ℕ) → answer.Raised value fired ≡ refused_or (if not b then Some NoEntry else (if past then Some Overflow else None)) (answer.Raised v rest) → (b ≡ true) × (value ≡ v)
+pub told_raised : (b past : Bool) (value v : ℕ) (fired rest : List ℕ) → answer.Raised value fired ≡ refused_or (if not b then Some NoEntry else (if past then Some Overflow else None)) (answer.Raised v rest) → (b ≡ true) × (value ≡ v) × (fired ≡ rest)
 told_raised true true value v fired rest is = absurd (cc)
-told_raised true false value v fired rest is = (refl, cc)
+told_raised true false value v fired rest is = (refl, cc, cc)
 told_raised false past value v fired rest is = absurd (cc)
 
 pub TellsSums-stands : (desk : DeskState) (history : List Command) → HasHistory desk history → TellsSums desk history
@@ -147,7 +149,7 @@ TellsSums-stands desk history stands =
         | inr none ↦ absurd (cc (none.0))
       ];
       raised = λ name n value fired given. elim ((given history stands).told) [
-        | inl is ↦ let h = told_raised (has_timeline (world_of history).timelines name) (nat_le (2 ^ 64) (value_of (world_of history).timelines name + n)) value (value_of (world_of history).timelines name + n) fired [] is in h.1 ∙ ap (λ v. v + n) (value_of-sum (world_of history).timelines history name sums h.0)
+        | inl is ↦ let h = told_raised (has_timeline (world_of history).timelines name) (nat_le (2 ^ 64) (value_of (world_of history).timelines name + n)) value (value_of (world_of history).timelines name + n) fired (cookies_of (fired_watches (world_of history) name n)) is in h.1 ∙ ap (λ v. v + n) (value_of-sum (world_of history).timelines history name sums h.0)
         | inr none ↦ absurd (cc (none.0))
       ];
     }

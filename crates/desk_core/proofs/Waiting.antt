@@ -92,6 +92,11 @@ pub refused_again : (T U : Type 0) (o : Option Refusal) (e : Refusal) → IsRefu
 refused_again T U (Some cause) e refused = let same : e ≡ cause = cc in ap Err same
 refused_again T U None e refused = refused
 
+-- a refusal for the cause that there is
+pub refused_as : {T : Type 0} (o cause : Option Refusal) (e : Refusal) (r : Result T Refusal) → o ≡ cause → IsRefusedFor {T = T} cause (Err e) → IsErrAnd r (λ given. given ≡ e) → IsRefusedFor o r
+refused_as o cause e (Ok v) is refused given = absurd given
+refused_as o cause e (Err f) is refused given = rw (is, given) refused
+
 pub accepted_again : (T U : Type 0) (o : Option Refusal) (t : T) (u : U) → IsRefusedFor {T = T} o (Ok t) → IsRefusedFor {T = U} o (Ok u)
 accepted_again T U (Some cause) t u refused = absurd (cc)
 accepted_again T U None t u refused = tt

@@ -1,12 +1,10 @@
 -- The answer of each command in a world: the first refusal whose cause holds, else what the accepted command tells.
 use Rattle.std.specs.Prelude.{ℕ, ◌+◌, ◌^◌, Bool, true, false, not, ◌&&◌, ◌||◌, nat_le, if◌then◌else◌, List, [], ◌∷◌, length, map, Option, None, Some, unwrap_or, codes, ⊤}
-use Rattle.std.specs.List.{list_all}
 use Rattle.point_core.specs.declared.context.TheConstants.{CONTEXTS}
 use Rattle.point_core.specs.declared.entry.Point.{Point}
-use Rattle.point_core.specs.declared.entry.Entry.{Entry}
 use Rattle.point_core.specs.declared.refusal.Refusal.{Refusal}
-use Rattle.point_core.specs.declared.refusal.Refusal.TheVariants.{NoEntry, Exists, Overflow, Flags, Limit, TimedOut}
-use Rattle.point_core.specs.declared.refusal.LimitKind.TheVariants.{Timelines, Buffers, Files}
+use Rattle.point_core.specs.declared.refusal.Refusal.TheVariants.{NoEntry, Exists, Overflow, Flags, Limit, TimedOut, Signalled as AlreadySignalled}
+use Rattle.point_core.specs.declared.refusal.LimitKind.TheVariants.{Timelines, Buffers, Files, Watches}
 use Rattle.point_core.specs.declared.status.Status.{Status}
 use Rattle.point_core.specs.declared.status.Status.TheVariants.{Signalled}
 use Rattle.point_core.specs.Usage.{usage_number}
@@ -21,10 +19,11 @@ use Rattle.desk_core.specs.declared.answer.Info.{Info}
 use Rattle.desk_core.specs.declared.answer.FenceRow.{FenceRow}
 use Rattle.desk_core.specs.declared.answer.Maker.TheVariants.{SwSync, Stub}
 use Rattle.timeline_core.specs.Timeline.{Timeline, has_timeline, name_at, reach_of, value_of}
-use Rattle.desk_core.specs.World.{MadeFile, World, has_file, file_named, put_set, has_made_buffer, buffer_put_set}
+use Rattle.desk_core.specs.World.{MadeFile, World, has_file, file_named, put_set, has_made_buffer, buffer_put_set, has_made_watch, fired_watches, cookies_of}
 use Rattle.point_core.specs.declared.limits.TheConstants.{BUFFERS}
 use Rattle.dmabuf_core.specs.Flags.{is_sync_flags}
 use Rattle.syncfile_core.specs.declared.files.TheConstants.{FILES}
+use Rattle.fence_core.specs.declared.watches.TheConstants.{WATCHES, WATCHES_EVER}
 
 -- the first refusal whose cause holds
 abbrev pub first_of : List (Bool × Refusal) → Option Refusal
@@ -41,6 +40,10 @@ making_file w name = cause (has_file w.files name) Exists ∷ cause (nat_le FILE
 -- all that was put into the file of that name is reached
 abbrev pub is_signalled : World → List ℕ → Bool
 is_signalled w name = all_reached (reach_of w.timelines) 0 (put_set w.files name)
+
+-- no more watches can be pending, or registered
+abbrev pub is_full : World → Bool
+is_full w = nat_le WATCHES (length w.watches) || nat_le WATCHES_EVER w.watches_made
 
 -- the causes, in the order in which they are told
 abbrev pub causes : World → Command → List (Bool × Refusal)
@@ -62,6 +65,10 @@ causes w (command.Export f b flags) =
     cause (not (has_made_buffer w.buffers b)) NoEntry ∷ cause (not (is_sync_flags flags)) Flags ∷ making_file w f
 causes w (command.Test b u) = cause (not (has_made_buffer w.buffers b)) NoEntry ∷ []
 causes w (command.Trim b) = cause (not (has_made_buffer w.buffers b)) NoEntry ∷ []
+causes w (command.Watch f cookie) =
+    cause (not (has_file w.files f)) NoEntry ∷ cause (has_made_watch w.watches cookie) Exists
+    ∷ cause (is_full w) (Limit Watches) ∷ cause (is_signalled w f) AlreadySignalled ∷ []
+causes w (command.Unwatch cookie) = []
 
 -- 1 for yes, 0 for no
 abbrev pub number_if : Bool → ℕ
@@ -102,7 +109,7 @@ info_of w name (Some f) = record { name = name; status = file_status w f; fences
 -- what the accepted command tells
 abbrev pub told : World → Command → Answer
 told w (command.Timeline t) = answer.Value (length w.timelines + 1)
-told w (command.Inc t n) = answer.Raised (value_of w.timelines t + n) []
+told w (command.Inc t n) = answer.Raised (value_of w.timelines t + n) (cookies_of (fired_watches w t n))
 told w (command.Value t) = answer.Value (value_of w.timelines t)
 told w (command.Fence f t p) = answer.Done
 told w (command.Merge f a b) = answer.Done
@@ -115,27 +122,32 @@ told w (command.Import b f flags) = answer.Done
 told w (command.Export f b flags) = answer.Done
 told w (command.Test b u) = answer.Value (number_if (all_reached (reach_of w.timelines) (usage_number u) (buffer_put_set w.buffers b)))
 told w (command.Trim b) = answer.Done
+told w (command.Watch f cookie) = answer.Done
+told w (command.Unwatch cookie) = answer.Value (number_if (has_made_watch w.watches cookie))
 
 abbrev pub refused_or : Option Refusal → Answer → Answer
 refused_or None a = a
 refused_or (Some r) a = answer.Refused r
 
--- the command makes something or tells a list, and so may find no memory; no other command does
-abbrev pub takes_memory : Command → Bool
-takes_memory (command.Timeline t) = true
-takes_memory (command.Inc t n) = false
-takes_memory (command.Value t) = false
-takes_memory (command.Fence f t p) = true
-takes_memory (command.Merge f a b) = true
-takes_memory (command.Close f) = false
-takes_memory (command.Wait f) = false
-takes_memory (command.Info f) = true
-takes_memory (command.Buffer b) = true
-takes_memory (command.Add b t p u) = true
-takes_memory (command.Import b f flags) = true
-takes_memory (command.Export f b flags) = true
-takes_memory (command.Test b u) = false
-takes_memory (command.Trim b) = false
+-- The command makes something or tells a list, and so may find no memory; no other command does. Of an increment that is so
+-- where it fires a watch, which `fires` tells by the timeline's name and the increment.
+abbrev pub takes_memory : (List ℕ → ℕ → Bool) → Command → Bool
+takes_memory fires (command.Timeline t) = true
+takes_memory fires (command.Inc t n) = fires t n
+takes_memory fires (command.Value t) = false
+takes_memory fires (command.Fence f t p) = true
+takes_memory fires (command.Merge f a b) = true
+takes_memory fires (command.Close f) = false
+takes_memory fires (command.Wait f) = false
+takes_memory fires (command.Info f) = true
+takes_memory fires (command.Buffer b) = true
+takes_memory fires (command.Add b t p u) = true
+takes_memory fires (command.Import b f flags) = true
+takes_memory fires (command.Export f b flags) = true
+takes_memory fires (command.Test b u) = false
+takes_memory fires (command.Trim b) = false
+takes_memory fires (command.Watch f cookie) = true
+takes_memory fires (command.Unwatch cookie) = false
 
 -- the one answer of the command
 abbrev pub answer_to : World → Command → Answer

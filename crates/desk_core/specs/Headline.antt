@@ -1,5 +1,5 @@
 -- What a desk tells of all that was put into its files and buffers, and of its timelines.
-use Rattle.std.specs.Prelude.{◌≡◌, ℕ, ◌+◌, ◌≤◌, ◌↔◌, true, List, length, Some, Contains}
+use Rattle.std.specs.Prelude.{◌≡◌, ℕ, ◌+◌, ◌≤◌, ◌↔◌, nat_eq, true, List, [], ◌∷◌, ◌++◌, length, count_by, Some, Contains}
 use Rattle.point_core.specs.declared.entry.Entry.{Entry}
 use Rattle.point_core.specs.declared.entry.Usage.{Usage}
 use Rattle.point_core.specs.declared.refusal.Refusal.TheVariants.{TimedOut}
@@ -17,9 +17,10 @@ use Rattle.syncfile_core.specs.SyncFile.{File}
 use Rattle.syncfile_core.specs.Files.{file_at as sync_file_at}
 use Rattle.resv_core.specs.declared.resv.TheConstants.{PLACES}
 use Rattle.dmabuf_core.specs.Buffers.{has_buffer, entries_of}
-use Rattle.desk_core.specs.World.{MadeFile, file_named, put_set, buffer_put_set}
+use Rattle.desk_core.specs.World.{MadeFile, MadeWatch, file_named, put_set, buffer_put_set, fired_watches, cookies_of}
 use Rattle.desk_core.specs.Answer.{listed_points}
 use Rattle.desk_core.specs.History.{world_of, increments_in}
+use Rattle.desk_core.specs.Fired.{fired_along, pending_after}
 use Rattle.desk_core.specs.Desk.{DeskState, Answers}
 
 -- both have the same entries, in whatever order and however often
@@ -101,3 +102,18 @@ pub record TellsSums (desk : DeskState) (history : List Command) : Type 0 where
   -- `inc` tells the sum with the new increment
   pub raised : (name : List ℕ) (n value : ℕ) (fired : List ℕ) → Answers desk (command.Inc name n) (answer.Raised value fired)
       → value ≡ incremented (increments_in history) name + n
+
+-- the watches that one more increment fires, by registration
+abbrev pub fired_after : List Command → List ℕ → ℕ → List MadeWatch
+fired_after history name n = fired_watches (world_of history) name n
+
+-- an increment fires the watches all of whose put points it signals, and none fires twice
+pub record TellsWhatFires (desk : DeskState) (history : List Command) : Type 0 where
+  -- `inc` tells the cookies of the watches that it fires, by registration
+  pub told : (name : List ℕ) (n value : ℕ) (fired : List ℕ) → Answers desk (command.Inc name n) (answer.Raised value fired)
+      → fired ≡ cookies_of (fired_after history name n)
+  -- these are the pending watches of which every put point is reached at the new values
+  pub due : (name : List ℕ) (n : ℕ) (x : MadeWatch) → (Contains (fired_after history name n) x
+      ↔ (Contains (pending_after history) x × IsReached x.put 0 (values_after (history ++ command.Inc name n ∷ []))))
+  -- each registration has fired at most once
+  pub once : (number : ℕ) → count_by (nat_eq number) (fired_along history) ≤ 1

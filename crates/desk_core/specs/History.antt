@@ -1,12 +1,12 @@
 -- A history is the list of the accepted commands, and means a world.
-use Rattle.std.specs.Prelude.{◌≡◌, ◌⊎◌, ℕ, true, false, if◌then◌else◌, List, [], ◌∷◌, ◌++◌, ⊤}
+use Rattle.std.specs.Prelude.{◌≡◌, ◌⊎◌, true, false, if◌then◌else◌, List, [], ◌∷◌, ◌++◌, ⊤}
 use Rattle.std.specs.List.{flat_map}
 use Rattle.point_core.specs.declared.refusal.Refusal.TheVariants.{Memory}
 use Rattle.desk_core.specs.declared.command.Command.{Command}
 use Rattle.desk_core.specs.declared.command.Command.TheVariants as command
 use Rattle.desk_core.specs.declared.answer.Answer.{Answer}
 use Rattle.desk_core.specs.declared.answer.Answer.TheVariants as answer
-use Rattle.desk_core.specs.World.{World, empty_world, after}
+use Rattle.desk_core.specs.World.{World, empty_world, after, fires_some}
 use Rattle.timeline_core.specs.Run.{Increment, increment}
 use Rattle.desk_core.specs.Answer.{answer_to, is_refused, takes_memory}
 
@@ -43,6 +43,8 @@ increment_in (command.Import b f flags) = []
 increment_in (command.Export f b flags) = []
 increment_in (command.Test b u) = []
 increment_in (command.Trim b) = []
+increment_in (command.Watch f cookie) = []
+increment_in (command.Unwatch cookie) = []
 
 -- the accepted increments
 abbrev pub increments_in : List Command → List Increment
@@ -51,7 +53,8 @@ increments_in history = flat_map increment_in history
 -- the one answer of the command, or Memory where that is no refusal and the command takes memory
 pub record IsAnswer (history : List Command) (command : Command) (given : Answer) : Type 0 where
   pub told : (given ≡ answer_to (world_of history) command)
-      ⊎ ((given ≡ answer.Refused Memory) × (takes_memory command ≡ true) × (is_refused (answer_to (world_of history) command) ≡ false))
+      ⊎ ((given ≡ answer.Refused Memory) × (takes_memory (fires_some (world_of history)) command ≡ true)
+      × (is_refused (answer_to (world_of history) command) ≡ false))
 
 -- the history after a command that was answered so
 abbrev pub history_after : List Command → Command → Answer → List Command

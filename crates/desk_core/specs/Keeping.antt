@@ -1,5 +1,5 @@
 -- What the contracts of the single commands say, for the proof of `step`.
-use Rattle.std.specs.Prelude.{◌≡◌, ℕ, ◌+◌, ◌^◌, ◌≤◌, ◌<◌, false, nat_lt, nat_le, if◌then◌else◌, List, [], ◌∷◌, map, length, All, Option, None, Some, option_map, unwrap_or, Result, Ok, Err}
+use Rattle.std.specs.Prelude.{◌≡◌, ℕ, ◌+◌, ◌^◌, ◌≤◌, ◌<◌, Bool, false, nat_lt, nat_le, if◌then◌else◌, List, [], ◌∷◌, map, length, All, Option, None, Some, option_map, unwrap_or, Result, Ok, Err}
 use Rattle.point_core.specs.declared.entry.Point.{Point}
 use Rattle.point_core.specs.declared.context.TheConstants.{CONTEXTS}
 use Rattle.point_core.specs.declared.refusal.Refusal.{Refusal}
@@ -7,15 +7,17 @@ use Rattle.point_core.specs.declared.refusal.Refusal.TheVariants.{NoEntry, Exist
 use Rattle.point_core.specs.declared.refusal.LimitKind.TheVariants.{Timelines}
 use Rattle.point_core.specs.Agreement.{as_entries, all_reached, top}
 use Rattle.point_core.specs.Latest.{raised_to}
-use Rattle.point_core.specs.Reach.{value_at}
+use Rattle.point_core.specs.Reach.{value_at, IsAtLeast}
 use Rattle.point_core.specs.declared.entry.Entry.{Entry}
 use Rattle.point_core.specs.Status.{status_if}
-use Rattle.timeline_core.specs.Timeline.{Timeline, has_timeline, reach_of, value_of}
+use Rattle.std.specs.List.{list_any}
+use Rattle.timeline_core.specs.Timeline.{Timeline, has_timeline, reach_of, value_of, raised}
 use Rattle.syncfile_core.specs.SyncFile.{File}
 use Rattle.syncfile_core.specs.Files.{has_file as has_sync_file, file_at as sync_file_at, cause_to_refuse}
 use Rattle.syncfile_core.specs.Merge.{cause_to_refuse_merge}
 use Rattle.dmabuf_core.specs.Flags.{is_sync_flags}
-use Rattle.dmabuf_core.specs.Buffers.{Buffer, entries_of, has_buffer, cause_to_refuse as cause_to_refuse_buffer, cause_without, cause_by_flags}
+use Rattle.dmabuf_core.specs.Buffers.{entries_of, has_buffer, cause_to_refuse as cause_to_refuse_buffer, cause_without, cause_by_flags}
+use Rattle.fence_core.specs.Watches.{fires, cause_to_refuse_watch}
 use Rattle.desk_core.specs.declared.answer.Info.{Info}
 use Rattle.desk_core.specs.declared.answer.Answer.{Answer}
 use Rattle.desk_core.specs.declared.answer.Answer.TheVariants as answer
@@ -38,10 +40,11 @@ HaveTimelines made fs = All (λ (f : File). AreMade made f.points) fs
 pub record HasNoneBehind (made : ℕ) (reach : List ℕ) (es : List Entry) : Type 0 where
   pub tops : (usage ctx : ℕ) → made < ctx → raised_to (value_at reach ctx) (top es usage ctx) ≡ value_at reach ctx
 
--- files and buffers of a desk have points of timelines that were made
+-- files and buffers of a desk have points of timelines that were made, and its watches know no value past the timelines'
 pub record IsOfItsTimelines (d : DeskState) : Type 0 where
   pub files : HaveTimelines (length d.timelines) d.files
   pub buffers : (name : List ℕ) → HasNoneBehind (length d.timelines) (reach_of d.timelines) (entries_of d.buffers name)
+  pub watches : IsAtLeast (reach_of d.timelines) d.watches.reach
 
 -- what is told of a file that lists the points
 abbrev pub info_at : List Timeline → List ℕ → List Point → Info
@@ -59,6 +62,10 @@ pub record Keeps (desk : DeskState) (world : World) : Type 0 where
 -- the points of the file of that name
 abbrev pub points_at : List File → List ℕ → List Point
 points_at fs name = unwrap_or (option_map (λ (f : File). f.points) (sync_file_at fs name)) []
+
+-- whether an increment of that timeline by n fires a watch that the desk keeps
+abbrev pub fires_kept : DeskState → List ℕ → ℕ → Bool
+fires_kept d t n = list_any (fires (reach_of (raised d.timelines t n))) d.watches.pending
 
 -- why the desk refuses a command, by what it keeps
 abbrev pub cause_of : DeskState → Command → Option Refusal
@@ -82,6 +89,11 @@ cause_of d (command.Export f b flags) =
     if has_buffer d.buffers b then (if is_sync_flags flags then cause_to_refuse d.files f else Some Flags) else Some NoEntry
 cause_of d (command.Test b u) = cause_without d.buffers b
 cause_of d (command.Trim b) = cause_without d.buffers b
+cause_of d (command.Watch f cookie) =
+    if has_sync_file d.files f
+    then cause_to_refuse_watch d.watches cookie (points_at d.files f) (reach_of d.timelines)
+    else Some NoEntry
+cause_of d (command.Unwatch cookie) = None
 
 -- the command was done in each world that the desk keeps
 pub record IsDone (old : DeskState) (c : Command) (given : Answer) (new : DeskState) : Type 0 where

@@ -1,5 +1,6 @@
 pub mod Answer
 pub mod Desk
+pub mod Fired
 pub mod Headline
 pub mod History
 pub mod Keeping

@@ -1,7 +1,8 @@
 -- What the accepted commands so far mean, object by object: all that was ever put into it, whatever was dropped since.
-use Rattle.std.specs.Prelude.{ℕ, Bool, true, false, if◌then◌else◌, List, [], ◌∷◌, ◌++◌, map, Option, option_map, unwrap_or}
+use Rattle.std.specs.Prelude.{ℕ, ◌+◌, ◌==◌, Bool, true, false, not, if◌then◌else◌, List, [], ◌∷◌, ◌++◌, map, filter, Option, option_map, unwrap_or}
+use Rattle.std.specs.List.{list_any}
 use Rattle.point_core.specs.declared.entry.Entry.{Entry}
-use Rattle.point_core.specs.Agreement.{as_entry, point_of}
+use Rattle.point_core.specs.Agreement.{as_entry, point_of, all_reached}
 use Rattle.point_core.specs.Named.{is_named, has_named, named, without_named}
 use Rattle.resv_core.specs.Resv.{entry_of}
 use Rattle.dmabuf_core.specs.Flags.{exported, imported}
@@ -21,13 +22,23 @@ pub record MadeBuffer : Type 0 where
   pub name : List ℕ
   pub put : List Entry
 
+-- a pending watch: its cookie, all that had been put into its file when it was registered, and how many watches had been
+-- registered before it
+pub record MadeWatch : Type 0 where
+  pub cookie : ℕ
+  pub put : List Entry
+  pub number : ℕ
+
+-- the timelines, files, buffers and pending watches, each by the order of making, and how many watches were ever registered
 pub record World : Type 0 where
   pub timelines : List Timeline
   pub files : List MadeFile
   pub buffers : List MadeBuffer
+  pub watches : List MadeWatch
+  pub watches_made : ℕ
 
 abbrev pub empty_world : World
-empty_world = record { timelines = []; files = []; buffers = [] }
+empty_world = record { timelines = []; files = []; buffers = []; watches = []; watches_made = 0 }
 
 abbrev pub has_file : List MadeFile → List ℕ → Bool
 has_file fs name = has_named (λ (f : MadeFile). f.name) fs name
@@ -64,12 +75,45 @@ with_more es b = buffer_of b.name (b.put ++ es)
 abbrev pub put_into : List MadeBuffer → List ℕ → List Entry → List MadeBuffer
 put_into bs name es = map (λ (b : MadeBuffer). if is_named (λ (b : MadeBuffer). b.name) name b then with_more es b else b) bs
 
+abbrev pub watch_made : ℕ → List Entry → ℕ → MadeWatch
+watch_made cookie put number = record { cookie = cookie; put = put; number = number }
+
+abbrev pub has_made_watch : List MadeWatch → ℕ → Bool
+has_made_watch xs cookie = list_any (λ (x : MadeWatch). x.cookie == cookie) xs
+
+-- the watches but the one of that cookie
+abbrev pub watches_without : List MadeWatch → ℕ → List MadeWatch
+watches_without xs cookie = filter (λ (x : MadeWatch). not (x.cookie == cookie)) xs
+
+-- all that had been put into its file is reached
+abbrev pub is_due : List ℕ → MadeWatch → Bool
+is_due reach x = all_reached reach 0 x.put
+
+-- the values after the timeline of that name has risen by n
+abbrev pub raised_reach : World → List ℕ → ℕ → List ℕ
+raised_reach w name n = reach_of (raised w.timelines name n)
+
+-- the pending watches that this increment fires, by registration
+abbrev pub fired_watches : World → List ℕ → ℕ → List MadeWatch
+fired_watches w name n = filter (is_due (raised_reach w name n)) w.watches
+
+-- those that it leaves
+abbrev pub left_watches : World → List ℕ → ℕ → List MadeWatch
+left_watches w name n = filter (λ x. not (is_due (raised_reach w name n) x)) w.watches
+
+-- whether it fires any
+abbrev pub fires_some : World → List ℕ → ℕ → Bool
+fires_some w name n = list_any (is_due (raised_reach w name n)) w.watches
+
+abbrev pub cookies_of : List MadeWatch → List ℕ
+cookies_of xs = map (λ (x : MadeWatch). x.cookie) xs
+
 abbrev pub with_timeline : World → List ℕ → World
 with_timeline w name = record w { timelines = w.timelines ++ new_timeline name ∷ [] }
 
--- the timeline of that name has risen by n
+-- the timeline of that name has risen by n, and what this fires is no longer pending
 abbrev pub with_raised : World → List ℕ → ℕ → World
-with_raised w name n = record w { timelines = raised w.timelines name n }
+with_raised w name n = record w { timelines = raised w.timelines name n; watches = left_watches w name n }
 
 abbrev pub with_file : World → List ℕ → List Entry → Bool → World
 with_file w name put is_one_point = record w {
@@ -81,6 +125,13 @@ with_buffer w name = record w { buffers = w.buffers ++ buffer_of name [] ∷ [] 
 
 abbrev pub with_put : World → List ℕ → List Entry → World
 with_put w name es = record w { buffers = put_into w.buffers name es }
+
+-- a watch keeps the put set, whatever becomes of the file and its name
+abbrev pub with_watch : World → ℕ → List Entry → World
+with_watch w cookie put = record w {
+  watches = w.watches ++ watch_made cookie put w.watches_made ∷ [];
+  watches_made = w.watches_made + 1;
+}
 
 -- the world after an accepted command
 abbrev pub after : World → Command → World
@@ -98,3 +149,5 @@ after w (command.Import b f flags) = with_put w b (imported flags (put_set w.fil
 after w (command.Export f b flags) = with_file w f (exported flags (buffer_put_set w.buffers b)) false
 after w (command.Test b u) = w
 after w (command.Trim b) = w
+after w (command.Watch f cookie) = with_watch w cookie (put_set w.files f)
+after w (command.Unwatch cookie) = record w { watches = watches_without w.watches cookie }

@@ -7,9 +7,9 @@ use point_core::{Items, Name, Refusal, Status};
 pub enum Answer {
     /// The command did what it says.
     Done,
-    /// The number that it asked for: a context, or a timeline's value.
+    /// The number that it asked for: a context, a timeline's value, or 1 for yes and 0 for no.
     Value(u64),
-    /// The timeline's new value, and the cookies of the callbacks that it fires.
+    /// The timeline's new value, and the cookies of the callbacks that it fires, by registration.
     Raised(u64, Items<u64>),
     /// File information.
     Info(Info),

@@ -7,8 +7,8 @@ use point_core::{Name, Usage};
 pub enum Command {
     /// `timeline T`: makes a timeline at 0, as libsync's `sw_sync_timeline_create`.
     Timeline(Name),
-    /// `inc T N`: adds N to a timeline's value, as libsync's `sw_sync_timeline_inc`. Past the greatest u64 it is refused,
-    /// where the kernel's 32-bit value wraps.
+    /// `inc T N`: adds N to a timeline's value, as libsync's `sw_sync_timeline_inc`, and tells the callbacks that it fires.
+    /// Past the greatest u64 it is refused, where the kernel's 32-bit value wraps.
     Inc(Name, u64),
     /// `value T`: reads a timeline's value.
     Value(Name),
@@ -37,4 +37,9 @@ pub enum Command {
     Test(Name, Usage),
     /// `trim B`: drops from buffer B the fences that no access needs to wait for. The kernel has no such call.
     Trim(Name),
+    /// `watch F COOKIE`: registers a callback on file F's fence as it is now, as Linux's `dma_fence_add_callback`. What
+    /// becomes of the name F changes nothing of it.
+    Watch(Name, u64),
+    /// `unwatch COOKIE`: removes the callback of that cookie, as Linux's `dma_fence_remove_callback`.
+    Unwatch(u64),
 }

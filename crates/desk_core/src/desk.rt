@@ -6,20 +6,23 @@ use crate::answer::Answer;
 use crate::command::Command;
 use crate::info;
 use dmabuf_core::{Buffers, SyncFlags};
+use fence_core::{Fence, Watches};
 use point_core::{Items, Name, Point, Refusal, Usage};
 use std::alloc::Global;
 use std::marker::Model;
 use syncfile_core::{Files, Status};
 use timeline_core::Timelines;
 
-/// All timelines, files and buffers of a service. It keeps of each file what was pending when it was made, and of each
-/// buffer a table of bounded size; its answers are those of all that was ever put into them.
+/// All timelines, files, buffers and watches of a service. It keeps of each file what was pending when it was made, of each
+/// buffer a table of bounded size, and of each watch what its file listed; its answers are those of all that was ever put
+/// into them.
 #[derive(Drop)]
 pub struct Desk {
     alloc: Global,
     timelines: Timelines,
     files: Files,
     buffers: Buffers,
+    watches: Watches,
 }
 
 impl Model for Desk {
@@ -28,10 +31,10 @@ impl Model for Desk {
 
     ghost Value = { DeskState };
 
-    ghost view = { λ d. record { timelines = d.timelines; files = d.files; buffers = d.buffers } };
+    ghost view = { λ d. record { timelines = d.timelines; files = d.files; buffers = d.buffers; watches = d.watches } };
 
     ghost invariant = { λ d.
-        IsOfItsTimelines (record { timelines = d.timelines; files = d.files; buffers = d.buffers }) };
+        IsOfItsTimelines (record { timelines = d.timelines; files = d.files; buffers = d.buffers; watches = d.watches }) };
 }
 
 impl Desk {
@@ -39,9 +42,9 @@ impl Desk {
     ghost use Rattle.syncfile_core.specs.Files.{IsRefusedFor};
     ghost use Rattle.desk_core.specs.History.{history_after};
     ghost use Rattle.desk_core.specs.Desk.{HasHistory, Answers};
-    ghost use Rattle.desk_core.specs.Keeping.{cause_of, IsDone};
+    ghost use Rattle.desk_core.specs.Keeping.{cause_of, fires_kept, IsDone};
 
-    /// A desk without timelines, files and buffers. It takes no memory yet, so it is never refused.
+    /// A desk without timelines, files, buffers and watches. It takes no memory yet, so it is never refused.
     pub fn new(alloc: Global) -> Result<Desk, Refusal>
         ensures taken { IsOk result }
         ensures empty { IfOk result (λ desk. HasHistory desk []) }
@@ -51,12 +54,13 @@ impl Desk {
             timelines: Timelines::new(alloc)?,
             files: Files::new(alloc)?,
             buffers: Buffers::new(alloc)?,
+            watches: Watches::new(alloc)?,
         })
     }
 
     /// The answer of one command: the first refusal whose cause holds, else what the command tells. `Memory` comes
-    /// last, where a growth was really refused, and `inc`, `value`, `close`, `wait`, `test` and `trim` never answer it. A
-    /// refused command changes nothing.
+    /// last, where a growth was really refused; `value`, `close`, `wait`, `test`, `trim` and `unwatch` never answer it,
+    /// and `inc` only where it fires a watch. A refused command changes nothing, and fires none.
     pub fn step(&mut self, command: Command) -> Answer
         ensures answer { Answers self.old command result }
         ensures stands { (history : List Command) →
@@ -71,7 +75,7 @@ impl Desk {
 
     fn outcome(&mut self, command: Command) -> Result<Answer, Refusal>
         ensures refused { IsRefusedFor (cause_of self.old command) result }
-        ensures sure { takes_memory command ≡ false → IfErr result (λ e. e ≢ Refusal.Memory) }
+        ensures sure { takes_memory (fires_kept self.old) command ≡ false → IfErr result (λ e. e ≢ Refusal.Memory) }
         ensures done { IfOk result (λ given. IsDone self.old command given self.new) }
         ensures unchanged { OnErr result (self.new ≡ self.old) }
     {
@@ -90,6 +94,8 @@ impl Desk {
             Command::Export(name, buffer, flags) => self.export(name, &buffer, flags),
             Command::Test(name, usage) => self.test(&name, usage),
             Command::Trim(name) => self.trim(&name),
+            Command::Watch(name, cookie) => self.watch(&name, cookie),
+            Command::Unwatch(cookie) => Ok(self.unwatch(cookie)),
         }
     }
 
@@ -104,12 +110,16 @@ impl Desk {
 
     fn inc(&mut self, name: &Name, n: u64) -> Result<Answer, Refusal>
         ensures refused { IsRefusedFor (cause_of self.old (Command.Inc name.now n)) result }
-        ensures sure { IfErr result (λ e. e ≢ Refusal.Memory) }
+        ensures sure { fires_kept self.old name.now n ≡ false → IfErr result (λ e. e ≢ Refusal.Memory) }
         ensures done { IfOk result (λ given. IsDone self.old (Command.Inc name.now n) given self.new) }
         ensures unchanged { OnErr result (self.new ≡ self.old) }
     {
-        let value = self.timelines.inc(name, n)?;
-        Ok(Answer::Raised(value, Items::of(Vec::new(self.alloc))))
+        let ctx = self.timelines.context(name).ok_or(Refusal::NoEntry)?;
+        let reach = self.timelines.reach();
+        let raised = reach.raised(ctx, n).ok_or(Refusal::Overflow)?;
+        let fired = self.watches.after_rise(&raised)?;
+        let value = self.timelines.inc(name, n).unwrap();
+        Ok(Answer::Raised(value, Items::of(fired)))
     }
 
     fn value(&self, name: &Name) -> Result<Answer, Refusal>
@@ -242,5 +252,30 @@ impl Desk {
         let reach = self.timelines.reach();
         self.buffers.trim(name, &reach)?;
         Ok(Answer::Done)
+    }
+
+    fn watch(&mut self, name: &Name, cookie: u64) -> Result<Answer, Refusal>
+        ensures refused { IsRefusedFor (cause_of self.old (Command.Watch name.now cookie)) result }
+        ensures done { IfOk result (λ given. IsDone self.old (Command.Watch name.now cookie) given self.new) }
+        ensures unchanged { OnErr result (self.new ≡ self.old) }
+    {
+        let reach = self.timelines.reach();
+        let status = self.files.status(name, &reach)?;
+        self.watches.free(cookie)?;
+        match status {
+            Status::Signalled => Err(Refusal::Signalled),
+            Status::Active => {
+                let file = self.files.get(name).unwrap();
+                let fence = Fence::of(self.alloc, file.points.as_slice())?;
+                self.watches.add(cookie, &fence, &reach)?;
+                Ok(Answer::Done)
+            }
+        }
+    }
+
+    fn unwatch(&mut self, cookie: u64) -> Answer
+        ensures done { IsDone self.old (Command.Unwatch cookie) result self.new }
+    {
+        Answer::Value(u64::from(self.watches.remove(cookie)))
     }
 }

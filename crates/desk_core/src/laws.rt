@@ -1,12 +1,14 @@
 // What holds of every history, and of every desk that stands for one: each law is the contract of a function with an
 // empty body.
-ghost use Rattle.std.specs.Prelude.{List};
+ghost use Rattle.std.specs.Prelude.{◌≡◌, ℕ, ◌≤◌, nat_eq, count_by, List, [], ◌∷◌, ◌++◌, Contains};
 ghost use Rattle.desk_core.specs.declared.command.Command.{Command};
 ghost use Rattle.timeline_core.specs.Run.{AreSums};
 ghost use Rattle.desk_core.specs.History.{world_of, IsHistory, increments_in};
 ghost use Rattle.desk_core.specs.Sound.{IsSound};
 ghost use Rattle.desk_core.specs.Desk.{DeskState, HasHistory};
-ghost use Rattle.desk_core.specs.Headline.{TellsSums, TellsWhatWasPut, TellsWhatIsInBuffers};
+ghost use Rattle.desk_core.specs.World.{MadeWatch, watch_made};
+ghost use Rattle.desk_core.specs.Fired.{fired_along, pending_after, IsLeftBy};
+ghost use Rattle.desk_core.specs.Headline.{TellsSums, TellsWhatWasPut, TellsWhatIsInBuffers, TellsWhatFires, put_into_file};
 
 /// What was put into files and buffers is of timelines that were made, and no value has fallen since; there are no more
 /// timelines than contexts.
@@ -19,11 +21,28 @@ pub fn a_value_is_the_sum_of_its_increments()
     ensures { (history : List Command) → IsHistory history → AreSums (world_of history).timelines (increments_in history) }
 {}
 
-/// A desk that stands for a history tells the sums of its increments, and what was put into its files and
-/// buffers.
+/// A watch fires at most once: along a history no registration fires a second time, whatever becomes of its cookie.
+pub fn a_watch_fires_once()
+    ensures { (history : List Command) (number : ℕ) → count_by (nat_eq number) (fired_along history) ≤ 1 }
+{}
+
+/// A watch is registered with all that was put into its file so far. It stays so, whatever becomes of the file and of its
+/// name, until it is removed or an increment reaches all of that.
+pub fn a_watch_keeps_what_was_put()
+    ensures registered { (history : List Command) (file : List ℕ) (cookie : ℕ) →
+        pending_after (history ++ Command.Watch file cookie ∷ [])
+        ≡ pending_after history ++ watch_made cookie (put_into_file history file) ((world_of history).watches_made) ∷ [] }
+    ensures kept { (history : List Command) (c : Command) (x : MadeWatch) →
+        Contains (pending_after history) x → IsLeftBy (world_of history) x c →
+        Contains (pending_after (history ++ c ∷ [])) x }
+{}
+
+/// A desk that stands for a history tells the sums of its increments, what was put into its files and buffers, and which
+/// watches an increment fires.
 pub fn a_desk_tells_its_history()
     ensures sums { (desk : DeskState) (history : List Command) → HasHistory desk history → TellsSums desk history }
     ensures files { (desk : DeskState) (history : List Command) → HasHistory desk history → TellsWhatWasPut desk history }
     ensures buffers { (desk : DeskState) (history : List Command) →
         HasHistory desk history → TellsWhatIsInBuffers desk history }
+    ensures watches { (desk : DeskState) (history : List Command) → HasHistory desk history → TellsWhatFires desk history }
 {}

@@ -1,5 +1,5 @@
 -- A watch fires once.
-use Rattle.std.proofs.Common.{◌≡◌, ◌≢◌, ℕ, ◌<◌, zero, suc, nat_eq, Bool, true, false, not, cond, ◌||◌, ◌⊎◌, refl, sym, ap, ◌∙◌, subst, List, [], ◌∷◌, ◌++◌, filter, map, Option, None, Some, Contains, arith, inl, inr}
+use Rattle.std.proofs.Common.{◌≡◌, ◌≢◌, ℕ, zero, suc, nat_eq, Bool, true, false, not, cond, ◌||◌, ◌⊎◌, refl, sym, ap, ◌∙◌, subst, List, [], ◌∷◌, ◌++◌, filter, Option, None, Some, Contains, arith, inl, inr}
 use Rattle.std.specs.List.{list_any, AllByRecursion, IsDistinct}
 use Rattle.std.specs.Cmp.{nat_eq_equiv}
 use Rattle.std.proofs.lemmas.Bool.{ne_eqb, false≢true}
@@ -10,7 +10,7 @@ use Rattle.point_core.specs.declared.refusal.Refusal.{Refusal}
 use Rattle.fence_core.specs.Fence.{are_reached}
 use Rattle.fence_core.specs.Watch.{Watch, Registry, watch_of, is_for, cookies_of, ArePending}
 use Rattle.fence_core.specs.Watches.{has_watch, fires, fired_by, after_rise_to, cause_to_refuse, if_none}
-use Rattle.fence_core.specs.Run.{Call, after_call, fired_in, after_calls, fired_along, AreAccepted, IsLeftByAll, AreNoAddsOf}
+use Rattle.fence_core.specs.Run.{Call, after_call, after_calls, fired_along, AreAccepted, IsLeftByAll, AreNoAddsOf}
 use Rattle.fence_core.specs.Run.Call.{Add, Remove, Rise}
 use Rattle.fence_core.proofs.Causes.{new-by_cause, room-by_cause}
 use Rattle.fence_core.proofs.Pending.{ArePending-filter, ArePending-push, IsDistinct-cookies_filter, list_any-cookies_of, apart-any}
@@ -28,21 +28,36 @@ Contains-cons_cases x xs y h = elim (Contains-append_cases (x ∷ []) xs y h) [
   | inr rest ↦ inr rest
 ]
 
-kept_here : (b : Bool) (v : Watch) (vs : List Watch) → b ≡ true → Contains (cond b (v ∷ vs) vs) v
-kept_here true v vs e = (0, omega arith, refl)
-kept_here false v vs e = absurd (false≢true e)
+kept_here : {X : Type 0} (b : Bool) (y : X) (ys : List X) → b ≡ true → Contains (cond b (y ∷ ys) ys) y
+kept_here true y ys e = (0, omega arith, refl)
+kept_here false y ys e = absurd (false≢true e)
 
-kept_there : (b : Bool) (v : Watch) (vs : List Watch) (w : Watch) → Contains vs w → Contains (cond b (v ∷ vs) vs) w
-kept_there true v vs w h = Contains-append_right (v ∷ []) vs w h
-kept_there false v vs w h = h
+kept_there : {X : Type 0} (b : Bool) (y : X) (ys : List X) (x : X) → Contains ys x → Contains (cond b (y ∷ ys) ys) x
+kept_there true y ys x h = Contains-append_right (y ∷ []) ys x h
+kept_there false y ys x h = h
 
 -- what passes the test is kept
-pub Contains-filter : (p : Watch → Bool) (ws : List Watch) (w : Watch) → Contains ws w → p w ≡ true → Contains (filter p ws) w
-Contains-filter p [] w h is = absurd (Contains-nil w h)
-Contains-filter p (v ∷ vs) w h is = elim (Contains-cons_cases v vs w h) [
-  | inl same ↦ subst (Contains (filter p (v ∷ vs))) same (kept_here (p v) v (filter p vs) (ap p same ∙ is))
-  | inr rest ↦ kept_there (p v) v (filter p vs) w (Contains-filter p vs w rest is)
+pub Contains-filter : {X : Type 0} (p : X → Bool) (xs : List X) (x : X) → Contains xs x → p x ≡ true → Contains (filter p xs) x
+Contains-filter p [] x h is = absurd (Contains-nil x h)
+Contains-filter p (y ∷ ys) x h is = elim (Contains-cons_cases y ys x h) [
+  | inl same ↦ subst (Contains (filter p (y ∷ ys))) same (kept_here (p y) y (filter p ys) (ap p same ∙ is))
+  | inr rest ↦ kept_there (p y) y (filter p ys) x (Contains-filter p ys x rest is)
 ]
+
+-- what is kept was there, and passes the test
+pub Contains-filtered : {X : Type 0} (p : X → Bool) (xs : List X) (x : X) → Contains (filter p xs) x → Contains xs x × (p x ≡ true)
+Contains-filtered p [] x h = absurd (Contains-nil x h)
+Contains-filtered {X} p (y ∷ ys) x h = by (p y) refl h (Contains-filtered p ys x)
+  where
+    there : Contains ys x × (p x ≡ true) → Contains (y ∷ ys) x × (p x ≡ true)
+    there rest = (Contains-append_right (y ∷ []) ys x rest.0, rest.1)
+
+    by : (b : Bool) → p y ≡ b → Contains (cond b (y ∷ filter p ys) (filter p ys)) x → (Contains (filter p ys) x → Contains ys x × (p x ≡ true)) → Contains (y ∷ ys) x × (p x ≡ true)
+    by true is h rest = elim (Contains-cons_cases y (filter p ys) x h) [
+      | inl same ↦ ((0, omega arith, same), ap p (sym same) ∙ is)
+      | inr later ↦ there (rest later)
+    ]
+    by false is h rest = there (rest h)
 
 apart-cookie : (k : ℕ) (ws : List Watch) (w : Watch) → AllByRecursion (λ y. nat_eq k y ≡ false) (cookies_of ws) → Contains ws w → nat_eq k w.cookie ≡ false
 apart-cookie k [] w apart h = absurd (Contains-nil w h)

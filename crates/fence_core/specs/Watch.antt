@@ -1,7 +1,9 @@
 -- Pending watches, as contracts see them.
-use Rattle.std.specs.Prelude.{ℕ, ◌==◌, ◌≤◌, nat_eq, Bool, List, length, map}
+use Rattle.std.specs.Prelude.{◌≡◌, ℕ, ◌==◌, ◌≤◌, nat_eq, Bool, List, length, map}
 use Rattle.std.specs.List.{IsDistinct}
 use Rattle.point_core.specs.declared.entry.Point.{Point}
+use Rattle.point_core.specs.declared.entry.Entry.{Entry}
+use Rattle.point_core.specs.Agreement.{AgreesAbove, as_entries}
 use Rattle.fence_core.specs.declared.watches.TheConstants.{WATCHES}
 
 -- a cookie, and the points of the fence that it was registered on
@@ -32,3 +34,9 @@ cookies_of ws = map (λ (w : Watch). w.cookie) ws
 pub record ArePending (ws : List Watch) : Type 0 where
   pub distinct : IsDistinct nat_eq (cookies_of ws)
   pub room : length ws ≤ WATCHES
+
+-- of things that have a cookie and a put set: the watch has the thing's cookie, and its points agree above the reach with
+-- the put set
+pub record IsWatchOf {X : Type 0} (cookie_of : X → ℕ) (put_of : X → List Entry) (reach : List ℕ) (w : Watch) (x : X) : Type 0 where
+  pub cookie : w.cookie ≡ cookie_of x
+  pub agrees : AgreesAbove reach (as_entries w.points) (put_of x)

@@ -2,6 +2,7 @@ use Rattle.std.proofs.Common.{◌++◌, [], ◌∷◌, take, arith, refl, sym, a
 use Rattle.std.proofs.lemmas.List.{take_more, take_all}
 use Rattle.desk_core.proofs.Answering.{HasRun-push}
 use Rattle.desk_core.proofs.Telling.{TellsWhatWasPut-stands, TellsWhatIsInBuffers-stands}
+use Rattle.desk_core.proofs.Firing.{TellsWhatFires-stands}
 use Rattle.desk_core.proofs.Sums.{TellsSums-stands}
 use Rattle.desk_core.proofs.runs.run.Goals as goal
 
@@ -32,3 +33,8 @@ pub returns-clause-buffers : goal.returns-clause-buffers
 returns-clause-buffers c =
     let all = take_all c.loop-command.command-index c.args.commands.now c.loop-command-test.false in
     TellsWhatIsInBuffers-stands _ _ (rw all at c.loop-command.invariant.0.stands)
+
+pub returns-clause-watches : goal.returns-clause-watches
+returns-clause-watches c =
+    let all = take_all c.loop-command.command-index c.args.commands.now c.loop-command-test.false in
+    TellsWhatFires-stands _ _ (rw all at c.loop-command.invariant.0.stands)

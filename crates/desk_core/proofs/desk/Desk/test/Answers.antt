@@ -1,17 +1,11 @@
-use Rattle.std.proofs.Common.{◌≡◌, ℕ, Bool, true, false}
+use Rattle.std.proofs.Common.{Bool}
 use Rattle.std.specs.Prelude.{◌↔◌, IsTrue}
-use mir.Val.{bool_byte}
 use Rattle.point_core.specs.Usage.{usage_number}
 use Rattle.point_core.specs.Agreement.{IsReached}
 use Rattle.dmabuf_core.specs.Buffers.{has_buffer, entries_of}
-use Rattle.desk_core.specs.Answer.{number_if}
-use Rattle.desk_core.proofs.Doing.{IsDone-test}
+use Rattle.desk_core.proofs.Doing.{IsDone-test, as_number}
 use Rattle.desk_core.proofs.Waiting.{told_where}
 use Rattle.desk_core.proofs.desk.Desk.test.Goals as goal
-
-as_number : (b : Bool) (n : ℕ) → n ≡ bool_byte b → n ≡ number_if b
-as_number true n is = is
-as_number false n is = is
 
 pub returns-clause-done : goal.returns-clause-done
 returns-clause-done c =

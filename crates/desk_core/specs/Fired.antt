@@ -1,0 +1,56 @@
+-- The watches that fire along a history.
+use Rattle.std.specs.Prelude.{◌≡◌, ◌≢◌, ℕ, false, ⊤, List, [], ◌∷◌, ◌++◌, map}
+use Rattle.desk_core.specs.declared.command.Command.{Command}
+use Rattle.desk_core.specs.declared.command.Command.TheVariants as command
+use Rattle.desk_core.specs.World.{World, MadeWatch, empty_world, after, is_due, raised_reach, fired_watches}
+use Rattle.desk_core.specs.History.{world_of}
+
+-- the registrations, by number, that the command fires
+abbrev pub fired_in : World → Command → List ℕ
+fired_in w (command.Inc t n) = map (λ (x : MadeWatch). x.number) (fired_watches w t n)
+fired_in w (command.Timeline t) = []
+fired_in w (command.Value t) = []
+fired_in w (command.Fence f t p) = []
+fired_in w (command.Merge f a b) = []
+fired_in w (command.Close f) = []
+fired_in w (command.Wait f) = []
+fired_in w (command.Info f) = []
+fired_in w (command.Buffer b) = []
+fired_in w (command.Add b t p u) = []
+fired_in w (command.Import b f flags) = []
+fired_in w (command.Export f b flags) = []
+fired_in w (command.Test b u) = []
+fired_in w (command.Trim b) = []
+fired_in w (command.Watch f cookie) = []
+fired_in w (command.Unwatch cookie) = []
+
+abbrev pub fired_from : World → List Command → List ℕ
+fired_from w [] = []
+fired_from w (c ∷ cs) = fired_in w c ++ fired_from (after w c) cs
+
+-- the registrations that fire along a history, in order
+abbrev pub fired_along : List Command → List ℕ
+fired_along history = fired_from empty_world history
+
+-- the pending watches after a history, by registration
+abbrev pub pending_after : List Command → List MadeWatch
+pending_after history = (world_of history).watches
+
+-- the command neither removes the watch nor raises the values to all that was put
+abbrev pub IsLeftBy : World → MadeWatch → Command → Type 0
+IsLeftBy w x (command.Inc t n) = is_due (raised_reach w t n) x ≡ false
+IsLeftBy w x (command.Unwatch cookie) = x.cookie ≢ cookie
+IsLeftBy w x (command.Timeline t) = ⊤
+IsLeftBy w x (command.Value t) = ⊤
+IsLeftBy w x (command.Fence f t p) = ⊤
+IsLeftBy w x (command.Merge f a b) = ⊤
+IsLeftBy w x (command.Close f) = ⊤
+IsLeftBy w x (command.Wait f) = ⊤
+IsLeftBy w x (command.Info f) = ⊤
+IsLeftBy w x (command.Buffer b) = ⊤
+IsLeftBy w x (command.Add b t p u) = ⊤
+IsLeftBy w x (command.Import b f flags) = ⊤
+IsLeftBy w x (command.Export f b flags) = ⊤
+IsLeftBy w x (command.Test b u) = ⊤
+IsLeftBy w x (command.Trim b) = ⊤
+IsLeftBy w x (command.Watch f cookie) = ⊤
