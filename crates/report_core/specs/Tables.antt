@@ -1,5 +1,5 @@
 -- The texts of tables, row by row.
-use Rattle.std.specs.Prelude.{ℕ, List, ◌∷◌, ◌++◌, length}
+use Rattle.std.specs.Prelude.{ℕ, List, ◌++◌, length}
 use Rattle.std.specs.List.{flat_map}
 use Rattle.report_core.specs.declared.kind.Kind.TheVariants.{Timeline, Buffer, Level}
 use Rattle.report_core.specs.declared.tables.ShowRow.{ShowRow}
