@@ -1,5 +1,6 @@
 // Worked rows of a buffer under its lock, and of a table of them.
 mod running;
+mod wrapping;
 
 use crate::{LockedBuffer, LockedTable};
 use point_core::{Context, Entry, Point, Reach, Refusal, Usage};

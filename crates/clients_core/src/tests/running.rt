@@ -1,14 +1,16 @@
 // Clients on threads against a table under locks.
-ghost use Rattle.std.specs.Prelude.{◌≤◌};
+ghost use Rattle.std.specs.Prelude.{◌≡◌, ◌≤◌, vec_len, IfOk};
+ghost use Rattle.resv_core.specs.Settled.{ArePlansWithin};
 
 use crate::{ACTS, CLIENTS, Gate, LockedTable, OpenGate, run_clients};
 use point_core::{Context, LimitKind, Point, Refusal, TopRow, Usage};
-use resv_core::{Act, Plan, Settled};
+use resv_core::{Act, Plan, Settled, SharedTable};
 use std::alloc::Global;
 use std::sync::Wait;
 use std::sync::atomic::{AtomicBool, Ordering};
 use std::test::Fail;
 use std::thread::Threads;
+use words_core::Words;
 
 /// What the clients of these plans settle.
 fn settled_by<R: Threads + Wait + Sync, G: Gate>(
@@ -286,5 +288,33 @@ fn one_client(rt: HostRuntime) -> Result<(), Fail> {
     assert_eq!(rt; settled.values.as_slice(), [3].as_slice());
     assert!(rt; settled.tables.as_slice().len() == 1);
     assert_eq!(rt; settled.tables.as_slice()[0].as_slice(), rows.as_slice());
+    Ok(())
+}
+
+/// One plan of one put.
+fn one_put(alloc: Global) -> Result<Vec<Plan>, Fail>
+    ensures within { IfOk result (λ plans. ArePlansWithin 1 1 plans.items) }
+    ensures count { IfOk result (λ plans. vec_len plans ≡ 1) }
+{
+    let ctx = Context::at(0);
+    let put = Act::Put(0, Point { ctx, value: 1 }, Usage::Write);
+    let acts = Vec::from_elem(alloc, put, 1)?;
+    let mut plans = Vec::with_capacity(alloc, 1)?;
+    plans.push_reserved(Plan::of(acts));
+    Ok(plans)
+}
+
+#[test]
+fn a_fresh_table_has_not_settled_a_put(rt: HostRuntime) -> Result<(), Fail> {
+    let (words, seat) = Words::new(rt.alloc(), 1, 1, 0)?;
+    let table = LockedTable::empty(rt.alloc(), &words)?;
+    let plans = one_put(rt.alloc())?;
+    let Ok(mut all) = seat.gather() else {
+        panic!(rt; "a part was missing")
+    };
+    let refused = table
+        .settle(&rt, rt.alloc(), &words, &mut all, plans.as_slice())
+        .err();
+    assert!(rt; refused == Some(Refusal::Torn));
     Ok(())
 }
