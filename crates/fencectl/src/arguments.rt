@@ -1,16 +1,19 @@
 // The command line.
 
-use clap::Command;
+use clap::{Arg, ArgMatches, Command};
 use std::alloc::{AllocError, Global};
 
 const ABOUT: &str = "Runs a script of GPU fence commands, and prints their answers";
 
-const HELP: &str = "\
-The script is read from standard input, one command a line; a line that begins with # is a note.
+/// The version, and the kit whose prover and compiler made the program.
+const VERSION: &str = "0.1.0 (proved with rattle-kit-13b logic dac8208d650f15bf)";
 
-Lines of a script:
+const HELP: &str = "\
+A script is read from standard input or from FILE, one command a line; a line that begins with # is a note.
+
+Script commands:
   timeline T         makes timeline T at value 0             ok CONTEXT
-  inc T N            adds N to the value of timeline T       ok VALUE
+  inc T N            adds N to the value of timeline T       ok VALUE, then fired COOKIE lines
   value T            reads the value of timeline T           ok VALUE
   fence F T P        makes file F of point P on timeline T   ok
   merge F A B        makes file F of files A and B           ok
@@ -23,10 +26,22 @@ Lines of a script:
   export F B FLAGS   makes file F of what B waits for        ok
   test B U           are B's fences up to usage U reached?   ok 1 or ok 0
   trim B             drops needless fences from buffer B     ok
+  watch F COOKIE     tells COOKIE once file F is signalled   ok
+  unwatch COOKIE     takes that watch away                   ok 1 or ok 0
 
 U is kernel, write, read or bookkeep; FLAGS is read, write or rw.
 
-A refused line is answered `err NUMBER NAME`, and changes nothing.
+A name has 1 to 31 letters, digits, _, . or -; a number has 1 to 20 digits. There can be 64 timelines, 64 buffers,
+1,024 files and 4,096 watches, lines of 256 bytes, and scripts of 1,048,576 bytes.
+
+A refused line is answered `err NUMBER NAME`, and changes nothing:
+  1 Syntax    it is no command               7 Signalled  there is nothing to watch
+  2 NoEntry   there is none of that name     8 TimedOut   the file is not signalled
+  3 Exists    there is one of that name     12 LongLine   it has more than 256 bytes
+  4 Overflow  the value would be too great  16 Memory     memory was refused
+  6 Limit     there are as many as can be
+
+The script language is documented in docs/SCRIPT.md.
 
 Exit status:
   0  every line was accepted
@@ -37,15 +52,34 @@ Example:
   printf 'timeline gpu\\nfence frame gpu 5\\ninfo frame\\n' | fencectl
 ";
 
-/// The program's command line: `run`, or nothing, for the script of standard input.
+/// The word for standard input, in the place of a file's name.
+pub const STANDARD_INPUT: &str = "-";
+
+const FILE: &str = "FILE";
+
+/// The program's command line: `run`, with a file or without, or nothing for the script of standard input.
 pub fn command<'a>(alloc: Global) -> Result<Command<'a>, AllocError> {
-    let run = Command::new(alloc, "run").about(
-        "Runs the script of standard input; the same as no word at all",
-    );
+    let file = Arg::new(alloc, FILE)
+        .default_value(STANDARD_INPUT)
+        .help("The script's file, or - for standard input");
+    let run = Command::new(alloc, "run")
+        .about(
+            "Runs the script of a file; without one that of standard input, as no word at all does",
+        )
+        .arg(file)?;
     Command::new(alloc, "fencectl")
         .bin_name("fencectl")?
-        .version("0.1.0")
+        .version(VERSION)
         .about(ABOUT)
         .after_help(HELP)
+        .subcommand_help_heading("Subcommands")
         .subcommand(run)
+}
+
+/// The file that is named behind `run`, or standard input.
+pub fn file_of<'a>(matches: &ArgMatches<'a>) -> &'a str {
+    match matches.subcommand_matches("run") {
+        Some(run) => run.get_str(FILE).unwrap_or(STANDARD_INPUT),
+        None => STANDARD_INPUT,
+    }
 }

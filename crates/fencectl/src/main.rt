@@ -1,17 +1,21 @@
-//! `fencectl`: reads a script of fence commands on standard input, and prints their answers on standard output.
+//! `fencectl`: reads a script of fence commands from standard input or a file, and prints their answers on standard
+//! output.
 #![tactic(auto)]
 
 mod arguments;
 mod fault;
+mod source;
 mod status;
+mod usage;
 
-use arguments::command;
+use arguments::{STANDARD_INPUT, command, file_of};
 pub use fault::tell_fault;
 use point_core::Refusal;
-use script_core::engine;
+use script_core::{Totals, engine};
+use source::Source;
 use status::status_of_run;
-use std::env;
 use std::process::ExitCode;
+use std::{env, fs, io};
 
 fn main(rt: HostRuntime) -> ExitCode {
     let status = start(&rt).unwrap_or_else(|refusal| tell_fault(&refusal, &mut rt.stderr()));
@@ -21,19 +25,45 @@ fn main(rt: HostRuntime) -> ExitCode {
 /// Reads the command line, and does what it says. Gives the exit status.
 fn start(rt: &HostRuntime) -> Result<u8, Refusal> {
     let alloc = rt.alloc();
-    let words: Vec<String> = env::args(rt).map_err(|_| Refusal::Memory)?.collect(alloc)?;
+    let words: Vec<String> = match env::args(rt) {
+        Ok(words) => words.collect(alloc)?,
+        Err(error) => return usage::tell_unread_word(rt, error),
+    };
     let command = command(alloc)?;
     match command.try_get_matches_from(words.as_slice()) {
-        Ok(_) => Ok(run(rt)),
-        Err(error) => {
-            error.print(rt).map_err(|_| Refusal::Write)?;
-            Ok(error.exit_code() as u8)
-        }
+        Ok(matches) => Ok(run(rt, file_of(&matches))),
+        Err(error) => usage::tell_error(rt, &error),
     }
 }
 
-/// Runs the script of standard input. Gives the exit status.
-fn run(rt: &HostRuntime) -> u8 {
-    let ended = engine(rt.alloc(), &mut rt.stdin(), &mut rt.stdout());
+/// Runs the script of that file, or of standard input. Gives the exit status.
+fn run(rt: &HostRuntime, file: &str) -> u8 {
+    let ended = if file == STANDARD_INPUT {
+        engine(rt.alloc(), &mut rt.stdin(), &mut rt.stdout())
+    } else {
+        run_file(rt, file)
+    };
     status_of_run(ended, &mut rt.stderr())
+}
+
+/// Runs the script of a file. Where it can't be opened or read, its name and the system's reason are told.
+fn run_file(rt: &HostRuntime, file: &str) -> Result<Totals, Refusal> {
+    let opened = match fs::open(rt, file) {
+        Ok(opened) => opened,
+        Err(error) => {
+            tell_reason(rt, file, error);
+            return Err(Refusal::Read);
+        }
+    };
+    let mut source = Source::of(opened);
+    let ended = engine(rt.alloc(), &mut source, &mut rt.stdout());
+    if let Some(error) = source.failed() {
+        tell_reason(rt, file, error);
+    }
+    ended
+}
+
+/// Whether this could be written changes nothing: the line of the fault follows.
+fn tell_reason(rt: &HostRuntime, file: &str, error: io::Error) {
+    let _ = eprintln!(rt; "fencectl: {file}: {error}");
 }

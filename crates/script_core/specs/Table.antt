@@ -7,7 +7,7 @@ use Rattle.point_core.specs.declared.name.TheConstants.{NAME_BYTES}
 use Rattle.point_core.specs.Name.{is_name_byte}
 use Rattle.point_core.specs.declared.entry.Usage.{Usage}
 use Rattle.desk_core.specs.declared.command.Command.{Command}
-use Rattle.desk_core.specs.declared.command.Command.TheVariants.{Timeline, Inc, Value, Fence, Merge, Close, Wait, Info, Buffer, Add, Import, Export, Test, Trim}
+use Rattle.desk_core.specs.declared.command.Command.TheVariants.{Timeline, Inc, Value, Fence, Merge, Close, Wait, Info, Buffer, Add, Import, Export, Test, Trim, Watch, Unwatch}
 use Rattle.script_core.specs.Number.{number_of}
 use Rattle.script_core.specs.Usages.{usage_of, flags_of}
 use Rattle.script_core.specs.Words.{one_of, two_of, three_of, four_of}
@@ -41,6 +41,9 @@ all_four (Some a) (Some b) (Some c) (Some d) = Some (a, b, c, d)
 abbrev pub one_name : List (List ℕ) → Option (List ℕ)
 one_name words = option_and_then name_of (one_of words)
 
+abbrev pub one_number : List (List ℕ) → Option ℕ
+one_number words = option_and_then number_of (one_of words)
+
 abbrev pub name_and_number : List (List ℕ) → Option (List ℕ × ℕ)
 name_and_number words = option_and_then (λ w. both (name_of w.0) (number_of w.1)) (two_of words)
 
@@ -63,6 +66,12 @@ two_names_and_flags words =
 abbrev pub name_and_usage : List (List ℕ) → Option (List ℕ × Usage)
 name_and_usage words = option_and_then (λ w. both (name_of w.0) (usage_of w.1)) (two_of words)
 
+abbrev pub watch_command_from : List ℕ → List (List ℕ) → Option Command
+watch_command_from word words =
+    if bytes_eq word (codes "watch") then option_map (λ w. Watch w.0 w.1) (name_and_number words)
+    else if bytes_eq word (codes "unwatch") then option_map Unwatch (one_number words)
+    else None
+
 abbrev pub buffer_command_from : List ℕ → List (List ℕ) → Option Command
 buffer_command_from word words =
     if bytes_eq word (codes "buffer") then option_map Buffer (one_name words)
@@ -71,7 +80,7 @@ buffer_command_from word words =
     else if bytes_eq word (codes "export") then option_map (λ w. Export w.0 w.1 w.2) (two_names_and_flags words)
     else if bytes_eq word (codes "test") then option_map (λ w. Test w.0 w.1) (name_and_usage words)
     else if bytes_eq word (codes "trim") then option_map Trim (one_name words)
-    else None
+    else watch_command_from word words
 
 abbrev pub file_command_from : List ℕ → List (List ℕ) → Option Command
 file_command_from word words =

@@ -1,7 +1,9 @@
 // The table of commands.
 ghost use Rattle.std.specs.Prelude.{◌≡◌};
 ghost use Rattle.script_core.specs.Words.{words_of};
-ghost use Rattle.script_core.specs.Table.{name_of, one_name, name_and_number, two_names_and_number, three_names, two_names_number_and_usage, two_names_and_flags, name_and_usage, command_from, file_command_from, buffer_command_from};
+ghost use Rattle.script_core.specs.Table.{name_of, one_name, one_number, name_and_number, two_names_and_number};
+ghost use Rattle.script_core.specs.Table.{three_names, two_names_number_and_usage, two_names_and_flags, name_and_usage};
+ghost use Rattle.script_core.specs.Table.{command_from, file_command_from, buffer_command_from, watch_command_from};
 
 use crate::number::number;
 use crate::usages::{flags, usage};
@@ -65,6 +67,19 @@ fn buffer_command(word: &[u8], rest: &[u8]) -> Option<Command>
     } else if is(word, "trim") {
         Some(Command::Trim(one_name(rest)?))
     } else {
+        watch_command(word, rest)
+    }
+}
+
+fn watch_command(word: &[u8], rest: &[u8]) -> Option<Command>
+    ensures command { result ≡ watch_command_from word.now (words_of rest.now) }
+{
+    if is(word, "watch") {
+        let (file, cookie) = name_and_number(rest)?;
+        Some(Command::Watch(file, cookie))
+    } else if is(word, "unwatch") {
+        Some(Command::Unwatch(one_number(rest)?))
+    } else {
         None
     }
 }
@@ -73,6 +88,12 @@ fn one_name(rest: &[u8]) -> Option<Name>
     ensures words { result ≡ one_name (words_of rest.now) }
 {
     name(one(rest)?)
+}
+
+fn one_number(rest: &[u8]) -> Option<u64>
+    ensures words { result ≡ one_number (words_of rest.now) }
+{
+    number(one(rest)?)
 }
 
 fn name_and_number(rest: &[u8]) -> Option<(Name, u64)>

@@ -165,7 +165,7 @@ fn lines_of_the_table(rt: HostRuntime) -> Result<(), Fail> {
     let a = name(&rt, "a");
     let b = name(&rt, "b");
     let c = name(&rt, "c");
-    let cases: [(&[u8], Option<Command>); 38] = [
+    let cases: [(&[u8], Option<Command>); 42] = [
         (b"timeline a", Some(Command::Timeline(a))),
         (b"inc a 7", Some(Command::Inc(a, 7))),
         (b"inc a", None),
@@ -213,6 +213,10 @@ fn lines_of_the_table(rt: HostRuntime) -> Result<(), Fail> {
         (b"test a bookkeep", Some(Command::Test(a, Usage::Bookkeep))),
         (b"test a", None),
         (b"trim a", Some(Command::Trim(a))),
+        (b"watch a 7", Some(Command::Watch(a, 7))),
+        (b"watch 7", None),
+        (b"unwatch 7", Some(Command::Unwatch(7))),
+        (b"unwatch a", None),
     ];
     for (line, wanted) in cases {
         let lines = read_script(rt.alloc(), line)?;
