@@ -16,7 +16,7 @@ pub fn merge_beside_a_driver(rt: &impl Threads, alloc: Global) -> Result<usize, 
     let free = SyncFile::plain(alloc, name, point(2, 1)?)?;
     let driving = words.part(&mut seat, 1);
     let (driven, merged) = beside(rt, alloc, &words, (driving, seat), (&drawn, &free));
-    driven?;
+    driven.ok_or(Refusal::Exists)?;
     merged
 }
 
@@ -32,35 +32,32 @@ fn beside(
     words: &Words,
     seats: (Seat, Seat),
     files: (&SyncFile, &SyncFile),
-) -> (Result<(), Refusal>, Result<usize, Refusal>)
+) -> (Option<u64>, Result<usize, Refusal>)
     requires own { (seats.0.words ≡ words.now) × (seats.1.words ≡ words.now) }
     requires context { 1 ≤ words.now.contexts }
 {
     let (driving, merging) = seats;
     join(
         rt,
-        move || -> Result<(), Refusal>
+        move || -> Option<u64>
             requires { (driving.words ≡ words.now) × (1 ≤ words.now.contexts) }
-        { drive(words, driving) },
+        { drive(words, driving, Context::at(0)) },
         move || -> Result<usize, Refusal>
             requires { merging.words ≡ words.now }
         { merge(alloc, files, words, merging) },
     )
 }
 
-/// Raises the first timeline by a thousand steps.
-fn drive(words: &Words, seat: Seat) -> Result<(), Refusal>
-    requires own { seat.words ≡ words.now }
-    requires context { 1 ≤ words.now.contexts }
+/// Raises a timeline by a thousand steps, and gives its value, or none where it had a driver already.
+fn drive(words: &Words, driving: Seat, ctx: Context) -> Option<u64>
+    requires own { driving.words ≡ words.now }
+    requires context { ctx ≤ words.now.contexts }
 {
-    let mut driver = words
-        .driver(seat, Context::at(0))
-        .ok()
-        .ok_or(Refusal::Exists)?;
+    let mut driver = words.driver(driving, ctx).ok()?;
     for _ in 0..1_000u32 {
-        driver.inc(words, 1)?;
+        driver.inc(words, 1).ok()?;
     }
-    Ok(())
+    Some(driver.value())
 }
 
 /// Waits for the first file by polling, merges both, and counts what is pending.
