@@ -37,6 +37,14 @@ fn watch_again(rt: HostRuntime) -> Result<(), Fail> {
     assert_answers(&rt, rt.alloc(), script, wanted, (12, 12, 0))
 }
 
+#[test]
+fn members_reached_in_another_order(rt: HostRuntime) -> Result<(), Fail> {
+    let script = b"timeline a\ntimeline b\nfence f a 1\nfence g b 1\nmerge m f g\nwatch m 1\n\
+        inc b 1\ninc a 1\ninc a 1\n";
+    let wanted = b"ok 1\nok 2\nok\nok\nok\nok\nok 1\nok 1\nfired 1\nok 2\n";
+    assert_answers(&rt, rt.alloc(), script, wanted, (9, 9, 0))
+}
+
 // The greatest cookie and the greatest point, and words that are no cookie.
 #[test]
 fn greatest_cookie(rt: HostRuntime) -> Result<(), Fail> {
