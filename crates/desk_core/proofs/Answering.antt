@@ -39,6 +39,8 @@ is_refused-told w (command.Import b f flags) = refl
 is_refused-told w (command.Export f b flags) = refl
 is_refused-told w (command.Test b u) = refl
 is_refused-told w (command.Trim b) = refl
+is_refused-told w (command.Show b) = refl
+is_refused-told w command.Report = refl
 is_refused-told w (command.Watch f cookie) = refl
 is_refused-told w (command.Unwatch cookie) = refl
 
@@ -66,6 +68,8 @@ takes_memory-holds h (command.Import b f flags) = refl
 takes_memory-holds h (command.Export f b flags) = refl
 takes_memory-holds h (command.Test b u) = refl
 takes_memory-holds h (command.Trim b) = refl
+takes_memory-holds h (command.Show b) = refl
+takes_memory-holds h command.Report = refl
 takes_memory-holds h (command.Watch f cookie) = refl
 takes_memory-holds h (command.Unwatch cookie) = refl
 
@@ -115,6 +119,8 @@ accepted_OnRefused answer.Done fact is = tt
 accepted_OnRefused (answer.Value n) fact is = tt
 accepted_OnRefused (answer.Raised n fired) fact is = tt
 accepted_OnRefused (answer.Info i) fact is = tt
+accepted_OnRefused (answer.Show rows) fact is = tt
+accepted_OnRefused (answer.Report report) fact is = tt
 
 -- a refused command leaves the desk as it was
 pub OnRefused-outcome : (old new : DeskState) (c : Command) (r : Result Answer Refusal) → OnErr r (new ≡ old) → IfOk r (λ a. IsDone old c a new) → OnRefused (answer_of r) (new ≡ old)

@@ -81,6 +81,8 @@ Fired-from number w (command.Import b f flags ∷ cs) = Fired-from number (after
 Fired-from number w (command.Export f b flags ∷ cs) = Fired-from number (after w (command.Export f b flags)) cs
 Fired-from number w (command.Test b u ∷ cs) = Fired-from number w cs
 Fired-from number w (command.Trim b ∷ cs) = Fired-from number w cs
+Fired-from number w (command.Show b ∷ cs) = Fired-from number w cs
+Fired-from number w (command.Report ∷ cs) = Fired-from number w cs
 Fired-from number w (command.Watch f cookie ∷ cs) =
     let rest = Fired-from number (after w (command.Watch f cookie)) cs in
     let more = sum_by-append (λ (x : MadeWatch). cond (nat_eq number x.number) 1 0) w.watches (watch_made cookie (put_set w.files f) w.watches_made ∷ []) in
@@ -139,6 +141,8 @@ Contains-after w x (command.Import b f flags) h left = h
 Contains-after w x (command.Export f b flags) h left = h
 Contains-after w x (command.Test b u) h left = h
 Contains-after w x (command.Trim b) h left = h
+Contains-after w x (command.Show b) h left = h
+Contains-after w x command.Report h left = h
 
 -- a watch stays as it was registered, until it is removed or fires
 pub pending_after-left : (history : List Command) (c : Command) (x : MadeWatch) → Contains (pending_after history) x → IsLeftBy (world_of history) x c → Contains (pending_after (history ++ c ∷ [])) x

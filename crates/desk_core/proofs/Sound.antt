@@ -162,6 +162,8 @@ IsSound-after w (command.Export f b flags) s is = IsSound-file w s _ (record {
 })
 IsSound-after w (command.Test b u) s is = s
 IsSound-after w (command.Trim b) s is = s
+IsSound-after w (command.Show b) s is = s
+IsSound-after w command.Report s is = s
 IsSound-after w (command.Watch f cookie) s is = record { made = s.made; buffers = s.buffers; room = s.room }
 IsSound-after w (command.Unwatch cookie) s is = record { made = s.made; buffers = s.buffers; room = s.room }
 

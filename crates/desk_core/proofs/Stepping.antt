@@ -130,6 +130,8 @@ causes-keeps {desk} {world} k (command.Export f b flags) =
     ∙ ap (λ h. if h then (if is_sync_flags flags then cause_to_refuse desk.files f else Some Flags) else Some NoEntry) (sym (has_buffer-names desk.buffers world.buffers b k.holds.buffers))
 causes-keeps {desk} {world} k (command.Test b u) = cause_without-keeps k b
 causes-keeps {desk} {world} k (command.Trim b) = cause_without-keeps k b
+causes-keeps {desk} {world} k (command.Show b) = cause_without-keeps k b
+causes-keeps {desk} {world} k command.Report = refl
 causes-keeps {desk} {world} k (command.Watch f cookie) =
     if-not (has_file world.files f) (Some NoEntry) (watch_cause (has_made_watch world.watches cookie) (is_full world) (is_signalled world f))
     ∙ ap (λ o. if has_file world.files f then o else Some NoEntry) (watch_cause-keeps k f cookie)

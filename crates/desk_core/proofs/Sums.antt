@@ -111,6 +111,8 @@ Sums-after w done (command.Import b f flags) s is = let h = Sums-same w done (co
 Sums-after w done (command.Export f b flags) s is = let h = Sums-same w done (command.Export f b flags) (λ name. refl) s in record { kept = h.kept; missing = h.missing }
 Sums-after w done (command.Test b u) s is = Sums-same w done (command.Test b u) (λ name. refl) s
 Sums-after w done (command.Trim b) s is = Sums-same w done (command.Trim b) (λ name. refl) s
+Sums-after w done (command.Show b) s is = Sums-same w done (command.Show b) (λ name. refl) s
+Sums-after w done command.Report s is = Sums-same w done command.Report (λ name. refl) s
 Sums-after w done (command.Watch f cookie) s is = let h = Sums-same w done (command.Watch f cookie) (λ name. refl) s in record { kept = h.kept; missing = h.missing }
 Sums-after w done (command.Unwatch cookie) s is = let h = Sums-same w done (command.Unwatch cookie) (λ name. refl) s in record { kept = h.kept; missing = h.missing }
 

@@ -18,8 +18,15 @@ use Rattle.desk_core.specs.declared.answer.Answer.TheVariants as answer
 use Rattle.desk_core.specs.declared.answer.Info.{Info}
 use Rattle.desk_core.specs.declared.answer.FenceRow.{FenceRow}
 use Rattle.desk_core.specs.declared.answer.Maker.TheVariants.{SwSync, Stub}
-use Rattle.timeline_core.specs.Timeline.{Timeline, has_timeline, name_at, reach_of, value_of}
-use Rattle.desk_core.specs.World.{MadeFile, World, has_file, file_named, put_set, has_made_buffer, buffer_put_set, has_made_watch, fired_watches, cookies_of}
+use Rattle.desk_core.specs.declared.answer.ShowRow.{ShowRow}
+use Rattle.desk_core.specs.declared.answer.FileRow.{FileRow}
+use Rattle.desk_core.specs.declared.answer.BufferRows.{BufferRows}
+use Rattle.desk_core.specs.Tables.{Tables}
+use Rattle.point_core.specs.declared.entry.Entry.{Entry}
+use Rattle.point_core.specs.declared.listing.TopRow.{TopRow}
+use Rattle.resv_core.specs.Resv.{rows_of}
+use Rattle.timeline_core.specs.Timeline.{Timeline, has_timeline, name_at, reach_of, value_of, rows_of as timeline_rows}
+use Rattle.desk_core.specs.World.{MadeFile, MadeBuffer, World, has_file, file_named, put_set, has_made_buffer, buffer_put_set, has_made_watch, fired_watches, cookies_of}
 use Rattle.point_core.specs.declared.limits.TheConstants.{BUFFERS}
 use Rattle.dmabuf_core.specs.Flags.{is_sync_flags}
 use Rattle.syncfile_core.specs.declared.files.TheConstants.{FILES}
@@ -69,6 +76,8 @@ causes w (command.Watch f cookie) =
     cause (not (has_file w.files f)) NoEntry ∷ cause (has_made_watch w.watches cookie) Exists
     ∷ cause (is_full w) (Limit Watches) ∷ cause (is_signalled w f) AlreadySignalled ∷ []
 causes w (command.Unwatch cookie) = []
+causes w (command.Show b) = cause (not (has_made_buffer w.buffers b)) NoEntry ∷ []
+causes w command.Report = []
 
 -- 1 for yes, 0 for no
 abbrev pub number_if : Bool → ℕ
@@ -106,6 +115,34 @@ abbrev pub info_of : World → List ℕ → Option MadeFile → Info
 info_of w name None = record { name = name; status = Signalled; fences = [] }
 info_of w name (Some f) = record { name = name; status = file_status w f; fences = or_stub (map (fence_row w.timelines) (listed_points f)) }
 
+-- the row of a pending top, with the name of its timeline
+abbrev pub show_row : List Timeline → TopRow → ShowRow
+show_row ts r = record { usage = r.usage; timeline = name_of ts r.ctx; point = r.point }
+
+-- from the strongest usage and by rising context, the pending tops of the entries
+abbrev pub show_rows : List Timeline → List Entry → List ShowRow
+show_rows ts es = map (show_row ts) (rows_of es (reach_of ts))
+
+-- a file without points is shown as one fence, the stub
+abbrev pub fence_count : List Point → ℕ
+fence_count [] = 1
+fence_count (p ∷ ps) = length (p ∷ ps)
+
+abbrev pub file_row : World → MadeFile → FileRow
+file_row w f = record { name = f.name; status = file_status w f; count = fence_count (listed_points f) }
+
+-- a buffer, and the rows of all that was put into it
+abbrev pub buffer_rows : World → MadeBuffer → BufferRows
+buffer_rows w b = record { name = b.name; rows = show_rows w.timelines b.put }
+
+-- the timelines by rising context, the files and the buffers in order of making
+abbrev pub report_of : World → Tables
+report_of w = record {
+  timelines = timeline_rows w.timelines;
+  files = map (file_row w) w.files;
+  buffers = map (buffer_rows w) w.buffers;
+}
+
 -- what the accepted command tells
 abbrev pub told : World → Command → Answer
 told w (command.Timeline t) = answer.Value (length w.timelines + 1)
@@ -124,6 +161,8 @@ told w (command.Test b u) = answer.Value (number_if (all_reached (reach_of w.tim
 told w (command.Trim b) = answer.Done
 told w (command.Watch f cookie) = answer.Done
 told w (command.Unwatch cookie) = answer.Value (number_if (has_made_watch w.watches cookie))
+told w (command.Show b) = answer.Show (show_rows w.timelines (buffer_put_set w.buffers b))
+told w command.Report = answer.Report (report_of w)
 
 abbrev pub refused_or : Option Refusal → Answer → Answer
 refused_or None a = a
@@ -148,6 +187,8 @@ takes_memory fires (command.Test b u) = false
 takes_memory fires (command.Trim b) = false
 takes_memory fires (command.Watch f cookie) = true
 takes_memory fires (command.Unwatch cookie) = false
+takes_memory fires (command.Show b) = true
+takes_memory fires command.Report = true
 
 -- the one answer of the command
 abbrev pub answer_to : World → Command → Answer
@@ -159,6 +200,8 @@ is_refused answer.Done = false
 is_refused (answer.Value n) = false
 is_refused (answer.Raised n fired) = false
 is_refused (answer.Info i) = false
+is_refused (answer.Show rows) = false
+is_refused (answer.Report report) = false
 
 -- a fact that holds where the answer is a refusal
 abbrev pub OnRefused : Answer → Type 0 → Type 0
@@ -167,3 +210,5 @@ OnRefused answer.Done fact = ⊤
 OnRefused (answer.Value n) fact = ⊤
 OnRefused (answer.Raised n fired) fact = ⊤
 OnRefused (answer.Info i) fact = ⊤
+OnRefused (answer.Show rows) fact = ⊤
+OnRefused (answer.Report report) fact = ⊤

@@ -21,6 +21,8 @@ fired_in w (command.Import b f flags) = []
 fired_in w (command.Export f b flags) = []
 fired_in w (command.Test b u) = []
 fired_in w (command.Trim b) = []
+fired_in w (command.Show b) = []
+fired_in w command.Report = []
 fired_in w (command.Watch f cookie) = []
 fired_in w (command.Unwatch cookie) = []
 
@@ -53,4 +55,6 @@ IsLeftBy w x (command.Import b f flags) = ⊤
 IsLeftBy w x (command.Export f b flags) = ⊤
 IsLeftBy w x (command.Test b u) = ⊤
 IsLeftBy w x (command.Trim b) = ⊤
+IsLeftBy w x (command.Show b) = ⊤
+IsLeftBy w x command.Report = ⊤
 IsLeftBy w x (command.Watch f cookie) = ⊤

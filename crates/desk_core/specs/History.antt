@@ -45,6 +45,8 @@ increment_in (command.Test b u) = []
 increment_in (command.Trim b) = []
 increment_in (command.Watch f cookie) = []
 increment_in (command.Unwatch cookie) = []
+increment_in (command.Show b) = []
+increment_in command.Report = []
 
 -- the accepted increments
 abbrev pub increments_in : List Command → List Increment

@@ -11,20 +11,24 @@ use Rattle.point_core.specs.Reach.{value_at, IsAtLeast}
 use Rattle.point_core.specs.declared.entry.Entry.{Entry}
 use Rattle.point_core.specs.Status.{status_if}
 use Rattle.std.specs.List.{list_any}
-use Rattle.timeline_core.specs.Timeline.{Timeline, has_timeline, reach_of, value_of, raised}
+use Rattle.timeline_core.specs.Timeline.{Timeline, has_timeline, reach_of, value_of, raised, rows_of as timeline_rows}
 use Rattle.syncfile_core.specs.SyncFile.{File}
 use Rattle.syncfile_core.specs.Files.{has_file as has_sync_file, file_at as sync_file_at, cause_to_refuse}
 use Rattle.syncfile_core.specs.Merge.{cause_to_refuse_merge}
 use Rattle.dmabuf_core.specs.Flags.{is_sync_flags}
-use Rattle.dmabuf_core.specs.Buffers.{entries_of, has_buffer, cause_to_refuse as cause_to_refuse_buffer, cause_without, cause_by_flags}
+use Rattle.dmabuf_core.specs.Buffers.{Buffer, entries_of, names_of, has_buffer, cause_to_refuse as cause_to_refuse_buffer, cause_without, cause_by_flags}
 use Rattle.fence_core.specs.Watches.{fires, cause_to_refuse_watch}
 use Rattle.desk_core.specs.declared.answer.Info.{Info}
+use Rattle.desk_core.specs.declared.answer.FileRow.{FileRow}
+use Rattle.desk_core.specs.declared.answer.BufferRows.{BufferRows}
+use Rattle.desk_core.specs.Tables.{Tables}
+use Rattle.point_core.specs.declared.listing.TopRow.{TopRow}
 use Rattle.desk_core.specs.declared.answer.Answer.{Answer}
 use Rattle.desk_core.specs.declared.answer.Answer.TheVariants as answer
 use Rattle.desk_core.specs.declared.command.Command.{Command}
 use Rattle.desk_core.specs.declared.command.Command.TheVariants as command
 use Rattle.desk_core.specs.World.{World, after}
-use Rattle.desk_core.specs.Answer.{told, is_refused, fence_row, or_stub}
+use Rattle.desk_core.specs.Answer.{told, is_refused, fence_row, or_stub, show_rows, fence_count}
 use Rattle.desk_core.specs.Desk.{DeskState, Holds}
 use Rattle.desk_core.specs.Sound.{IsSound}
 
@@ -67,6 +71,30 @@ points_at fs name = unwrap_or (option_map (λ (f : File). f.points) (sync_file_a
 abbrev pub fires_kept : DeskState → List ℕ → ℕ → Bool
 fires_kept d t n = list_any (fires (reach_of (raised d.timelines t n))) d.watches.pending
 
+-- each row is of a timeline that was made
+abbrev pub AreRowsMade : ℕ → List TopRow → Type 0
+AreRowsMade made rows = All (λ (r : TopRow). r.ctx ≤ made) rows
+
+-- what is told of a file, by what the desk keeps
+abbrev pub file_row_at : List ℕ → File → FileRow
+file_row_at reach f = record {
+  name = f.name;
+  status = status_if (all_reached reach 0 (as_entries f.points));
+  count = fence_count f.points;
+}
+
+-- what is told of the buffer of that name
+abbrev pub buffer_rows_at : List Timeline → List Buffer → List ℕ → BufferRows
+buffer_rows_at ts bs name = record { name = name; rows = show_rows ts (entries_of bs name) }
+
+-- everything, by what the desk keeps
+abbrev pub report_at : List Timeline → List File → List Buffer → Tables
+report_at ts fs bs = record {
+  timelines = timeline_rows ts;
+  files = map (file_row_at (reach_of ts)) fs;
+  buffers = map (buffer_rows_at ts bs) (names_of bs);
+}
+
 -- why the desk refuses a command, by what it keeps
 abbrev pub cause_of : DeskState → Command → Option Refusal
 cause_of d (command.Timeline t) =
@@ -94,6 +122,8 @@ cause_of d (command.Watch f cookie) =
     then cause_to_refuse_watch d.watches cookie (points_at d.files f) (reach_of d.timelines)
     else Some NoEntry
 cause_of d (command.Unwatch cookie) = None
+cause_of d (command.Show b) = cause_without d.buffers b
+cause_of d command.Report = None
 
 -- the command was done in each world that the desk keeps
 pub record IsDone (old : DeskState) (c : Command) (given : Answer) (new : DeskState) : Type 0 where

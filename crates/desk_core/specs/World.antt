@@ -151,3 +151,5 @@ after w (command.Test b u) = w
 after w (command.Trim b) = w
 after w (command.Watch f cookie) = with_watch w cookie (put_set w.files f)
 after w (command.Unwatch cookie) = record w { watches = watches_without w.watches cookie }
+after w (command.Show b) = w
+after w command.Report = w

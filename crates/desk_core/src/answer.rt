@@ -1,6 +1,7 @@
 // What a command is answered.
 
-use point_core::{Items, Name, Refusal, Status};
+use point_core::{Items, Name, Refusal, Status, Usage};
+use std::marker::Model;
 
 /// The answer of one command.
 #[derive(Debug, Drop, PartialEq, Eq)]
@@ -13,6 +14,11 @@ pub enum Answer {
     Raised(u64, Items<u64>),
     /// File information.
     Info(Info),
+    /// The table of a buffer: for each usage from the strongest and each rising context, the pending top of all that was
+    /// ever put in.
+    Show(Items<ShowRow>),
+    /// Everything that the desk holds.
+    Report(Report),
     /// The command changed nothing.
     Refused(Refusal),
 }
@@ -42,4 +48,51 @@ pub enum Maker {
     SwSync,
     /// The kernel's stub fence, which is always signalled.
     Stub,
+}
+
+/// All timelines, files and buffers, as Linux's debugfs tells of its own.
+#[derive(Debug, Drop, PartialEq, Eq)]
+pub struct Report {
+    /// Each timeline with its value, by rising context.
+    pub timelines: Items<(Name, u64)>,
+    /// The files in order of making. A name made again after a close counts as new.
+    pub files: Items<FileRow>,
+    /// The buffers in order of making, `BUFFERS` at most.
+    pub buffers: Items<BufferRows>,
+}
+
+impl Model for Report {
+    ghost use Rattle.std.specs.Prelude.{◌≤◌, length};
+    ghost use Rattle.point_core.specs.declared.limits.TheConstants.{BUFFERS};
+    ghost use Rattle.desk_core.specs.Tables.{Tables};
+
+    ghost Value = { Tables };
+
+    ghost view = { λ r. record { timelines = r.timelines; files = r.files; buffers = r.buffers } };
+
+    ghost invariant = { λ r. length r.buffers ≤ BUFFERS };
+}
+
+/// A sync file: how many fences file information shows of it, and whether they are signalled.
+#[derive(Clone, Copy, Debug, PartialEq, Eq, Hash)]
+pub struct FileRow {
+    pub name: Name,
+    pub status: Status,
+    /// 1 for a file without points, which is shown as the stub.
+    pub count: u64,
+}
+
+/// A buffer, and the rows of its reservation.
+#[derive(Debug, Drop, PartialEq, Eq)]
+pub struct BufferRows {
+    pub name: Name,
+    pub rows: Items<ShowRow>,
+}
+
+/// The latest pending point of a timeline at a usage or a stronger one.
+#[derive(Clone, Copy, Debug, PartialEq, Eq, Hash)]
+pub struct ShowRow {
+    pub usage: Usage,
+    pub timeline: Name,
+    pub point: u64,
 }

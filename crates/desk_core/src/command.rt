@@ -42,4 +42,8 @@ pub enum Command {
     Watch(Name, u64),
     /// `unwatch COOKIE`: removes the callback of that cookie, as Linux's `dma_fence_remove_callback`.
     Unwatch(u64),
+    /// `show B`: the table of buffer B, as Linux's debugfs tells of a buffer's reservation.
+    Show(Name),
+    /// `report`: all timelines, files and buffers.
+    Report,
 }

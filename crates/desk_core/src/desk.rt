@@ -4,7 +4,7 @@ ghost use Rattle.desk_core.specs.declared.command.Command.{Command};
 
 use crate::answer::Answer;
 use crate::command::Command;
-use crate::info;
+use crate::{info, report};
 use dmabuf_core::{Buffers, SyncFlags};
 use fence_core::{Fence, Watches};
 use point_core::{Items, Name, Point, Refusal, Usage};
@@ -96,6 +96,8 @@ impl Desk {
             Command::Trim(name) => self.trim(&name),
             Command::Watch(name, cookie) => self.watch(&name, cookie),
             Command::Unwatch(cookie) => Ok(self.unwatch(cookie)),
+            Command::Show(name) => self.show(&name),
+            Command::Report => self.report(),
         }
     }
 
@@ -277,5 +279,22 @@ impl Desk {
         ensures done { IsDone self.old (Command.Unwatch cookie) result self.new }
     {
         Answer::Value(u64::from(self.watches.remove(cookie)))
+    }
+
+    fn show(&self, name: &Name) -> Result<Answer, Refusal>
+        ensures refused { IsRefusedFor (cause_of self.now (Command.Show name.now)) result }
+        ensures done { IfOk result (λ given. IsDone self.now (Command.Show name.now) given self.now) }
+    {
+        let tops = self.buffers.table(name, &self.timelines.reach())?;
+        let rows = report::show_rows(self.alloc, &tops, &self.timelines)?;
+        Ok(Answer::Show(Items::of(rows)))
+    }
+
+    fn report(&self) -> Result<Answer, Refusal>
+        ensures refused { IsRefusedFor (cause_of self.now Command.Report) result }
+        ensures done { IfOk result (λ given. IsDone self.now Command.Report given self.now) }
+    {
+        let report = report::of_all(self.alloc, &self.timelines, &self.files, &self.buffers)?;
+        Ok(Answer::Report(report))
     }
 }

@@ -36,7 +36,7 @@ pub fn of_points(
 }
 
 /// Signalled where every point is.
-fn common_status(points: &[Point], reach: &Reach) -> Status
+pub fn common_status(points: &[Point], reach: &Reach) -> Status
     ensures { result ≡ status_if (all_reached reach.now 0 (as_entries points.now)) }
 {
     Status::of(are_signalled(points, reach))

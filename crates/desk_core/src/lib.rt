@@ -9,9 +9,10 @@ mod command;
 mod desk;
 mod info;
 pub mod laws;
+mod report;
 mod runs;
 
-pub use answer::{Answer, FenceRow, Info, Maker};
+pub use answer::{Answer, BufferRows, FenceRow, FileRow, Info, Maker, Report, ShowRow};
 pub use command::Command;
 pub use desk::Desk;
 pub use runs::run;

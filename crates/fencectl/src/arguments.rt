@@ -28,6 +28,8 @@ Script commands:
   trim B             drops needless fences from buffer B     ok
   watch F COOKIE     tells COOKIE once file F is signalled   ok
   unwatch COOKIE     takes that watch away                   ok 1 or ok 0
+  show B             what is pending in buffer B             ok N, then N rows
+  report             everything                              ok N, then N rows
 
 U is kernel, write, read or bookkeep; FLAGS is read, write or rw.
 

@@ -1,10 +1,10 @@
 -- The texts of tables, row by row.
-use Rattle.std.specs.Prelude.{ℕ, List, ◌++◌, length}
-use Rattle.std.specs.List.{flat_map}
+use Rattle.std.specs.Prelude.{ℕ, ◌+◌, List, ◌++◌, length}
+use Rattle.std.specs.List.{flat_map, sum_by}
 use Rattle.report_core.specs.declared.kind.Kind.TheVariants.{Timeline, Buffer, Level}
-use Rattle.report_core.specs.declared.tables.ShowRow.{ShowRow}
-use Rattle.report_core.specs.declared.tables.BufferRows.{BufferRows}
-use Rattle.report_core.specs.declared.tables.Report.{Report}
+use Rattle.desk_core.specs.declared.answer.ShowRow.{ShowRow}
+use Rattle.desk_core.specs.declared.answer.BufferRows.{BufferRows}
+use Rattle.desk_core.specs.Tables.{Tables}
 use Rattle.report_core.specs.Row.{row_text, file_row_text}
 
 abbrev pub show_row_text : ShowRow → List ℕ
@@ -22,8 +22,13 @@ abbrev pub buffer_text : BufferRows → List ℕ
 buffer_text buffer = row_text Buffer buffer.name (length buffer.rows) ++ show_text buffer.rows
 
 -- the timelines, then the files, then the buffers
-abbrev pub report_text : Report → List ℕ
+abbrev pub report_text : Tables → List ℕ
 report_text report =
     flat_map timeline_text report.timelines
     ++ flat_map file_row_text report.files
     ++ flat_map buffer_text report.buffers
+
+-- how many rows that is
+abbrev pub row_count : Tables → ℕ
+row_count report =
+    length report.timelines + length report.files + sum_by (λ (b : BufferRows). length b.rows + 1) report.buffers

@@ -7,10 +7,10 @@ use Rattle.point_core.specs.declared.name.TheConstants.{NAME_BYTES}
 use Rattle.point_core.specs.Name.{is_name_byte}
 use Rattle.point_core.specs.declared.entry.Usage.{Usage}
 use Rattle.desk_core.specs.declared.command.Command.{Command}
-use Rattle.desk_core.specs.declared.command.Command.TheVariants.{Timeline, Inc, Value, Fence, Merge, Close, Wait, Info, Buffer, Add, Import, Export, Test, Trim, Watch, Unwatch}
+use Rattle.desk_core.specs.declared.command.Command.TheVariants.{Timeline, Inc, Value, Fence, Merge, Close, Wait, Info, Buffer, Add, Import, Export, Test, Trim, Watch, Unwatch, Show, Report}
 use Rattle.script_core.specs.Number.{number_of}
 use Rattle.script_core.specs.Usages.{usage_of, flags_of}
-use Rattle.script_core.specs.Words.{one_of, two_of, three_of, four_of}
+use Rattle.script_core.specs.Words.{are_none, one_of, two_of, three_of, four_of}
 
 -- 1 to NAME_BYTES letters, digits, `_`, `.` or `-`
 abbrev pub is_name : List ℕ → Bool
@@ -66,11 +66,17 @@ two_names_and_flags words =
 abbrev pub name_and_usage : List (List ℕ) → Option (List ℕ × Usage)
 name_and_usage words = option_and_then (λ w. both (name_of w.0) (usage_of w.1)) (two_of words)
 
+abbrev pub table_command_from : List ℕ → List (List ℕ) → Option Command
+table_command_from word words =
+    if bytes_eq word (codes "show") then option_map Show (one_name words)
+    else if bytes_eq word (codes "report") && are_none words then Some Report
+    else None
+
 abbrev pub watch_command_from : List ℕ → List (List ℕ) → Option Command
 watch_command_from word words =
     if bytes_eq word (codes "watch") then option_map (λ w. Watch w.0 w.1) (name_and_number words)
     else if bytes_eq word (codes "unwatch") then option_map Unwatch (one_number words)
-    else None
+    else table_command_from word words
 
 abbrev pub buffer_command_from : List ℕ → List (List ℕ) → Option Command
 buffer_command_from word words =

@@ -9,6 +9,9 @@ use Rattle.desk_core.specs.declared.answer.Answer.{Answer}
 use Rattle.desk_core.specs.declared.answer.Answer.TheVariants as answer
 use Rattle.desk_core.specs.declared.answer.Info.{Info}
 use Rattle.desk_core.specs.declared.answer.FenceRow.{FenceRow}
+use Rattle.desk_core.specs.declared.answer.ShowRow.{ShowRow}
+use Rattle.desk_core.specs.Tables.{Tables}
+use Rattle.report_core.specs.Tables.{show_text as rows_text, report_text as tables_text, row_count}
 use Rattle.desk_core.specs.declared.answer.Maker.{Maker}
 use Rattle.desk_core.specs.declared.answer.Maker.TheVariants.{SwSync, Stub}
 
@@ -41,6 +44,13 @@ value_line value = line_text (codes "ok" ∷ decimal value ∷ [])
 abbrev pub raised_text : ℕ → List ℕ → List ℕ
 raised_text value fired = value_line value ++ flat_map fired_text fired
 
+-- the number of the rows, and these
+abbrev pub show_text : List ShowRow → List ℕ
+show_text rows = value_line (length rows) ++ rows_text rows
+
+abbrev pub report_text : Tables → List ℕ
+report_text tables = value_line (row_count tables) ++ tables_text tables
+
 -- what follows the name of a refusal on a line of that number
 abbrev pub details : ℕ → Refusal → List (List ℕ)
 details number Syntax = codes "line" ∷ decimal number ∷ []
@@ -70,4 +80,6 @@ text_of number answer.Done = line_text (codes "ok" ∷ [])
 text_of number (answer.Value n) = value_line n
 text_of number (answer.Raised value fired) = raised_text value fired
 text_of number (answer.Info info) = info_text info
+text_of number (answer.Show rows) = show_text rows
+text_of number (answer.Report tables) = report_text tables
 text_of number (answer.Refused r) = refusal_text number r

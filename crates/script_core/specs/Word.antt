@@ -7,3 +7,4 @@ abbrev pub word_text : Word → List ℕ
 word_text (word.Text text) = text.now
 word_text (word.Name name) = name
 word_text (word.Number n) = decimal n
+word_text (word.Count n) = decimal n

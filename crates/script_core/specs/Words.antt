@@ -13,6 +13,9 @@ is_word bytes = not (length bytes == 0)
 abbrev pub words_of : List ℕ → List (List ℕ)
 words_of line = filter is_word (slice_split is_space line)
 
+abbrev pub are_none : {A : Type 0} → List A → Bool
+are_none words = length words == 0
+
 -- the words, where there are exactly that many
 abbrev pub one_of : {A : Type 0} → List A → Option A
 one_of [] = None

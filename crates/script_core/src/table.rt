@@ -4,10 +4,12 @@ ghost use Rattle.script_core.specs.Words.{words_of};
 ghost use Rattle.script_core.specs.Table.{name_of, one_name, one_number, name_and_number, two_names_and_number};
 ghost use Rattle.script_core.specs.Table.{three_names, two_names_number_and_usage, two_names_and_flags, name_and_usage};
 ghost use Rattle.script_core.specs.Table.{command_from, file_command_from, buffer_command_from, watch_command_from};
+ghost use Rattle.script_core.specs.Table.{table_command_from};
+ghost use Rattle.script_core.specs.Words.{are_none};
 
 use crate::number::number;
 use crate::usages::{flags, usage};
-use crate::words::{four, is, one, three, two};
+use crate::words::{first_word, four, is, one, three, two};
 use desk_core::Command;
 use point_core::{Name, Usage};
 
@@ -71,6 +73,18 @@ fn buffer_command(word: &[u8], rest: &[u8]) -> Option<Command>
     }
 }
 
+fn table_command(word: &[u8], rest: &[u8]) -> Option<Command>
+    ensures command { result ≡ table_command_from word.now (words_of rest.now) }
+{
+    if is(word, "show") {
+        Some(Command::Show(one_name(rest)?))
+    } else if is(word, "report") && has_no_word(rest) {
+        Some(Command::Report)
+    } else {
+        None
+    }
+}
+
 fn watch_command(word: &[u8], rest: &[u8]) -> Option<Command>
     ensures command { result ≡ watch_command_from word.now (words_of rest.now) }
 {
@@ -80,8 +94,14 @@ fn watch_command(word: &[u8], rest: &[u8]) -> Option<Command>
     } else if is(word, "unwatch") {
         Some(Command::Unwatch(one_number(rest)?))
     } else {
-        None
+        table_command(word, rest)
     }
+}
+
+fn has_no_word(rest: &[u8]) -> bool
+    ensures words { result ≡ are_none (words_of rest.now) }
+{
+    first_word(rest).is_none()
 }
 
 fn one_name(rest: &[u8]) -> Option<Name>

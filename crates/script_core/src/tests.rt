@@ -1,5 +1,6 @@
 // The checks of a line, the limits, and readers and writers that go piece by piece, fail or halt.
 mod rows;
+mod tables;
 mod watches;
 
 use crate::{SCRIPT_BYTES, Totals, engine};

@@ -3,10 +3,11 @@ ghost use Rattle.std.specs.Prelude.{◌≡◌, ◌∷◌, ◌++◌, map, OnOk, O
 ghost use Rattle.std.specs.List.{flat_map};
 ghost use Rattle.std.specs.Io.{StartsWith};
 ghost use Rattle.point_core.specs.declared.refusal.Refusal.TheVariants.{Memory};
-ghost use Rattle.script_core.specs.Text.{line_text, fired_text, raised_text, fence_text, info_text, refusal_text, text_of};
+ghost use Rattle.script_core.specs.Text.{line_text, fired_text, raised_text, fence_text, info_text, show_text, report_text};
+ghost use Rattle.script_core.specs.Text.{refusal_text, text_of};
 ghost use Rattle.script_core.specs.Word.{word_text};
 
-use desk_core::{Answer, FenceRow, Info, Maker};
+use desk_core::{Answer, FenceRow, Info, Maker, Report, ShowRow};
 use itoa::Buffer;
 use point_core::{Name, Refusal};
 
@@ -34,6 +35,8 @@ fn push_answer(line: u32, answer: &Answer, out: &mut Vec<u8>) -> Result<(), Refu
         Answer::Value(value) => push_line(out, "ok", &[Word::Number(*value)]),
         Answer::Raised(value, fired) => push_raised(*value, fired.as_slice(), out),
         Answer::Info(info) => push_info(info, out),
+        Answer::Show(rows) => push_show(rows.as_slice(), out),
+        Answer::Report(report) => push_report(report, out),
         Answer::Refused(refusal) => push_refusal(line, *refusal, out),
     }
 }
@@ -99,6 +102,24 @@ fn push_fence(fence: &FenceRow, out: &mut Vec<u8>) -> Result<(), Refusal>
     )
 }
 
+fn push_show(rows: &[ShowRow], out: &mut Vec<u8>) -> Result<(), Refusal>
+    ensures ok { OnOk result (out.new.items ≡ out.old.items ++ show_text rows.now) }
+    ensures err { OnErr result ((result ≡ Err Memory) × StartsWith out.new.items out.old.items) }
+{
+    push_line(out, "ok", &[Word::Number(rows.len() as u64)])?;
+    report_core::show_text(rows, out)?;
+    Ok(())
+}
+
+fn push_report(report: &Report, out: &mut Vec<u8>) -> Result<(), Refusal>
+    ensures ok { OnOk result (out.new.items ≡ out.old.items ++ report_text report.now) }
+    ensures err { OnErr result ((result ≡ Err Memory) × StartsWith out.new.items out.old.items) }
+{
+    push_line(out, "ok", &[Word::Count(report_core::row_count(report))])?;
+    report_core::report_text(report, out)?;
+    Ok(())
+}
+
 fn push_refusal(line: u32, refusal: Refusal, out: &mut Vec<u8>) -> Result<(), Refusal>
     ensures ok { OnOk result (out.new.items ≡ out.old.items ++ refusal_text line refusal) }
     ensures err { OnErr result ((result ≡ Err Memory) × StartsWith out.new.items out.old.items) }
@@ -129,6 +150,7 @@ enum Word {
     Text(&'static str),
     Name(Name),
     Number(u64),
+    Count(u128),
 }
 
 /// A line of output: the words with a space between each two, and a line feed.
@@ -153,6 +175,7 @@ fn push_word(out: &mut Vec<u8>, word: &Word) -> Result<(), Refusal>
         Word::Text(text) => out.extend_from_slice(text.as_bytes())?,
         Word::Name(name) => out.extend_from_slice(name.as_bytes())?,
         Word::Number(number) => out.extend_from_slice(Buffer::new().format(*number).as_bytes())?,
+        Word::Count(count) => out.extend_from_slice(Buffer::new().format(*count).as_bytes())?,
     }
     Ok(())
 }

@@ -165,7 +165,7 @@ fn lines_of_the_table(rt: HostRuntime) -> Result<(), Fail> {
     let a = name(&rt, "a");
     let b = name(&rt, "b");
     let c = name(&rt, "c");
-    let cases: [(&[u8], Option<Command>); 42] = [
+    let cases: [(&[u8], Option<Command>); 46] = [
         (b"timeline a", Some(Command::Timeline(a))),
         (b"inc a 7", Some(Command::Inc(a, 7))),
         (b"inc a", None),
@@ -217,6 +217,10 @@ fn lines_of_the_table(rt: HostRuntime) -> Result<(), Fail> {
         (b"watch 7", None),
         (b"unwatch 7", Some(Command::Unwatch(7))),
         (b"unwatch a", None),
+        (b"show a", Some(Command::Show(a))),
+        (b"show a b", None),
+        (b"report", Some(Command::Report)),
+        (b"report a", None),
     ];
     for (line, wanted) in cases {
         let lines = read_script(rt.alloc(), line)?;

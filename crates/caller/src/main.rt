@@ -1,0 +1,30 @@
+//! A caller of the libraries, as an example: it steps a desk through a frame and reads its answers, and it merges sync
+//! files while a timeline runs on another thread.
+#![tactic(auto)]
+
+mod frame;
+mod running;
+
+use frame::{Frame, draw};
+use point_core::Refusal;
+use running::merge_beside_a_driver;
+use std::io;
+
+fn main(rt: HostRuntime) -> io::Result<()> {
+    match draw(rt.alloc()) {
+        Ok(Frame::Shown) => println!(rt; "the frame was shown")?,
+        Ok(Frame::Late) => println!(rt; "the frame came too late")?,
+        Err(refusal) => tell(&rt, refusal)?,
+    }
+    match merge_beside_a_driver(&rt, rt.alloc()) {
+        Ok(pending) => println!(rt;
+            "the merged file was made, and {pending} of its points is pending"
+        )?,
+        Err(refusal) => tell(&rt, refusal)?,
+    }
+    Ok(())
+}
+
+fn tell(rt: &HostRuntime, refusal: Refusal) -> io::Result<()> {
+    println!(rt; "refused: {refusal}")
+}
