@@ -4,6 +4,7 @@ use Rattle.std.specs.List.{IsDistinct, AllByRecursion, flat_map}
 use Rattle.std.specs.Cmp.Lexicographic.{nat_list_eq_equiv}
 use Rattle.std.proofs.lemmas.Map.Keys.{IsDistinct-head, IsDistinct-tail}
 use Rattle.std.proofs.lemmas.List.Elements.{All-map, All-append, All-nil, All-weaker}
+use Rattle.point_core.specs.declared.limits.TheConstants.{BUFFERS}
 use Rattle.point_core.specs.Named.{same_name, is_named, named}
 use Rattle.point_core.specs.declared.entry.Entry.{Entry}
 use Rattle.point_core.specs.declared.entry.Point.{Point}
@@ -18,7 +19,8 @@ use Rattle.desk_core.proofs.Behind.{AreMade-behind}
 use Rattle.std.specs.Prelude.{IsSome}
 use Rattle.std.specs.List.{list_any}
 use Rattle.std.specs.Option.{option_copied}
-use Rattle.std.proofs.lemmas.List.{map-append, length-map, take_more, get_or-map, get_or_default}
+use Rattle.std.proofs.lemmas.List.{map-append, length-map, length-take, take_more, get_or-map, get_or_default}
+use Rattle.std.proofs.lemmas.Map.Entries.{length-keys_of}
 use Rattle.std.proofs.lemmas.Map.Made.{is_some-lookup}
 use Rattle.std.proofs.lemmas.Option.{same_Some}
 use Rattle.point_core.specs.declared.refusal.Refusal.{Refusal}
@@ -111,3 +113,9 @@ has_buffer-told bs i name h at = is_some-lookup (same_name name) bs ∙ list_any
 pub Memory-told : (T : Type 0) (b : Bool) (e : Refusal) → b ≡ true → IsRefusedFor {T = T} (if b then None else Some NoEntry) (Err e) → e ≡ Memory
 Memory-told T true e is memory = memory
 Memory-told T false e is refused = absurd (cc)
+
+-- there are not more rows than buffers
+pub within-BUFFERS : {T : Type 0} (bs : List Buffer) (row_of : List ℕ → T) (rows : List T) (i : ℕ) → rows ≡ map row_of (take i (names_of bs)) → length bs ≤ BUFFERS → length rows ≤ BUFFERS
+within-BUFFERS bs row_of rows i is within =
+    let names = names_of bs in
+    omega (arith, ap length is, length-map (take i names) row_of, length-take i names, length-keys_of bs, within)

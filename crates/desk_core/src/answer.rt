@@ -70,6 +70,8 @@ impl Model for Report {
 
     ghost view = { λ r. record { timelines = r.timelines; files = r.files; buffers = r.buffers } };
 
+    ghost inverse = { λ t. record { timelines = t.timelines; files = t.files; buffers = t.buffers } };
+
     ghost invariant = { λ r. length r.buffers ≤ BUFFERS };
 }
 

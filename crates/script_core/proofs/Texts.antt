@@ -1,8 +1,5 @@
 -- Lines of output, word by word.
-use Rattle.std.proofs.Common.{◌≡◌, ℕ, List, [], ◌∷◌, ◌++◌, length, drop, map, sym, ap, ◌∙◌, append_assoc, append-nil}
-use Rattle.std.proofs.Math.Seq.{take-append_seam}
-use Rattle.std.proofs.KnownBytes.{starts_with_rest}
-use Rattle.std.specs.Io.{StartsWith}
+use Rattle.std.proofs.Common.{◌≡◌, ℕ, List, [], ◌∷◌, ◌++◌, map, sym, ap, ◌∙◌, append_assoc, append-nil}
 use Rattle.std.specs.List.{flat_map, join_with_byte}
 use Rattle.script_core.specs.declared.text.Word.{Word}
 use Rattle.script_core.specs.Text.{line_text}
@@ -15,9 +12,3 @@ join_with_byte-cons first (w ∷ words) = ap (λ text. first ++ 32 ∷ text) (jo
 pub line_text-words : (old first : List ℕ) (words : List Word) → ((old ++ first) ++ flat_map (λ w. 32 ∷ word_text w) words) ++ 10 ∷ [] ≡ old ++ line_text (first ∷ map word_text words)
 line_text-words old first words =
     ap (λ text. text ++ 10 ∷ []) (append_assoc old first _ ∙ ap (λ text. old ++ text) (sym (join_with_byte-cons first words))) ∙ append_assoc old _ (10 ∷ [])
-
-pub StartsWith-append : (new old more : List ℕ) → new ≡ old ++ more → StartsWith new old
-StartsWith-append new old more e = rw e (take-append_seam old more)
-
-pub StartsWith-trans : (new middle old more : List ℕ) → StartsWith new middle → middle ≡ old ++ more → StartsWith new old
-StartsWith-trans new middle old more s e = StartsWith-append new old (more ++ drop (length middle) new) (starts_with_rest new middle s ∙ ap (λ xs. xs ++ drop (length middle) new) e ∙ append_assoc old more (drop (length middle) new))

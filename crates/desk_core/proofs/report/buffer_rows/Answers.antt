@@ -6,7 +6,7 @@ use Rattle.dmabuf_core.specs.Buffers.{names_of, has_buffer, entries_of}
 use Rattle.desk_core.specs.declared.answer.BufferRows.{BufferRows}
 use Rattle.desk_core.specs.Answer.{show_row}
 use Rattle.desk_core.specs.Keeping.{buffer_rows_at}
-use Rattle.desk_core.proofs.Reporting.{rows_of-made, rows-next, has_buffer-told, Memory-told}
+use Rattle.desk_core.proofs.Reporting.{rows_of-made, rows-next, has_buffer-told, Memory-told, within-BUFFERS}
 use Rattle.desk_core.proofs.report.buffer_rows.Goals as goal
 
 pub show_rows-requires : goal.show_rows-requires
@@ -40,3 +40,8 @@ loop-name-preserved c =
     let is : row ≡ buffer_rows_at ts bs name = ap (λ rows. record { name = name; rows = rows }) shown in
     let rows = rows-next (buffer_rows_at ts bs) c.loop-name.rows.items c.push_reserved.new.self.items row (names_of bs) c.loop-name.name-index name within at c.loop-name.invariant.0 is c.push_reserved.ensures.items in
     (rows, omega (arith, c.push_reserved.ensures.len, c.loop-name.invariant.1), c.push_reserved.ensures.capacity ∙ c.loop-name.invariant.2)
+
+pub returns-clause-within : goal.returns-clause-within
+returns-clause-within c =
+    let bs = c.args.buffers.now in
+    within-BUFFERS bs (buffer_rows_at c.args.timelines.now bs) c.loop-name.rows.items c.loop-name.name-index c.loop-name.invariant.0 c.in_ok-names.ensures.kept.within

@@ -2,7 +2,7 @@ use Rattle.std.proofs.Common.{◌≡◌, ◌++◌, take, ap, ◌∙◌, append_a
 use Rattle.std.specs.List.{flat_map}
 use Rattle.std.proofs.lemmas.Result.{err_from_is_err_and}
 use Rattle.script_core.specs.Text.{value_line, fired_text}
-use Rattle.script_core.proofs.Texts.{StartsWith-trans}
+use Rattle.report_core.proofs.Fronts.{StartsWith-trans}
 use Rattle.script_core.proofs.text.push_raised.Goals as goal
 
 pub returns-in_err-push_fired-clause-err : goal.returns-in_err-push_fired-clause-err
