@@ -1,5 +1,6 @@
 -- What a report tells.
-use Rattle.std.specs.Prelude.{ℕ, List}
+use Rattle.std.specs.Prelude.{ℕ, ◌+◌, List, length}
+use Rattle.std.specs.List.{sum_by}
 use Rattle.desk_core.specs.declared.answer.FileRow.{FileRow}
 use Rattle.desk_core.specs.declared.answer.BufferRows.{BufferRows}
 
@@ -8,3 +9,11 @@ pub record Tables : Type 0 where
   pub timelines : List (List ℕ × ℕ)
   pub files : List FileRow
   pub buffers : List BufferRows
+
+-- a row for the buffer, and its own
+abbrev pub rows_beside : BufferRows → ℕ
+rows_beside b = length b.rows + 1
+
+-- a row for each timeline, file and buffer, and those of each buffer
+abbrev pub row_count : Tables → ℕ
+row_count t = length t.timelines + length t.files + sum_by rows_beside t.buffers

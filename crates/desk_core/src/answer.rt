@@ -1,4 +1,6 @@
 // What a command is answered.
+ghost use Rattle.std.specs.Prelude.{◌≡◌, ◌≤◌, ◌^◌};
+ghost use Rattle.desk_core.specs.Tables.{row_count, rows_beside};
 
 use point_core::{Items, Name, Refusal, Status, Usage};
 use std::marker::Model;
@@ -73,6 +75,29 @@ impl Model for Report {
     ghost inverse = { λ t. record { timelines = t.timelines; files = t.files; buffers = t.buffers } };
 
     ghost invariant = { λ r. length r.buffers ≤ BUFFERS };
+}
+
+impl Report {
+    /// How many rows it has: one for each timeline, file and buffer, and those of each buffer.
+    pub fn row_count(&self) -> u128
+        ensures { result ≡ row_count self.now }
+    {
+        let timelines = self.timelines.as_slice().len() as u128;
+        let files = self.files.as_slice().len() as u128;
+        let mut count = timelines + files;
+        for buffer in self.buffers.as_slice() {
+            count += rows_beside(buffer);
+        }
+        count
+    }
+}
+
+/// A row for the buffer, and its own.
+fn rows_beside(buffer: &BufferRows) -> u128
+    ensures rows { result ≡ rows_beside buffer.now }
+    ensures within { result ≤ 2 ^ 64 }
+{
+    buffer.rows.as_slice().len() as u128 + 1
 }
 
 /// A sync file: how many fences file information shows of it, and whether they are signalled.

@@ -1,6 +1,6 @@
 -- The texts of tables, row by row.
-use Rattle.std.specs.Prelude.{ℕ, ◌+◌, List, ◌++◌, length}
-use Rattle.std.specs.List.{flat_map, sum_by}
+use Rattle.std.specs.Prelude.{ℕ, List, ◌++◌, length}
+use Rattle.std.specs.List.{flat_map}
 use Rattle.report_core.specs.declared.kind.Kind.TheVariants.{Timeline, Buffer, Level}
 use Rattle.desk_core.specs.declared.answer.ShowRow.{ShowRow}
 use Rattle.desk_core.specs.declared.answer.BufferRows.{BufferRows}
@@ -27,8 +27,3 @@ report_text report =
     flat_map timeline_text report.timelines
     ++ flat_map file_row_text report.files
     ++ flat_map buffer_text report.buffers
-
--- how many rows that is
-abbrev pub row_count : Tables → ℕ
-row_count report =
-    length report.timelines + length report.files + sum_by (λ (b : BufferRows). length b.rows + 1) report.buffers

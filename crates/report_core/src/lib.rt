@@ -12,7 +12,7 @@ mod settled;
 mod tests;
 
 pub use kind::Kind;
-pub use report::{report_text, row_count, show_text};
+pub use report::{report_text, show_text};
 pub use rows::{
     COUNT_WIDTH, FILE_ROW_BYTES, KIND_WIDTH, NUMBER_WIDTH, ROW_BYTES, SUBJECT_WIDTH, file_row, row,
 };

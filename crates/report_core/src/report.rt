@@ -4,7 +4,7 @@ ghost use Rattle.std.specs.List.{flat_map};
 ghost use Rattle.std.specs.Io.{StartsWith};
 ghost use Rattle.point_core.specs.declared.refusal.Refusal.TheVariants.{Memory};
 ghost use Rattle.report_core.specs.Row.{file_row_text};
-ghost use Rattle.report_core.specs.Tables.{show_text, timeline_text, buffer_text, report_text, row_count};
+ghost use Rattle.report_core.specs.Tables.{show_text, timeline_text, buffer_text, report_text};
 
 use crate::kind::Kind;
 use crate::rows::{file_row, row};
@@ -36,19 +36,6 @@ pub fn report_text(report: &Report, out: &mut Vec<u8>) -> Result<(), Refusal>
     push_files(out, report.files.as_slice())?;
     push_buffers(out, report.buffers.as_slice())?;
     Ok(())
-}
-
-/// How many rows a report has.
-pub fn row_count(report: &Report) -> u128
-    ensures { result ≡ row_count report.now }
-{
-    let timelines = report.timelines.as_slice().len() as u128;
-    let files = report.files.as_slice().len() as u128;
-    let mut count = timelines + files;
-    for buffer in report.buffers.as_slice() {
-        count += buffer.rows.as_slice().len() as u128 + 1;
-    }
-    count
 }
 
 fn push_timelines(out: &mut Vec<u8>, timelines: &[(Name, u64)]) -> Result<(), Refusal>

@@ -10,8 +10,8 @@ use Rattle.desk_core.specs.declared.answer.Answer.TheVariants as answer
 use Rattle.desk_core.specs.declared.answer.Info.{Info}
 use Rattle.desk_core.specs.declared.answer.FenceRow.{FenceRow}
 use Rattle.desk_core.specs.declared.answer.ShowRow.{ShowRow}
-use Rattle.desk_core.specs.Tables.{Tables}
-use Rattle.report_core.specs.Tables.{show_text as rows_text, report_text as tables_text, row_count}
+use Rattle.desk_core.specs.Tables.{Tables, row_count}
+use Rattle.report_core.specs.Tables.{show_text as rows_text, report_text as tables_text}
 use Rattle.desk_core.specs.declared.answer.Maker.{Maker}
 use Rattle.desk_core.specs.declared.answer.Maker.TheVariants.{SwSync, Stub}
 

@@ -115,7 +115,7 @@ fn push_report(report: &Report, out: &mut Vec<u8>) -> Result<(), Refusal>
     ensures ok { OnOk result (out.new.items ≡ out.old.items ++ report_text report.now) }
     ensures err { OnErr result ((result ≡ Err Memory) × StartsWith out.new.items out.old.items) }
 {
-    push_line(out, "ok", &[Word::Count(report_core::row_count(report))])?;
+    push_line(out, "ok", &[Word::Count(report.row_count())])?;
     report_core::report_text(report, out)?;
     Ok(())
 }
