@@ -2,20 +2,13 @@
 //! files while a timeline runs on another thread.
 #![tactic(auto)]
 
-mod frame;
 mod running;
 
-use frame::{Frame, draw};
 use point_core::Refusal;
 use running::merge_beside_a_driver;
 use std::io;
 
 fn main(rt: HostRuntime) -> io::Result<()> {
-    match draw(rt.alloc()) {
-        Ok(Frame::Shown) => println!(rt; "the frame was shown")?,
-        Ok(Frame::Late) => println!(rt; "the frame came too late")?,
-        Err(refusal) => tell(&rt, refusal)?,
-    }
     match merge_beside_a_driver(&rt, rt.alloc()) {
         Ok(pending) => println!(rt;
             "the merged file was made, and {pending} of its points is pending"
