@@ -2,13 +2,22 @@
 //! files while a timeline runs on another thread.
 #![tactic(auto)]
 
+mod frame;
 mod running;
 
+use frame::{Frame, draw};
 use point_core::Refusal;
 use running::merge_beside_a_driver;
 use std::io;
 
 fn main(rt: HostRuntime) -> io::Result<()> {
+    match draw(rt.alloc()) {
+        Ok((early, late)) => {
+            println!(rt; "before the job's end {}", word_of(early))?;
+            println!(rt; "after the job's end {}", word_of(late))?;
+        }
+        Err(refusal) => tell(&rt, refusal)?,
+    }
     match merge_beside_a_driver(&rt, rt.alloc()) {
         Ok(pending) => println!(rt;
             "the merged file was made, and {pending} of its points is pending"
@@ -16,6 +25,13 @@ fn main(rt: HostRuntime) -> io::Result<()> {
         Err(refusal) => tell(&rt, refusal)?,
     }
     Ok(())
+}
+
+fn word_of(frame: Frame) -> &'static str {
+    match frame {
+        Frame::Shown => "the frame was shown",
+        Frame::Late => "the frame was late",
+    }
 }
 
 fn tell(rt: &HostRuntime, refusal: Refusal) -> io::Result<()> {

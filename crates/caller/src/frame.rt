@@ -1,0 +1,65 @@
+// One frame of a compositor, on a desk: all of the service on one thread.
+
+use desk_core::{Answer, Command, Desk};
+use point_core::{Name, Refusal, Usage};
+use std::alloc::Global;
+
+/// What becomes of a frame at a refresh of the display.
+#[derive(Clone, Copy)]
+pub enum Frame {
+    /// It is drawn, and may be shown.
+    Shown,
+    /// Its buffer may not be read yet.
+    Late,
+}
+
+/// The sync flag of a read, as `DMA_BUF_SYNC_READ`.
+const READ: u32 = 1;
+
+/// A renderer draws a frame into a buffer, and a display looks whether it may be shown: once before the renderer's job
+/// ends, and once after it.
+pub fn draw(alloc: Global) -> Result<(Frame, Frame), Refusal> {
+    let mut desk = Desk::new(alloc)?;
+    draw_on(&mut desk)
+}
+
+/// The same on a desk that has none of its names yet. It takes the desk by reference, so that nothing is dropped where it
+/// ends early: that keeps its proof short.
+fn draw_on(desk: &mut Desk) -> Result<(Frame, Frame), Refusal> {
+    let gpu = name(b"gpu")?;
+    let buffer = name(b"buffer")?;
+    let drawn = name(b"drawn")?;
+    done(desk.step(Command::Timeline(gpu)))?;
+    done(desk.step(Command::Buffer(buffer)))?;
+    // The renderer's job writes the buffer, and ends at point 1 of its timeline.
+    done(desk.step(Command::Add(buffer, gpu, 1, Usage::Write)))?;
+    // The display gets a file of what a reader has to wait for.
+    done(desk.step(Command::Export(drawn, buffer, READ)))?;
+    let early = refresh(desk, drawn)?;
+    // The job ends.
+    done(desk.step(Command::Inc(gpu, 1)))?;
+    Ok((early, refresh(desk, drawn)?))
+}
+
+/// Shows the frame if its file is signalled.
+fn refresh(desk: &mut Desk, file: Name) -> Result<Frame, Refusal> {
+    match desk.step(Command::Wait(file)) {
+        Answer::Refused(Refusal::TimedOut) => Ok(Frame::Late),
+        answer => {
+            done(answer)?;
+            Ok(Frame::Shown)
+        }
+    }
+}
+
+/// Takes any answer but a refusal.
+fn done(answer: Answer) -> Result<(), Refusal> {
+    match answer {
+        Answer::Refused(refusal) => Err(refusal),
+        _ => Ok(()),
+    }
+}
+
+fn name(bytes: &[u8]) -> Result<Name, Refusal> {
+    Name::read(bytes).ok_or(Refusal::Syntax)
+}
