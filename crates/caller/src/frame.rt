@@ -1,4 +1,9 @@
 // One frame of a compositor, on a desk: all of the service on one thread.
+ghost use Rattle.std.specs.Prelude.{◌≡◌, ◌↔◌, List, true, false, IfOk, OnOk};
+ghost use Rattle.desk_core.specs.declared.command.Command.{Command};
+ghost use Rattle.desk_core.specs.Answer.{is_refused, is_signalled};
+ghost use Rattle.desk_core.specs.Desk.{HasHistory};
+ghost use Rattle.desk_core.specs.History.{world_of};
 
 use desk_core::{Answer, Command, Desk};
 use point_core::{Name, Refusal, Usage};
@@ -41,8 +46,12 @@ fn draw_on(desk: &mut Desk) -> Result<(Frame, Frame), Refusal> {
     Ok((early, refresh(desk, drawn)?))
 }
 
-/// Shows the frame if its file is signalled.
-fn refresh(desk: &mut Desk, file: Name) -> Result<Frame, Refusal> {
+/// Shows the frame where its file is signalled: after whatever commands, exactly where all that was ever put into the file
+/// is reached.
+fn refresh(desk: &mut Desk, file: Name) -> Result<Frame, Refusal>
+    ensures shown { (history : List Command) → HasHistory desk.old history →
+        IfOk result (λ frame. (frame ≡ Frame.Shown) ↔ (is_signalled (world_of history) file ≡ true)) }
+{
     match desk.step(Command::Wait(file)) {
         Answer::Refused(Refusal::TimedOut) => Ok(Frame::Late),
         answer => {
@@ -53,7 +62,9 @@ fn refresh(desk: &mut Desk, file: Name) -> Result<Frame, Refusal> {
 }
 
 /// Takes any answer but a refusal.
-fn done(answer: Answer) -> Result<(), Refusal> {
+fn done(answer: Answer) -> Result<(), Refusal>
+    ensures accepted { OnOk result (is_refused answer ≡ false) }
+{
     match answer {
         Answer::Refused(refusal) => Err(refusal),
         _ => Ok(()),
