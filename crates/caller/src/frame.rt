@@ -28,8 +28,7 @@ pub fn draw(alloc: Global) -> Result<(Frame, Frame), Refusal> {
     draw_on(&mut desk)
 }
 
-/// The same on a desk that has none of its names yet. It takes the desk by reference, so that nothing is dropped where it
-/// ends early: that keeps its proof short.
+/// Takes the desk by reference, so that nothing is dropped where it ends early, which keeps its proof short.
 fn draw_on(desk: &mut Desk) -> Result<(Frame, Frame), Refusal> {
     let gpu = name(b"gpu")?;
     let buffer = name(b"buffer")?;
@@ -46,7 +45,7 @@ fn draw_on(desk: &mut Desk) -> Result<(Frame, Frame), Refusal> {
     Ok((early, refresh(desk, drawn)?))
 }
 
-/// Shows the frame where its file is signalled: after whatever commands, exactly where all that was ever put into the file
+/// Shows a frame where its file is signalled: after whatever commands, exactly where all that was ever put into the file
 /// is reached.
 fn refresh(desk: &mut Desk, file: Name) -> Result<Frame, Refusal>
     ensures shown { (history : List Command) → HasHistory desk.old history →
@@ -61,7 +60,7 @@ fn refresh(desk: &mut Desk, file: Name) -> Result<Frame, Refusal>
     }
 }
 
-/// Takes any answer but a refusal.
+/// Refuses as the answer does; any other answer will do.
 fn done(answer: Answer) -> Result<(), Refusal>
     ensures accepted { OnOk result (is_refused answer ≡ false) }
 {

@@ -9,11 +9,13 @@ use std::thread::{Threads, join};
 use syncfile_core::SyncFile;
 use words_core::{Seat, Words};
 
-/// The places of the timelines among the words.
+/// The renderer's timeline: its place among those of the words.
 const RENDERER: usize = 0;
 
+/// The display's.
 const DISPLAY: usize = 1;
 
+/// How many there are.
 const TIMELINES: usize = 2;
 
 /// How far the renderer's timeline is driven, one step at a time.
@@ -51,7 +53,7 @@ fn point(index: usize, value: u64) -> Point
     }
 }
 
-/// Drives on one thread, and merges on another. Each closure requires what its call does.
+/// Drives on one thread, and merges on another. Each closure states what its call requires.
 fn beside(
     rt: &impl Threads,
     alloc: Global,
@@ -75,9 +77,9 @@ fn beside(
     )
 }
 
-/// Advances a timeline that nobody drives yet, step by step, and gives its value.
+/// Advances a timeline that nobody drove yet by `STEPS`, one at a time, and gives its value.
 ///
-/// Refuses as `Exists` where it has a driver.
+/// Refuses as `Exists` where it had a driver.
 fn drive(words: &Words, seat: Seat, ctx: Context) -> Result<u64, Refusal>
     requires own { seat.words ≡ words.now }
     requires context { ctx ≤ words.now.contexts }
