@@ -1,7 +1,7 @@
 // One frame of a compositor, on a desk: all of the service on one thread.
-ghost use Rattle.std.specs.Prelude.{◌≡◌, ◌↔◌, List, true, false, IfOk, OnOk};
+ghost use Rattle.std.specs.Prelude.{◌≡◌, ◌↔◌, List, [], ◌∷◌, ◌++◌, true, IfOk, OnOk};
 ghost use Rattle.desk_core.specs.declared.command.Command.{Command};
-ghost use Rattle.desk_core.specs.Answer.{is_refused, is_signalled};
+ghost use Rattle.desk_core.specs.Answer.{is_signalled};
 ghost use Rattle.desk_core.specs.Desk.{HasHistory};
 ghost use Rattle.desk_core.specs.History.{world_of};
 
@@ -23,25 +23,30 @@ const READ: u32 = 1;
 
 /// A renderer draws a frame into a buffer, and a display looks whether it may be shown: once before the renderer's job
 /// ends, and once after it.
-pub fn draw(alloc: Global) -> Result<(Frame, Frame), Refusal> {
+pub fn draw(alloc: Global) -> Result<(Frame, Frame), Refusal>
+    ensures { IfOk result (λ frames. (frames.0 ≡ Frame.Late) × (frames.1 ≡ Frame.Shown)) }
+{
     let mut desk = Desk::new(alloc)?;
     draw_on(&mut desk)
 }
 
 /// Takes the desk by reference, so that nothing is dropped where it ends early, which keeps its proof short.
-fn draw_on(desk: &mut Desk) -> Result<(Frame, Frame), Refusal> {
+fn draw_on(desk: &mut Desk) -> Result<(Frame, Frame), Refusal>
+    requires { HasHistory desk.old [] }
+    ensures { IfOk result (λ frames. (frames.0 ≡ Frame.Late) × (frames.1 ≡ Frame.Shown)) }
+{
     let gpu = name(b"gpu")?;
     let buffer = name(b"buffer")?;
     let drawn = name(b"drawn")?;
-    done(desk.step(Command::Timeline(gpu)))?;
-    done(desk.step(Command::Buffer(buffer)))?;
+    accept(desk, Command::Timeline(gpu))?;
+    accept(desk, Command::Buffer(buffer))?;
     // The renderer's job writes the buffer, and ends at point 1 of its timeline.
-    done(desk.step(Command::Add(buffer, gpu, 1, Usage::Write)))?;
+    accept(desk, Command::Add(buffer, gpu, 1, Usage::Write))?;
     // The display gets a file of what a reader has to wait for.
-    done(desk.step(Command::Export(drawn, buffer, READ)))?;
+    accept(desk, Command::Export(drawn, buffer, READ))?;
     let early = refresh(desk, drawn)?;
     // The job ends.
-    done(desk.step(Command::Inc(gpu, 1)))?;
+    accept(desk, Command::Inc(gpu, 1))?;
     Ok((early, refresh(desk, drawn)?))
 }
 
@@ -50,26 +55,28 @@ fn draw_on(desk: &mut Desk) -> Result<(Frame, Frame), Refusal> {
 fn refresh(desk: &mut Desk, file: Name) -> Result<Frame, Refusal>
     ensures shown { (history : List Command) → HasHistory desk.old history →
         IfOk result (λ frame. (frame ≡ Frame.Shown) ↔ (is_signalled (world_of history) file ≡ true)) }
+    ensures late { result ≡ Ok Frame.Late → desk.new ≡ desk.old }
 {
     match desk.step(Command::Wait(file)) {
         Answer::Refused(Refusal::TimedOut) => Ok(Frame::Late),
-        answer => {
-            done(answer)?;
-            Ok(Frame::Shown)
-        }
+        Answer::Refused(refusal) => Err(refusal),
+        _ => Ok(Frame::Shown),
     }
 }
 
-/// Refuses as the answer does; any other answer will do.
-fn done(answer: Answer) -> Result<(), Refusal>
-    ensures accepted { OnOk result (is_refused answer ≡ false) }
+/// Steps the desk. Refuses as the answer does; any other answer will do.
+fn accept(desk: &mut Desk, command: Command) -> Result<(), Refusal>
+    ensures { OnOk result ((history : List Command) →
+        HasHistory desk.old history → HasHistory desk.new (history ++ command ∷ [])) }
 {
-    match answer {
+    match desk.step(command) {
         Answer::Refused(refusal) => Err(refusal),
         _ => Ok(()),
     }
 }
 
-fn name(bytes: &[u8]) -> Result<Name, Refusal> {
+fn name(bytes: &[u8]) -> Result<Name, Refusal>
+    ensures { IfOk result (λ name. name ≡ bytes.now) }
+{
     Name::read(bytes).ok_or(Refusal::Syntax)
 }
