@@ -1,53 +1,82 @@
 // One frame of a compositor, on a desk: all of the service on one thread.
+ghost use Rattle.std.specs.Prelude.{◌≡◌, ◌↔◌, List, [], ◌∷◌, ◌++◌, true, IfOk, OnOk};
+ghost use Rattle.desk_core.specs.declared.command.Command.{Command};
+ghost use Rattle.desk_core.specs.Answer.{is_signalled};
+ghost use Rattle.desk_core.specs.Desk.{HasHistory};
+ghost use Rattle.desk_core.specs.History.{world_of};
 
 use desk_core::{Answer, Command, Desk};
 use point_core::{Name, Refusal, Usage};
 use std::alloc::Global;
 
-/// What became of a frame.
+/// What becomes of a frame at a refresh of the display.
+#[derive(Clone, Copy)]
 pub enum Frame {
-    /// It was drawn in time, and shown.
+    /// It is drawn, and may be shown.
     Shown,
-    /// Its buffer could not be read yet.
+    /// Its buffer may not be read yet.
     Late,
-}
-
-/// A renderer draws into a buffer, and a display shows it once the renderer's point is reached.
-pub fn draw(alloc: Global) -> Result<Frame, Refusal> {
-    let gpu = name(b"gpu")?;
-    let buffer = name(b"buffer")?;
-    let shown = name(b"shown")?;
-    let mut desk = Desk::new(alloc)?;
-    done(desk.step(Command::Timeline(gpu)))?;
-    done(desk.step(Command::Buffer(buffer)))?;
-
-    // The renderer's job ends at point 1 of its timeline, and writes the buffer.
-    done(desk.step(Command::Add(buffer, gpu, 1, Usage::Write)))?;
-    // The display's file is what a reader has to wait for.
-    done(desk.step(Command::Export(shown, buffer, READ)))?;
-    // The job ends.
-    done(desk.step(Command::Inc(gpu, 1)))?;
-
-    match desk.step(Command::Wait(shown)) {
-        Answer::Refused(Refusal::TimedOut) => Ok(Frame::Late),
-        answer => {
-            done(answer)?;
-            Ok(Frame::Shown)
-        }
-    }
 }
 
 /// The sync flag of a read, as `DMA_BUF_SYNC_READ`.
 const READ: u32 = 1;
 
-fn name(bytes: &[u8]) -> Result<Name, Refusal> {
-    Name::read(bytes).ok_or(Refusal::Syntax)
+/// A renderer draws a frame into a buffer, and a display looks whether it may be shown: once before the renderer's job
+/// ends, and once after it.
+pub fn draw(alloc: Global) -> Result<(Frame, Frame), Refusal>
+    ensures { IfOk result (λ frames. (frames.0 ≡ Frame.Late) × (frames.1 ≡ Frame.Shown)) }
+{
+    let mut desk = Desk::new(alloc)?;
+    draw_on(&mut desk)
 }
 
-/// Any answer but a refusal.
-fn done(answer: Answer) -> Result<(), Refusal> {
-    match answer {
+/// Takes the desk by reference, so that nothing is dropped where it ends early, which keeps its proof short.
+fn draw_on(desk: &mut Desk) -> Result<(Frame, Frame), Refusal>
+    requires { HasHistory desk.old [] }
+    ensures { IfOk result (λ frames. (frames.0 ≡ Frame.Late) × (frames.1 ≡ Frame.Shown)) }
+{
+    let gpu = name(b"gpu")?;
+    let buffer = name(b"buffer")?;
+    let drawn = name(b"drawn")?;
+    accept(desk, Command::Timeline(gpu))?;
+    accept(desk, Command::Buffer(buffer))?;
+    // The renderer's job writes the buffer, and ends at point 1 of its timeline.
+    accept(desk, Command::Add(buffer, gpu, 1, Usage::Write))?;
+    // The display gets a file of what a reader has to wait for.
+    accept(desk, Command::Export(drawn, buffer, READ))?;
+    let early = refresh(desk, drawn)?;
+    // The job ends.
+    accept(desk, Command::Inc(gpu, 1))?;
+    Ok((early, refresh(desk, drawn)?))
+}
+
+/// Shows a frame where its file is signalled: after whatever commands, exactly where all that was ever put into the file
+/// is reached.
+fn refresh(desk: &mut Desk, file: Name) -> Result<Frame, Refusal>
+    ensures shown { (history : List Command) → HasHistory desk.old history →
+        IfOk result (λ frame. (frame ≡ Frame.Shown) ↔ (is_signalled (world_of history) file ≡ true)) }
+    ensures late { result ≡ Ok Frame.Late → desk.new ≡ desk.old }
+{
+    match desk.step(Command::Wait(file)) {
+        Answer::Refused(Refusal::TimedOut) => Ok(Frame::Late),
+        Answer::Refused(refusal) => Err(refusal),
+        _ => Ok(Frame::Shown),
+    }
+}
+
+/// Steps the desk. Refuses as the answer does; any other answer will do.
+fn accept(desk: &mut Desk, command: Command) -> Result<(), Refusal>
+    ensures { OnOk result ((history : List Command) →
+        HasHistory desk.old history → HasHistory desk.new (history ++ command ∷ [])) }
+{
+    match desk.step(command) {
         Answer::Refused(refusal) => Err(refusal),
         _ => Ok(()),
     }
+}
+
+fn name(bytes: &[u8]) -> Result<Name, Refusal>
+    ensures { IfOk result (λ name. name ≡ bytes.now) }
+{
+    Name::read(bytes).ok_or(Refusal::Syntax)
 }

@@ -12,8 +12,10 @@ use std::io;
 
 fn main(rt: HostRuntime) -> io::Result<()> {
     match draw(rt.alloc()) {
-        Ok(Frame::Shown) => println!(rt; "the frame was shown")?,
-        Ok(Frame::Late) => println!(rt; "the frame came too late")?,
+        Ok((early, late)) => {
+            println!(rt; "before the job's end {}", word_of(early))?;
+            println!(rt; "after the job's end {}", word_of(late))?;
+        }
         Err(refusal) => tell(&rt, refusal)?,
     }
     match merge_beside_a_driver(&rt, rt.alloc()) {
@@ -23,6 +25,13 @@ fn main(rt: HostRuntime) -> io::Result<()> {
         Err(refusal) => tell(&rt, refusal)?,
     }
     Ok(())
+}
+
+fn word_of(frame: Frame) -> &'static str {
+    match frame {
+        Frame::Shown => "the frame was shown",
+        Frame::Late => "the frame was late",
+    }
 }
 
 fn tell(rt: &HostRuntime, refusal: Refusal) -> io::Result<()> {

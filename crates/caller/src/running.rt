@@ -1,5 +1,7 @@
 // Sync files beside a running timeline, on two threads.
-ghost use Rattle.std.specs.Prelude.{◌≡◌, ◌≤◌};
+ghost use Rattle.std.specs.Prelude.{◌≡◌, ◌<◌, ◌≤◌, List, ◌++◌, IfOk};
+ghost use Rattle.point_core.specs.declared.entry.Entry.{Entry};
+ghost use Rattle.syncfile_core.specs.SyncFile.{StandsFor};
 
 use point_core::{Context, Name, Point, Refusal};
 use std::alloc::Global;
@@ -7,70 +9,104 @@ use std::thread::{Threads, join};
 use syncfile_core::SyncFile;
 use words_core::{Seat, Words};
 
-/// Merges a file of each of two timelines while the first of them runs, once its points are signalled. Gives how many
-/// points of the merged file are pending.
+/// The renderer's timeline: its place among those of the words.
+const RENDERER: usize = 0;
+
+/// The display's.
+const DISPLAY: usize = 1;
+
+/// How many there are.
+const TIMELINES: usize = 2;
+
+/// How far the renderer's timeline is driven, one step at a time.
+const STEPS: u64 = 1_000;
+
+/// The renderer's point at which the frame is drawn. Its timeline runs on behind it.
+const DRAWN: u64 = 500;
+
+/// How often a file is polled before it counts as late.
+const TRIES: u32 = 100_000_000;
+
+/// Drives the renderer's timeline on one thread. On another, waits until a frame is drawn, and merges its file with one
+/// of the display, whose timeline stands still. Gives how many points of the merged file are pending: the display's,
+/// whatever the schedule.
+///
+/// Refuses as `TimedOut` where the frame was late, and as `Memory` where there is none.
 pub fn merge_beside_a_driver(rt: &impl Threads, alloc: Global) -> Result<usize, Refusal> {
-    let (words, mut seat) = Words::new(alloc, 2, 0, 0)?;
+    let (words, mut seat) = Words::new(alloc, TIMELINES, 0, 0)?;
     let name = Name::read(b"frame").ok_or(Refusal::Syntax)?;
-    let drawn = SyncFile::plain(alloc, name, point(1, 1_000)?)?;
-    let free = SyncFile::plain(alloc, name, point(2, 1)?)?;
+    let drawn = SyncFile::plain(alloc, name, point(RENDERER, DRAWN))?;
+    let shown = SyncFile::plain(alloc, name, point(DISPLAY, 1))?;
+    // Each thread steps with a seat of its own.
     let driving = words.part(&mut seat, 1);
-    let (driven, merged) = beside(rt, alloc, &words, (driving, seat), (&drawn, &free));
-    driven.ok_or(Refusal::Exists)?;
-    merged
+    let (driven, merged) = beside(rt, alloc, &words, (driving, seat), (&drawn, &shown));
+    driven?;
+    Ok(merged?.points.as_slice().len())
 }
 
-fn point(number: u16, value: u64) -> Result<Point, Refusal> {
-    let ctx = Context::new(number).ok_or(Refusal::NoEntry)?;
-    Ok(Point { ctx, value })
+fn point(index: usize, value: u64) -> Point
+    requires { index < TIMELINES }
+{
+    Point {
+        ctx: Context::at(index),
+        value,
+    }
 }
 
-/// Drives the first timeline on one thread, and merges on another.
+/// Drives on one thread, and merges on another. Each closure states what its call requires.
 fn beside(
     rt: &impl Threads,
     alloc: Global,
     words: &Words,
     seats: (Seat, Seat),
     files: (&SyncFile, &SyncFile),
-) -> (Option<u64>, Result<usize, Refusal>)
+) -> (Result<u64, Refusal>, Result<SyncFile, Refusal>)
     requires own { (seats.0.words ≡ words.now) × (seats.1.words ≡ words.now) }
-    requires context { 1 ≤ words.now.contexts }
+    requires renderer { RENDERER < words.now.contexts }
 {
-    let (driving, merging) = seats;
+    let (driving, mut merging) = seats;
+    let (drawn, shown) = files;
     join(
         rt,
-        move || -> Option<u64>
-            requires { (driving.words ≡ words.now) × (1 ≤ words.now.contexts) }
-        { drive(words, driving, Context::at(0)) },
-        move || -> Result<usize, Refusal>
+        move || -> Result<u64, Refusal>
+            requires { (driving.words ≡ words.now) × (RENDERER < words.now.contexts) }
+        { drive(words, driving, Context::at(RENDERER)) },
+        move || -> Result<SyncFile, Refusal>
             requires { merging.words ≡ words.now }
-        { merge(alloc, files, words, merging) },
+        { merge_once_drawn(alloc, drawn, shown, words, &mut merging) },
     )
 }
 
-/// Raises a timeline by a thousand steps, and gives its value, or none where it had a driver already.
-fn drive(words: &Words, driving: Seat, ctx: Context) -> Option<u64>
-    requires own { driving.words ≡ words.now }
+/// Advances a timeline that nobody drove yet by `STEPS`, one at a time, and gives its value.
+///
+/// Refuses as `Exists` where it had a driver.
+fn drive(words: &Words, seat: Seat, ctx: Context) -> Result<u64, Refusal>
+    requires own { seat.words ≡ words.now }
     requires context { ctx ≤ words.now.contexts }
+    ensures { IfOk result (λ value. value ≡ STEPS) }
 {
-    let mut driver = words.driver(driving, ctx).ok()?;
-    for _ in 0..1_000u32 {
-        driver.inc(words, 1).ok()?;
+    let mut driver = words.driver(seat, ctx).map_err(|(refusal, _)| refusal)?;
+    for _ in 0..STEPS {
+        driver.inc(words, 1)?;
     }
-    Some(driver.value())
+    Ok(driver.value())
 }
 
-/// Waits for the first file by polling, merges both, and counts what is pending.
-fn merge(
+/// Waits for a file by polling it, and merges it with another.
+///
+/// Refuses as `TimedOut` where the file was not signalled in so many polls, as `Foreign` where a file is of other words,
+/// and as `Memory`.
+fn merge_once_drawn(
     alloc: Global,
-    files: (&SyncFile, &SyncFile),
+    drawn: &SyncFile,
+    shown: &SyncFile,
     words: &Words,
-    mut seat: Seat,
-) -> Result<usize, Refusal>
-    requires own { seat.words ≡ words.now }
+    seat: &mut Seat,
+) -> Result<SyncFile, Refusal>
+    requires own { seat.old.words ≡ words.now }
+    ensures union { IfOk result (λ merged. (one other : List Entry) →
+        StandsFor drawn.now one → StandsFor shown.now other → StandsFor merged (one ++ other)) }
 {
-    let (drawn, free) = files;
-    drawn.wait_for(words, &mut seat, 100_000_000)?;
-    let merged = SyncFile::merge_with(alloc, drawn.name, drawn, free, words, &mut seat)?;
-    Ok(merged.points.as_slice().len())
+    drawn.wait_for(words, seat, TRIES)?;
+    SyncFile::merge_with(alloc, drawn.name, drawn, shown, words, seat)
 }
