@@ -1,7 +1,9 @@
 pub mod Clients
 pub mod LockedBuffer
 pub mod Looks
+pub mod OwnPuts
 pub mod Plans
+pub mod Rounds
 pub use Rattle.resv_core.specs.Resv
 pub use Rattle.resv_core.specs.Settled
 pub use Rattle.resv_core.specs.Shared

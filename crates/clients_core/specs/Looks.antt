@@ -1,13 +1,11 @@
 -- What a client's look must show of its own puts.
-use Rattle.std.specs.Prelude.{ℕ, ◌==◌, nat_le, Bool, not, ◌&&◌, ◌||◌}
+use Rattle.std.specs.Prelude.{ℕ, ◌==◌, nat_le, Bool, not, ◌&&◌, ◌||◌, List}
 use Rattle.std.specs.List.{list_all, list_any}
 use Rattle.point_core.specs.declared.entry.Point.{Point}
 use Rattle.point_core.specs.declared.entry.Entry.{Entry}
 use Rattle.point_core.specs.declared.listing.Listing.{Listing}
 use Rattle.point_core.specs.Reach.{is_reached}
 use Rattle.point_core.specs.Usage.{usage_number}
-use Rattle.resv_core.specs.declared.plan.Act.{Act}
-use Rattle.resv_core.specs.Settled.{put_by}
 
 -- the point is of the same context and at least as late
 abbrev pub is_as_late : Point → Point → Bool
@@ -21,6 +19,6 @@ shows_point listing point = is_reached listing.floor point || list_any (is_as_la
 abbrev pub shows_entry : Listing → ℕ → Entry → Bool
 shows_entry listing usage e = not (nat_le (usage_number e.usage) usage) || shows_point listing e.point
 
--- it does for what the act puts into the buffer
-abbrev pub shows_act : Listing → ℕ → ℕ → Act → Bool
-shows_act listing usage buffer act = list_all (shows_entry listing usage) (put_by buffer act)
+-- it does of each entry
+abbrev pub shows_all : Listing → ℕ → List Entry → Bool
+shows_all listing usage es = list_all (shows_entry listing usage) es

@@ -1,11 +1,11 @@
 // What one client does.
-ghost use Rattle.std.specs.Prelude.{◌≡◌, ◌+◌, ◌^◌, ◌<◌, ◌≤◌, All, IfErr, OnOk};
+ghost use Rattle.std.specs.Prelude.{◌≡◌, ◌+◌, ◌^◌, ◌<◌, ◌≤◌, length, All, IfErr, OnOk};
 ghost use Rattle.clients_core.specs.Clients.{IsClientRefusal, IsSinglePart, IsDriving};
 ghost use Rattle.resv_core.specs.Settled.{IsWithin, increment_by, increments_of};
 
 use crate::gate::Gate;
-use crate::looks::shows_puts;
-use point_core::Refusal;
+use crate::own_puts::{OwnPuts, no_puts};
+use point_core::{Entry, Point, Refusal};
 use resv_core::{Act, SharedTable};
 use std::alloc::Global;
 use std::sync::Wait;
@@ -38,22 +38,23 @@ pub(crate) fn act_all<R: Wait, T: SharedTable, G: Gate>(
     ensures seats { IsSinglePart shared.now.words.now seat.new × IsDriving shared.now.words.now driver.new }
     ensures refusals { IfErr result IsClientRefusal }
 {
+    let mut own = no_puts(shared.alloc, shared.words.buffers())?;
     for (place, act) in acts.iter().enumerate() {
         if !shared.gate.enter(client, place) {
             return Err(Refusal::TimedOut);
         }
-        let done = act_once(shared, act, &acts[..place], driver, seat);
+        let done = act_once(shared, act, own.as_mut_slice(), driver, seat);
         shared.gate.leave(client, place);
         done?;
     }
     Ok(())
 }
 
-/// One act, after those before it.
+/// One act, after what its client has put before it.
 fn act_once<R: Wait, T: SharedTable, G: Gate>(
     shared: &Shared<R, T, G>,
     act: &Act,
-    before: &[Act],
+    own: &mut [OwnPuts],
     driver: &mut Driver,
     seat: &mut Seat,
 ) -> Result<(), Refusal>
@@ -61,6 +62,7 @@ fn act_once<R: Wait, T: SharedTable, G: Gate>(
     requires driver { IsDriving shared.now.words.now driver.old }
     requires within { IsWithin shared.now.words.now.contexts shared.now.words.now.buffers act.now }
     requires fits { driver.old.value + increment_by act.now < 2 ^ 64 }
+    requires buffers { length own.old ≡ shared.now.words.now.buffers }
     ensures seats { IsSinglePart shared.now.words.now seat.new × IsDriving shared.now.words.now driver.new }
     ensures advanced { OnOk result (driver.new.value ≡ driver.old.value + increment_by act.now) }
     ensures refusals { IfErr result IsClientRefusal }
@@ -70,21 +72,24 @@ fn act_once<R: Wait, T: SharedTable, G: Gate>(
             driver.inc(shared.words, n)?;
         }
         Act::Put(buffer, point, usage) => {
+            let Point { ctx, value } = point;
             shared.table.put(
                 shared.rt,
                 shared.alloc,
                 shared.words,
                 seat,
                 buffer,
-                point,
+                Point { ctx, value },
                 usage,
             )?;
+            let point = Point { ctx, value };
+            own[buffer].put(&Entry { point, usage });
         }
         Act::Look(buffer, usage) => {
             let listing = shared
                 .table
                 .export(shared.rt, shared.alloc, shared.words, seat, buffer, usage)?;
-            if !shows_puts(&listing, buffer, usage, before) {
+            if !own[buffer].are_shown(&listing, usage) {
                 return Err(Refusal::Torn);
             }
         }

@@ -11,8 +11,9 @@ mod gate;
 mod gathered;
 mod locked_buffer;
 mod locked_table;
-mod looks;
+mod own_puts;
 mod plans;
+mod rounds;
 mod workers;
 
 pub use clients::run_clients;
@@ -20,6 +21,7 @@ pub use gate::{Gate, OpenGate};
 pub use locked_buffer::LockedBuffer;
 pub use locked_table::LockedTable;
 pub use plans::{ACTS, CLIENTS};
+pub use rounds::{ROUND_BUFFERS, ROUNDS, plans_of_rounds};
 
 #[cfg(test)]
 mod tests;

@@ -1,9 +1,15 @@
 // The command line.
+ghost use Rattle.std.specs.Prelude.{◌≤◌, IfOk};
+ghost use Rattle.clients_core.specs.declared.plans.TheConstants.{CLIENTS};
+ghost use Rattle.clients_core.specs.declared.rounds.TheConstants.{ROUNDS};
 
-use clap::{Arg, ArgMatches, Command};
+use clap::{Arg, ArgMatches, Command, value_parser};
+use clients_core::{CLIENTS, ROUNDS};
+use point_core::{LimitKind, Refusal};
 use std::alloc::{AllocError, Global};
 
-const ABOUT: &str = "Runs a script of GPU fence commands, and prints their answers";
+const ABOUT: &str =
+    "Runs a script of GPU fence commands and prints their answers, or runs clients on threads";
 
 /// The version, and the kit whose prover and compiler made the program.
 const VERSION: &str = "0.1.0 (proved with rattle-kit-13b logic dac8208d650f15bf)";
@@ -45,13 +51,17 @@ A refused line is answered `err NUMBER NAME`, and changes nothing:
 
 The script language is documented in docs/SCRIPT.md.
 
-Exit status:
-  0  every line was accepted
-  1  a line was refused
-  2  wrong usage, or a fault of reading, writing or memory
+Clients run on threads, each with a timeline of its own, and share two buffers; docs/CLIENTS.md says what they do. What
+they settle is the same in every run: a row for each timeline, and for each buffer the points that are pending.
 
-Example:
+Exit status:
+  0  every line was accepted, or the clients settled
+  1  a line was refused
+  2  wrong usage, or a fault of reading, writing, memory or threads
+
+Examples:
   printf 'timeline gpu\\nfence frame gpu 5\\ninfo frame\\n' | fencectl
+  fencectl clients 2 3
 ";
 
 /// The word for standard input, in the place of a file's name.
@@ -59,7 +69,15 @@ pub const STANDARD_INPUT: &str = "-";
 
 const FILE: &str = "FILE";
 
-/// The program's command line: `run`, with a file or without, or nothing for the script of standard input.
+/// The word for a run of clients, and the numbers behind it.
+const CLIENTS_WORD: &str = "clients";
+
+const COUNT: &str = "N";
+
+const ROUNDS_WORD: &str = "ROUNDS";
+
+/// The program's command line: `run`, with a file or without, or nothing for the script of standard input; or `clients`
+/// with two numbers.
 pub fn command<'a>(alloc: Global) -> Result<Command<'a>, AllocError> {
     let file = Arg::new(alloc, FILE)
         .default_value(STANDARD_INPUT)
@@ -69,13 +87,26 @@ pub fn command<'a>(alloc: Global) -> Result<Command<'a>, AllocError> {
             "Runs the script of a file; without one that of standard input, as no word at all does",
         )
         .arg(file)?;
+    let count = Arg::new(alloc, COUNT)
+        .required(true)
+        .value_parser(value_parser!(u16).range(1..=CLIENTS as i64))
+        .help("How many clients, 1 to 8");
+    let rounds = Arg::new(alloc, ROUNDS_WORD)
+        .required(true)
+        .value_parser(value_parser!(u16).range(1..=ROUNDS as i64))
+        .help("How many rounds each of them makes, 1 to 10000");
+    let clients = Command::new(alloc, CLIENTS_WORD)
+        .about("Runs clients on threads against shared buffers, and prints what they settle")
+        .arg(count)?
+        .arg(rounds)?;
     Command::new(alloc, "fencectl")
         .bin_name("fencectl")?
         .version(VERSION)
         .about(ABOUT)
         .after_help(HELP)
         .subcommand_help_heading("Subcommands")
-        .subcommand(run)
+        .subcommand(run)?
+        .subcommand(clients)
 }
 
 /// The file that is named behind `run`, or standard input.
@@ -84,4 +115,27 @@ pub fn file_of<'a>(matches: &ArgMatches<'a>) -> &'a str {
         Some(run) => run.get_str(FILE).unwrap_or(STANDARD_INPUT),
         None => STANDARD_INPUT,
     }
+}
+
+/// What stands behind `clients`, if that is the word.
+pub fn clients_of<'m, 'a>(matches: &'m ArgMatches<'a>) -> Option<&'m ArgMatches<'a>> {
+    matches.subcommand_matches(CLIENTS_WORD)
+}
+
+/// The number of clients and the number of rounds.
+///
+/// Refuses as `Limit` of the clients or of the plan where one is not in its range, which the command line refuses before.
+pub fn counts_of(matches: &ArgMatches<'_>) -> Result<(usize, u64), Refusal>
+    ensures clients { IfOk result (λ counts. (1 ≤ counts.0) × (counts.0 ≤ CLIENTS)) }
+    ensures rounds { IfOk result (λ counts. (1 ≤ counts.1) × (counts.1 ≤ ROUNDS)) }
+{
+    let clients = matches.get_one::<u16>(COUNT).map_or(0, usize::from);
+    if !(1..=CLIENTS).contains(&clients) {
+        return Err(Refusal::Limit(LimitKind::Clients));
+    }
+    let rounds = matches.get_one::<u16>(ROUNDS_WORD).map_or(0, u64::from);
+    if !(1..=ROUNDS).contains(&rounds) {
+        return Err(Refusal::Limit(LimitKind::Plan));
+    }
+    Ok((clients, rounds))
 }

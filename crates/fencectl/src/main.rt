@@ -1,29 +1,34 @@
 //! `fencectl`: reads a script of fence commands from standard input or a file, and prints their answers on standard
-//! output.
+//! output; or runs clients on threads, and prints what they settle.
 #![tactic(auto)]
 
 mod arguments;
+mod clients;
 mod fault;
 mod source;
 mod status;
 mod usage;
 
-use arguments::{STANDARD_INPUT, command, file_of};
+use arguments::{STANDARD_INPUT, clients_of, command, counts_of, file_of};
+use clap::ArgMatches;
+pub use clients::clients_report;
 pub use fault::tell_fault;
 use point_core::Refusal;
 use script_core::{Totals, engine};
 use source::Source;
-use status::status_of_run;
+use status::{ACCEPTED, status_of_run};
 use std::process::ExitCode;
+use std::sync::Wait;
+use std::thread::Threads;
 use std::{env, fs, io};
 
 fn main(rt: HostRuntime) -> ExitCode {
-    let status = start(&rt).unwrap_or_else(|refusal| tell_fault(&refusal, &mut rt.stderr()));
+    let status = start(&rt, &rt).unwrap_or_else(|refusal| tell_fault(&refusal, &mut rt.stderr()));
     ExitCode::from(status)
 }
 
 /// Reads the command line, and does what it says. Gives the exit status.
-fn start(rt: &HostRuntime) -> Result<u8, Refusal> {
+fn start<T: Threads + Wait + Sync>(rt: &HostRuntime, threads: &T) -> Result<u8, Refusal> {
     let alloc = rt.alloc();
     let words: Vec<String> = match env::args(rt) {
         Ok(words) => words.collect(alloc)?,
@@ -31,9 +36,23 @@ fn start(rt: &HostRuntime) -> Result<u8, Refusal> {
     };
     let command = command(alloc)?;
     match command.try_get_matches_from(words.as_slice()) {
-        Ok(matches) => Ok(run(rt, file_of(&matches))),
+        Ok(matches) => match clients_of(&matches) {
+            Some(asked) => run_clients(rt, threads, asked),
+            None => Ok(run(rt, file_of(&matches))),
+        },
         Err(error) => usage::tell_error(rt, &error),
     }
+}
+
+/// Runs the clients that were asked for, and prints what they settle. Gives the exit status.
+fn run_clients<T: Threads + Wait + Sync>(
+    rt: &HostRuntime,
+    threads: &T,
+    asked: &ArgMatches,
+) -> Result<u8, Refusal> {
+    let (clients, rounds) = counts_of(asked)?;
+    clients_report(threads, rt.alloc(), clients, rounds, &mut rt.stdout())?;
+    Ok(ACCEPTED)
 }
 
 /// Runs the script of that file, or of standard input. Gives the exit status.

@@ -10,7 +10,7 @@ use script_core::Totals;
 use std::io::Write;
 
 /// Every line was accepted.
-const ACCEPTED: u8 = 0;
+pub(crate) const ACCEPTED: u8 = 0;
 /// A line was refused.
 const REFUSED: u8 = 1;
 

@@ -2,7 +2,9 @@
 ghost use Rattle.std.specs.Prelude.{◌≡◌, ◌≤◌, vec_len, IfOk};
 ghost use Rattle.resv_core.specs.Settled.{ArePlansWithin};
 
-use crate::{ACTS, CLIENTS, Gate, LockedTable, OpenGate, run_clients};
+use crate::{
+    ACTS, CLIENTS, Gate, LockedTable, OpenGate, ROUND_BUFFERS, plans_of_rounds, run_clients,
+};
 use point_core::{Context, LimitKind, Point, Refusal, TopRow, Usage};
 use resv_core::{Act, Plan, Settled, SharedTable};
 use std::alloc::Global;
@@ -34,40 +36,6 @@ fn settled_alone<R: Threads + Wait + Sync>(
     settled_by(rt, alloc, plans.as_slice(), &OpenGate)
 }
 
-/// The plan of client i in a run of so many rounds: it puts fences of its own timeline into one buffer and of the next
-/// timeline into the other, advances its own, and looks.
-fn round_plan(alloc: Global, own: Context, next: Context, rounds: u16) -> Result<Plan, Fail> {
-    let mut acts = Vec::new(alloc);
-    for round in 1..=u64::from(rounds) {
-        let write = Point {
-            ctx: own,
-            value: 2 * round,
-        };
-        let read = Point {
-            ctx: next,
-            value: 3 * round,
-        };
-        acts.push(Act::Put(0, write, Usage::Write))?;
-        acts.push(Act::Inc(1))?;
-        acts.push(Act::Put(1, read, Usage::Read))?;
-        acts.push(Act::Look(0, Usage::Read))?;
-    }
-    Ok(Plan::of(acts))
-}
-
-/// One such plan for each client.
-fn round_plans(alloc: Global, clients: usize, rounds: u16) -> Result<Vec<Plan>, Fail>
-    requires clients { clients ≤ 8 }
-{
-    let mut plans = Vec::new(alloc);
-    for index in 0..clients {
-        let next = if index + 1 < clients { index + 1 } else { 0 };
-        let plan = round_plan(alloc, Context::at(index), Context::at(next), rounds)?;
-        plans.push(plan)?;
-    }
-    Ok(plans)
-}
-
 /// Rows of one point of each client, at these usages.
 fn rows_of(alloc: Global, usages: &[Usage], clients: usize, point: u64) -> Result<Vec<TopRow>, Fail>
     requires clients { clients ≤ 8 }
@@ -91,16 +59,16 @@ fn settle_alike<R: Threads + Wait + Sync>(
     alloc: Global,
     clients: usize,
 ) -> Result<bool, Fail>
-    requires clients { clients ≤ 8 }
+    requires clients { (1 ≤ clients) × (clients ≤ 8) }
 {
-    let plans = round_plans(alloc, clients, 100)?;
+    let plans = plans_of_rounds(alloc, clients, 100)?;
     let usages = [Usage::Write, Usage::Read, Usage::Bookkeep];
     let writes = rows_of(alloc, &usages, clients, 200)?;
     let reads = rows_of(alloc, &usages[1..], clients, 300)?;
     let (settled, _) = run_clients::<R, LockedTable, OpenGate>(
         rt,
         alloc,
-        2,
+        ROUND_BUFFERS,
         plans.as_slice(),
         &OpenGate,
     )?;

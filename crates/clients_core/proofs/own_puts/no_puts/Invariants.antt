@@ -1,0 +1,8 @@
+use Rattle.std.proofs.Common.{◌≡◌, vec_len, vec_capacity}
+use Rattle.clients_core.proofs.own_puts.no_puts.Given as goal
+
+abbrev pub invariant-loop : goal.invariant-loop
+invariant-loop l = record {
+  len : vec_len l.own ≡ l.counter;
+  places : vec_capacity l.own ≡ l.buffers;
+}

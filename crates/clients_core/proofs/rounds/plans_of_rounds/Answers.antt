@@ -1,0 +1,45 @@
+use Rattle.std.proofs.Common.{◌≡◌, ◌+◌, ◌++◌, ◌∷◌, [], ℕ, List, map, sym, ap, ◌∙◌, arith}
+use Rattle.std.specs.List.{range_with_len}
+use Rattle.std.proofs.lemmas.List.FromFn.{map-range_with_len_more}
+use Rattle.resv_core.specs.declared.plan.Act.{Act}
+use Rattle.clients_core.specs.Rounds.{next_client, rounds_of, plans_of_rounds}
+use Rattle.clients_core.proofs.PlansOfRounds.{accepted-rounds, values-rounds}
+use Rattle.clients_core.proofs.rounds.plans_of_rounds.Goals as goal
+
+pub loop-index-preserved : goal.loop-index-preserved
+loop-index-preserved c =
+    let clients = c.args.clients in
+    let rounds = c.args.rounds in
+    let n = c.loop-index.index in
+    let plan : ℕ → List Act = λ client. rounds_of rounds client (next_client clients client) in
+    let here : 1 + n ≡ n + 1 = omega arith in
+    let own : c.at.result ≡ n + 1 = omega arith in
+    let next : c.at-next.result ≡ next_client clients (n + 1) = c.at-next.ensures ∙ c.place_after.ensures.next in
+    let acts : c.in_ok-plan.plan ≡ plan (n + 1) = c.in_ok-plan.ensures.acts ∙ ap (λ (client : ℕ). rounds_of rounds client c.at-next.result) own ∙ ap (rounds_of rounds (n + 1)) next in
+    record {
+      plans =
+          c.push_reserved.ensures.items
+          ∙ ap (λ (plans : List (List Act)). plans ++ c.in_ok-plan.plan ∷ []) c.loop-index.invariant.plans
+          ∙ ap (λ (acts : List Act). map plan (range_with_len 1 n) ++ acts ∷ []) acts
+          ∙ sym (map-range_with_len_more plan 1 n (n + 1) here);
+      len = omega arith;
+      places = c.push_reserved.ensures.capacity ∙ c.loop-index.invariant.places;
+    }
+
+pub returns-clause-accepted : goal.returns-clause-accepted
+returns-clause-accepted c =
+    let clients = c.args.clients in
+    let rounds = c.args.rounds in
+    let plan : ℕ → List Act = λ client. rounds_of rounds client (next_client clients client) in
+    let all : c.loop-index.index ≡ clients = omega arith in
+    let whole : c.loop-index.plans.items ≡ plans_of_rounds clients rounds = c.loop-index.invariant.plans ∙ ap (λ (n : ℕ). map plan (range_with_len 1 n)) all in
+    rw whole (accepted-rounds clients rounds c.requires.clients c.requires.rounds)
+
+pub returns-clause-values : goal.returns-clause-values
+returns-clause-values c =
+    let clients = c.args.clients in
+    let rounds = c.args.rounds in
+    let plan : ℕ → List Act = λ client. rounds_of rounds client (next_client clients client) in
+    let all : c.loop-index.index ≡ clients = omega arith in
+    let whole : c.loop-index.plans.items ≡ plans_of_rounds clients rounds = c.loop-index.invariant.plans ∙ ap (λ (n : ℕ). map plan (range_with_len 1 n)) all in
+    rw whole (values-rounds clients rounds)

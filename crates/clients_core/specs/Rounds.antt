@@ -1,0 +1,32 @@
+-- What clients do in rounds: all of them write to one buffer, and each reads from the other what the next one makes.
+use Rattle.std.specs.Prelude.{ℕ, ◌+◌, ◌*◌, ◌==◌, if◌then◌else◌, List, [], ◌∷◌, map}
+use Rattle.std.specs.List.{flat_map, range_with_len}
+use Rattle.point_core.specs.declared.entry.Point.{Point}
+use Rattle.point_core.specs.declared.entry.Usage.TheVariants.{Write, Read}
+use Rattle.resv_core.specs.declared.plan.Act.{Act}
+use Rattle.resv_core.specs.declared.plan.Act.TheVariants.{Inc, Put, Look}
+
+-- the client that comes next; the first comes next to the last
+abbrev pub next_client : ℕ → ℕ → ℕ
+next_client clients client = if client == clients then 1 else client + 1
+
+abbrev pub point_of : ℕ → ℕ → Point
+point_of client value = record { ctx = client; value = value }
+
+-- a round: a fence of the client's own timeline, one step of that timeline, a fence of the next client's, and a look
+abbrev pub round_of : ℕ → ℕ → ℕ → List Act
+round_of client next round =
+    Put 0 (point_of client (2 * round)) Write
+    ∷ Inc 1
+    ∷ Put 1 (point_of next (3 * round)) Read
+    ∷ Look 0 Read
+    ∷ []
+
+-- the rounds are numbered from 1
+abbrev pub rounds_of : ℕ → ℕ → ℕ → List Act
+rounds_of rounds client next = flat_map (round_of client next) (range_with_len 1 rounds)
+
+-- a plan for each client, numbered from 1
+abbrev pub plans_of_rounds : ℕ → ℕ → List (List Act)
+plans_of_rounds clients rounds =
+    map (λ client. rounds_of rounds client (next_client clients client)) (range_with_len 1 clients)

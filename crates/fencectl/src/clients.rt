@@ -1,0 +1,135 @@
+// A run of clients, and what it prints.
+ghost use Rattle.std.specs.Prelude.{◌≡◌, ◌⊎◌, ◌≤◌, IfErr, IfOk, OnErr, OnOk};
+ghost use Rattle.std.specs.Io.KnownBytes.{Appends, Keeps};
+ghost use Rattle.point_core.specs.declared.refusal.Refusal.TheVariants as refusal;
+ghost use Rattle.clients_core.specs.Clients.{IsClientRefusal};
+ghost use Rattle.clients_core.specs.declared.plans.TheConstants.{CLIENTS};
+ghost use Rattle.clients_core.specs.declared.rounds.TheConstants.{ROUNDS};
+ghost use Rattle.script_core.specs.Bytes.{AppendsFront};
+ghost use Rattle.fencectl.specs.Clients.{clients_text};
+
+use clients_core::{
+    CLIENTS, LockedTable, OpenGate, ROUND_BUFFERS, ROUNDS, plans_of_rounds, run_clients,
+};
+use point_core::Refusal;
+use report_core::settled_text;
+use script_core::write_whole;
+use std::alloc::Global;
+use std::io::Write;
+use std::sync::Wait;
+use std::thread::Threads;
+
+/// Runs so many clients of so many rounds, each in a thread of its own, over buffers under locks, and writes the text of
+/// what they settle. That is the text of the plans' settled table, whatever the schedule.
+///
+/// Refused as `run_clients`, which refuses none of these plans before its threads start, and as Write where a write
+/// failed or took no byte, or the flush failed. Then a front of the text is written.
+pub fn clients_report<R: Threads + Wait + Sync, W: Write>(
+    rt: &R,
+    alloc: Global,
+    clients: usize,
+    rounds: u64,
+    writer: &mut W,
+) -> Result<(), Refusal>
+    requires clients { (1 ≤ clients) × (clients ≤ CLIENTS) }
+    requires rounds { (1 ≤ rounds) × (rounds ≤ ROUNDS) }
+    ensures ok { OnOk result (Appends (W.contents writer.old) (W.contents writer.new) (clients_text clients rounds)) }
+    ensures err { OnErr result
+        (AppendsFront (W.contents writer.old) (W.contents writer.new) (clients_text clients rounds)) }
+    ensures refusals { IfErr result (λ e. (e ≡ refusal.Write) ⊎ IsClientRefusal e) }
+{
+    let text = text_of_run(rt, alloc, clients, rounds)?;
+    write_whole(writer, text.as_slice())?;
+    flush(writer)
+}
+
+/// The text of what the clients settle.
+///
+/// Refused as `run_clients` once its threads were started, and as Memory.
+fn text_of_run<R: Threads + Wait + Sync>(
+    rt: &R,
+    alloc: Global,
+    clients: usize,
+    rounds: u64,
+) -> Result<Vec<u8>, Refusal>
+    requires clients { (1 ≤ clients) × (clients ≤ CLIENTS) }
+    requires rounds { rounds ≤ ROUNDS }
+    ensures text { IfOk result (λ text. text.items ≡ clients_text clients rounds) }
+    ensures refusals { IfErr result IsClientRefusal }
+{
+    let plans = plans_of_rounds(alloc, clients, rounds)?;
+    let (settled, _) = run_clients::<R, LockedTable, OpenGate>(
+        rt,
+        alloc,
+        ROUND_BUFFERS,
+        plans.as_slice(),
+        &OpenGate,
+    )?;
+    let mut text = Vec::new(alloc);
+    settled_text(&settled, &mut text)?;
+    Ok(text)
+}
+
+fn flush<W: Write>(writer: &mut W) -> Result<(), Refusal>
+    ensures bytes { Keeps (W.contents writer.old) (W.contents writer.new) }
+    ensures err { IfErr result (λ e. e ≡ refusal.Write) }
+{
+    writer.flush().map_err(|_| Refusal::Write)
+}
+
+#[cfg(test)]
+mod tests {
+    use super::*;
+    use std::io;
+    use std::test::Fail;
+
+    const TWO_CLIENTS: &str = "\
+timeline c1                                               100\n\
+timeline c2                                               100\n\
+buffer   b0                                                 6\n\
+write    c1                                               200\n\
+write    c2                                               200\n\
+read     c1                                               200\n\
+read     c2                                               200\n\
+bookkeep c1                                               200\n\
+bookkeep c2                                               200\n\
+buffer   b1                                                 4\n\
+read     c1                                               300\n\
+read     c2                                               300\n\
+bookkeep c1                                               300\n\
+bookkeep c2                                               300\n\
+";
+
+    #[test]
+    fn two_clients(rt: HostRuntime) -> Result<(), Fail> {
+        let mut told = Vec::new(rt.alloc());
+        clients_report(&rt, rt.alloc(), 2, 100, &mut told)?;
+        assert_eq!(rt; told.as_slice(), TWO_CLIENTS.as_bytes());
+        Ok(())
+    }
+
+    /// Takes what is written to it, and cannot be flushed.
+    #[derive(Drop)]
+    struct Stuck {
+        taken: usize,
+    }
+
+    impl Write for Stuck {
+        fn write(&mut self, bytes: &[u8]) -> io::Result<usize> {
+            self.taken = bytes.len();
+            Ok(bytes.len())
+        }
+
+        fn flush(&mut self) -> io::Result<()> {
+            Err(io::Error::from(io::ErrorKind::BrokenPipe))
+        }
+    }
+
+    #[test]
+    fn a_failed_flush_is_told(rt: HostRuntime) {
+        let mut stuck = Stuck { taken: 0 };
+        let told = clients_report(&rt, rt.alloc(), 2, 100, &mut stuck);
+        assert!(rt; told == Err(Refusal::Write));
+        assert_eq!(rt; stuck.taken, TWO_CLIENTS.len());
+    }
+}
