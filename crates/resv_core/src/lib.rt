@@ -16,6 +16,7 @@ pub use laws::{
 pub use plan::{Act, Plan, Settled};
 pub use resv::{PLACES, PLACES_PER_CONTEXT, Resv};
 pub use shared_table::SharedTable;
+pub use tops::Tops;
 
 #[cfg(test)]
 mod tests;

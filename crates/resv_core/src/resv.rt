@@ -1,20 +1,16 @@
 // The reservation of a buffer.
-ghost use Rattle.std.specs.Prelude.{◌≡◌, ◌+◌, ◌-◌, ◌<◌, ◌≤◌, ◌↔◌, ◌++◌, Ok, if◌then◌else◌, length, map, vec_len, IfErr, IfOk, IsTrue, OnErr, OnOk};
+ghost use Rattle.std.specs.Prelude.{◌≡◌, ◌+◌, ◌-◌, ◌<◌, ◌≤◌, ◌↔◌, Ok, if◌then◌else◌, length, vec_len, IfErr, IfOk, IsTrue, OnErr, OnOk};
 ghost use Rattle.std.specs.List.{list_any};
 ghost use Rattle.std.specs.Vec.{vec_capacity};
 ghost use Rattle.point_core.specs.declared.context.TheConstants.{CONTEXTS};
 ghost use Rattle.point_core.specs.Agreement.{AgreesAbove, IsReached, listing};
-ghost use Rattle.point_core.specs.Latest.{points_above};
 ghost use Rattle.point_core.specs.Usage.{usage_number};
 ghost use Rattle.resv_core.specs.declared.resv.TheConstants.{PLACES};
-ghost use Rattle.resv_core.specs.Resv.{IsTable, IsTrimmed, empty, entry_of, gives_way, row_of, rows_of};
+ghost use Rattle.resv_core.specs.Resv.{IsTable, IsTrimmed, empty, entry_of, gives_way, rows_of};
 ghost use Rattle.resv_core.specs.Run.{Leaves, Reserve, Add, Trim};
 
 use crate::tops::{Tops, USAGES, compact, latest_of};
-use point_core::{
-    CONTEXTS, Context, Entry, LatestPoints, Point, Reach, Refusal, TopRow, Usage, covers,
-    is_signalled,
-};
+use point_core::{CONTEXTS, Entry, Point, Reach, Refusal, TopRow, Usage, covers, is_signalled};
 use std::alloc::Global;
 use std::marker::Model;
 
@@ -165,13 +161,7 @@ impl Resv {
         ensures rows { IfOk result (λ rows. rows.items ≡ rows_of self.now.entries reach.now) }
         ensures memory { IfErr result (λ e. e ≡ Refusal.Memory) }
     {
-        let tops = Tops::of(self.entries.as_slice(), reach);
-        let mut rows = Vec::with_capacity(self.alloc, USAGES * CONTEXTS)?;
-        push_rows(&mut rows, Usage::Kernel, &tops.kernel, reach);
-        push_rows(&mut rows, Usage::Write, &tops.write, reach);
-        push_rows(&mut rows, Usage::Read, &tops.read, reach);
-        push_rows(&mut rows, Usage::Bookkeep, &tops.bookkeep, reach);
-        Ok(rows)
+        Tops::of(self.entries.as_slice(), reach).rows(self.alloc, reach)
     }
 
     /// Whether every entry of the usage or a stronger one is signalled, as Linux's `dma_resv_test_signaled`. Takes no
@@ -197,20 +187,4 @@ fn gives_way(new: &Entry, old: &Entry, reach: &Reach) -> bool
     ensures { result ≡ gives_way reach.now new.now old.now }
 {
     is_signalled(old.point, reach) || covers(*new, *old)
-}
-
-/// Appends a row for each point of the table of latest points that is above the reach, by rising context.
-fn push_rows(rows: &mut Vec<TopRow>, usage: Usage, latest: &LatestPoints, reach: &Reach)
-    requires places { vec_len rows.old + CONTEXTS ≤ vec_capacity rows.old }
-    ensures rows { rows.new.items ≡ rows.old.items ++ map (row_of usage) (points_above latest.now reach.now) }
-    ensures few { vec_len rows.new ≤ vec_len rows.old + CONTEXTS }
-    ensures places { vec_capacity rows.new ≡ vec_capacity rows.old }
-{
-    for index in 0..CONTEXTS {
-        let ctx = Context::at(index);
-        let point = latest.get(ctx);
-        if point > reach.get(ctx) {
-            rows.push_reserved(TopRow { usage, ctx, point });
-        }
-    }
 }

@@ -1,42 +1,51 @@
 // The latest point of each context, at each usage or a stronger one.
-ghost use Rattle.std.specs.Prelude.{◌≡◌, ℕ, ◌+◌, ◌*◌, ◌<◌, ◌≤◌, ◌↔◌, ◌++◌, ◌∷◌, [], IsTrue, List, vec_len};
+ghost use Rattle.std.specs.Prelude.{◌≡◌, ℕ, ◌+◌, ◌*◌, ◌<◌, ◌≤◌, ◌↔◌, ◌++◌, ◌∷◌, [], IfErr, IfOk, IsTrue, List, map, vec_len};
 ghost use Rattle.std.specs.Vec.{vec_capacity};
 ghost use Rattle.point_core.specs.declared.entry.Entry.{Entry};
 ghost use Rattle.point_core.specs.declared.context.TheConstants.{CONTEXTS};
 ghost use Rattle.point_core.specs.Agreement.{AgreesAbove, HasContexts, point_of};
-ghost use Rattle.point_core.specs.Latest.{IsLatest};
+ghost use Rattle.point_core.specs.Latest.{IsLatest, points_above};
 ghost use Rattle.point_core.specs.Usage.{usage_number};
 ghost use Rattle.resv_core.specs.declared.tops.TheConstants.{USAGES};
-ghost use Rattle.resv_core.specs.Resv.{IsTrimmed};
+ghost use Rattle.resv_core.specs.Resv.{IsTrimmed, row_of, rows_of};
 ghost use Rattle.resv_core.specs.Tops.{AreSame, AreSameAt, AreTops, entries_at, entry_above};
 
-use point_core::{CONTEXTS, Context, Entry, LatestPoints, Point, Reach, Usage};
+use point_core::{CONTEXTS, Context, Entry, LatestPoints, Point, Reach, Refusal, TopRow, Usage};
+use std::alloc::Global;
 
 /// How many usages there are.
 pub(crate) const USAGES: usize = 4;
 
-/// Tables of latest points, which begin as a reach: for each usage one that has the stronger usages too.
-#[derive(Drop)]
-pub(crate) struct Tops {
-    pub(crate) kernel: LatestPoints,
-    pub(crate) write: LatestPoints,
-    pub(crate) read: LatestPoints,
-    pub(crate) bookkeep: LatestPoints,
+/// Tables of latest points, which begin as a reach: for each usage one that has the stronger usages too. It is all that
+/// matters of a list of entries above that reach.
+#[derive(Debug, Drop)]
+pub struct Tops {
+    pub kernel: LatestPoints,
+    pub write: LatestPoints,
+    pub read: LatestPoints,
+    pub bookkeep: LatestPoints,
 }
 
 impl Tops {
+    /// No entry yet: what the reach has.
+    pub fn above(reach: &Reach) -> Tops
+        ensures empty { AreTops result reach.now [] }
+    {
+        let none = LatestPoints::above(reach);
+        Tops {
+            kernel: none,
+            write: none,
+            read: none,
+            bookkeep: none,
+        }
+    }
+
     /// The tables of these entries.
     pub(crate) fn of(entries: &[Entry], reach: &Reach) -> Tops
         ensures tops { AreTops result reach.now entries.now }
         ensures contexts { HasContexts entries.now }
     {
-        let none = LatestPoints::above(reach);
-        let mut tops = Tops {
-            kernel: none,
-            write: none,
-            read: none,
-            bookkeep: none,
-        };
+        let mut tops = Tops::above(reach);
         for entry in entries {
             tops.put(entry);
         }
@@ -44,7 +53,7 @@ impl Tops {
     }
 
     /// Whether both have the same points.
-    pub(crate) fn is_same(&self, other: &Tops) -> bool
+    pub fn is_same(&self, other: &Tops) -> bool
         ensures same { IsTrue result ↔ AreSame self.now other.now }
     {
         for index in 0..CONTEXTS {
@@ -65,7 +74,7 @@ impl Tops {
     }
 
     /// Puts an entry into the tables of its usage and of the weaker ones.
-    fn put(&mut self, entry: &Entry)
+    pub fn put(&mut self, entry: &Entry)
         ensures tops { (reach : List ℕ) (es : List Entry) →
             AreTops self.old reach es → AreTops self.new reach (es ++ entry.now ∷ []) }
         ensures context { HasContexts (entry.now ∷ []) }
@@ -74,6 +83,23 @@ impl Tops {
         put_at(&mut self.write, Usage::Write, entry);
         put_at(&mut self.read, Usage::Read, entry);
         put_at(&mut self.bookkeep, Usage::Bookkeep, entry);
+    }
+
+    /// The points that are above the reach that the tables began as, from the strongest usage to the weakest and by rising
+    /// context.
+    ///
+    /// Refuses as `Memory` alone.
+    pub fn rows(&self, alloc: Global, reach: &Reach) -> Result<Vec<TopRow>, Refusal>
+        ensures rows { (es : List Entry) → AreTops self.now reach.now es →
+            IfOk result (λ rows. rows.items ≡ rows_of es reach.now) }
+        ensures memory { IfErr result (λ e. e ≡ Refusal.Memory) }
+    {
+        let mut rows = Vec::with_capacity(alloc, USAGES * CONTEXTS)?;
+        push_rows(&mut rows, Usage::Kernel, &self.kernel, reach);
+        push_rows(&mut rows, Usage::Write, &self.write, reach);
+        push_rows(&mut rows, Usage::Read, &self.read, reach);
+        push_rows(&mut rows, Usage::Bookkeep, &self.bookkeep, reach);
+        Ok(rows)
     }
 }
 
@@ -143,5 +169,21 @@ fn keep_above(entries: &mut Vec<Entry>, stronger: u64, ctx: Context, value: u64,
     if value > stronger {
         let point = Point { ctx, value };
         entries.push_reserved(Entry { point, usage });
+    }
+}
+
+/// Appends a row for each point of the table of latest points that is above the reach, by rising context.
+fn push_rows(rows: &mut Vec<TopRow>, usage: Usage, latest: &LatestPoints, reach: &Reach)
+    requires places { vec_len rows.old + CONTEXTS ≤ vec_capacity rows.old }
+    ensures rows { rows.new.items ≡ rows.old.items ++ map (row_of usage) (points_above latest.now reach.now) }
+    ensures few { vec_len rows.new ≤ vec_len rows.old + CONTEXTS }
+    ensures places { vec_capacity rows.new ≡ vec_capacity rows.old }
+{
+    for index in 0..CONTEXTS {
+        let ctx = Context::at(index);
+        let point = latest.get(ctx);
+        if point > reach.get(ctx) {
+            rows.push_reserved(TopRow { usage, ctx, point });
+        }
     }
 }

@@ -2,7 +2,7 @@ use Rattle.std.proofs.Common.{◌≡◌, ◌+◌, ◌≤◌, ◌++◌, map, vec_
 use Rattle.std.specs.List.{filter_map, range_with_len}
 use Rattle.point_core.specs.Latest.{point_above}
 use Rattle.resv_core.specs.Resv.{row_of}
-use Rattle.resv_core.proofs.resv.push_rows.Given as goal
+use Rattle.resv_core.proofs.tops.push_rows.Given as goal
 
 abbrev pub invariant-loop-index : goal.invariant-loop-index
 invariant-loop-index l = record {

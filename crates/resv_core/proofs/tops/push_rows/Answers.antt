@@ -3,8 +3,8 @@ use Rattle.point_core.specs.Latest.{point_above}
 use Rattle.point_core.proofs.Listings.{filter_map-contexts, push_above, skip_above}
 use Rattle.resv_core.specs.Resv.{row_of}
 use Rattle.resv_core.proofs.Rows.{row-more}
-use Rattle.resv_core.proofs.resv.push_rows.Goals as goal
-use Rattle.resv_core.proofs.resv.push_rows.Goals.{then-point-get, else-point-get}
+use Rattle.resv_core.proofs.tops.push_rows.Goals as goal
+use Rattle.resv_core.proofs.tops.push_rows.Goals.{then-point-get, else-point-get}
 
 pub loop-index-preserved : goal.loop-index-preserved
 loop-index-preserved c =

@@ -2,11 +2,11 @@ use Rattle.std.proofs.Common.{refl}
 use Rattle.point_core.specs.declared.entry.Usage.TheVariants.{Kernel, Write, Read, Bookkeep}
 use Rattle.resv_core.specs.Resv.{rows_at}
 use Rattle.resv_core.proofs.Rows.{rows_at-IsLatest, rows-join}
-use Rattle.resv_core.proofs.resv.Resv.table.Goals as goal
+use Rattle.resv_core.proofs.tops.Tops.rows.Goals as goal
 
 pub returns-clause-rows : goal.returns-clause-rows
-returns-clause-rows c =
-    let tell = rw (c.as_slice.ensures.value) at c.of-tops.ensures.tops in
+returns-clause-rows c = λ es tell.
+    let reach = c.args.reach.now in
     let kernel = rows_at-IsLatest Kernel refl tell.kernel in
     let write = rows_at-IsLatest Write refl tell.write in
     let read = rows_at-IsLatest Read refl tell.read in
@@ -15,5 +15,5 @@ returns-clause-rows c =
     let second = c.push_rows-2.ensures.rows in
     let third = c.push_rows-3.ensures.rows in
     let last = c.push_rows-4.ensures.rows in
-    let join = rows-join (rows_at c.self.inside.entries.items c.args.reach.now Kernel) (rows_at c.self.inside.entries.items c.args.reach.now Write) (rows_at c.self.inside.entries.items c.args.reach.now Read) (rows_at c.self.inside.entries.items c.args.reach.now Bookkeep) in
-    rw (← c.self.view_is) (cc)
+    let join = rows-join (rows_at es reach Kernel) (rows_at es reach Write) (rows_at es reach Read) (rows_at es reach Bookkeep) in
+    cc
