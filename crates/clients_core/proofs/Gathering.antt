@@ -19,10 +19,10 @@ use Rattle.resv_core.specs.declared.plan.Act.{Act}
 use Rattle.resv_core.specs.Settled.{all_puts, tables_of}
 use Rattle.words_core.specs.declared.trace.Step.{Step}
 use Rattle.words_core.specs.Layout.{value_word}
-use Rattle.words_core.specs.Trace.{load, on, added, amount_of}
-use Rattle.words_core.specs.Seat.{SeatModel, added_to, with_step, with_steps}
+use Rattle.words_core.specs.Trace.{load, on, added, raised, amount_of}
+use Rattle.words_core.specs.Seat.{SeatModel, added_to, raised_to, with_step, with_steps}
 use Rattle.words_core.proofs.Totals.{total-append}
-use Rattle.words_core.proofs.Traces.{on-append}
+use Rattle.words_core.proofs.Traces.{on-append, raised-append}
 
 -- loads add nothing
 added-load : (w v k : ℕ) → added (on w (load v k ∷ [])) ≡ 0
@@ -31,15 +31,24 @@ added-load w v k = elim (cases_Bool (v == w)) [
   | inr not ↦ rw not refl
 ]
 
+raised-load : (w v k : ℕ) → raised (on w (load v k ∷ [])) ≡ 0
+raised-load w v k = elim (cases_Bool (v == w)) [
+  | inl is ↦ rw is refl
+  | inr not ↦ rw not refl
+]
+
 -- the seat has only loaded since
 abbrev pub HasOnlyLoaded : SeatModel → SeatModel → Type 0
-HasOnlyLoaded first seat = (steps : List Step) × (seat ≡ with_steps first steps) × ((w : ℕ) → added (on w steps) ≡ 0)
+HasOnlyLoaded first seat = (steps : List Step) × (seat ≡ with_steps first steps) × ((w : ℕ) → added (on w steps) ≡ 0) × ((w : ℕ) → raised (on w steps) ≡ 0)
 
 pub HasOnlyLoaded-none : (seat : SeatModel) → HasOnlyLoaded seat seat
-HasOnlyLoaded-none seat = ([], ap (λ (steps : List Step). record seat { trace = steps }) (sym (append-nil seat.trace)), λ w. refl)
+HasOnlyLoaded-none seat = ([], ap (λ (steps : List Step). record seat { trace = steps }) (sym (append-nil seat.trace)), (λ w. refl), (λ w. refl))
 
 added-append : (w : ℕ) (xs ys : List Step) → added (on w (xs ++ ys)) ≡ added (on w xs) + added (on w ys)
 added-append w xs ys = ap added (on-append w xs ys) ∙ total-append amount_of (on w xs) (on w ys)
+
+raised-steps : (w : ℕ) (xs ys : List Step) → raised (on w (xs ++ ys)) ≡ max (raised (on w xs)) (raised (on w ys))
+raised-steps w xs ys = ap raised (on-append w xs ys) ∙ raised-append (on w xs) (on w ys)
 
 pub HasOnlyLoaded-more : (first seat : SeatModel) (ctx value : ℕ) → HasOnlyLoaded first seat → HasOnlyLoaded first (with_step seat (load (value_word ctx) value))
 HasOnlyLoaded-more first seat ctx value h =
@@ -47,6 +56,7 @@ HasOnlyLoaded-more first seat ctx value h =
       h.0 ++ last ∷ [],
       ap (λ (s : SeatModel). with_step s last) h.1 ∙ ap (λ (steps : List Step). record first { trace = steps }) (append_assoc first.trace h.0 (last ∷ [])),
       (λ w. let rest = h.2 w in let here = added-load w (value_word ctx) value in added-append w h.0 (last ∷ []) ∙ (omega arith)),
+      (λ w. let rest = h.3 w in let here = raised-load w (value_word ctx) value in raised-steps w h.0 (last ∷ []) ∙ (omega (arith, rest, here))),
     )
 
 -- so it has added what it had
@@ -54,6 +64,12 @@ pub added_to-HasOnlyLoaded : (first seat : SeatModel) (ctx : ℕ) → HasOnlyLoa
 added_to-HasOnlyLoaded first seat ctx h =
     let none = h.2 (value_word ctx) in
     ap (λ (s : SeatModel). added_to s ctx) h.1 ∙ added-append (value_word ctx) first.trace h.0 ∙ (omega arith)
+
+-- and raised what it had
+pub raised_to-HasOnlyLoaded : (first seat : SeatModel) (w : ℕ) → HasOnlyLoaded first seat → raised_to seat w ≡ raised_to first w
+raised_to-HasOnlyLoaded first seat w h =
+    let none = h.3 w in
+    ap (λ (s : SeatModel). raised_to s w) h.1 ∙ raised-steps w first.trace h.0 ∙ (omega (arith, none))
 
 -- one more value
 pub values-more : (first seat : SeatModel) (reach : List ℕ) (n ctx value : ℕ) → ctx ≡ n + 1 → ctx ≤ length reach → HasOnlyLoaded first seat → value ≡ added_to seat ctx

@@ -3,5 +3,8 @@ pub mod Gathering
 pub mod Keeping
 pub mod Locking
 pub mod Looking
+pub mod Planning
 pub mod PlansOfRounds
 pub mod Settling
+pub mod Showing
+pub mod Topping

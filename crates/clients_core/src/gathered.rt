@@ -4,7 +4,7 @@ ghost use Rattle.std.specs.List.{range_with_len};
 ghost use Rattle.point_core.specs.declared.context.TheConstants.{CONTEXTS};
 ghost use Rattle.point_core.specs.declared.refusal.Refusal.TheVariants as refusal;
 ghost use Rattle.point_core.specs.Reach.{value_at};
-ghost use Rattle.words_core.specs.Seat.{added_to};
+ghost use Rattle.words_core.specs.Seat.{added_to, raised_to};
 ghost use Rattle.resv_core.specs.Shared.{HasStepped};
 
 use point_core::{Context, Point, Reach, Refusal};
@@ -16,6 +16,7 @@ pub(crate) fn gathered(words: &Words, all: &mut Whole) -> Reach
     requires own { all.old.words ≡ words.now }
     ensures stepped { HasStepped all.old all.new }
     ensures same { (ctx : ℕ) → added_to all.new ctx ≡ added_to all.old ctx }
+    ensures raises { (w : ℕ) → raised_to all.new w ≡ raised_to all.old w }
     ensures values { (ctx : ℕ) → 1 ≤ ctx → ctx ≤ words.now.contexts → value_at result ctx ≡ added_to all.old ctx }
     ensures past { (ctx : ℕ) → words.now.contexts < ctx → value_at result ctx ≡ 0 }
 {

@@ -4,6 +4,7 @@
 //! that are kept say the same above the floor as all that was ever put.
 #![tactic(auto)]
 
+mod board;
 mod client;
 mod clients;
 mod expected;
@@ -12,10 +13,13 @@ mod gathered;
 mod locked_buffer;
 mod locked_table;
 mod own_puts;
+mod planned;
 mod plans;
+mod raised;
 mod rounds;
 mod workers;
 
+pub use board::Board;
 pub use clients::run_clients;
 pub use gate::{Gate, OpenGate};
 pub use locked_buffer::LockedBuffer;

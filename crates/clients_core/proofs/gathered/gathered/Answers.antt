@@ -4,7 +4,7 @@ use Rattle.point_core.specs.declared.context.TheConstants.{CONTEXTS}
 use Rattle.point_core.specs.Reach.{value_at, with_value}
 use Rattle.point_core.proofs.Values.{value_at-replicate}
 use Rattle.words_core.specs.Seat.{SeatModel, added_to}
-use Rattle.clients_core.proofs.Gathering.{HasOnlyLoaded, HasOnlyLoaded-none, HasOnlyLoaded-more, added_to-HasOnlyLoaded, values-more, past-more, raised_from_zero}
+use Rattle.clients_core.proofs.Gathering.{HasOnlyLoaded, HasOnlyLoaded-none, HasOnlyLoaded-more, added_to-HasOnlyLoaded, raised_to-HasOnlyLoaded, values-more, past-more, raised_from_zero}
 use Rattle.clients_core.proofs.gathered.gathered.Goals as goal
 
 pub loop-index-init : goal.loop-index-init
@@ -39,3 +39,6 @@ returns-clause-stepped c = (c.loop-index.invariant.loaded.0, c.loop-index.invari
 
 pub returns-clause-same : goal.returns-clause-same
 returns-clause-same c = λ ctx. added_to-HasOnlyLoaded c.args.all.now c.loop-index.all ctx c.loop-index.invariant.loaded
+
+pub returns-clause-raises : goal.returns-clause-raises
+returns-clause-raises c = λ w. raised_to-HasOnlyLoaded c.args.all.now c.loop-index.all w c.loop-index.invariant.loaded

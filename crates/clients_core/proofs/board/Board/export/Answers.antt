@@ -1,0 +1,9 @@
+use Rattle.std.proofs.Common.{◌≡◌, ◌++◌, ap, ◌∙◌, append_assoc, map}
+use Rattle.words_core.specs.Seat.{SeatModel, loads_of, with_steps}
+use Rattle.clients_core.specs.Board.{look_at}
+use Rattle.clients_core.proofs.Showing.{HasLooked-shown}
+use Rattle.clients_core.proofs.Topping.{HasStepped-append}
+use Rattle.clients_core.proofs.board.Board.export.Goals as goal
+
+pub returns-clause-looked : goal.returns-clause-looked
+returns-clause-looked c = HasLooked-shown c.args.words.now c.args.buffer c.args.usage c.args.seat.now c.load_all-floor.new.seat c.latest_shown.new.seat c.latest_shown.result _ c.requires.own.0 c.load_all-floor.ensures.entered c.latest_shown.ensures.shown (c.of.ensures ∙ c.in_ok-points.ensures.points)

@@ -1,0 +1,87 @@
+-- A board: what looks at its words show, and what was raised on it.
+use Rattle.std.specs.Prelude.{◌≡◌, ℕ, ◌<◌, ◌≤◌, nat_le, List, [], ◌∷◌, ◌++◌, if◌then◌else◌, map, All}
+use Rattle.std.specs.List.{flat_map, range_with_len}
+use Rattle.point_core.specs.declared.entry.Point.{Point}
+use Rattle.point_core.specs.declared.entry.Entry.{Entry}
+use Rattle.point_core.specs.declared.entry.Usage.{Usage}
+use Rattle.point_core.specs.declared.entry.Usage.TheVariants.{Kernel, Write, Read, Bookkeep}
+use Rattle.point_core.specs.declared.listing.Listing.{Listing}
+use Rattle.point_core.specs.Agreement.{AgreesAbove, HasContexts, listing, point_of}
+use Rattle.point_core.specs.Latest.{IsLatest}
+use Rattle.point_core.specs.Usage.{usage_number}
+use Rattle.words_core.specs.declared.trace.Step.{Step}
+use Rattle.words_core.specs.Layout.{board_word}
+use Rattle.words_core.specs.Seat.{SeatModel, loads_of, raised_to, with_step, with_steps}
+use Rattle.words_core.specs.Trace.{raise, shown}
+use Rattle.words_core.specs.Words.{WordsModel}
+use Rattle.resv_core.specs.declared.plan.Act.{Act}
+use Rattle.resv_core.specs.Resv.{entry_of}
+use Rattle.resv_core.specs.Settled.{all_puts}
+use Rattle.resv_core.specs.Tops.{AreTops}
+use Rattle.resv_core.specs.declared.tops.Tops.{Tops}
+
+-- a place of a buffer's board: a context and a usage
+abbrev pub Place : Type 0
+Place = ℕ × Usage
+
+abbrev pub place_of : Entry → Place
+place_of e = (e.point.ctx, e.usage)
+
+-- the word of a place
+abbrev pub word_at : WordsModel → ℕ → Place → ℕ
+word_at words buffer place = board_word words buffer place.0 place.1
+
+-- the place, where its usage is up to the level
+abbrev pub place_to : Usage → ℕ → Usage → List Place
+place_to level ctx usage = if nat_le (usage_number usage) (usage_number level) then (ctx, usage) ∷ [] else []
+
+-- a context's places up to the level, from the strongest usage
+abbrev pub places_at : Usage → ℕ → List Place
+places_at level ctx = flat_map (place_to level ctx) (Kernel ∷ Write ∷ Read ∷ Bookkeep ∷ [])
+
+-- those of the first contexts, by rising number
+abbrev pub places_to : Usage → ℕ → List Place
+places_to level contexts = flat_map (places_at level) (range_with_len 1 contexts)
+
+-- the fence was put by one raise of its place
+abbrev pub HasRaised : WordsModel → ℕ → Entry → SeatModel → SeatModel → Type 0
+HasRaised words buffer e before after =
+    (value : ℕ) × (after ≡ with_step before (raise (word_at words buffer (place_of e)) e.point.value value))
+
+-- the look at a place that showed the entry's point
+abbrev pub look_at : WordsModel → ℕ → Entry → Step
+look_at words buffer e = shown (word_at words buffer (place_of e)) e.point.value
+
+-- one look at each of the places, in order: the entries that these showed, none below what the seat had raised there, and
+-- the table of latest points with them
+pub record HasShown (words : WordsModel) (buffer level : ℕ) (places : List Place) (before after : SeatModel) (old new : List ℕ) : Type 0 where
+  pub entries : List Entry
+  pub at : map place_of entries ≡ places
+  pub steps : after ≡ with_steps before (map (look_at words buffer) entries)
+  pub latest : (reach : List ℕ) (es : List Entry) → IsLatest old reach es level → IsLatest new reach (es ++ entries) level
+  pub own : All (λ e. raised_to before (word_at words buffer (place_of e)) ≤ e.point.value) entries
+
+-- one load of each value, then one look at each place of the buffer up to the level, and the listing of what these showed
+pub record HasLooked (words : WordsModel) (buffer : ℕ) (level : Usage) (before after : SeatModel) (listed : Listing) : Type 0 where
+  pub entries : List Entry
+  pub at : map place_of entries ≡ places_to level words.contexts
+  pub steps : after ≡ with_steps before (loads_of listed.floor words.contexts ++ map (look_at words buffer) entries)
+  pub points : listed.points ≡ listing entries (usage_number level) listed.floor
+
+-- the tables have these entries too
+pub record TakesIn (entries : List Entry) (old new : Tops) : Type 0 where
+  pub tops : (reach : List ℕ) (es : List Entry) → AreTops old reach es → AreTops new reach (es ++ entries)
+  pub contexts : HasContexts entries
+
+-- the greatest point that a place was raised to, where the seat has all parts
+abbrev pub raised_entry : WordsModel → SeatModel → ℕ → Place → Entry
+raised_entry words seat buffer place = entry_of (point_of place.0 (raised_to seat (word_at words buffer place))) place.1
+
+-- all that was raised in a buffer
+abbrev pub raised_in : WordsModel → SeatModel → ℕ → List Entry
+raised_in words seat buffer = map (raised_entry words seat buffer) (places_to Bookkeep words.contexts)
+
+-- above the values, each buffer has what the plans put in
+abbrev pub AreAsPlanned : WordsModel → SeatModel → List (List Act) → List ℕ → Type 0
+AreAsPlanned words seat plans values =
+    (buffer : ℕ) → buffer < words.buffers → AgreesAbove values (raised_in words seat buffer) (all_puts buffer plans)

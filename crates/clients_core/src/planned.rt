@@ -1,0 +1,63 @@
+// The tables that plans come to.
+ghost use Rattle.std.specs.Prelude.{◌≡◌, map, IfErr, IfOk};
+ghost use Rattle.std.specs.List.{range_with_len};
+ghost use Rattle.point_core.specs.Agreement.{HasContexts};
+ghost use Rattle.point_core.specs.declared.refusal.Refusal.TheVariants as refusal;
+ghost use Rattle.resv_core.specs.Resv.{rows_of};
+ghost use Rattle.resv_core.specs.Settled.{all_puts, put_by, puts_of};
+ghost use Rattle.resv_core.specs.Tops.{AreTops};
+ghost use Rattle.clients_core.specs.Board.{TakesIn};
+
+use point_core::{Entry, Items, Reach, Refusal, TopRow};
+use resv_core::{Act, Plan, Tops};
+use std::alloc::Global;
+
+/// The rows of each buffer above the reach, of what the plans put into it.
+///
+/// Refuses as `Memory` alone.
+pub(crate) fn planned_tables(
+    alloc: Global,
+    buffers: usize,
+    plans: &[Plan],
+    reach: &Reach,
+) -> Result<Vec<Items<TopRow>>, Refusal>
+    ensures tables { IfOk result (λ tables.
+        tables.items ≡ map (λ b. rows_of (all_puts b plans.now) reach.now) (range_with_len 0 buffers)) }
+    ensures memory { IfErr result (λ e. e ≡ refusal.Memory) }
+{
+    let mut tables = Vec::with_capacity(alloc, buffers)?;
+    for buffer in 0..buffers {
+        let rows = planned_tops(buffer, plans, reach).rows(alloc, reach)?;
+        tables.push_reserved(Items::of(rows));
+    }
+    Ok(tables)
+}
+
+/// The tables of what all plans put into a buffer.
+pub(crate) fn planned_tops(buffer: usize, plans: &[Plan], reach: &Reach) -> Tops
+    ensures tops { AreTops result reach.now (all_puts buffer plans.now) }
+    ensures contexts { HasContexts (all_puts buffer plans.now) }
+{
+    let mut tops = Tops::above(reach);
+    for plan in plans {
+        put_plan(&mut tops, buffer, plan.as_slice());
+    }
+    tops
+}
+
+fn put_plan(tops: &mut Tops, buffer: usize, acts: &[Act])
+    ensures tops { TakesIn (puts_of buffer acts.now) tops.old tops.new }
+{
+    for act in acts {
+        put_act(tops, buffer, act);
+    }
+}
+
+fn put_act(tops: &mut Tops, buffer: usize, act: &Act)
+    ensures tops { TakesIn (put_by buffer act.now) tops.old tops.new }
+{
+    match *act {
+        Act::Put(into, point, usage) if into == buffer => tops.put(&Entry { point, usage }),
+        _ => {}
+    }
+}
