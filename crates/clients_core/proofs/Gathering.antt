@@ -31,7 +31,7 @@ added-load w v k = elim (cases_Bool (v == w)) [
   | inr not ↦ rw not refl
 ]
 
-raised-load : (w v k : ℕ) → raised (on w (load v k ∷ [])) ≡ 0
+pub raised-load : (w v k : ℕ) → raised (on w (load v k ∷ [])) ≡ 0
 raised-load w v k = elim (cases_Bool (v == w)) [
   | inl is ↦ rw is refl
   | inr not ↦ rw not refl
@@ -47,7 +47,7 @@ HasOnlyLoaded-none seat = ([], ap (λ (steps : List Step). record seat { trace =
 added-append : (w : ℕ) (xs ys : List Step) → added (on w (xs ++ ys)) ≡ added (on w xs) + added (on w ys)
 added-append w xs ys = ap added (on-append w xs ys) ∙ total-append amount_of (on w xs) (on w ys)
 
-raised-steps : (w : ℕ) (xs ys : List Step) → raised (on w (xs ++ ys)) ≡ max (raised (on w xs)) (raised (on w ys))
+pub raised-steps : (w : ℕ) (xs ys : List Step) → raised (on w (xs ++ ys)) ≡ max (raised (on w xs)) (raised (on w ys))
 raised-steps w xs ys = ap raised (on-append w xs ys) ∙ raised-append (on w xs) (on w ys)
 
 pub HasOnlyLoaded-more : (first seat : SeatModel) (ctx value : ℕ) → HasOnlyLoaded first seat → HasOnlyLoaded first (with_step seat (load (value_word ctx) value))

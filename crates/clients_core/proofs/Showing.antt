@@ -1,5 +1,5 @@
 -- Looks at the places of a board, one after another.
-use Rattle.std.proofs.Common.{◌≡◌, ℕ, suc, ◌+◌, ◌≤◌, ◌==◌, max, nat_le, if◌then◌else◌, List, [], ◌∷◌, ◌++◌, map, refl, sym, ap, ◌∙◌, subst, inl, inr, append_assoc, append-nil, arith, All, Result, Ok, Err, IfOk}
+use Rattle.std.proofs.Common.{◌≡◌, ℕ, zero, suc, ◌+◌, ◌≤◌, ◌==◌, max, nat_le, if◌then◌else◌, List, [], ◌∷◌, ◌++◌, map, refl, sym, ap, ◌∙◌, subst, inl, inr, append_assoc, append-nil, arith, All, Result, Ok, Err, IfOk}
 use Rattle.std.specs.List.{flat_map, range_with_len}
 use Rattle.std.proofs.lemmas.Bool.{cases_Bool, le-leb}
 use Rattle.std.proofs.lemmas.Grind.{flat_map-append}
@@ -12,15 +12,18 @@ use Rattle.point_core.specs.declared.listing.Listing.{Listing}
 use Rattle.point_core.specs.declared.refusal.Refusal.{Refusal}
 use Rattle.point_core.specs.Agreement.{AllAbove, HasRisingContexts}
 use Rattle.point_core.specs.Latest.{IsLatest, points_above}
+use Rattle.point_core.specs.Reach.{value_at}
 use Rattle.point_core.specs.Usage.{usage_number}
 use Rattle.point_core.proofs.Agreement.{listing-contexts}
 use Rattle.point_core.proofs.Listings.{points_above-IsLatest}
 use Rattle.words_core.specs.declared.trace.Step.{Step}
 use Rattle.words_core.specs.Seat.{SeatModel, loads_of, raised_to, with_step, with_steps}
-use Rattle.words_core.specs.Trace.{on, raised, shown, total}
+use Rattle.words_core.specs.Trace.{load, on, raised, shown, total}
+use Rattle.words_core.specs.Layout.{value_word}
 use Rattle.words_core.specs.Words.{WordsModel}
 use Rattle.words_core.proofs.Traces.{on-append, raised-append}
 use Rattle.resv_core.specs.Shared.{HasLoadedOnce, is_load}
+use Rattle.clients_core.proofs.Gathering.{raised-load, raised-steps}
 use Rattle.clients_core.specs.Board.{Place, HasLooked, HasShown, look_at, place_of, place_to, places_at, places_to, word_at}
 
 pub place_to-within : (level usage : Usage) (ctx : ℕ) → usage_number usage ≤ usage_number level → place_to level ctx usage ≡ (ctx, usage) ∷ []
@@ -96,6 +99,19 @@ places_to-more level n ctx is =
     range-more : (n ctx : ℕ) → ctx ≡ n + 1 → range_with_len 1 (n + 1) ≡ range_with_len 1 n ++ ctx ∷ []
     range-more n ctx is = sym (map-id (range_with_len 1 (n + 1))) ∙ map-range_with_len_more (λ (k : ℕ). k) 1 n ctx (omega arith) ∙ ap (λ (ks : List ℕ). ks ++ ctx ∷ []) (map-id (range_with_len 1 n))
 
+-- loads raise nothing
+raised-loads : (w : ℕ) (reach : List ℕ) (n : ℕ) → raised (on w (loads_of reach n)) ≡ 0
+raised-loads w reach zero = refl
+raised-loads w reach (suc n) =
+    let rest = raised-loads w reach n in
+    let last = raised-load w (value_word (suc n)) (value_at reach (suc n)) in
+    raised-steps w (loads_of reach n) (load (value_word (suc n)) (value_at reach (suc n)) ∷ []) ∙ (omega (arith, rest, last))
+
+raised_to-loads : (seat : SeatModel) (w : ℕ) (reach : List ℕ) (n : ℕ) → raised_to (with_steps seat (loads_of reach n)) w ≡ raised_to seat w
+raised_to-loads seat w reach n =
+    let none = raised-loads w reach n in
+    raised-steps w seat.trace (loads_of reach n) ∙ (omega (arith, none))
+
 IsLatest-start : (reach : List ℕ) (level : ℕ) → IsLatest reach reach [] level
 IsLatest-start reach level = record { values = λ ctx low high. refl }
 
@@ -109,6 +125,11 @@ HasLooked-shown words buffer level first middle last latest listed own loaded sh
       ∙ ap (λ (s : SeatModel). with_steps s (map (look_at words buffer) shown.entries)) loaded
       ∙ ap (λ (steps : List Step). record first { trace = steps }) (append_assoc first.trace (loads_of listed.floor words.contexts) (map (look_at words buffer) shown.entries));
   points = points ∙ points_above-IsLatest (shown.latest listed.floor [] (IsLatest-start listed.floor (usage_number level)));
+  own =
+      All-weaker (λ (e : Entry). raised_to middle (word_at words buffer (place_of e)) ≤ e.point.value) (λ (e : Entry). raised_to first (word_at words buffer (place_of e)) ≤ e.point.value)
+      (λ e own. subst (λ n. n ≤ e.point.value) (ap (λ (s : SeatModel). raised_to s (word_at words buffer (place_of e))) loaded ∙ raised_to-loads first (word_at words buffer (place_of e)) listed.floor words.contexts) own)
+      shown.entries
+      shown.own;
 }
 
 -- one look at any word

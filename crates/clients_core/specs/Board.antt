@@ -61,12 +61,14 @@ pub record HasShown (words : WordsModel) (buffer level : ℕ) (places : List Pla
   pub latest : (reach : List ℕ) (es : List Entry) → IsLatest old reach es level → IsLatest new reach (es ++ entries) level
   pub own : All (λ e. raised_to before (word_at words buffer (place_of e)) ≤ e.point.value) entries
 
--- one load of each value, then one look at each place of the buffer up to the level, and the listing of what these showed
+-- one load of each value, then one look at each place of the buffer up to the level: the entries that these showed, none
+-- below what the seat had raised there, and their listing
 pub record HasLooked (words : WordsModel) (buffer : ℕ) (level : Usage) (before after : SeatModel) (listed : Listing) : Type 0 where
   pub entries : List Entry
   pub at : map place_of entries ≡ places_to level words.contexts
   pub steps : after ≡ with_steps before (loads_of listed.floor words.contexts ++ map (look_at words buffer) entries)
   pub points : listed.points ≡ listing entries (usage_number level) listed.floor
+  pub own : All (λ e. raised_to before (word_at words buffer (place_of e)) ≤ e.point.value) entries
 
 -- the tables have these entries too
 pub record TakesIn (entries : List Entry) (old new : Tops) : Type 0 where
