@@ -9,7 +9,7 @@ use Rattle.words_core.specs.Seat.{SeatModel, added_to, raised_to}
 use Rattle.words_core.specs.Words.{WordsModel}
 use Rattle.resv_core.specs.declared.plan.Act.{Act}
 use Rattle.resv_core.specs.Settled.{all_puts, gathered_values}
-use Rattle.clients_core.specs.Board.{AreAsPlanned, places_to, raised_in}
+use Rattle.clients_core.specs.Board.{AreAsPlanned, places_to}
 use Rattle.clients_core.proofs.Gathering.{map-contexts, value_at-listed}
 use Rattle.clients_core.proofs.Topping.{raised_entries-same}
 

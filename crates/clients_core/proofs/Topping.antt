@@ -1,12 +1,12 @@
 -- Tables of tops that take entries in, one list after another.
-use Rattle.std.proofs.Common.{◌≡◌, ℕ, ◌<◌, ◌≤◌, ◌+◌, List, [], ◌∷◌, ◌++◌, length, map, get_or, take, refl, sym, ap, ◌∙◌, subst, append_assoc, append-nil, All}
+use Rattle.std.proofs.Common.{◌≡◌, ℕ, ◌<◌, ◌≤◌, ◌+◌, List, [], ◌∷◌, ◌++◌, length, map, get_or, take, sym, ap, ◌∙◌, subst, append_assoc, append-nil}
 use Rattle.std.specs.List.{flat_map}
 use Rattle.std.proofs.lemmas.Grind.{flat_map-append}
 use Rattle.std.proofs.lemmas.List.{take_more}
 use Rattle.std.proofs.lemmas.List.Elements.{All-nil}
 use Rattle.point_core.specs.declared.entry.Entry.{Entry}
 use Rattle.point_core.specs.declared.context.TheConstants.{CONTEXTS}
-use Rattle.point_core.specs.Agreement.{HasContexts, point_of}
+use Rattle.point_core.specs.Agreement.{point_of}
 use Rattle.point_core.proofs.Agreement.{HasContexts-append}
 use Rattle.words_core.specs.Seat.{SeatModel, raised_to, with_steps}
 use Rattle.words_core.specs.Words.{WordsModel}

@@ -1,4 +1,5 @@
 // Worked rows of a buffer under its lock, and of a table of them.
+mod board;
 mod running;
 mod wrapping;
 

@@ -3,7 +3,7 @@ ghost use Rattle.std.specs.Prelude.{◌≤◌, IfOk};
 ghost use Rattle.clients_core.specs.declared.plans.TheConstants.{CLIENTS};
 ghost use Rattle.clients_core.specs.declared.rounds.TheConstants.{ROUNDS};
 
-use clap::{Arg, ArgMatches, Command, value_parser};
+use clap::{Arg, ArgAction, ArgMatches, Command, value_parser};
 use clients_core::{CLIENTS, ROUNDS};
 use point_core::{LimitKind, Refusal};
 use std::alloc::{AllocError, Global};
@@ -76,6 +76,9 @@ const COUNT: &str = "N";
 
 const ROUNDS_WORD: &str = "ROUNDS";
 
+/// Asks for buffers under locks.
+const LOCKS: &str = "locks";
+
 /// The program's command line: `run`, with a file or without, or nothing for the script of standard input; or `clients`
 /// with two numbers.
 pub fn command<'a>(alloc: Global) -> Result<Command<'a>, AllocError> {
@@ -95,10 +98,15 @@ pub fn command<'a>(alloc: Global) -> Result<Command<'a>, AllocError> {
         .required(true)
         .value_parser(value_parser!(u16).range(1..=ROUNDS as i64))
         .help("How many rounds each of them makes, 1 to 10000");
+    let locks = Arg::new(alloc, LOCKS)
+        .long(LOCKS)
+        .action(ArgAction::SetTrue)
+        .help("Shares buffers under locks, in the place of a lock-free board");
     let clients = Command::new(alloc, CLIENTS_WORD)
         .about("Runs clients on threads against shared buffers, and prints what they settle")
         .arg(count)?
-        .arg(rounds)?;
+        .arg(rounds)?
+        .arg(locks)?;
     Command::new(alloc, "fencectl")
         .bin_name("fencectl")?
         .version(VERSION)
@@ -120,6 +128,11 @@ pub fn file_of<'a>(matches: &ArgMatches<'a>) -> &'a str {
 /// What stands behind `clients`, if that is the word.
 pub fn clients_of<'m, 'a>(matches: &'m ArgMatches<'a>) -> Option<&'m ArgMatches<'a>> {
     matches.subcommand_matches(CLIENTS_WORD)
+}
+
+/// Whether the clients are to share buffers under locks.
+pub fn asks_for_locks(matches: &ArgMatches<'_>) -> bool {
+    matches.get_flag(LOCKS)
 }
 
 /// The number of clients and the number of rounds.

@@ -8,19 +8,18 @@ ghost use Rattle.clients_core.specs.declared.rounds.TheConstants.{ROUNDS};
 ghost use Rattle.script_core.specs.Bytes.{AppendsFront};
 ghost use Rattle.fencectl.specs.Clients.{clients_text};
 
-use clients_core::{
-    CLIENTS, LockedTable, OpenGate, ROUND_BUFFERS, ROUNDS, plans_of_rounds, run_clients,
-};
+use clients_core::{Board, CLIENTS, OpenGate, ROUND_BUFFERS, ROUNDS, plans_of_rounds, run_clients};
 use point_core::Refusal;
 use report_core::settled_text;
+use resv_core::SharedTable;
 use script_core::write_whole;
 use std::alloc::Global;
 use std::io::Write;
 use std::sync::Wait;
 use std::thread::Threads;
 
-/// Runs so many clients of so many rounds, each in a thread of its own, over buffers under locks, and writes the text of
-/// what they settle. That is the text of the plans' settled table, whatever the schedule.
+/// Runs so many clients of so many rounds, each in a thread of its own, over a board of words, and writes the text of what
+/// they settle. That is the text of the plans' settled table, whatever the schedule.
 ///
 /// Refused as `run_clients`, which refuses none of these plans before its threads start, and as Write where a write
 /// failed or took no byte, or the flush failed. Then a front of the text is written.
@@ -38,7 +37,25 @@ pub fn clients_report<R: Threads + Wait + Sync, W: Write>(
         (AppendsFront (W.contents writer.old) (W.contents writer.new) (clients_text clients rounds)) }
     ensures refusals { IfErr result (λ e. (e ≡ refusal.Write) ⊎ IsClientRefusal e) }
 {
-    let text = text_of_run(rt, alloc, clients, rounds)?;
+    report_over::<R, Board, W>(rt, alloc, clients, rounds, writer)
+}
+
+/// The same over a table of any kind.
+pub fn report_over<R: Threads + Wait + Sync, T: SharedTable, W: Write>(
+    rt: &R,
+    alloc: Global,
+    clients: usize,
+    rounds: u64,
+    writer: &mut W,
+) -> Result<(), Refusal>
+    requires clients { (1 ≤ clients) × (clients ≤ CLIENTS) }
+    requires rounds { (1 ≤ rounds) × (rounds ≤ ROUNDS) }
+    ensures ok { OnOk result (Appends (W.contents writer.old) (W.contents writer.new) (clients_text clients rounds)) }
+    ensures err { OnErr result
+        (AppendsFront (W.contents writer.old) (W.contents writer.new) (clients_text clients rounds)) }
+    ensures refusals { IfErr result (λ e. (e ≡ refusal.Write) ⊎ IsClientRefusal e) }
+{
+    let text = text_of_run::<R, T>(rt, alloc, clients, rounds)?;
     write_whole(writer, text.as_slice())?;
     flush(writer)
 }
@@ -46,7 +63,7 @@ pub fn clients_report<R: Threads + Wait + Sync, W: Write>(
 /// The text of what the clients settle.
 ///
 /// Refused as `run_clients` once its threads were started, and as Memory.
-fn text_of_run<R: Threads + Wait + Sync>(
+fn text_of_run<R: Threads + Wait + Sync, T: SharedTable>(
     rt: &R,
     alloc: Global,
     clients: usize,
@@ -58,7 +75,7 @@ fn text_of_run<R: Threads + Wait + Sync>(
     ensures refusals { IfErr result IsClientRefusal }
 {
     let plans = plans_of_rounds(alloc, clients, rounds)?;
-    let (settled, _) = run_clients::<R, LockedTable, OpenGate>(
+    let (settled, _) = run_clients::<R, T, OpenGate>(
         rt,
         alloc,
         ROUND_BUFFERS,
@@ -80,6 +97,7 @@ fn flush<W: Write>(writer: &mut W) -> Result<(), Refusal>
 #[cfg(test)]
 mod tests {
     use super::*;
+    use clients_core::LockedTable;
     use std::io;
     use std::test::Fail;
 
@@ -104,6 +122,14 @@ bookkeep c2                                               300\n\
     fn two_clients(rt: HostRuntime) -> Result<(), Fail> {
         let mut told = Vec::new(rt.alloc());
         clients_report(&rt, rt.alloc(), 2, 100, &mut told)?;
+        assert_eq!(rt; told.as_slice(), TWO_CLIENTS.as_bytes());
+        Ok(())
+    }
+
+    #[test]
+    fn two_clients_under_locks(rt: HostRuntime) -> Result<(), Fail> {
+        let mut told = Vec::new(rt.alloc());
+        report_over::<HostRuntime, LockedTable, Vec<u8>>(&rt, rt.alloc(), 2, 100, &mut told)?;
         assert_eq!(rt; told.as_slice(), TWO_CLIENTS.as_bytes());
         Ok(())
     }

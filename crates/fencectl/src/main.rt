@@ -9,14 +9,16 @@ mod source;
 mod status;
 mod usage;
 
-use arguments::{STANDARD_INPUT, clients_of, command, counts_of, file_of};
+use arguments::{STANDARD_INPUT, asks_for_locks, clients_of, command, counts_of, file_of};
 use clap::ArgMatches;
-pub use clients::clients_report;
+pub use clients::{clients_report, report_over};
+use clients_core::LockedTable;
 pub use fault::tell_fault;
 use point_core::Refusal;
 use script_core::{Totals, engine};
 use source::Source;
 use status::{ACCEPTED, status_of_run};
+use std::io::Stdout;
 use std::process::ExitCode;
 use std::sync::Wait;
 use std::thread::Threads;
@@ -51,7 +53,12 @@ fn run_clients<T: Threads + Wait + Sync>(
     asked: &ArgMatches,
 ) -> Result<u8, Refusal> {
     let (clients, rounds) = counts_of(asked)?;
-    clients_report(threads, rt.alloc(), clients, rounds, &mut rt.stdout())?;
+    let mut output = rt.stdout();
+    if asks_for_locks(asked) {
+        report_over::<T, LockedTable, Stdout>(threads, rt.alloc(), clients, rounds, &mut output)?;
+    } else {
+        clients_report(threads, rt.alloc(), clients, rounds, &mut output)?;
+    }
     Ok(ACCEPTED)
 }
 

@@ -1,4 +1,4 @@
-// Clients on threads against a table under locks.
+// Clients on threads against a table, and their rows on the one under locks.
 ghost use Rattle.std.specs.Prelude.{◌≡◌, ◌≤◌, vec_len, IfOk};
 ghost use Rattle.resv_core.specs.Settled.{ArePlansWithin};
 
@@ -15,29 +15,34 @@ use std::thread::Threads;
 use words_core::Words;
 
 /// What the clients of these plans settle.
-fn settled_by<R: Threads + Wait + Sync, G: Gate>(
+pub(super) fn settled_by<R: Threads + Wait + Sync, T: SharedTable, G: Gate>(
     rt: &R,
     alloc: Global,
     plans: &[Plan],
     gate: &G,
 ) -> Result<Settled, Refusal> {
-    let (settled, _) = run_clients::<R, LockedTable, G>(rt, alloc, 1, plans, gate)?;
+    let (settled, _) = run_clients::<R, T, G>(rt, alloc, 1, plans, gate)?;
     Ok(settled)
 }
 
 /// What one client settles, or why it is refused.
-fn settled_alone<R: Threads + Wait + Sync>(
+pub(super) fn settled_alone<R: Threads + Wait + Sync, T: SharedTable>(
     rt: &R,
     alloc: Global,
     acts: Vec<Act>,
 ) -> Result<Settled, Refusal> {
     let mut plans = Vec::with_capacity(alloc, 1)?;
     plans.push_reserved(Plan::of(acts));
-    settled_by(rt, alloc, plans.as_slice(), &OpenGate)
+    settled_by::<R, T, OpenGate>(rt, alloc, plans.as_slice(), &OpenGate)
 }
 
 /// Rows of one point of each client, at these usages.
-fn rows_of(alloc: Global, usages: &[Usage], clients: usize, point: u64) -> Result<Vec<TopRow>, Fail>
+pub(super) fn rows_of(
+    alloc: Global,
+    usages: &[Usage],
+    clients: usize,
+    point: u64,
+) -> Result<Vec<TopRow>, Fail>
     requires clients { clients ≤ 8 }
 {
     let mut rows = Vec::new(alloc);
@@ -54,7 +59,7 @@ fn rows_of(alloc: Global, usages: &[Usage], clients: usize, point: u64) -> Resul
 }
 
 /// Whether clients of 100 rounds come to what their plans alone say.
-fn settle_alike<R: Threads + Wait + Sync>(
+pub(super) fn settle_alike<R: Threads + Wait + Sync, T: SharedTable>(
     rt: &R,
     alloc: Global,
     clients: usize,
@@ -65,7 +70,7 @@ fn settle_alike<R: Threads + Wait + Sync>(
     let usages = [Usage::Write, Usage::Read, Usage::Bookkeep];
     let writes = rows_of(alloc, &usages, clients, 200)?;
     let reads = rows_of(alloc, &usages[1..], clients, 300)?;
-    let (settled, _) = run_clients::<R, LockedTable, OpenGate>(
+    let (settled, _) = run_clients::<R, T, OpenGate>(
         rt,
         alloc,
         ROUND_BUFFERS,
@@ -85,7 +90,7 @@ fn settle_alike<R: Threads + Wait + Sync>(
 #[test]
 fn two_clients(rt: HostRuntime) -> Result<(), Fail> {
     for _ in 0..200u8 {
-        let alike = settle_alike(&rt, rt.alloc(), 2)?;
+        let alike = settle_alike::<HostRuntime, LockedTable>(&rt, rt.alloc(), 2)?;
         assert!(rt; alike);
     }
     Ok(())
@@ -94,7 +99,7 @@ fn two_clients(rt: HostRuntime) -> Result<(), Fail> {
 #[test]
 fn eight_clients(rt: HostRuntime) -> Result<(), Fail> {
     for _ in 0..200u8 {
-        let alike = settle_alike(&rt, rt.alloc(), 8)?;
+        let alike = settle_alike::<HostRuntime, LockedTable>(&rt, rt.alloc(), 8)?;
         assert!(rt; alike);
     }
     Ok(())
@@ -130,7 +135,7 @@ impl Gate for HoldGate {
 
 /// A gate that never opens.
 #[derive(Clone, Copy)]
-struct ClosedGate;
+pub(super) struct ClosedGate;
 
 impl Gate for ClosedGate {
     fn enter(&self, _client: usize, _act: usize) -> bool {
@@ -141,7 +146,7 @@ impl Gate for ClosedGate {
 }
 
 /// A plan of one put into the first buffer.
-fn plan_of_put(alloc: Global, index: usize, value: u64) -> Result<Plan, Fail>
+pub(super) fn plan_of_put(alloc: Global, index: usize, value: u64) -> Result<Plan, Fail>
     requires context { index ≤ 8 }
 {
     let ctx = Context::at(index);
@@ -151,7 +156,7 @@ fn plan_of_put(alloc: Global, index: usize, value: u64) -> Result<Plan, Fail>
 }
 
 /// Two plans of one put each.
-fn two_puts(alloc: Global) -> Result<Vec<Plan>, Fail> {
+pub(super) fn two_puts(alloc: Global) -> Result<Vec<Plan>, Fail> {
     let mut plans = Vec::new(alloc);
     plans.push(plan_of_put(alloc, 0, 1)?)?;
     plans.push(plan_of_put(alloc, 1, 1)?)?;
@@ -159,7 +164,7 @@ fn two_puts(alloc: Global) -> Result<Vec<Plan>, Fail> {
 }
 
 /// Whether two clients both end, though one of them waits for the other's put.
-fn settles_held<R: Threads + Wait + Sync>(
+pub(super) fn settles_held<R: Threads + Wait + Sync, T: SharedTable>(
     rt: &R,
     alloc: Global,
     held: usize,
@@ -173,7 +178,7 @@ fn settles_held<R: Threads + Wait + Sync>(
         other,
         ended: AtomicBool::new(false),
     };
-    let settled = settled_by(rt, alloc, plans.as_slice(), &gate)?;
+    let settled = settled_by::<R, T, HoldGate>(rt, alloc, plans.as_slice(), &gate)?;
     let tables = settled.tables.as_slice();
     Ok(
         settled.values.as_slice() == [0, 0].as_slice()
@@ -184,8 +189,8 @@ fn settles_held<R: Threads + Wait + Sync>(
 
 #[test]
 fn gate(rt: HostRuntime) -> Result<(), Fail> {
-    let first = settles_held(&rt, rt.alloc(), 1, 2)?;
-    let second = settles_held(&rt, rt.alloc(), 2, 1)?;
+    let first = settles_held::<HostRuntime, LockedTable>(&rt, rt.alloc(), 1, 2)?;
+    let second = settles_held::<HostRuntime, LockedTable>(&rt, rt.alloc(), 2, 1)?;
     assert!(rt; first && second);
     Ok(())
 }
@@ -193,13 +198,18 @@ fn gate(rt: HostRuntime) -> Result<(), Fail> {
 #[test]
 fn a_gate_that_never_opens(rt: HostRuntime) -> Result<(), Fail> {
     let plans = two_puts(rt.alloc())?;
-    let refused = settled_by(&rt, rt.alloc(), plans.as_slice(), &ClosedGate).err();
+    let refused = settled_by::<HostRuntime, LockedTable, ClosedGate>(
+        &rt,
+        rt.alloc(),
+        plans.as_slice(),
+        &ClosedGate,
+    ).err();
     assert!(rt; refused == Some(Refusal::TimedOut));
     Ok(())
 }
 
 /// Empty plans.
-fn idle_plans(alloc: Global, count: usize) -> Result<Vec<Plan>, Fail> {
+pub(super) fn idle_plans(alloc: Global, count: usize) -> Result<Vec<Plan>, Fail> {
     let mut plans = Vec::new(alloc);
     for _ in 0..count {
         plans.push(Plan::of(Vec::new(alloc)))?;
@@ -211,7 +221,12 @@ fn idle_plans(alloc: Global, count: usize) -> Result<Vec<Plan>, Fail> {
 fn too_few_and_too_many_clients(rt: HostRuntime) -> Result<(), Fail> {
     for count in [0, CLIENTS + 1] {
         let plans = idle_plans(rt.alloc(), count)?;
-        let refused = settled_by(&rt, rt.alloc(), plans.as_slice(), &OpenGate).err();
+        let refused = settled_by::<HostRuntime, LockedTable, OpenGate>(
+            &rt,
+            rt.alloc(),
+            plans.as_slice(),
+            &OpenGate,
+        ).err();
         assert!(rt; refused == Some(Refusal::Limit(LimitKind::Clients)));
     }
     Ok(())
@@ -220,7 +235,7 @@ fn too_few_and_too_many_clients(rt: HostRuntime) -> Result<(), Fail> {
 #[test]
 fn a_plan_that_is_too_long(rt: HostRuntime) -> Result<(), Fail> {
     let acts = Vec::from_elem(rt.alloc(), Act::Inc(0), ACTS + 1)?;
-    let refused = settled_alone(&rt, rt.alloc(), acts).err();
+    let refused = settled_alone::<HostRuntime, LockedTable>(&rt, rt.alloc(), acts).err();
     assert!(rt; refused == Some(Refusal::Limit(LimitKind::Plan)));
     Ok(())
 }
@@ -229,7 +244,12 @@ fn a_plan_that_is_too_long(rt: HostRuntime) -> Result<(), Fail> {
 fn a_plan_on_another_context(rt: HostRuntime) -> Result<(), Fail> {
     let mut plans = Vec::new(rt.alloc());
     plans.push(plan_of_put(rt.alloc(), 1, 1)?)?;
-    let refused = settled_by(&rt, rt.alloc(), plans.as_slice(), &OpenGate).err();
+    let refused = settled_by::<HostRuntime, LockedTable, OpenGate>(
+        &rt,
+        rt.alloc(),
+        plans.as_slice(),
+        &OpenGate,
+    ).err();
     assert!(rt; refused == Some(Refusal::NoEntry));
     Ok(())
 }
@@ -239,7 +259,7 @@ fn a_plan_that_wraps(rt: HostRuntime) -> Result<(), Fail> {
     let mut acts = Vec::new(rt.alloc());
     acts.push(Act::Inc(u64::MAX))?;
     acts.push(Act::Inc(1))?;
-    let refused = settled_alone(&rt, rt.alloc(), acts).err();
+    let refused = settled_alone::<HostRuntime, LockedTable>(&rt, rt.alloc(), acts).err();
     assert!(rt; refused == Some(Refusal::Overflow));
     Ok(())
 }
@@ -251,7 +271,7 @@ fn one_client(rt: HostRuntime) -> Result<(), Fail> {
     acts.push(Act::Put(0, Point { ctx, value: 4 }, Usage::Read))?;
     acts.push(Act::Look(0, Usage::Read))?;
     acts.push(Act::Inc(3))?;
-    let settled = settled_alone(&rt, rt.alloc(), acts)?;
+    let settled = settled_alone::<HostRuntime, LockedTable>(&rt, rt.alloc(), acts)?;
     let rows = rows_of(rt.alloc(), &[Usage::Read, Usage::Bookkeep], 1, 4)?;
     assert_eq!(rt; settled.values.as_slice(), [3].as_slice());
     assert!(rt; settled.tables.as_slice().len() == 1);
@@ -260,7 +280,7 @@ fn one_client(rt: HostRuntime) -> Result<(), Fail> {
 }
 
 /// One plan of one put.
-fn one_put(alloc: Global) -> Result<Vec<Plan>, Fail>
+pub(super) fn one_put(alloc: Global) -> Result<Vec<Plan>, Fail>
     ensures within { IfOk result (λ plans. ArePlansWithin 1 1 plans.items) }
     ensures count { IfOk result (λ plans. vec_len plans ≡ 1) }
 {

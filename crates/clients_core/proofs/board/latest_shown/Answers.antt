@@ -1,4 +1,3 @@
-use Rattle.std.proofs.Common.{◌≡◌, ◌+◌}
 use Rattle.clients_core.proofs.Showing.{HasShown-append, places_to-more}
 use Rattle.clients_core.proofs.board.latest_shown.Goals as goal
 

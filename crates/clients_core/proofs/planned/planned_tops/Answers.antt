@@ -1,4 +1,4 @@
-use Rattle.std.proofs.Common.{◌≡◌, ◌+◌, take}
+use Rattle.std.proofs.Common.{◌≡◌, take}
 use Rattle.point_core.proofs.Agreement.{HasContexts-append}
 use Rattle.resv_core.specs.Settled.{all_puts, puts_of}
 use Rattle.clients_core.proofs.Topping.{flat_map-take_more}

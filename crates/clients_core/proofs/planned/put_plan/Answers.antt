@@ -1,4 +1,3 @@
-use Rattle.std.proofs.Common.{◌+◌, take}
 use Rattle.resv_core.specs.Settled.{put_by}
 use Rattle.clients_core.proofs.Topping.{TakesIn-append, TakesIn-none, flat_map-take_more}
 use Rattle.clients_core.proofs.planned.put_plan.Goals as goal

@@ -1,8 +1,5 @@
-use Rattle.std.proofs.Common.{◌≡◌, ℕ, ◌∷◌, [], ◌∙◌, ap, sym, subst, List}
-use Rattle.point_core.specs.declared.entry.Entry.{Entry}
-use Rattle.point_core.specs.declared.entry.Usage.TheVariants.{Kernel, Write, Read, Bookkeep}
-use Rattle.words_core.specs.Seat.{raised_to}
-use Rattle.clients_core.specs.Board.{TakesIn, word_at}
+use Rattle.std.proofs.Common.{ℕ, ◌∙◌}
+use Rattle.point_core.specs.declared.entry.Usage.TheVariants.{Write, Read, Bookkeep}
 use Rattle.clients_core.proofs.Topping.{TakesIn-append, TakesIn-later}
 use Rattle.clients_core.proofs.raised.put_context.Goals as goal
 

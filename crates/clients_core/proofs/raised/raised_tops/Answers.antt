@@ -1,11 +1,11 @@
-use Rattle.std.proofs.Common.{◌≡◌, ◌+◌, ◌++◌, ℕ, List, map, sym, ap, ◌∙◌, subst}
+use Rattle.std.proofs.Common.{◌≡◌, ◌+◌, ◌++◌, List, map, ap, ◌∙◌, subst}
 use Rattle.std.proofs.lemmas.List.{map-append}
 use Rattle.point_core.specs.declared.entry.Entry.{Entry}
 use Rattle.point_core.specs.declared.entry.Usage.TheVariants.{Bookkeep}
 use Rattle.point_core.proofs.Agreement.{HasContexts-append}
 use Rattle.clients_core.specs.Board.{TakesIn, places_at, places_to, raised_entry}
 use Rattle.clients_core.proofs.Showing.{places_to-more}
-use Rattle.clients_core.proofs.Topping.{HasStepped-append, HasStepped-none, raised_entries-same}
+use Rattle.clients_core.proofs.Topping.{HasStepped-append, raised_entries-same}
 use Rattle.clients_core.proofs.raised.raised_tops.Goals as goal
 
 pub loop-index-preserved : goal.loop-index-preserved

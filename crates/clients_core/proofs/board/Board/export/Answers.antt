@@ -1,8 +1,5 @@
-use Rattle.std.proofs.Common.{◌≡◌, ◌++◌, ap, ◌∙◌, append_assoc, map}
-use Rattle.words_core.specs.Seat.{SeatModel, loads_of, with_steps}
-use Rattle.clients_core.specs.Board.{look_at}
+use Rattle.std.proofs.Common.{◌∙◌}
 use Rattle.clients_core.proofs.Showing.{HasLooked-shown}
-use Rattle.clients_core.proofs.Topping.{HasStepped-append}
 use Rattle.clients_core.proofs.board.Board.export.Goals as goal
 
 pub returns-clause-looked : goal.returns-clause-looked

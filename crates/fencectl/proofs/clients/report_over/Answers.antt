@@ -2,7 +2,7 @@
 use Rattle.std.proofs.Common.{rules, ◌≡◌}
 use Rattle.fencectl.specs.Clients.{clients_text}
 use Rattle.fencectl.proofs.Fronts.{AppendsFront-whole, OnErr-always}
-use Rattle.fencectl.proofs.clients.clients_report.Goals as goal
+use Rattle.fencectl.proofs.clients.report_over.Goals as goal
 
 pub returns-clause-err : goal.returns-clause-err
 returns-clause-err g c =
