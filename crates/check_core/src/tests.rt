@@ -1,0 +1,1 @@
+// Scripts, and what a check of them tells.
