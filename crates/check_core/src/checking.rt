@@ -105,28 +105,21 @@ fn check_lines<W: Write>(
     ensures refusals { IfErr result (λ refusal. (refusal ≡ WriteFault) ⊎ (refusal ≡ Memory)) }
 {
     let mut behind = RawLines::of(script);
-    judge(
-        &mut checker.tally,
-        &ScriptLine {
-            number: 0,
-            bytes: b"",
-            behind,
-        },
-        &[],
-        writer,
-    )?;
+    let above = ScriptLine {
+        number: 0,
+        bytes: b"",
+        behind,
+    };
+    judge(&mut checker.tally, &above, &[], writer)?;
     let mut number = 0;
     while let Some(bytes) = behind.next() {
         number += 1;
-        check_line(
-            checker,
-            &ScriptLine {
-                number,
-                bytes,
-                behind,
-            },
-            writer,
-        )?;
+        let line = ScriptLine {
+            number,
+            bytes,
+            behind,
+        };
+        check_line(checker, &line, writer)?;
     }
     Ok(())
 }

@@ -33,8 +33,12 @@ pub(crate) fn tell_difference<W: Write>(
 fn tell_line<W: Write>(line: &ScriptLine<'_>, writer: &mut W) -> Result<(), Refusal>
     ensures refusals { IfErr result (λ refusal. refusal ≡ WriteFault) }
 {
+    let number = line.number;
+    if number == 0 {
+        return tell_word(writer, "line 0: above the first command: ");
+    }
     let command = line.bytes.escape_ascii();
-    write!(writer, "line {}: {}: ", line.number, command).map_err(|_| Refusal::Write)
+    write!(writer, "line {number}: {command}: ").map_err(|_| Refusal::Write)
 }
 
 fn tell<W: Write>(writer: &mut W, word: &str, line: &[u8]) -> Result<(), Refusal>
@@ -50,7 +54,7 @@ fn tell_word<W: Write>(writer: &mut W, text: &str) -> Result<(), Refusal>
     write!(writer, "{text}").map_err(|_| Refusal::Write)
 }
 
-/// Writes the counts.
+/// Writes the counts, and flushes.
 pub(crate) fn tell_tally<W: Write>(tally: &Tally, writer: &mut W) -> Result<(), Refusal>
     ensures refusals { IfErr result (λ refusal. refusal ≡ WriteFault) }
 {
@@ -63,5 +67,6 @@ pub(crate) fn tell_tally<W: Write>(tally: &Tally, writer: &mut W) -> Result<(), 
         writer,
         "{lines} answered, {checked} checked, {differing} differing"
     )
-    .map_err(|_| Refusal::Write)
+    .map_err(|_| Refusal::Write)?;
+    writer.flush().map_err(|_| Refusal::Write)
 }

@@ -45,9 +45,12 @@ A refused line is answered `err NUMBER NAME`, and changes nothing:
 
 The script language is documented in docs/SCRIPT.md.
 
+Behind a command a note `#= TEXT` expects TEXT as a line of its answer. `fencectl check` compares these, and tells each
+answer that differs on standard error.
+
 Exit status:
-  0  every line was accepted
-  1  a line was refused
+  0  every line was accepted; of a check: every answer was as expected
+  1  a line was refused; of a check: an answer differs
   2  wrong usage, or a fault of reading, writing or memory
 
 Example:
@@ -59,29 +62,56 @@ pub const STANDARD_INPUT: &str = "-";
 
 const FILE: &str = "FILE";
 
-/// The program's command line: `run`, with a file or without, or nothing for the script of standard input.
+const RUN: &str = "run";
+
+const CHECK: &str = "check";
+
+/// What the program is to do, with the script of a file or of standard input.
+#[derive(Clone, Copy)]
+pub enum Action<'a> {
+    /// Its answers are printed.
+    Run(&'a str),
+    /// Its answers are compared with those that it expects.
+    Check(&'a str),
+}
+
+/// The program's command line: `run` or `check`, with a file or without, or nothing to run the script of standard input.
 pub fn command<'a>(alloc: Global) -> Result<Command<'a>, AllocError> {
-    let file = Arg::new(alloc, FILE)
-        .default_value(STANDARD_INPUT)
-        .help("The script's file, or - for standard input");
-    let run = Command::new(alloc, "run")
+    let run = Command::new(alloc, RUN)
         .about(
             "Runs the script of a file; without one that of standard input, as no word at all does",
         )
-        .arg(file)?;
+        .arg(file(alloc))?;
+    let check = Command::new(alloc, CHECK)
+        .about("Runs a script, and compares its answers with those that its notes expect")
+        .arg(file(alloc))?;
     Command::new(alloc, "fencectl")
         .bin_name("fencectl")?
         .version(VERSION)
         .about(ABOUT)
         .after_help(HELP)
         .subcommand_help_heading("Subcommands")
-        .subcommand(run)
+        .subcommand(run)?
+        .subcommand(check)
 }
 
-/// The file that is named behind `run`, or standard input.
-pub fn file_of<'a>(matches: &ArgMatches<'a>) -> &'a str {
-    match matches.subcommand_matches("run") {
-        Some(run) => run.get_str(FILE).unwrap_or(STANDARD_INPUT),
-        None => STANDARD_INPUT,
+fn file<'a>(alloc: Global) -> Arg<'a> {
+    Arg::new(alloc, FILE)
+        .default_value(STANDARD_INPUT)
+        .help("The script's file, or - for standard input")
+}
+
+/// What the command line asks for.
+pub fn action_of<'a>(matches: &ArgMatches<'a>) -> Action<'a> {
+    match matches.subcommand_matches(CHECK) {
+        Some(check) => Action::Check(file_of(check)),
+        None => match matches.subcommand_matches(RUN) {
+            Some(run) => Action::Run(file_of(run)),
+            None => Action::Run(STANDARD_INPUT),
+        },
     }
+}
+
+fn file_of<'a>(matches: &ArgMatches<'a>) -> &'a str {
+    matches.get_str(FILE).unwrap_or(STANDARD_INPUT)
 }

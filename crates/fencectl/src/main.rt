@@ -1,5 +1,5 @@
 //! `fencectl`: reads a script of fence commands from standard input or a file, and prints their answers on standard
-//! output.
+//! output, or compares them with those that the script expects.
 #![tactic(auto)]
 
 mod arguments;
@@ -8,12 +8,14 @@ mod source;
 mod status;
 mod usage;
 
-use arguments::{STANDARD_INPUT, command, file_of};
+use arguments::{Action, STANDARD_INPUT, action_of, command};
+use check_core::{Tally, check};
 pub use fault::tell_fault;
 use point_core::Refusal;
 use script_core::{Totals, engine};
 use source::Source;
-use status::status_of_run;
+use status::{status_of_check, status_of_run};
+use std::fs::File;
 use std::process::ExitCode;
 use std::{env, fs, io};
 
@@ -31,13 +33,16 @@ fn start(rt: &HostRuntime) -> Result<u8, Refusal> {
     };
     let command = command(alloc)?;
     match command.try_get_matches_from(words.as_slice()) {
-        Ok(matches) => Ok(run(rt, file_of(&matches))),
+        Ok(matches) => Ok(match action_of(&matches) {
+            Action::Run(file) => run_script(rt, file),
+            Action::Check(file) => check_script(rt, file),
+        }),
         Err(error) => usage::tell_error(rt, &error),
     }
 }
 
 /// Runs the script of that file, or of standard input. Gives the exit status.
-fn run(rt: &HostRuntime, file: &str) -> u8 {
+fn run_script(rt: &HostRuntime, file: &str) -> u8 {
     let ended = if file == STANDARD_INPUT {
         engine(rt.alloc(), &mut rt.stdin(), &mut rt.stdout())
     } else {
@@ -46,21 +51,46 @@ fn run(rt: &HostRuntime, file: &str) -> u8 {
     status_of_run(ended, &mut rt.stderr())
 }
 
-/// Runs the script of a file. Where it can't be opened or read, its name and the system's reason are told.
 fn run_file(rt: &HostRuntime, file: &str) -> Result<Totals, Refusal> {
-    let opened = match fs::open(rt, file) {
-        Ok(opened) => opened,
+    let mut source = open(rt, file)?;
+    let ended = engine(rt.alloc(), &mut source, &mut rt.stdout());
+    tell_failed(rt, file, &source);
+    ended
+}
+
+/// Checks the script of that file, or of standard input. Gives the exit status.
+fn check_script(rt: &HostRuntime, file: &str) -> u8 {
+    let ended = if file == STANDARD_INPUT {
+        check(rt.alloc(), &mut rt.stdin(), &mut rt.stderr())
+    } else {
+        check_file(rt, file)
+    };
+    status_of_check(ended, &mut rt.stderr())
+}
+
+fn check_file(rt: &HostRuntime, file: &str) -> Result<Tally, Refusal> {
+    let mut source = open(rt, file)?;
+    let ended = check(rt.alloc(), &mut source, &mut rt.stderr());
+    tell_failed(rt, file, &source);
+    ended
+}
+
+/// Opens a script. Where it can't be opened, its name and the system's reason are told.
+fn open(rt: &HostRuntime, file: &str) -> Result<Source<File>, Refusal> {
+    match fs::open(rt, file) {
+        Ok(opened) => Ok(Source::of(opened)),
         Err(error) => {
             tell_reason(rt, file, error);
-            return Err(Refusal::Read);
+            Err(Refusal::Read)
         }
-    };
-    let mut source = Source::of(opened);
-    let ended = engine(rt.alloc(), &mut source, &mut rt.stdout());
+    }
+}
+
+/// Tells the name and the system's reason, where a read failed.
+fn tell_failed(rt: &HostRuntime, file: &str, source: &Source<File>) {
     if let Some(error) = source.failed() {
         tell_reason(rt, file, error);
     }
-    ended
 }
 
 /// Whether this could be written changes nothing: the line of the fault follows.
