@@ -46,7 +46,8 @@ A refused line is answered `err NUMBER NAME`, and changes nothing:
 The script language is documented in docs/SCRIPT.md.
 
 Behind a command a note `#= TEXT` expects TEXT as a line of its answer. `fencectl check` compares these, and tells each
-answer that differs on standard error.
+answer that differs on standard error. `fencectl explain` tells there which word of a refused line is at fault, and why,
+and what a `wait` waits for.
 
 Exit status:
   0  every line was accepted; of a check: every answer was as expected
@@ -66,6 +67,8 @@ const RUN: &str = "run";
 
 const CHECK: &str = "check";
 
+const EXPLAIN: &str = "explain";
+
 /// What the program is to do, with the script of a file or of standard input.
 #[derive(Clone, Copy)]
 pub enum Action<'a> {
@@ -73,9 +76,12 @@ pub enum Action<'a> {
     Run(&'a str),
     /// Its answers are compared with those that it expects.
     Check(&'a str),
+    /// Its answers are printed, and why lines were refused.
+    Explain(&'a str),
 }
 
-/// The program's command line: `run` or `check`, with a file or without, or nothing to run the script of standard input.
+/// The program's command line: `run`, `check` or `explain`, with a file or without, or nothing to run the script of standard
+/// input.
 pub fn command<'a>(alloc: Global) -> Result<Command<'a>, AllocError> {
     let run = Command::new(alloc, RUN)
         .about(
@@ -85,6 +91,9 @@ pub fn command<'a>(alloc: Global) -> Result<Command<'a>, AllocError> {
     let check = Command::new(alloc, CHECK)
         .about("Runs a script, and compares its answers with those that its notes expect")
         .arg(file(alloc))?;
+    let explain = Command::new(alloc, EXPLAIN)
+        .about("Runs a script, and tells on standard error why lines were refused")
+        .arg(file(alloc))?;
     Command::new(alloc, "fencectl")
         .bin_name("fencectl")?
         .version(VERSION)
@@ -92,7 +101,8 @@ pub fn command<'a>(alloc: Global) -> Result<Command<'a>, AllocError> {
         .after_help(HELP)
         .subcommand_help_heading("Subcommands")
         .subcommand(run)?
-        .subcommand(check)
+        .subcommand(check)?
+        .subcommand(explain)
 }
 
 fn file<'a>(alloc: Global) -> Arg<'a> {
@@ -103,12 +113,15 @@ fn file<'a>(alloc: Global) -> Arg<'a> {
 
 /// What the command line asks for.
 pub fn action_of<'a>(matches: &ArgMatches<'a>) -> Action<'a> {
-    match matches.subcommand_matches(CHECK) {
-        Some(check) => Action::Check(file_of(check)),
-        None => match matches.subcommand_matches(RUN) {
-            Some(run) => Action::Run(file_of(run)),
-            None => Action::Run(STANDARD_INPUT),
-        },
+    if let Some(check) = matches.subcommand_matches(CHECK) {
+        return Action::Check(file_of(check));
+    }
+    if let Some(explain) = matches.subcommand_matches(EXPLAIN) {
+        return Action::Explain(file_of(explain));
+    }
+    match matches.subcommand_matches(RUN) {
+        Some(run) => Action::Run(file_of(run)),
+        None => Action::Run(STANDARD_INPUT),
     }
 }
 

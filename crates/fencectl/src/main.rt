@@ -10,12 +10,14 @@ mod usage;
 
 use arguments::{Action, STANDARD_INPUT, action_of, command};
 use check_core::{Tally, check};
+use explain_core::{Look, explain};
 pub use fault::tell_fault;
 use point_core::Refusal;
 use script_core::{Totals, engine};
 use source::Source;
 use status::{status_of_check, status_of_run};
 use std::fs::File;
+use std::io::IsTerminal;
 use std::process::ExitCode;
 use std::{env, fs, io};
 
@@ -36,6 +38,7 @@ fn start(rt: &HostRuntime) -> Result<u8, Refusal> {
         Ok(matches) => Ok(match action_of(&matches) {
             Action::Run(file) => run_script(rt, file),
             Action::Check(file) => check_script(rt, file),
+            Action::Explain(file) => explain_script(rt, file),
         }),
         Err(error) => usage::tell_error(rt, &error),
     }
@@ -73,6 +76,44 @@ fn check_file(rt: &HostRuntime, file: &str) -> Result<Tally, Refusal> {
     let ended = check(rt.alloc(), &mut source, &mut rt.stderr());
     tell_failed(rt, file, &source);
     ended
+}
+
+/// Runs the script of that file, or of standard input, and tells why lines were refused. Gives the exit status.
+fn explain_script(rt: &HostRuntime, file: &str) -> u8 {
+    let ended = if file == STANDARD_INPUT {
+        explain(
+            rt.alloc(),
+            look(rt),
+            &mut rt.stdin(),
+            &mut rt.stdout(),
+            &mut rt.stderr(),
+        )
+    } else {
+        explain_file(rt, file)
+    };
+    status_of_run(ended, &mut rt.stderr())
+}
+
+fn explain_file(rt: &HostRuntime, file: &str) -> Result<Totals, Refusal> {
+    let mut source = open(rt, file)?;
+    let ended = explain(
+        rt.alloc(),
+        look(rt),
+        &mut source,
+        &mut rt.stdout(),
+        &mut rt.stderr(),
+    );
+    tell_failed(rt, file, &source);
+    ended
+}
+
+/// Bold at a terminal, else plain.
+fn look(rt: &HostRuntime) -> Look {
+    if rt.stderr().is_terminal() {
+        Look::Bold
+    } else {
+        Look::Plain
+    }
 }
 
 /// Opens a script. Where it can't be opened, its name and the system's reason are told.
