@@ -76,8 +76,8 @@ fn four_hundred_adds(rt: HostRuntime) -> Result<(), Fail> {
     let alloc = rt.alloc();
     let mut script = String::from_str(alloc, "timeline a\nbuffer B\n")?;
     let mut wanted = String::from_str(alloc, "ok 1\nok\n")?;
-    for below in 0..400 {
-        let line = format!(in alloc; "add B a {} bookkeep\n", 400 - below)?;
+    for point in (1..=400).rev() {
+        let line = format!(in alloc; "add B a {point} bookkeep\n")?;
         script.push_str(line.as_str())?;
         wanted.push_str("ok\n")?;
     }
