@@ -51,8 +51,17 @@ A refused line is answered `err NUMBER NAME`, and changes nothing:
 
 The script language is documented in docs/SCRIPT.md.
 
+Behind a command a note `#= TEXT` expects TEXT as a line of its answer. `fencectl check` compares these, and tells each
+answer that differs on standard error. `fencectl explain` tells there which word of a refused line is at fault, and why,
+and what a `wait` waits for.
+
 Clients run on threads, each with a timeline of its own, and share two buffers; docs/CLIENTS.md says what they do. What
 they settle is the same in every run: a row for each timeline, and for each buffer the points that are pending.
+
+Exit status:
+  0  every line was accepted; of a check: every answer was as expected; of clients: they settled
+  1  a line was refused; of a check: an answer differs
+  2  wrong usage, or a fault of reading, writing, memory or threads
 
 Exit status:
   0  every line was accepted, or the clients settled
@@ -69,6 +78,12 @@ pub const STANDARD_INPUT: &str = "-";
 
 const FILE: &str = "FILE";
 
+const RUN: &str = "run";
+
+const CHECK: &str = "check";
+
+const EXPLAIN: &str = "explain";
+
 /// The word for a run of clients, and the numbers behind it.
 const CLIENTS_WORD: &str = "clients";
 
@@ -79,17 +94,45 @@ const ROUNDS_WORD: &str = "ROUNDS";
 /// Asks for buffers under locks.
 const LOCKS: &str = "locks";
 
-/// The program's command line: `run`, with a file or without, or nothing for the script of standard input; or `clients`
-/// with two numbers.
+/// What the program is to do with the script of a file or of standard input.
+#[derive(Clone, Copy)]
+pub enum Action<'a> {
+    /// Its answers are printed.
+    Run(&'a str),
+    /// Its answers are compared with those that it expects.
+    Check(&'a str),
+    /// Its answers are printed, and why lines were refused.
+    Explain(&'a str),
+}
+
+/// The program's command line: `run`, `check` or `explain`, with a file or without, or nothing to run the script of standard
+/// input; or `clients` with two numbers.
 pub fn command<'a>(alloc: Global) -> Result<Command<'a>, AllocError> {
-    let file = Arg::new(alloc, FILE)
-        .default_value(STANDARD_INPUT)
-        .help("The script's file, or - for standard input");
-    let run = Command::new(alloc, "run")
+    let run = Command::new(alloc, RUN)
         .about(
             "Runs the script of a file; without one that of standard input, as no word at all does",
         )
-        .arg(file)?;
+        .arg(file(alloc))?;
+    let check = Command::new(alloc, CHECK)
+        .about("Runs a script, and compares its answers with those that its notes expect")
+        .arg(file(alloc))?;
+    let explain = Command::new(alloc, EXPLAIN)
+        .about("Runs a script, and tells on standard error why lines were refused")
+        .arg(file(alloc))?;
+    Command::new(alloc, "fencectl")
+        .bin_name("fencectl")?
+        .version(VERSION)
+        .about(ABOUT)
+        .after_help(HELP)
+        .subcommand_help_heading("Subcommands")
+        .subcommand(run)?
+        .subcommand(check)?
+        .subcommand(explain)?
+        .subcommand(clients(alloc)?)
+}
+
+/// `clients`, its two numbers and its table.
+fn clients<'a>(alloc: Global) -> Result<Command<'a>, AllocError> {
     let count = Arg::new(alloc, COUNT)
         .required(true)
         .value_parser(value_parser!(u16).range(1..=CLIENTS as i64))
@@ -102,27 +145,35 @@ pub fn command<'a>(alloc: Global) -> Result<Command<'a>, AllocError> {
         .long(LOCKS)
         .action(ArgAction::SetTrue)
         .help("Shares buffers under locks, in the place of a lock-free board");
-    let clients = Command::new(alloc, CLIENTS_WORD)
+    Command::new(alloc, CLIENTS_WORD)
         .about("Runs clients on threads against shared buffers, and prints what they settle")
         .arg(count)?
         .arg(rounds)?
-        .arg(locks)?;
-    Command::new(alloc, "fencectl")
-        .bin_name("fencectl")?
-        .version(VERSION)
-        .about(ABOUT)
-        .after_help(HELP)
-        .subcommand_help_heading("Subcommands")
-        .subcommand(run)?
-        .subcommand(clients)
+        .arg(locks)
 }
 
-/// The file that is named behind `run`, or standard input.
-pub fn file_of<'a>(matches: &ArgMatches<'a>) -> &'a str {
-    match matches.subcommand_matches("run") {
-        Some(run) => run.get_str(FILE).unwrap_or(STANDARD_INPUT),
-        None => STANDARD_INPUT,
+fn file<'a>(alloc: Global) -> Arg<'a> {
+    Arg::new(alloc, FILE)
+        .default_value(STANDARD_INPUT)
+        .help("The script's file, or - for standard input")
+}
+
+/// What the command line asks for.
+pub fn action_of<'a>(matches: &ArgMatches<'a>) -> Action<'a> {
+    if let Some(check) = matches.subcommand_matches(CHECK) {
+        return Action::Check(file_of(check));
     }
+    if let Some(explain) = matches.subcommand_matches(EXPLAIN) {
+        return Action::Explain(file_of(explain));
+    }
+    match matches.subcommand_matches(RUN) {
+        Some(run) => Action::Run(file_of(run)),
+        None => Action::Run(STANDARD_INPUT),
+    }
+}
+
+fn file_of<'a>(matches: &ArgMatches<'a>) -> &'a str {
+    matches.get_str(FILE).unwrap_or(STANDARD_INPUT)
 }
 
 /// What stands behind `clients`, if that is the word.

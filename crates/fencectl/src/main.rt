@@ -1,5 +1,6 @@
 //! `fencectl`: reads a script of fence commands from standard input or a file, and prints their answers on standard
-//! output; or runs clients on threads, and prints what they settle.
+//! output, compares them with those that the script expects, or explains them; or runs clients on threads, and prints what
+//! they settle.
 #![tactic(auto)]
 
 mod arguments;
@@ -9,16 +10,21 @@ mod source;
 mod status;
 mod usage;
 
-use arguments::{STANDARD_INPUT, asks_for_locks, clients_of, command, counts_of, file_of};
+use arguments::{
+    Action, STANDARD_INPUT, action_of, asks_for_locks, clients_of, command, counts_of,
+};
+use check_core::{Tally, check};
 use clap::ArgMatches;
 pub use clients::{clients_report, report_over};
 use clients_core::LockedTable;
+use explain_core::{Look, explain};
 pub use fault::tell_fault;
 use point_core::Refusal;
 use script_core::{Totals, engine};
 use source::Source;
-use status::{ACCEPTED, status_of_run};
-use std::io::Stdout;
+use status::{ACCEPTED, status_of_check, status_of_run};
+use std::fs::File;
+use std::io::{IsTerminal, Stdout};
 use std::process::ExitCode;
 use std::sync::Wait;
 use std::thread::Threads;
@@ -40,7 +46,7 @@ fn start<T: Threads + Wait + Sync>(rt: &HostRuntime, threads: &T) -> Result<u8, 
     match command.try_get_matches_from(words.as_slice()) {
         Ok(matches) => match clients_of(&matches) {
             Some(asked) => run_clients(rt, threads, asked),
-            None => Ok(run(rt, file_of(&matches))),
+            None => Ok(act(rt, action_of(&matches))),
         },
         Err(error) => usage::tell_error(rt, &error),
     }
@@ -62,8 +68,17 @@ fn run_clients<T: Threads + Wait + Sync>(
     Ok(ACCEPTED)
 }
 
+/// Does it. Gives the exit status.
+fn act(rt: &HostRuntime, action: Action) -> u8 {
+    match action {
+        Action::Run(file) => run_script(rt, file),
+        Action::Check(file) => check_script(rt, file),
+        Action::Explain(file) => explain_script(rt, file),
+    }
+}
+
 /// Runs the script of that file, or of standard input. Gives the exit status.
-fn run(rt: &HostRuntime, file: &str) -> u8 {
+fn run_script(rt: &HostRuntime, file: &str) -> u8 {
     let ended = if file == STANDARD_INPUT {
         engine(rt.alloc(), &mut rt.stdin(), &mut rt.stdout())
     } else {
@@ -72,21 +87,84 @@ fn run(rt: &HostRuntime, file: &str) -> u8 {
     status_of_run(ended, &mut rt.stderr())
 }
 
-/// Runs the script of a file. Where it can't be opened or read, its name and the system's reason are told.
 fn run_file(rt: &HostRuntime, file: &str) -> Result<Totals, Refusal> {
-    let opened = match fs::open(rt, file) {
-        Ok(opened) => opened,
+    let mut source = open(rt, file)?;
+    let ended = engine(rt.alloc(), &mut source, &mut rt.stdout());
+    tell_failed(rt, file, &source);
+    ended
+}
+
+/// Checks the script of that file, or of standard input. Gives the exit status.
+fn check_script(rt: &HostRuntime, file: &str) -> u8 {
+    let ended = if file == STANDARD_INPUT {
+        check(rt.alloc(), &mut rt.stdin(), &mut rt.stderr())
+    } else {
+        check_file(rt, file)
+    };
+    status_of_check(ended, &mut rt.stderr())
+}
+
+fn check_file(rt: &HostRuntime, file: &str) -> Result<Tally, Refusal> {
+    let mut source = open(rt, file)?;
+    let ended = check(rt.alloc(), &mut source, &mut rt.stderr());
+    tell_failed(rt, file, &source);
+    ended
+}
+
+/// Runs the script of that file, or of standard input, and tells why lines were refused. Gives the exit status.
+fn explain_script(rt: &HostRuntime, file: &str) -> u8 {
+    let ended = if file == STANDARD_INPUT {
+        explain(
+            rt.alloc(),
+            look(rt),
+            &mut rt.stdin(),
+            &mut rt.stdout(),
+            &mut rt.stderr(),
+        )
+    } else {
+        explain_file(rt, file)
+    };
+    status_of_run(ended, &mut rt.stderr())
+}
+
+fn explain_file(rt: &HostRuntime, file: &str) -> Result<Totals, Refusal> {
+    let mut source = open(rt, file)?;
+    let ended = explain(
+        rt.alloc(),
+        look(rt),
+        &mut source,
+        &mut rt.stdout(),
+        &mut rt.stderr(),
+    );
+    tell_failed(rt, file, &source);
+    ended
+}
+
+/// Bold at a terminal, else plain.
+fn look(rt: &HostRuntime) -> Look {
+    if rt.stderr().is_terminal() {
+        Look::Bold
+    } else {
+        Look::Plain
+    }
+}
+
+/// Opens a script. Where it can't be opened, its name and the system's reason are told.
+fn open(rt: &HostRuntime, file: &str) -> Result<Source<File>, Refusal> {
+    match fs::open(rt, file) {
+        Ok(opened) => Ok(Source::of(opened)),
         Err(error) => {
             tell_reason(rt, file, error);
-            return Err(Refusal::Read);
+            Err(Refusal::Read)
         }
-    };
-    let mut source = Source::of(opened);
-    let ended = engine(rt.alloc(), &mut source, &mut rt.stdout());
+    }
+}
+
+/// Tells the name and the system's reason, where a read failed.
+fn tell_failed(rt: &HostRuntime, file: &str, source: &Source<File>) {
     if let Some(error) = source.failed() {
         tell_reason(rt, file, error);
     }
-    ended
 }
 
 /// Whether this could be written changes nothing: the line of the fault follows.

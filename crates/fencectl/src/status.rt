@@ -1,17 +1,18 @@
-// The exit status of a run.
+// The exit status of a run and of a check.
 ghost use Rattle.std.specs.Prelude.{◌≡◌, ◌==◌, if◌then◌else◌, MatchResult};
 ghost use Rattle.std.specs.Io.KnownBytes.{Keeps};
 ghost use Rattle.script_core.specs.Bytes.{AppendsFront};
 ghost use Rattle.fencectl.specs.Fault.{fault_text};
 
 use crate::fault::tell_fault;
+use check_core::Tally;
 use point_core::Refusal;
 use script_core::Totals;
 use std::io::Write;
 
-/// Every line was accepted.
+/// Every line was accepted, every answer was as expected, or the clients settled.
 pub(crate) const ACCEPTED: u8 = 0;
-/// A line was refused.
+/// A line was refused, or an answer differs.
 const REFUSED: u8 = 1;
 
 /// The status of a script that was answered to its end: 0 where every line was accepted, 1 where one was refused.
@@ -37,5 +38,31 @@ pub(crate) fn status_of_run<W: Write>(ended: Result<Totals, Refusal>, writer: &m
     match ended {
         Ok(totals) => status_of_totals(totals),
         Err(refusal) => tell_fault(&refusal, writer),
+    }
+}
+
+/// The status of a script that was checked to its end: 0 where every expected line is the one that came, else 1.
+fn status_of_tally(tally: Tally) -> u8
+    ensures { result ≡ (if tally.differing == 0 then 0 else 1) }
+{
+    if tally.differing == 0 {
+        ACCEPTED
+    } else {
+        REFUSED
+    }
+}
+
+/// The status of a check that ended so. A fault is told to the writer, and its status is 2.
+pub(crate) fn status_of_check<W: Write>(ended: Result<Tally, Refusal>, writer: &mut W) -> u8
+    ensures status { MatchResult ended
+        (λ tally. result ≡ (if tally.differing == 0 then 0 else 1))
+        (λ _. result ≡ 2) }
+    ensures told { MatchResult ended
+        (λ _. Keeps (W.contents writer.old) (W.contents writer.new))
+        (λ refusal. AppendsFront (W.contents writer.old) (W.contents writer.new) (fault_text refusal)) }
+{
+    match ended {
+        Ok(tally) => status_of_tally(tally),
+        Err(fault) => tell_fault(&fault, writer),
     }
 }

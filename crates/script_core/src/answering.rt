@@ -90,7 +90,9 @@ fn answer_lines<W: Write>(
     Ok(totals)
 }
 
-fn answer_line(desk: &mut Desk, body: Body) -> Answer
+/// The answer of a line, which may be a refusal: that of its command, or the refusal that the line is. It changes the desk as
+/// `Desk::step` does.
+pub fn answer_line(desk: &mut Desk, body: Body) -> Answer
     ensures answer { (history : List Command) → HasHistory desk.old history
         → IsLineAnswer history body result }
     ensures stands { (history : List Command) → HasHistory desk.old history

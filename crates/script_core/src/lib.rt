@@ -18,10 +18,11 @@ mod usages;
 mod words;
 mod writing;
 
-pub use answering::engine;
-pub use line::{Body, LINE_BYTES, Line};
+pub use answering::{answer_line, engine};
+pub use line::{Body, LINE_BYTES, Line, body_of};
 pub use number::DIGITS;
-pub use script::{SCRIPT_BYTES, read_script};
+pub use reading::read_whole;
+pub use script::{Ending, SCRIPT_BYTES, first_line, read_script};
 pub use text::print;
 pub use totals::Totals;
 pub use writing::write_whole;

@@ -29,7 +29,7 @@ pub enum Body {
 
 /// What the line says, in this order: LongLine; none for a line without words or whose first word begins with `#`;
 /// Syntax where the words fit no row of the table; else the command.
-pub(crate) fn body_of(line: &[u8]) -> Option<Body>
+pub fn body_of(line: &[u8]) -> Option<Body>
     ensures body { result ≡ body_of line.now }
 {
     if line.len() > LINE_BYTES {

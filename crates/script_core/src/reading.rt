@@ -11,11 +11,10 @@ use std::io::Read;
 /// The most bytes of one read.
 const READ_BYTES: usize = 8192;
 
-/// Reads a script whole, up to one byte past its limit. An interrupted read counts as failed.
-pub(crate) fn read_whole<R: Read>(
-    alloc: Global,
-    reader: &mut R,
-) -> Result<(Vec<u8>, Ending), Refusal>
+/// Reads a script whole, up to one byte past its limit, and tells how it ends. An interrupted read counts as failed.
+///
+/// Refused as Memory alone.
+pub fn read_whole<R: Read>(alloc: Global, reader: &mut R) -> Result<(Vec<u8>, Ending), Refusal>
     ensures read { IfOk result (λ r. WasRead (R.remaining reader.old) (R.remaining reader.new) r.0.items r.1) }
     ensures within { ConsumesAtMost (SCRIPT_BYTES + 1) (R.remaining reader.old) (R.remaining reader.new) }
     ensures err { IfErr result (λ refusal. refusal ≡ Memory) }

@@ -25,7 +25,7 @@ pub fn read_script(alloc: Global, bytes: &[u8]) -> Result<Vec<Line>, Refusal>
 
 /// What stands behind the last line feed of some bytes.
 #[derive(Clone, Copy, Debug)]
-pub(crate) enum Ending {
+pub enum Ending {
     /// The script's last line, which lacks its line feed.
     Whole,
     /// A line that the script's limit cuts.
@@ -117,7 +117,7 @@ fn last_body(ending: Ending, last: &[u8]) -> Option<Body>
 }
 
 /// The first line and the bytes behind its line feed, or none where no line feed is there.
-fn first_line(bytes: &[u8]) -> Option<(&[u8], &[u8])>
+pub fn first_line(bytes: &[u8]) -> Option<(&[u8], &[u8])>
     ensures lines { MatchOption result
         (lines_of bytes.now ≡ bytes.now ∷ [])
         (λ l. lines_of bytes.now ≡ l.0.now ∷ lines_of l.1.now) }

@@ -1,0 +1,4 @@
+mod Comparing
+mod Counts
+mod Progress
+mod Texts

@@ -1,0 +1,51 @@
+-- What the notes of a script expect of its answers.
+use Rattle.std.specs.Prelude.{◌≡◌, ℕ, nat_eq, Bool, true, false, not, if◌then◌else◌, List, [], ◌∷◌, ◌++◌, length, drop, Option, None, Some, is_some, option_map, unwrap_or, codes}
+use Rattle.std.specs.List.{starts_with, flat_map}
+use Rattle.std.specs.Option.{option_to_list}
+use Rattle.std.specs.Str.{bytes_eq}
+use Rattle.script_core.specs.Line.{body_of}
+use Rattle.script_core.specs.Script.{lines_of}
+use Rattle.script_core.specs.Words.{is_space}
+
+abbrev pub drop_spaces : List ℕ → List ℕ
+drop_spaces [] = []
+drop_spaces (b ∷ bytes) = if is_space b then drop_spaces bytes else b ∷ bytes
+
+-- what follows that front
+abbrev pub strip_front : List ℕ → List ℕ → Option (List ℕ)
+strip_front bytes front = if starts_with nat_eq bytes front then Some (drop (length front) bytes) else None
+
+-- A note whose first word begins with `#=` expects a line of output: its text is what follows, but for one space.
+abbrev pub expected_text : List ℕ → Option (List ℕ)
+expected_text line = option_map (λ text. unwrap_or (strip_front text (codes " ")) text) (strip_front (drop_spaces line) (codes "#="))
+
+-- what the notes expect that stand before the next line with an answer
+abbrev pub expected_behind : List (List ℕ) → List (List ℕ)
+expected_behind [] = []
+expected_behind (line ∷ more) =
+    if is_some (body_of line) then [] else option_to_list (expected_text line) ++ expected_behind more
+
+-- The expected lines of the script's line of that number, from 1: its notes up to the next line that has an answer. Those of
+-- number 0 stand above every line that has one.
+abbrev pub expected_of : List ℕ → ℕ → List (List ℕ)
+expected_of script number = expected_behind (drop number (lines_of script))
+
+-- a line of output
+abbrev pub ended : List ℕ → List ℕ
+ended line = line ++ 10 ∷ []
+
+abbrev pub output_of_lines : List (List ℕ) → List ℕ
+output_of_lines lines = flat_map ended lines
+
+-- where lines are expected, they are those that came, in order, and nothing else came
+abbrev pub IsAsExpected : List (List ℕ) → List ℕ → Type 0
+IsAsExpected [] text = Unit {0}
+IsAsExpected (line ∷ more) text = text ≡ output_of_lines (line ∷ more)
+
+abbrev pub is_asked : List (List ℕ) → Bool
+is_asked [] = false
+is_asked (line ∷ more) = true
+
+abbrev pub differs : List (List ℕ) → List ℕ → Bool
+differs [] text = false
+differs (line ∷ more) text = not (bytes_eq text (output_of_lines (line ∷ more)))

@@ -1,0 +1,17 @@
+//! Scripts that carry what they expect: the answers of a script's lines, beside its notes on them.
+//!
+//! What a note expects, and when an answer is as expected, is told as functions of the bytes (`specs/`).
+#![tactic(auto)]
+
+mod checking;
+mod expected;
+mod finding;
+mod front;
+mod lines;
+mod tally;
+mod telling;
+#[cfg(test)]
+mod tests;
+
+pub use checking::check;
+pub use tally::Tally;

@@ -1,0 +1,47 @@
+// How many answers of a script were as expected.
+ghost use Rattle.std.specs.Prelude.{◌≡◌, ◌+◌, ◌^◌, ◌<◌};
+ghost use Rattle.check_core.specs.Finding.{is_asked_finding, is_difference};
+
+use crate::finding::Finding;
+
+/// How many answers of a script were as its notes expect.
+#[derive(Clone, Copy, Debug)]
+pub struct Tally {
+    /// The lines that have an answer.
+    pub lines: u64,
+    /// How many of them have expected lines. Lines that are expected above the first command count as one more.
+    pub checked: u64,
+    /// How many of the checked ones answered otherwise.
+    pub differing: u64,
+}
+
+impl Tally {
+    ghost use Rattle.check_core.specs.Tally.{one_if, IsEmpty, HasRoom};
+
+    pub(crate) fn new() -> Self
+        ensures empty { IsEmpty result }
+    {
+        Tally {
+            lines: 0,
+            checked: 0,
+            differing: 0,
+        }
+    }
+
+    /// One finding more.
+    pub(crate) fn count(&mut self, finding: &Finding<'_>)
+        requires { HasRoom self.old }
+        ensures lines { self.new.lines ≡ self.old.lines }
+        ensures checked { self.new.checked ≡ self.old.checked + one_if (is_asked_finding finding.now) }
+        ensures differing { self.new.differing ≡ self.old.differing + one_if (is_difference finding.now) }
+    {
+        match finding {
+            Finding::Unasked => {}
+            Finding::AsExpected => self.checked += 1,
+            Finding::Differs(_) => {
+                self.checked += 1;
+                self.differing += 1;
+            }
+        }
+    }
+}

@@ -1,0 +1,14 @@
+//! Refusals that explain themselves: a script's answers, and beside them why a line was refused and what a wait waits for.
+#![tactic(auto)]
+
+mod book;
+mod explaining;
+mod look;
+mod names;
+mod refused;
+mod syntax;
+#[cfg(test)]
+mod tests;
+
+pub use explaining::explain;
+pub use look::Look;

@@ -1,0 +1,205 @@
+// Which word of a line that is no command is at fault, and why.
+
+use crate::look::{Place, begin, begin_with, begin_word, end};
+use point_core::{Name, Refusal};
+use script_core::{DIGITS, LINE_BYTES};
+use std::alloc::Global;
+use std::io::Write;
+use strsim::osa_distance;
+
+/// What a word behind a command's may be.
+#[derive(Clone, Copy, Debug, PartialEq, Eq)]
+enum Kind {
+    Name,
+    Number,
+    Usage,
+    Flags,
+}
+
+/// The words of commands.
+const COMMANDS: [&str; 18] = [
+    "timeline", "inc", "value", "fence", "merge", "close", "wait", "info", "buffer", "add",
+    "import", "export", "test", "trim", "watch", "unwatch", "show", "report",
+];
+
+/// What follows a command's word, or none where the word is no command.
+fn kinds_of(word: &[u8]) -> Option<&'static [Kind]> {
+    Some(match word {
+        b"timeline" | b"value" | b"close" | b"wait" | b"info" | b"buffer" | b"trim" | b"show" => &[
+            Kind::Name,
+        ],
+        b"inc" | b"watch" => &[Kind::Name, Kind::Number],
+        b"fence" => &[Kind::Name, Kind::Name, Kind::Number],
+        b"merge" => &[Kind::Name, Kind::Name, Kind::Name],
+        b"add" => &[Kind::Name, Kind::Name, Kind::Number, Kind::Usage],
+        b"import" | b"export" => &[Kind::Name, Kind::Name, Kind::Flags],
+        b"test" => &[Kind::Name, Kind::Usage],
+        b"unwatch" => &[Kind::Number],
+        b"report" => &[],
+        _ => return None,
+    })
+}
+
+/// A word is taken for a command that differs from it in one letter of so many.
+const LETTERS: usize = 3;
+
+const GREATEST_NUMBER: &[u8] = b"18446744073709551615";
+
+/// Tells why a line is too long.
+pub(crate) fn explain_long_line<N: Write>(
+    place: &Place,
+    line: &[u8],
+    notes: &mut N,
+) -> Result<(), Refusal> {
+    begin(place, notes)?;
+    let count = line.len();
+    writeln!(
+        notes,
+        "it has {count} bytes, and a line has at most {LINE_BYTES}"
+    )
+    .map_err(|_| Refusal::Write)
+}
+
+/// Tells which word of a line that is no command is at fault: the first that has a byte no word of a command has; else the
+/// first word, where it is no command; else the first that is none of its kind, or that the number of words is wrong.
+pub(crate) fn explain_syntax<N: Write>(
+    alloc: Global,
+    place: &Place,
+    line: &[u8],
+    notes: &mut N,
+) -> Result<(), Refusal> {
+    for word in line.split(|byte| *byte == b' ') {
+        if let Some(reason) = strange_byte(word) {
+            begin_with(place, word, notes)?;
+            return end(reason, notes);
+        }
+    }
+    let (word, rest) = first_word(line);
+    match kinds_of(word) {
+        Some(kinds) => explain_words(place, word, kinds, rest, notes),
+        None => explain_no_command(alloc, place, word, notes),
+    }
+}
+
+/// What is wrong with a word that has a byte which words never have.
+fn strange_byte(word: &[u8]) -> Option<&'static str> {
+    if word.starts_with(b"\xef\xbb\xbf") {
+        Some("a byte order mark begins the word")
+    } else if word.contains(&b'\t') {
+        Some("a tab is a byte of the word; words are parted by spaces alone")
+    } else if word.ends_with(b"\r") {
+        Some("a carriage return ends the word; a line ends with a line feed alone")
+    } else if word.iter().any(|byte| !byte.is_ascii_graphic()) {
+        Some("the word has a byte that does not print")
+    } else {
+        None
+    }
+}
+
+/// The first word, and what follows it.
+fn first_word(line: &[u8]) -> (&[u8], &[u8]) {
+    let start = line
+        .iter()
+        .position(|byte| *byte != b' ')
+        .unwrap_or(line.len());
+    let bytes = &line[start..];
+    let end = bytes
+        .iter()
+        .position(|byte| *byte == b' ')
+        .unwrap_or(bytes.len());
+    bytes.split_at(end)
+}
+
+fn explain_no_command<N: Write>(
+    alloc: Global,
+    place: &Place,
+    word: &[u8],
+    notes: &mut N,
+) -> Result<(), Refusal> {
+    let nearest = nearest(alloc, word)?;
+    begin_word(place, word, notes)?;
+    match nearest {
+        Some(command) => {
+            writeln!(notes, " is no command; did you mean \"{command}\"?").map_err(
+                |_| Refusal::Write,
+            )
+        }
+        None => end(" is no command", notes),
+    }
+}
+
+/// The command that differs in the fewest letters, where these are few; two letters in each other's place count as one.
+///
+/// Refused as Memory alone.
+fn nearest(alloc: Global, word: &[u8]) -> Result<Option<&'static str>, Refusal> {
+    let Ok(text) = str::from_utf8(word) else {
+        return Ok(None);
+    };
+    let mut least = word.len() / LETTERS + 1;
+    let mut found = None;
+    for command in COMMANDS {
+        let letters = osa_distance(alloc, text, command)?;
+        if letters < least {
+            least = letters;
+            found = Some(command);
+        }
+    }
+    Ok(found)
+}
+
+fn explain_words<N: Write>(
+    place: &Place,
+    command: &[u8],
+    kinds: &[Kind],
+    rest: &[u8],
+    notes: &mut N,
+) -> Result<(), Refusal> {
+    let mut kinds = kinds.iter();
+    for word in rest.split(|byte| *byte == b' ') {
+        if word.is_empty() {
+            continue;
+        }
+        if let Some(reason) = wrong_for(word, kinds.next()) {
+            begin_with(place, word, notes)?;
+            return end(reason, notes);
+        }
+    }
+    begin_with(place, command, notes)?;
+    end("a word is missing behind it", notes)
+}
+
+/// What is wrong with a word in the place of that kind, or behind the last one.
+fn wrong_for(word: &[u8], kind: Option<&Kind>) -> Option<&'static str> {
+    match kind {
+        Some(kind) if is_of_kind(word, *kind) => None,
+        Some(kind) => Some(why_not(*kind)),
+        None => Some("it is a word too many"),
+    }
+}
+
+fn is_of_kind(word: &[u8], kind: Kind) -> bool {
+    match kind {
+        Kind::Name => Name::read(word).is_some(),
+        Kind::Number => is_number(word),
+        Kind::Usage => is_one_of(word, &["kernel", "write", "read", "bookkeep"]),
+        Kind::Flags => is_one_of(word, &["read", "write", "rw"]),
+    }
+}
+
+fn is_number(word: &[u8]) -> bool {
+    word.iter().all(|byte| byte.is_ascii_digit())
+        && (word.len() < DIGITS || word.len() == DIGITS && word <= GREATEST_NUMBER)
+}
+
+fn is_one_of(word: &[u8], texts: &[&str]) -> bool {
+    texts.iter().any(|text| text.as_bytes() == word)
+}
+
+fn why_not(kind: Kind) -> &'static str {
+    match kind {
+        Kind::Name => "it is no name: a name has 1 to 31 letters, digits, _, . or -",
+        Kind::Number => "it is no number of 1 to 20 digits, up to 18446744073709551615",
+        Kind::Usage => "it is no usage: kernel, write, read or bookkeep",
+        Kind::Flags => "these are no flags: read, write or rw",
+    }
+}
