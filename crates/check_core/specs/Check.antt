@@ -1,10 +1,12 @@
 -- What a check of a script finds.
-use Rattle.std.specs.Prelude.{◌≡◌, ◌↔◌, ℕ, ◌+◌, List, [], ◌∷◌, length, Option, None, Some}
+use Rattle.std.specs.Prelude.{◌≡◌, ◌↔◌, ℕ, ◌+◌, ◌<◌, List, [], ◌∷◌, length, Option, None, Some}
+use Rattle.std.specs.Io.KnownBytes.{Consumes}
 use Rattle.desk_core.specs.declared.command.Command.{Command}
 use Rattle.desk_core.specs.declared.answer.Answer.{Answer}
 use Rattle.desk_core.specs.Desk.{DeskState, HasHistory}
 use Rattle.script_core.specs.declared.line.Body.{Body}
 use Rattle.script_core.specs.declared.line.Line.{Line}
+use Rattle.script_core.specs.declared.script.TheConstants.{SCRIPT_BYTES}
 use Rattle.script_core.specs.Output.{IsLineAnswer, history_after_line, AreLineAnswers}
 use Rattle.script_core.specs.Script.{script_of}
 use Rattle.script_core.specs.Text.{text_of}
@@ -45,6 +47,12 @@ pub record ChecksScript (script : List ℕ) (tally : Tally) : Type 0 where
   pub differing : tally.differing ≡
       one_if (differs (expected_of script 0) []) + differing_count script (script_of script) given
   pub agrees : (tally.differing ≡ 0) ↔ AgreesWith script given
+
+-- more bytes were read than a script may have
+pub record IsTooLong (old new : Option (List ℕ)) : Type 0 where
+  pub bytes : List ℕ
+  pub consumed : Consumes old new bytes
+  pub long : SCRIPT_BYTES < length bytes
 
 -- the desk answered a line, and this is the answer's text
 pub record AnswersInto (desk desk' : DeskState) (number : ℕ) (body : Body) (text : List ℕ) : Type 0 where

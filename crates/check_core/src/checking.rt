@@ -1,5 +1,5 @@
 // A script from a reader, and how its answers differ from what its notes expect to a writer.
-ghost use Rattle.std.specs.Prelude.{◌≡◌, ◌+◌, ◌^◌, ◌<◌, ◌≤◌, ◌⊎◌, [], List, ℕ, length, IfOk, OnOk, IfErr};
+ghost use Rattle.std.specs.Prelude.{◌≡◌, ◌+◌, ◌^◌, ◌<◌, ◌≤◌, ◌⊎◌, [], List, ℕ, length, Err, IfOk, OnOk, IfErr};
 ghost use Rattle.point_core.specs.declared.refusal.Refusal.TheVariants.{Limit, Read as ReadFault, Write as WriteFault, Memory};
 ghost use Rattle.point_core.specs.declared.refusal.LimitKind.TheVariants.{Script};
 ghost use Rattle.desk_core.specs.Desk.{HasHistory};
@@ -10,7 +10,7 @@ ghost use Rattle.script_core.specs.Output.{IsInput};
 ghost use Rattle.check_core.specs.RawLines.{raw_lines_left};
 ghost use Rattle.check_core.specs.Expected.{expected_behind};
 ghost use Rattle.check_core.specs.Tally.{IsEmpty, HasRoom};
-ghost use Rattle.check_core.specs.Check.{ChecksScript, AnswersInto, IsJudged, IsAnswered, IsChecked};
+ghost use Rattle.check_core.specs.Check.{ChecksScript, IsTooLong, AnswersInto, IsJudged, IsAnswered, IsChecked};
 
 use crate::expected::Expected;
 use crate::finding::{Finding, compare};
@@ -38,6 +38,8 @@ pub fn check<R: Read, W: Write>(
     ensures ok { IfOk result (λ tally. (script : List ℕ) × IsInput (R.remaining reader.old) script
         × ChecksScript script tally) }
     ensures within { ConsumesAtMost (SCRIPT_BYTES + 1) (R.remaining reader.old) (R.remaining reader.new) }
+    // A script is too long only where more of it was read than may be.
+    ensures limit { result ≡ Err (Limit Script) → IsTooLong (R.remaining reader.old) (R.remaining reader.new) }
     ensures refusals { IfErr result (λ refusal.
         (refusal ≡ ReadFault) ⊎ (refusal ≡ Limit Script) ⊎ (refusal ≡ WriteFault) ⊎ (refusal ≡ Memory)) }
 {
