@@ -5,6 +5,7 @@ pub mod Locking
 pub mod Looking
 pub mod Planning
 pub mod PlansOfRounds
+pub mod SettledRounds
 pub mod Settling
 pub mod Showing
 pub mod Topping

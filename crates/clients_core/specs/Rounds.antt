@@ -1,10 +1,13 @@
 -- What clients do in rounds: all of them write to one buffer, and each reads from the other what the next one makes.
-use Rattle.std.specs.Prelude.{ℕ, ◌+◌, ◌*◌, ◌==◌, if◌then◌else◌, List, [], ◌∷◌, map}
+use Rattle.std.specs.Prelude.{ℕ, ◌+◌, ◌*◌, ◌==◌, if◌then◌else◌, List, [], ◌∷◌, map, replicate}
 use Rattle.std.specs.List.{flat_map, range_with_len}
 use Rattle.point_core.specs.declared.entry.Point.{Point}
-use Rattle.point_core.specs.declared.entry.Usage.TheVariants.{Write, Read}
+use Rattle.point_core.specs.declared.entry.Usage.{Usage}
+use Rattle.point_core.specs.declared.entry.Usage.TheVariants.{Write, Read, Bookkeep}
+use Rattle.point_core.specs.declared.listing.TopRow.{TopRow}
 use Rattle.resv_core.specs.declared.plan.Act.{Act}
 use Rattle.resv_core.specs.declared.plan.Act.TheVariants.{Inc, Put, Look}
+use Rattle.resv_core.specs.declared.plan.Settled.{Settled}
 
 -- the client that comes next; the first comes next to the last
 abbrev pub next_client : ℕ → ℕ → ℕ
@@ -30,3 +33,18 @@ rounds_of rounds client next = flat_map (round_of client next) (range_with_len 1
 abbrev pub plans_of_rounds : ℕ → ℕ → List (List Act)
 plans_of_rounds clients rounds =
     map (λ client. rounds_of rounds client (next_client clients client)) (range_with_len 1 clients)
+
+-- a row of the same point for each client's timeline, at a usage
+abbrev pub rows_of_clients : ℕ → ℕ → Usage → List TopRow
+rows_of_clients clients point usage =
+    map (λ client. record { usage = usage; ctx = client; point = point }) (range_with_len 1 clients)
+
+-- what all rounds come to: each timeline's value is their number, and of each what the last round put is pending
+abbrev pub settled_of_rounds : ℕ → ℕ → Settled
+settled_of_rounds clients rounds = record {
+  values = replicate clients rounds;
+  tables =
+      flat_map (rows_of_clients clients (2 * rounds)) (Write ∷ Read ∷ Bookkeep ∷ [])
+      ∷ flat_map (rows_of_clients clients (3 * rounds)) (Read ∷ Bookkeep ∷ [])
+      ∷ [];
+}

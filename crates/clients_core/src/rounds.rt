@@ -1,9 +1,8 @@
 // The plans of clients that do the same in each of many rounds.
-ghost use Rattle.std.specs.Prelude.{◌≡◌, ◌+◌, ◌++◌, ◌<◌, ◌≤◌, None, replicate, IfErr, IfOk, OnOk};
+ghost use Rattle.std.specs.Prelude.{◌≡◌, ◌+◌, ◌++◌, ◌<◌, ◌≤◌, None, IfErr, IfOk, OnOk};
 ghost use Rattle.point_core.specs.declared.refusal.Refusal.TheVariants as refusal;
-ghost use Rattle.resv_core.specs.Settled.{values_of};
-ghost use Rattle.clients_core.specs.Plans.{cause_to_refuse_plans};
-ghost use Rattle.clients_core.specs.Rounds.{next_client, plans_of_rounds, rounds_of, round_of};
+ghost use Rattle.clients_core.specs.Plans.{cause_to_refuse_plans, settled_of};
+ghost use Rattle.clients_core.specs.Rounds.{next_client, plans_of_rounds, rounds_of, round_of, settled_of_rounds};
 
 use crate::plans::CLIENTS;
 use point_core::{Context, Point, Refusal, Usage};
@@ -36,7 +35,8 @@ pub fn plans_of_rounds(alloc: Global, clients: usize, rounds: u64) -> Result<Vec
     requires rounds { rounds ≤ ROUNDS }
     ensures plans { IfOk result (λ plans. plans.items ≡ plans_of_rounds clients rounds) }
     ensures accepted { IfOk result (λ plans. cause_to_refuse_plans ROUND_BUFFERS plans.items ≡ None) }
-    ensures values { IfOk result (λ plans. values_of plans.items ≡ replicate clients rounds) }
+    ensures settled { IfOk result (λ plans.
+        1 ≤ rounds → settled_of ROUND_BUFFERS plans.items ≡ settled_of_rounds clients rounds) }
     ensures memory { IfErr result (λ e. e ≡ refusal.Memory) }
 {
     let mut plans = Vec::with_capacity(alloc, clients)?;

@@ -3,7 +3,8 @@ use Rattle.std.specs.List.{range_with_len}
 use Rattle.std.proofs.lemmas.List.FromFn.{map-range_with_len_more}
 use Rattle.resv_core.specs.declared.plan.Act.{Act}
 use Rattle.clients_core.specs.Rounds.{next_client, rounds_of, plans_of_rounds}
-use Rattle.clients_core.proofs.PlansOfRounds.{accepted-rounds, values-rounds}
+use Rattle.clients_core.proofs.PlansOfRounds.{accepted-rounds}
+use Rattle.clients_core.proofs.SettledRounds.{settled-rounds}
 use Rattle.clients_core.proofs.rounds.plans_of_rounds.Goals as goal
 
 pub loop-index-preserved : goal.loop-index-preserved
@@ -35,11 +36,11 @@ returns-clause-accepted c =
     let whole : c.loop-index.plans.items ≡ plans_of_rounds clients rounds = c.loop-index.invariant.plans ∙ ap (λ (n : ℕ). map plan (range_with_len 1 n)) all in
     rw whole (accepted-rounds clients rounds c.requires.clients c.requires.rounds)
 
-pub returns-clause-values : goal.returns-clause-values
-returns-clause-values c =
+pub returns-clause-settled : goal.returns-clause-settled
+returns-clause-settled c =
     let clients = c.args.clients in
     let rounds = c.args.rounds in
     let plan : ℕ → List Act = λ client. rounds_of rounds client (next_client clients client) in
     let all : c.loop-index.index ≡ clients = omega arith in
     let whole : c.loop-index.plans.items ≡ plans_of_rounds clients rounds = c.loop-index.invariant.plans ∙ ap (λ (n : ℕ). map plan (range_with_len 1 n)) all in
-    rw whole (values-rounds clients rounds)
+    rw whole (λ some. settled-rounds clients rounds (omega arith) (omega arith) some)
