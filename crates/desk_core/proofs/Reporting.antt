@@ -1,20 +1,19 @@
 -- What is told of everything, by names and by what the desk keeps.
-use Rattle.std.proofs.Common.{◌≡◌, ℕ, zero, suc, ◌+◌, ◌<◌, ◌≤◌, ◌||◌, Bool, true, false, cond, find, refl, sym, ap, subst, ◌∙◌, List, [], ◌∷◌, ◌++◌, length, map, take, get_or, Option, None, Some, option_map, is_some, Result, Ok, Err, if◌then◌else◌, arith, All, Bor}
-use Rattle.std.specs.List.{IsDistinct, AllByRecursion, flat_map}
+use Rattle.std.proofs.Common.{◌≡◌, ℕ, zero, suc, ◌+◌, ◌<◌, ◌≤◌, ◌||◌, Bool, true, false, cond, find, refl, sym, ap, ◌∙◌, List, [], ◌∷◌, ◌++◌, length, map, take, get_or, Option, None, Some, Err, if◌then◌else◌, arith, Bor}
+use Rattle.std.specs.List.{IsDistinct, AllByRecursion}
 use Rattle.std.specs.Cmp.Lexicographic.{nat_list_eq_equiv}
 use Rattle.std.proofs.lemmas.Map.Keys.{IsDistinct-head, IsDistinct-tail}
-use Rattle.std.proofs.lemmas.List.Elements.{All-map, All-append, All-nil, All-weaker}
+use Rattle.std.proofs.lemmas.List.Elements.{All-map, All-append, All-nil}
 use Rattle.point_core.specs.declared.limits.TheConstants.{BUFFERS}
 use Rattle.point_core.specs.Named.{same_name, is_named, named}
 use Rattle.point_core.specs.declared.entry.Entry.{Entry}
-use Rattle.point_core.specs.declared.entry.Point.{Point}
 use Rattle.point_core.specs.declared.entry.Usage.{Usage}
 use Rattle.point_core.specs.declared.entry.Usage.TheVariants.{Kernel, Write, Read, Bookkeep}
 use Rattle.point_core.specs.declared.listing.TopRow.{TopRow}
 use Rattle.point_core.specs.Agreement.{listing}
 use Rattle.point_core.specs.Usage.{usage_number}
 use Rattle.resv_core.specs.Resv.{rows_at, rows_of, row_of}
-use Rattle.desk_core.specs.Keeping.{AreMade, AreRowsMade, HasNoneBehind}
+use Rattle.desk_core.specs.Keeping.{AreRowsMade, HasNoneBehind}
 use Rattle.desk_core.proofs.Behind.{AreMade-behind}
 use Rattle.std.specs.Prelude.{IsSome}
 use Rattle.std.specs.List.{list_any}
@@ -28,7 +27,7 @@ use Rattle.point_core.specs.declared.refusal.Refusal.TheVariants.{Memory, NoEntr
 use Rattle.point_core.specs.Refusal.{IsRefusedFor}
 use Rattle.syncfile_core.specs.SyncFile.{File, file_of}
 use Rattle.syncfile_core.specs.Files.{HasDistinctNames, file_at, names_of as file_names_of}
-use Rattle.dmabuf_core.specs.Buffers.{Buffer, has_buffer, names_of, cause_without}
+use Rattle.dmabuf_core.specs.Buffers.{Buffer, has_buffer, names_of}
 
 apart-at : {X : Type 0} (name_of : X → List ℕ) (a : List ℕ) (xs : List X) (i : ℕ) (d : X) → AllByRecursion (λ y. same_name a y ≡ false) (map name_of xs) → i < length xs → same_name a (name_of (get_or xs i d)) ≡ false
 apart-at name_of a [] i d apart h = absurd (omega arith)

@@ -1,5 +1,5 @@
 -- What is told of a buffer and of everything is what the world has.
-use Rattle.std.proofs.Common.{◌≡◌, ℕ, suc, ◌<◌, ◌≤◌, refl, sym, ap, subst, ◌∙◌, List, [], ◌∷◌, length, map, get_or, Option, option_map, unwrap_or, arith, All}
+use Rattle.std.proofs.Common.{◌≡◌, ℕ, suc, ◌<◌, ◌≤◌, refl, ap, subst, ◌∙◌, List, [], ◌∷◌, length, map, get_or, option_map, unwrap_or, arith, All}
 use Rattle.std.specs.List.{IsDistinct}
 use Rattle.std.proofs.lemmas.Simd.{map-map}
 use Rattle.std.proofs.lemmas.List.Elements.{All-head, All-tail}
@@ -12,7 +12,6 @@ use Rattle.point_core.proofs.Agreement.{AgreesAbove-sym}
 use Rattle.point_core.proofs.Reached.{all_reached-AgreesAbove}
 use Rattle.timeline_core.specs.Timeline.{reach_of, rows_of as timeline_rows}
 use Rattle.syncfile_core.specs.SyncFile.{File}
-use Rattle.resv_core.specs.Resv.{rows_of}
 use Rattle.resv_core.proofs.Runs.{rows_of-AgreesAbove}
 use Rattle.dmabuf_core.specs.Buffers.{names_of, entries_of}
 use Rattle.desk_core.specs.declared.command.Command.TheVariants as command

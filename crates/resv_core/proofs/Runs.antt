@@ -1,13 +1,11 @@
 -- Calls on a table, one after another, and what a table tells.
-use Rattle.std.proofs.Common.{◌≡◌, ℕ, ◌≤◌, ◌↔◌, refl, sym, ap, List, [], ◌∷◌, ◌++◌, map, append_assoc, append-nil, Option, None, Some, arith, Contains}
+use Rattle.std.proofs.Common.{◌≡◌, ℕ, ◌↔◌, sym, ap, List, [], ◌∷◌, ◌++◌, map, append_assoc, append-nil, Contains}
 use Rattle.point_core.specs.declared.entry.Entry.{Entry}
 use Rattle.point_core.specs.declared.entry.Usage.{Usage}
 use Rattle.point_core.specs.declared.entry.Usage.TheVariants.{Kernel, Write, Read, Bookkeep}
 use Rattle.point_core.specs.Usage.{usage_number}
-use Rattle.point_core.specs.Reach.{value_at}
-use Rattle.point_core.specs.Agreement.{top, AgreesAbove, IsReached}
-use Rattle.point_core.specs.Latest.{raised_to}
-use Rattle.point_core.proofs.Agreement.{AgreesAbove-same, AgreesAbove-sym, AgreesAbove-trans, AgreesAbove-append, AgreesAbove-refl, AgreesAbove-later, AgreesAbove-raised, AgreesAbove-same_entries, listing-AgreesAbove, raised_to-top-above, top-Some}
+use Rattle.point_core.specs.Agreement.{AgreesAbove}
+use Rattle.point_core.proofs.Agreement.{AgreesAbove-same, AgreesAbove-sym, AgreesAbove-trans, AgreesAbove-append, AgreesAbove-refl, AgreesAbove-later, AgreesAbove-same_entries, listing-AgreesAbove}
 use Rattle.resv_core.specs.Resv.{row_of, rows_at, rows_of}
 use Rattle.resv_core.specs.Run.{Call, Reserve, Add, Trim, Leaves, Step, IsRun, last_reach, last_entries, added_by, all_added}
 

@@ -1,9 +1,7 @@
 -- What the plans of all clients come to.
 use Rattle.std.specs.Prelude.{ℕ, ◌==◌, ◌<◌, ◌≤◌, if◌then◌else◌, List, [], ◌∷◌, map, sum_by, All}
 use Rattle.std.specs.List.{flat_map, range_with_len}
-use Rattle.point_core.specs.declared.entry.Point.{Point}
 use Rattle.point_core.specs.declared.entry.Entry.{Entry}
-use Rattle.point_core.specs.declared.entry.Usage.{Usage}
 use Rattle.point_core.specs.declared.listing.TopRow.{TopRow}
 use Rattle.words_core.specs.Seat.{SeatModel, added_to}
 use Rattle.resv_core.specs.declared.plan.Act.{Act}

@@ -1,6 +1,5 @@
-use Rattle.std.proofs.Common.{◌≡◌, ◌<◌, length, get_or, map, subst, sym, ap, ◌∙◌, arith}
+use Rattle.std.proofs.Common.{◌≡◌, ◌<◌, length, get_or, map, subst, ap, ◌∙◌, arith}
 use Rattle.std.proofs.lemmas.Result.{err_from_is_err_and}
-use Rattle.timeline_core.specs.Timeline.{reach_of}
 use Rattle.resv_core.specs.Resv.{rows_of}
 use Rattle.dmabuf_core.specs.Buffers.{names_of, has_buffer, entries_of}
 use Rattle.desk_core.specs.declared.answer.BufferRows.{BufferRows}

@@ -1,4 +1,4 @@
-use Rattle.std.proofs.Common.{◌≡◌, ◌<◌, length, subst, sym, ap, ◌∙◌, arith}
+use Rattle.std.proofs.Common.{ap, ◌∙◌, arith}
 use Rattle.desk_core.specs.Keeping.{file_row_at}
 use Rattle.desk_core.proofs.Reporting.{file_at-told, IsSome-copied, copied-now, rows-next}
 use Rattle.desk_core.proofs.report.file_rows.Goals as goal
