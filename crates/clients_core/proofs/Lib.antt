@@ -3,6 +3,7 @@ pub mod Gathering
 pub mod Keeping
 pub mod Locking
 pub mod Looking
+pub mod Owning
 pub mod Planning
 pub mod PlansOfRounds
 pub mod SettledRounds

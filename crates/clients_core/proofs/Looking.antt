@@ -54,7 +54,7 @@ points-shown p value (q ∷ qs) = elim (eqb_tells q.ctx p.ctx) [
 shows-late : (listing : Listing) (p : Point) → shows_point listing p ≡ nat_le p.value (shown_at listing p.ctx)
 shows-late listing p = points-shown p (value_at listing.floor p.ctx) listing.points
 
-entry-shown : (listing : Listing) (usage : ℕ) (e : Entry) → (usage_number e.usage ≤ usage → e.point.value ≤ shown_at listing e.point.ctx) → shows_entry listing usage e ≡ true
+pub entry-shown : (listing : Listing) (usage : ℕ) (e : Entry) → (usage_number e.usage ≤ usage → e.point.value ≤ shown_at listing e.point.ctx) → shows_entry listing usage e ≡ true
 entry-shown listing usage e late = elim (leb_tells (usage_number e.usage) usage) [
   | inl strong ↦ rw strong.0 (shows-late listing e.point ∙ le-leb e.point.value (shown_at listing e.point.ctx) (late strong.1))
   | inr weak ↦ rw weak.0 refl

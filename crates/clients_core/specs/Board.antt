@@ -69,6 +69,10 @@ pub record HasLooked (words : WordsModel) (buffer : ℕ) (level : Usage) (before
   pub points : listed.points ≡ listing entries (usage_number level) listed.floor
   pub own : All (λ e. raised_to before (word_at words buffer (place_of e)) ≤ e.point.value) entries
 
+-- the seat has raised the entry's place to its point or a later one
+abbrev pub IsRaisedBy : WordsModel → ℕ → SeatModel → Entry → Type 0
+IsRaisedBy words buffer seat e = (e.point.ctx ≤ words.contexts) × (e.point.value ≤ raised_to seat (word_at words buffer (place_of e)))
+
 -- the tables have these entries too
 pub record TakesIn (entries : List Entry) (old new : Tops) : Type 0 where
   pub tops : (reach : List ℕ) (es : List Entry) → AreTops old reach es → AreTops new reach (es ++ entries)

@@ -1,11 +1,14 @@
 // Buffers that clients share, of words alone.
-ghost use Rattle.std.specs.Prelude.{◌≡◌, ◌<◌, ◌≤◌, ◌⊎◌, ◌↔◌, Err, IfErr, IfOk, IsOk};
+ghost use Rattle.std.specs.Prelude.{◌≡◌, ◌<◌, ◌≤◌, ◌⊎◌, ◌↔◌, true, All, Err, IfErr, IfOk, IsOk, List};
+ghost use Rattle.point_core.specs.declared.entry.Entry.{Entry};
+ghost use Rattle.point_core.specs.Agreement.{HasContexts};
 ghost use Rattle.point_core.specs.declared.refusal.Refusal.TheVariants as refusal;
 ghost use Rattle.point_core.specs.Usage.{usage_number};
 ghost use Rattle.resv_core.specs.Resv.{entry_of};
 ghost use Rattle.resv_core.specs.Settled.{gathered_values, tables_of};
 ghost use Rattle.resv_core.specs.Shared.{HasStepped};
-ghost use Rattle.clients_core.specs.Board.{AreAsPlanned, HasLooked, HasRaised, HasShown, place_to, places_at, places_to};
+ghost use Rattle.clients_core.specs.Board.{AreAsPlanned, HasLooked, HasRaised, HasShown, IsRaisedBy, place_to, places_at, places_to};
+ghost use Rattle.clients_core.specs.Looks.{shows_all};
 
 use crate::gathered::{gathered, listed};
 use crate::planned::planned_tables;
@@ -68,6 +71,8 @@ impl Board {
         requires within { buffer < words.now.buffers }
         ensures stepped { HasStepped seat.old seat.new }
         ensures looked { IfOk result (λ listing. HasLooked words.now buffer usage seat.old seat.new listing) }
+        ensures own { (es : List Entry) → HasContexts es → All (IsRaisedBy words.now buffer seat.old) es →
+            IfOk result (λ listing. shows_all listing (usage_number usage) es ≡ true) }
         ensures memory { IfErr result (λ e. e ≡ refusal.Memory) }
     {
         let floor = words.load_all(seat);
