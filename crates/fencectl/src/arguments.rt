@@ -63,11 +63,6 @@ Exit status:
   1  a line was refused; of a check: an answer differs
   2  wrong usage, or a fault of reading, writing, memory or threads
 
-Exit status:
-  0  every line was accepted, or the clients settled
-  1  a line was refused
-  2  wrong usage, or a fault of reading, writing, memory or threads
-
 Examples:
   printf 'timeline gpu\\nfence frame gpu 5\\ninfo frame\\n' | fencectl
   fencectl clients 2 3
