@@ -11,7 +11,7 @@ use Rattle.point_core.specs.declared.entry.Point.{Point}
 use Rattle.point_core.specs.declared.entry.Entry.{Entry}
 use Rattle.point_core.specs.declared.entry.Usage.{Usage}
 use Rattle.point_core.specs.declared.entry.Usage.TheVariants.{Kernel, Write, Read, Bookkeep}
-use Rattle.point_core.specs.Agreement.{top, pending, as_entries, AgreesAbove, AllAbove, HasContexts, HasRisingContexts}
+use Rattle.point_core.specs.Agreement.{top, pending, point_of, as_entries, AgreesAbove, AllAbove, HasContexts, HasRisingContexts}
 use Rattle.point_core.specs.Reach.{value_at}
 use Rattle.point_core.specs.Usage.{usage_number}
 use Rattle.point_core.proofs.Agreement.{AgreesAbove-append, AgreesAbove-comm, AgreesAbove-covered, AgreesAbove-refl, AgreesAbove-same, AgreesAbove-trans, listing-nil, listing-same}
@@ -22,7 +22,7 @@ use Rattle.resv_core.specs.Settled.{puts_of, all_puts}
 use Rattle.resv_core.proofs.Runs.{rows_of-AgreesAbove}
 use Rattle.clients_core.specs.declared.rounds.TheConstants.{ROUND_BUFFERS}
 use Rattle.clients_core.specs.Plans.{settled_of}
-use Rattle.clients_core.specs.Rounds.{next_client, point_of, round_of, rounds_of, plans_of_rounds, rows_of_clients, settled_of_rounds}
+use Rattle.clients_core.specs.Rounds.{next_client, round_of, rounds_of, plans_of_rounds, rows_of_clients, settled_of_rounds}
 use Rattle.clients_core.proofs.PlansOfRounds.{values-rounds}
 
 -- what the rounds of a client put on a timeline

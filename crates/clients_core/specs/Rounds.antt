@@ -1,10 +1,10 @@
 -- What clients do in rounds: all of them write to one buffer, and each reads from the other what the next one makes.
 use Rattle.std.specs.Prelude.{ℕ, ◌+◌, ◌*◌, ◌==◌, if◌then◌else◌, List, [], ◌∷◌, map, replicate}
 use Rattle.std.specs.List.{flat_map, range_with_len}
-use Rattle.point_core.specs.declared.entry.Point.{Point}
 use Rattle.point_core.specs.declared.entry.Usage.{Usage}
 use Rattle.point_core.specs.declared.entry.Usage.TheVariants.{Write, Read, Bookkeep}
 use Rattle.point_core.specs.declared.listing.TopRow.{TopRow}
+use Rattle.point_core.specs.Agreement.{point_of}
 use Rattle.resv_core.specs.declared.plan.Act.{Act}
 use Rattle.resv_core.specs.declared.plan.Act.TheVariants.{Inc, Put, Look}
 use Rattle.resv_core.specs.declared.plan.Settled.{Settled}
@@ -12,9 +12,6 @@ use Rattle.resv_core.specs.declared.plan.Settled.{Settled}
 -- the client that comes next; the first comes next to the last
 abbrev pub next_client : ℕ → ℕ → ℕ
 next_client clients client = if client == clients then 1 else client + 1
-
-abbrev pub point_of : ℕ → ℕ → Point
-point_of client value = record { ctx = client; value = value }
 
 -- a round: a fence of the client's own timeline, one step of that timeline, a fence of the next client's, and a look
 abbrev pub round_of : ℕ → ℕ → ℕ → List Act

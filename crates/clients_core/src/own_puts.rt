@@ -3,7 +3,6 @@ ghost use Rattle.std.specs.Prelude.{◌≡◌, ℕ, ◌≤◌, ◌↔◌, ◌++�
 ghost use Rattle.point_core.specs.declared.context.TheConstants.{CONTEXTS};
 ghost use Rattle.point_core.specs.declared.entry.Entry.{Entry};
 ghost use Rattle.point_core.specs.declared.refusal.Refusal.TheVariants as refusal;
-ghost use Rattle.point_core.specs.Agreement.{HasContexts};
 ghost use Rattle.point_core.specs.Latest.{IsLatest};
 ghost use Rattle.point_core.specs.Reach.{value_at};
 ghost use Rattle.point_core.specs.Usage.{usage_number};
@@ -11,16 +10,14 @@ ghost use Rattle.clients_core.specs.Looks.{shows_all};
 ghost use Rattle.clients_core.specs.OwnPuts.{AreOwnPuts, no_points};
 
 use point_core::{CONTEXTS, Context, Entry, LatestPoints, Listing, Reach, Refusal, Usage};
+use resv_core::Tops;
 use std::alloc::Global;
 
-/// The latest points that a client has put into a buffer: for each usage a table that has the stronger usages too. So a
-/// look costs the same, however many puts came before it.
-#[derive(Clone, Copy, Debug)]
+/// The latest points that a client has put into a buffer, at each usage or a stronger one. So a look costs the same, however
+/// many puts came before it.
+#[derive(Debug, Drop)]
 pub(crate) struct OwnPuts {
-    pub(crate) kernel: LatestPoints,
-    pub(crate) write: LatestPoints,
-    pub(crate) read: LatestPoints,
-    pub(crate) bookkeep: LatestPoints,
+    tops: Tops,
 }
 
 impl OwnPuts {
@@ -28,12 +25,8 @@ impl OwnPuts {
     pub(crate) fn none() -> OwnPuts
         ensures puts { AreOwnPuts result [] }
     {
-        let none = LatestPoints::above(&Reach::zero());
         OwnPuts {
-            kernel: none,
-            write: none,
-            read: none,
-            bookkeep: none,
+            tops: Tops::above(&Reach::zero()),
         }
     }
 
@@ -41,10 +34,7 @@ impl OwnPuts {
     pub(crate) fn put(&mut self, entry: &Entry)
         ensures puts { (es : List Entry) → AreOwnPuts self.old es → AreOwnPuts self.new (es ++ entry.now ∷ []) }
     {
-        put_at(&mut self.kernel, Usage::Kernel, entry);
-        put_at(&mut self.write, Usage::Write, entry);
-        put_at(&mut self.read, Usage::Read, entry);
-        put_at(&mut self.bookkeep, Usage::Bookkeep, entry);
+        self.tops.put(entry);
     }
 
     /// Whether the buffer's listing at a usage shows each of the puts at the usage or a stronger one: by a point of its
@@ -64,22 +54,11 @@ impl OwnPuts {
             IsLatest result.now no_points es (usage_number usage) }
     {
         match usage {
-            Usage::Kernel => &self.kernel,
-            Usage::Write => &self.write,
-            Usage::Read => &self.read,
-            Usage::Bookkeep => &self.bookkeep,
+            Usage::Kernel => &self.tops.kernel,
+            Usage::Write => &self.tops.write,
+            Usage::Read => &self.tops.read,
+            Usage::Bookkeep => &self.tops.bookkeep,
         }
-    }
-}
-
-/// Puts an entry into the table of a usage, where it is of that usage or a stronger one.
-fn put_at(latest: &mut LatestPoints, usage: Usage, entry: &Entry)
-    ensures latest { (es : List Entry) → IsLatest latest.old no_points es (usage_number usage) →
-        IsLatest latest.new no_points (es ++ entry.now ∷ []) (usage_number usage) }
-    ensures context { usage_number entry.now.usage ≤ usage_number usage → HasContexts (entry.now ∷ []) }
-{
-    if entry.usage.number() <= usage.number() {
-        latest.put(entry.point);
     }
 }
 
