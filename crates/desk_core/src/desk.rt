@@ -117,7 +117,7 @@ impl Desk {
         ensures unchanged { OnErr result (self.new ≡ self.old) }
     {
         let ctx = self.timelines.context(name).ok_or(Refusal::NoEntry)?;
-        let reach = self.timelines.reach();
+        let reach = self.timelines.as_reach();
         let raised = reach.raised(ctx, n).ok_or(Refusal::Overflow)?;
         let fired = self.watches.after_rise(&raised)?;
         let value = self.timelines.inc(name, n).unwrap();
@@ -147,8 +147,8 @@ impl Desk {
         ensures done { IfOk result (λ given. IsDone self.old (Command.Merge name first.now second.now) given self.new) }
         ensures unchanged { OnErr result (self.new ≡ self.old) }
     {
-        let reach = self.timelines.reach();
-        self.files.merge(name, first, second, &reach)?;
+        let reach = self.timelines.as_reach();
+        self.files.merge(name, first, second, reach)?;
         Ok(Answer::Done)
     }
 
@@ -167,7 +167,7 @@ impl Desk {
         ensures sure { IfErr result (λ e. e ≢ Refusal.Memory) }
         ensures done { IfOk result (λ given. IsDone self.now (Command.Wait name.now) given self.now) }
     {
-        match self.files.status(name, &self.timelines.reach())? {
+        match self.files.status(name, self.timelines.as_reach())? {
             Status::Signalled => Ok(Answer::Done),
             Status::Active => Err(Refusal::TimedOut),
         }
@@ -204,8 +204,8 @@ impl Desk {
         ensures unchanged { OnErr result (self.new ≡ self.old) }
     {
         let ctx = self.timelines.context(timeline).ok_or(Refusal::NoEntry)?;
-        let reach = self.timelines.reach();
-        self.buffers.add(name, Point { ctx, value }, usage, &reach)?;
+        let reach = self.timelines.as_reach();
+        self.buffers.add(name, Point { ctx, value }, usage, reach)?;
         Ok(Answer::Done)
     }
 
@@ -215,8 +215,8 @@ impl Desk {
         ensures unchanged { OnErr result (self.new ≡ self.old) }
     {
         let file = self.files.get(file).ok_or(Refusal::NoEntry)?;
-        let reach = self.timelines.reach();
-        self.buffers.import(name, file, flags, &reach)?;
+        let reach = self.timelines.as_reach();
+        self.buffers.import(name, file, flags, reach)?;
         Ok(Answer::Done)
     }
 
@@ -230,8 +230,8 @@ impl Desk {
         }
         SyncFlags::of(flags)?;
         self.files.free(&name)?;
-        let reach = self.timelines.reach();
-        let listing = self.buffers.export(buffer, flags, &reach)?;
+        let reach = self.timelines.as_reach();
+        let listing = self.buffers.export(buffer, flags, reach)?;
         self.files.adopt(name, listing)?;
         Ok(Answer::Done)
     }
@@ -241,7 +241,7 @@ impl Desk {
         ensures sure { IfErr result (λ e. e ≢ Refusal.Memory) }
         ensures done { IfOk result (λ given. IsDone self.now (Command.Test name.now usage) given self.now) }
     {
-        let signalled = self.buffers.test(name, usage, &self.timelines.reach())?;
+        let signalled = self.buffers.test(name, usage, self.timelines.as_reach())?;
         Ok(Answer::Value(u64::from(signalled)))
     }
 
@@ -251,8 +251,8 @@ impl Desk {
         ensures done { IfOk result (λ given. IsDone self.old (Command.Trim name.now) given self.new) }
         ensures unchanged { OnErr result (self.new ≡ self.old) }
     {
-        let reach = self.timelines.reach();
-        self.buffers.trim(name, &reach)?;
+        let reach = self.timelines.as_reach();
+        self.buffers.trim(name, reach)?;
         Ok(Answer::Done)
     }
 
@@ -261,15 +261,15 @@ impl Desk {
         ensures done { IfOk result (λ given. IsDone self.old (Command.Watch name.now cookie) given self.new) }
         ensures unchanged { OnErr result (self.new ≡ self.old) }
     {
-        let reach = self.timelines.reach();
-        let status = self.files.status(name, &reach)?;
+        let reach = self.timelines.as_reach();
+        let status = self.files.status(name, reach)?;
         self.watches.free(cookie)?;
         match status {
             Status::Signalled => Err(Refusal::Signalled),
             Status::Active => {
                 let file = self.files.get(name).unwrap();
                 let fence = Fence::of(self.alloc, file.points.as_slice())?;
-                self.watches.add(cookie, &fence, &reach)?;
+                self.watches.add(cookie, &fence, reach)?;
                 Ok(Answer::Done)
             }
         }
@@ -285,7 +285,7 @@ impl Desk {
         ensures refused { IsRefusedFor (cause_of self.now (Command.Show name.now)) result }
         ensures done { IfOk result (λ given. IsDone self.now (Command.Show name.now) given self.now) }
     {
-        let tops = self.buffers.table(name, &self.timelines.reach())?;
+        let tops = self.buffers.table(name, self.timelines.as_reach())?;
         let rows = report::show_rows(self.alloc, &tops, &self.timelines)?;
         Ok(Answer::Show(Items::of(rows)))
     }

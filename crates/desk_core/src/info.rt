@@ -27,11 +27,11 @@ pub fn of_points(
     ensures info { IfOk result (λ info. info ≡ info_at timelines.now name points.now) }
     ensures memory { IfErr result (λ e. e ≡ Refusal.Memory) }
 {
-    let reach = timelines.reach();
+    let reach = timelines.as_reach();
     Ok(Info {
         name,
-        status: common_status(points, &reach),
-        fences: Items::of(rows_of(alloc, points, timelines, &reach)?),
+        status: common_status(points, reach),
+        fences: Items::of(rows_of(alloc, points, timelines, reach)?),
     })
 }
 

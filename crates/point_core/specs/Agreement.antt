@@ -78,11 +78,17 @@ merged reach ps qs = listing (as_entries (ps ++ qs)) 0 reach
 
 -- the first entry makes the second needless
 abbrev pub Covers : Entry → Entry → Type 0
-Covers by other = (by.point.ctx ≡ other.point.ctx) × (usage_number by.usage ≤ usage_number other.usage) × (other.point.value ≤ by.point.value)
+Covers by other =
+    (by.point.ctx ≡ other.point.ctx)
+    × (usage_number by.usage ≤ usage_number other.usage)
+    × (other.point.value ≤ by.point.value)
 
 -- that it does, as a test
 abbrev pub covers : Entry → Entry → Bool
-covers by other = (by.point.ctx == other.point.ctx) && nat_le (usage_number by.usage) (usage_number other.usage) && nat_le other.point.value by.point.value
+covers by other =
+    (by.point.ctx == other.point.ctx)
+    && nat_le (usage_number by.usage) (usage_number other.usage)
+    && nat_le other.point.value by.point.value
 
 -- each entry is of a context that there can be
 abbrev pub HasContexts : List Entry → Type 0

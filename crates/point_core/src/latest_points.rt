@@ -41,7 +41,7 @@ impl LatestPoints {
         ensures empty { (usage : ℕ) → IsLatest result reach.now [] usage }
     {
         LatestPoints {
-            values: reach.values(),
+            values: *reach.values(),
         }
     }
 
@@ -85,12 +85,27 @@ impl LatestPoints {
         ensures points { IfOk result (λ ps. ps.items ≡ points_above self.now reach.now) }
         ensures memory { IfErr result (λ e. e ≡ Refusal.Memory) }
     {
-        let mut points = Vec::with_capacity(alloc, CONTEXTS)?;
+        self.points_expected(alloc, reach, CONTEXTS)
+    }
+
+    /// The same, in memory that begins with room for so many points. There may be more.
+    pub fn points_expected(
+        &self,
+        alloc: Global,
+        reach: &Reach,
+        expected: usize,
+    ) -> Result<Vec<Point>, Refusal>
+        ensures points { IfOk result (λ ps. ps.items ≡ points_above self.now reach.now) }
+        ensures memory { IfErr result (λ e. e ≡ Refusal.Memory) }
+    {
+        let mut points = Vec::with_capacity(alloc, expected)?;
         for index in 0..CONTEXTS {
             let ctx = Context::at(index);
             let value = self.get(ctx);
             if value > reach.get(ctx) {
-                points.push_reserved(Point { ctx, value });
+                points
+                    .push(Point { ctx, value })
+                    .map_err(|_| Refusal::Memory)?;
             }
         }
         Ok(points)

@@ -71,11 +71,21 @@ impl Reach {
     }
 
     /// The values, by context.
-    pub(crate) fn values(&self) -> [u64; CONTEXTS]
-        ensures value { result ≡ self.now }
+    pub(crate) fn values(&self) -> &[u64; CONTEXTS]
+        ensures value { result.now ≡ self.now }
         ensures full { length self.now ≡ CONTEXTS }
     {
-        self.values
+        &self.values
+    }
+
+    /// Raises each value to the other's, where that is greater.
+    pub fn join(&mut self, other: &Reach)
+        ensures values { self.new ≡ later_values self.old other.now }
+        ensures full { (length self.old ≡ CONTEXTS) × (length other.now ≡ CONTEXTS) }
+    {
+        for (index, value) in self.values.iter_mut().enumerate() {
+            *value = (*value).max(other.values[index]);
+        }
     }
 
     /// The greater value of each context.
@@ -83,11 +93,9 @@ impl Reach {
         ensures values { result ≡ later_values self.now other.now }
         ensures full { (length self.now ≡ CONTEXTS) × (length other.now ≡ CONTEXTS) }
     {
-        let mut values = self.values;
-        for (index, value) in values.iter_mut().enumerate() {
-            *value = (*value).max(other.values[index]);
-        }
-        Reach { values }
+        let mut joined = *self;
+        joined.join(other);
+        joined
     }
 
     /// Whether no value is below the other's.

@@ -2,7 +2,7 @@
 use Rattle.std.proofs.Common.{◌≡◌, ℕ, ◌<◌, ◌≤◌, Bool, true, false, refl, sym, ap, ◌∙◌, subst, List, length, Option, None, Some, Result, Ok, Err, inl, inr, is_some, nat_lt, if◌then◌else◌}
 use Rattle.std.specs.List.{list_all}
 use Rattle.syncfile_core.specs.Merge.{cause_to_refuse_merge}
-use Rattle.std.specs.Prelude.{IsErrAnd, OnOk, MatchOption, MatchBool}
+use Rattle.std.specs.Prelude.{IsErrAnd, IfOk, OnOk, MatchOption, MatchBool}
 use Rattle.std.proofs.lemmas.Bool.{cases_Bool, cases_lt, lt-ltb, le-ltb, false≢true}
 use Rattle.point_core.specs.declared.refusal.Refusal.{Refusal}
 use Rattle.point_core.specs.declared.refusal.Refusal.TheVariants.{Exists, Limit, NoEntry}
@@ -72,3 +72,7 @@ cause_to_refuse_merge-absent fs name inputs absent = ap (λ b. if b then cause_t
 pub OnOk-always : {T E : Type 0} (r : Result T E) (P : Type 0) → P → OnOk r P
 OnOk-always (Ok v) P h = h
 OnOk-always (Err e) P h = tt
+
+pub IfOk-then : {T E : Type 0} {P Q : T → Type 0} (r : Result T E) → IfOk r P → ((v : T) → P v → Q v) → IfOk r Q
+IfOk-then (Ok v) h on = on v h
+IfOk-then (Err e) h on = tt

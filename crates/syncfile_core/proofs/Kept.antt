@@ -1,63 +1,132 @@
 -- Files in a map by name: what an insertion and a removal leave.
-use Rattle.std.proofs.Common.{◌≡◌, ℕ, ◌+◌, ◌<◌, ◌≤◌, Bool, true, false, is_some, refl, sym, ap, ◌∙◌, subst, List, [], ◌∷◌, ◌++◌, length, None, Some, arith, length-append, ◌&&◌, get_or, take, zero, suc}
+use Rattle.std.proofs.Common.{◌≡◌, ℕ, ◌+◌, ◌<◌, ◌≤◌, Bool, true, false, is_some, refl, sym, ap, ◌∙◌, subst, List, [], ◌∷◌, ◌++◌, length, None, Some, arith, ◌&&◌, get_or, take, zero, suc, ◌-◌, ◌∷◌, cond, option_map, reverse, Option, option_copied, Bor}
 use Rattle.std.specs.List.{list_all, cons_option, IsDistinct}
 use Rattle.std.proofs.Math.Bool.{and-false}
-use Rattle.std.proofs.lemmas.List.{take_more}
+use Rattle.std.proofs.lemmas.List.{take_more, take_all, reverse-append, length-reverse}
 use Rattle.std.proofs.lemmas.List.Elements.{filter_map-append}
 use Rattle.std.proofs.lemmas.List.Folds.{list_all-append}
-use Rattle.std.specs.Map.{keys_of, lookup, remove_entry}
-use Rattle.indexmap.specs.IndexMap.{IndexMap, insert_entry}
-use Rattle.indexmap.proofs.CallerLemmas.{insert_entry-new}
-use Rattle.point_core.specs.Named.{same_name, IsKeyed}
-use Rattle.point_core.proofs.Named.{has_named-things_in, things_in-append, length-things_in, IsKeyed-append, IsKeyed-remove_entry}
+use Rattle.std.specs.Map.{keys_of, lookup, lookup_entry, remove_entry}
+use Rattle.lru.specs.LruCache.{LruCache, lru_cache, put_entries}
+use Rattle.point_core.specs.Named.{same_name, things_in, HasDistinctNames as HaveDistinctNames}
+use Rattle.point_core.proofs.Named.{named-things_in, is_some-named, length-things_in, things_in-remove_entry, IsKeyed-remove_entry}
+use Rattle.syncfile_core.proofs.Reversed.{map-reverse, named-reverse, without_named-reverse, HasDistinctNames-reverse}
+use Rattle.std.specs.List.{AllByRecursion}
+use Rattle.std.specs.Option.{option_map_or}
+use Rattle.std.proofs.lemmas.Map.Keys.{IsDistinct-cons, IsDistinct-head, IsDistinct-tail}
 use Rattle.syncfile_core.specs.declared.files.TheConstants.{FILES}
 use Rattle.syncfile_core.specs.SyncFile.{File}
-use Rattle.syncfile_core.specs.Files.{file_name, has_file, file_at, files_in, IsKept, cause_to_refuse}
+use Rattle.syncfile_core.specs.Files.{file_name, has_file, file_at, without_file, names_of, files_behind, HasDistinctNames, IsKept, cause_to_refuse}
 use Rattle.syncfile_core.specs.Merge.{files_at}
 use Rattle.syncfile_core.proofs.Causes.{is_none, new-by_cause, room-by_cause}
 
+none_by : {X Y : Type 0} (b : Bool) (x : X) (y : Y) (o : Option X) (p : Option Y) → cond b (Some x) o ≡ None → (o ≡ None → p ≡ None) → cond b (Some y) p ≡ None
+none_by true x y o p is same = absurd (cc)
+none_by false x y o p is same = same is
+
+both_by : {X : Type 0} (b : Bool) (x : X) (o : Option X) → cond b (Some x) o ≡ None → (b ≡ false) × (o ≡ None)
+both_by true x o is = absurd (cc)
+both_by false x o is = (refl, is)
+
+shorter_by : {X : Type 0} (b : Bool) (x : X) (xs less : List X) → length less ≤ length xs → length (cond b xs (x ∷ less)) ≤ length (x ∷ xs)
+shorter_by true x xs less low = omega arith
+shorter_by false x xs less low = omega (arith, low)
+
+apart_by : {X : Type 0} (key : List ℕ) (b : Bool) (e : List ℕ × X) (es less : List (List ℕ × X)) → AllByRecursion (λ other. same_name key other ≡ false) (keys_of (e ∷ es)) → AllByRecursion (λ other. same_name key other ≡ false) (keys_of less)
+    → AllByRecursion (λ other. same_name key other ≡ false) (keys_of (cond b es (e ∷ less)))
+apart_by key true e es less apart rest = apart.1
+apart_by key false e es less apart rest = (apart.0, rest)
+
+distinct_by : {X : Type 0} (b : Bool) (e : List ℕ × X) (es less : List (List ℕ × X)) → IsDistinct same_name (keys_of es) → IsDistinct same_name (keys_of (e ∷ less)) → IsDistinct same_name (keys_of (cond b es (e ∷ less)))
+distinct_by true e es less rest kept = rest
+distinct_by false e es less rest kept = kept
+
+is_some-option_map : {X Y : Type 0} (f : X → Y) (o : Option X) → is_some (option_map f o) ≡ is_some o
+is_some-option_map f None = refl
+is_some-option_map f (Some x) = refl
+
+module _ {X : Type 0} (test : List ℕ → Bool) where
+  lookup_entry-None : (es : List (List ℕ × X)) → lookup test es ≡ None → lookup_entry test es ≡ None
+  lookup_entry-None [] none = refl
+  lookup_entry-None (e ∷ es) none = none_by (test e.0) e.1 e (lookup test es) (lookup_entry test es) none (lookup_entry-None es)
+
+  apart-by_lookup : (es : List (List ℕ × X)) → lookup test es ≡ None → AllByRecursion (λ key. test key ≡ false) (keys_of es)
+  apart-by_lookup [] none = tt
+  apart-by_lookup (e ∷ es) none = let parts = both_by (test e.0) e.1 (lookup test es) none in (parts.0, apart-by_lookup es parts.1)
+
+  length-remove_entry : (es : List (List ℕ × X)) → length (remove_entry test es) ≤ length es
+  length-remove_entry [] = omega arith
+  length-remove_entry (e ∷ es) = shorter_by (test e.0) e es (remove_entry test es) (length-remove_entry es)
+
+  apart-remove_entry : (key : List ℕ) (es : List (List ℕ × X)) → AllByRecursion (λ other. same_name key other ≡ false) (keys_of es) → AllByRecursion (λ other. same_name key other ≡ false) (keys_of (remove_entry test es))
+  apart-remove_entry key [] apart = apart
+  apart-remove_entry key (e ∷ es) apart = apart_by key (test e.0) e es (remove_entry test es) apart (apart-remove_entry key es apart.1)
+
+  distinct-remove_entry : (es : List (List ℕ × X)) → IsDistinct same_name (keys_of es) → IsDistinct same_name (keys_of (remove_entry test es))
+  distinct-remove_entry [] distinct = distinct
+  distinct-remove_entry (e ∷ es) distinct =
+      let apart = IsDistinct-head same_name e.0 (keys_of es) distinct in
+      let rest = IsDistinct-tail same_name e.0 (keys_of es) distinct in
+      distinct_by (test e.0) e es (remove_entry test es) rest (IsDistinct-cons same_name e.0 (keys_of (remove_entry test es)) (apart-remove_entry e.0 es apart) (distinct-remove_entry es rest))
+
 module _ {X : Type 0} (file : X → File) where
-  -- a new file goes last
-  pub IsKept-append : (es : List (List ℕ × X)) (name : List ℕ) (x : X) → IsKept file es → (file x).name ≡ name → length es < FILES → IsDistinct same_name (keys_of (es ++ (name, x) ∷ [])) → IsKept file (es ++ (name, x) ∷ [])
-  IsKept-append es name x kept own room distinct = record {
-    keyed = IsKeyed-append file_name file es name x kept.keyed own;
-    distinct = distinct;
-    within = omega (arith, length-append es ((name, x) ∷ []));
-  }
+  module _ (m : LruCache (List ℕ) X) (kept : IsKept file m) where
+    distinct-things_in : HaveDistinctNames file_name (things_in file m.entries)
+    distinct-things_in = subst (IsDistinct same_name) kept.keyed kept.distinct
 
-  pub IsKept-remove_entry : (test : List ℕ → Bool) (es less : List (List ℕ × X)) → less ≡ remove_entry test es → IsKept file es → length less ≤ FILES → IsDistinct same_name (keys_of less) → IsKept file less
-  IsKept-remove_entry test es less taken kept within distinct = record {
-    keyed = subst (IsKeyed file_name file) (sym taken) (IsKeyed-remove_entry file_name file test es kept.keyed);
-    distinct = distinct;
-    within = within;
-  }
+    -- of the list that such entries are seen as
+    pub HasDistinctNames-behind : HasDistinctNames (files_behind file m.entries)
+    HasDistinctNames-behind = HasDistinctNames-reverse file_name (things_in file m.entries) distinct-things_in
 
-  -- of the list that such a map is seen as
-  pub has_file-is : {fs : List File} (es : List (List ℕ × X)) → IsKept file es → files_in file es ≡ fs → (name : List ℕ) → has_file fs name ≡ is_some (lookup (same_name name) es)
-  has_file-is {fs} es kept is name = ap (λ gs. has_file gs name) (sym is) ∙ has_named-things_in file_name file name es kept.keyed
+    pub names_of-behind : names_of (files_behind file m.entries) ≡ reverse (keys_of m.entries)
+    names_of-behind = map-reverse file_name (things_in file m.entries) ∙ ap reverse (sym kept.keyed)
 
-  pub length-files_is : {fs : List File} (es : List (List ℕ × X)) → files_in file es ≡ fs → length fs ≡ length es
-  length-files_is {fs} es is = ap length (sym is) ∙ length-things_in file_name file es
+    pub file_at-behind : (name : List ℕ) → file_at (files_behind file m.entries) name ≡ option_map file (lookup (same_name name) m.entries)
+    file_at-behind name = named-reverse file_name (things_in file m.entries) name distinct-things_in ∙ named-things_in file_name file name m.entries kept.keyed
 
-  module _ {S : Type 0} (m : IndexMap (List ℕ) X S) (fs : List File) (x : X) (kept : IsKept file m.entries) (is : files_in file m.entries ≡ fs) (none : cause_to_refuse fs (file x).name ≡ None) where
-    new_entries : insert_entry same_name m.entries (file x).name x ≡ m.entries ++ ((file x).name, x) ∷ []
-    new_entries =
-        insert_entry-new same_name m (file x).name x
-        (is_none (lookup (same_name (file x).name) m.entries) (sym (has_file-is m.entries kept is (file x).name) ∙ new-by_cause fs (file x).name none))
+    pub has_file-behind : (name : List ℕ) → has_file (files_behind file m.entries) name ≡ is_some (lookup (same_name name) m.entries)
+    has_file-behind name = sym (is_some-named file_name (files_behind file m.entries) name) ∙ ap is_some (file_at-behind name) ∙ is_some-option_map file (lookup (same_name name) m.entries)
 
-    pub IsKept-insert_entry : (es : List (List ℕ × X)) → es ≡ insert_entry same_name m.entries (file x).name x → IsDistinct same_name (keys_of es) → IsKept file es
-    IsKept-insert_entry es inserted distinct =
-        let room = room-by_cause fs (file x).name none in
-        let len = length-files_is m.entries is in
-        let low : length m.entries < FILES = omega arith in
-        let last : es ≡ m.entries ++ ((file x).name, x) ∷ [] = inserted ∙ new_entries in
-        subst (IsKept file) (sym last) (IsKept-append m.entries (file x).name x kept refl low (subst (λ gs. IsDistinct same_name (keys_of gs)) last distinct))
+    -- a file that is taken out moves no other
+    pub files_behind-remove_entry : (name : List ℕ) → files_behind file (remove_entry (same_name name) m.entries) ≡ without_file (files_behind file m.entries) name
+    files_behind-remove_entry name = ap reverse (things_in-remove_entry file_name file name m.entries kept.keyed kept.distinct) ∙ without_named-reverse file_name (things_in file m.entries) name
 
-    pub files_in-insert_entry : (es : List (List ℕ × X)) → es ≡ insert_entry same_name m.entries (file x).name x → files_in file es ≡ fs ++ file x ∷ []
-    files_in-insert_entry es inserted =
-        ap (files_in file) (inserted ∙ new_entries)
-        ∙ things_in-append file_name file m.entries (((file x).name, x) ∷ [])
-        ∙ ap (λ gs. gs ++ file x ∷ []) is
+    pub IsKept-remove_entry : (name : List ℕ) → IsKept file (lru_cache (remove_entry (same_name name) m.entries) m.cap)
+    IsKept-remove_entry name = record {
+      keyed = IsKeyed-remove_entry file_name file (same_name name) m.entries kept.keyed;
+      distinct = distinct-remove_entry (same_name name) m.entries kept.distinct;
+      within = omega (arith, kept.within, length-remove_entry (same_name name) m.entries);
+      room = kept.room;
+    }
+
+  pub length-behind : (es : List (List ℕ × X)) → length (files_behind file es) ≡ length es
+  length-behind es = length-reverse (things_in file es) ∙ length-things_in file_name file es
+
+  module _ (m : LruCache (List ℕ) X) (kept : IsKept file m) (x : X) (none : cause_to_refuse (files_behind file m.entries) (file x).name ≡ None) where
+    absent : lookup (same_name (file x).name) m.entries ≡ None
+    absent = is_none (lookup (same_name (file x).name) m.entries) (sym (has_file-behind m kept (file x).name) ∙ new-by_cause (files_behind file m.entries) (file x).name none)
+
+    low : length m.entries < FILES
+    low = omega (arith, length-behind m.entries, room-by_cause (files_behind file m.entries) (file x).name none)
+
+    -- a new file goes first, and puts none out
+    put-new : put_entries same_name m (file x).name x ≡ ((file x).name, x) ∷ m.entries
+    put-new =
+        ap (λ o. option_map_or (λ (e : List ℕ × X). (e.0, x) ∷ remove_entry (same_name (file x).name) m.entries) o (((file x).name, x) ∷ take (m.cap - 1) m.entries)) (lookup_entry-None (same_name (file x).name) m.entries absent)
+        ∙ ap (λ es. ((file x).name, x) ∷ es) (take_all (m.cap - 1) m.entries (omega (arith, low, kept.room)))
+
+    pub files_behind-put_entries : files_behind file (put_entries same_name m (file x).name x) ≡ files_behind file m.entries ++ file x ∷ []
+    files_behind-put_entries = ap (files_behind file) put-new ∙ reverse-append (file x ∷ []) (things_in file m.entries)
+
+    pub IsKept-put_entries : IsKept file (lru_cache (put_entries same_name m (file x).name x) m.cap)
+    IsKept-put_entries = subst (λ es. IsKept file (lru_cache es m.cap)) (sym put-new) (record {
+      keyed = ap (λ keys. (file x).name ∷ keys) kept.keyed;
+      distinct = IsDistinct-cons same_name (file x).name (keys_of m.entries) (apart-by_lookup (same_name (file x).name) m.entries absent) kept.distinct;
+      within = omega (arith, low);
+      room = kept.room;
+    })
+
+pub has_file-copied : (fs : List File) (name : List ℕ) (found : Option (Bor File)) → option_copied found ≡ file_at fs name → is_some found ≡ has_file fs name
+has_file-copied fs name found is = sym (is_some-option_map (λ b. b.now) found) ∙ ap is_some is ∙ is_some-named file_name fs name
 
 -- files that are looked up by name, one after another
 pub files_at-take_more : (fs : List File) (names : List (List ℕ)) (i : ℕ) (name : List ℕ) (f : File) → i < length names → name ≡ get_or names i name → file_at fs name ≡ Some f → files_at fs (take (i + 1) names) ≡ files_at fs (take i names) ++ f ∷ []

@@ -1,7 +1,8 @@
 -- The files by name, in the order of making.
-use Rattle.std.specs.Prelude.{ℕ, ◌≤◌, Bool, nat_lt, if◌then◌else◌, List, map, length, Option, None, Some}
+use Rattle.std.specs.Prelude.{ℕ, ◌≤◌, ◌<◌, Bool, nat_lt, if◌then◌else◌, List, [], map, length, reverse, Option, None, Some}
 use Rattle.std.specs.List.{IsDistinct}
 use Rattle.std.specs.Map.{keys_of}
+use Rattle.lru.specs.LruCache.{LruCache}
 use Rattle.point_core.specs.declared.refusal.Refusal.{Refusal}
 use Rattle.point_core.specs.declared.refusal.Refusal.TheVariants.{Exists, Limit}
 use Rattle.point_core.specs.declared.refusal.LimitKind.TheVariants.{Files as FilesKind}
@@ -35,12 +36,18 @@ HasDistinctNames fs = HaveDistinctNames file_name fs
 abbrev pub cause_to_refuse : List File → List ℕ → Option Refusal
 cause_to_refuse fs name = if has_file fs name then Some Exists else if nat_lt (length fs) FILES then None else Some (Limit FilesKind)
 
--- the files behind a map's entries, in their order
-abbrev pub files_in : {X : Type 0} → (X → File) → List (List ℕ × X) → List File
-files_in file es = things_in file es
+-- the files behind entries that stand the newest first, by the order of making
+abbrev pub files_behind : {X : Type 0} → (X → File) → List (List ℕ × X) → List File
+files_behind file es = reverse (things_in file es)
 
--- each file is kept under its own name, no name comes twice, and the files are not more than there can be
-pub record IsKept {X : Type 0} (file : X → File) (es : List (List ℕ × X)) : Type 0 where
-  pub keyed : IsKeyed file_name file es
-  pub distinct : IsDistinct same_name (keys_of es)
-  pub within : length es ≤ FILES
+-- each file is kept under its own name, no name comes twice, and the files are not more than there can be, so none is put out for another
+pub record IsKept {X : Type 0} (file : X → File) (m : LruCache (List ℕ) X) : Type 0 where
+  pub keyed : IsKeyed file_name file m.entries
+  pub distinct : IsDistinct same_name (keys_of m.entries)
+  pub within : length m.entries ≤ FILES
+  pub room : FILES < m.cap
+
+-- the files, none where none was made yet
+abbrev pub files_of : Option (List File) → List File
+files_of None = []
+files_of (Some fs) = fs

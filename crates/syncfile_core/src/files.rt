@@ -1,5 +1,5 @@
 // The files by name.
-ghost use Rattle.std.specs.Prelude.{◌≡◌, ◌++◌, [], ◌∷◌, OnOk, OnErr, IfOk, IfErr, IsOk, None, option_copied, MatchOption, MatchBool, MatchResult, IfSome, Some, Ok, Err};
+ghost use Rattle.std.specs.Prelude.{◌≡◌, ◌++◌, [], ◌∷◌, length, OnOk, OnErr, IfOk, IfErr, IsOk, None, option_copied, MatchOption, MatchBool, MatchResult, IfSome, Some, Ok, Err};
 ghost use Rattle.point_core.specs.declared.refusal.Refusal.TheVariants.{Memory, NoEntry};
 ghost use Rattle.syncfile_core.specs.declared.files.TheConstants.{FILES};
 ghost use Rattle.syncfile_core.specs.SyncFile.{file_of, plain_file, StandsFor};
@@ -8,10 +8,10 @@ ghost use Rattle.point_core.specs.Agreement.{as_entry, HasRisingContexts};
 ghost use Rattle.syncfile_core.specs.Status.{status_of, info_of, TellsSetsOf};
 ghost use Rattle.syncfile_core.specs.Files.{has_file, file_at, without_file, names_of, HasDistinctNames, cause_to_refuse, IsRefusedFor};
 
+use crate::by_making::ByMaking;
 use crate::merge::Gathered;
 use crate::status::{self, FileInfo};
 use crate::sync_file::SyncFile;
-use indexmap::IndexMap;
 use point_core::{Items, LimitKind, Listing, Name, Point, Reach, Refusal, Status};
 use std::alloc::Global;
 use std::marker::Model;
@@ -24,19 +24,19 @@ const _: () = prove!(FILES == 1024);
 /// The files that were made and not closed, by the order of making.
 #[derive(Drop)]
 pub struct Files {
-    by_name: IndexMap<Name, Box<SyncFile>>,
+    alloc: Global,
+    // None until the first file is made, since it takes memory.
+    made: Option<ByMaking>,
 }
 
 impl Model for Files {
     ghost use Rattle.std.specs.Prelude.{List};
     ghost use Rattle.syncfile_core.specs.SyncFile.{File};
-    ghost use Rattle.syncfile_core.specs.Files.{files_in, IsKept};
+    ghost use Rattle.syncfile_core.specs.Files.{files_of};
 
     ghost Value = { List File };
 
-    ghost view = { λ fs. files_in (λ b. b.value) fs.by_name.entries };
-
-    ghost invariant = { λ fs. IsKept (λ b. b.value) fs.by_name.entries };
+    ghost view = { λ fs. files_of fs.made };
 }
 
 impl Files {
@@ -44,9 +44,7 @@ impl Files {
     pub fn new(alloc: Global) -> Result<Files, Refusal>
         ensures empty { result ≡ Ok [] }
     {
-        Ok(Files {
-            by_name: IndexMap::new(alloc),
-        })
+        Ok(Files { alloc, made: None })
     }
 
     /// The file of that name.
@@ -55,8 +53,8 @@ impl Files {
     pub fn get(&self, name: &Name) -> Option<&SyncFile>
         ensures found { option_copied result ≡ file_at self.now name.now }
     {
-        match self.by_name.get(name) {
-            Some(file) => Some(&**file),
+        match &self.made {
+            Some(made) => made.get(name),
             None => None,
         }
     }
@@ -69,7 +67,10 @@ impl Files {
         ensures distinct { HasDistinctNames self.now }
         ensures memory { IfErr result (λ e. e ≡ Memory) }
     {
-        Ok(self.by_name.keys().copied().collect(self.allocator())?)
+        match &self.made {
+            Some(made) => made.names(self.alloc),
+            None => Ok(Vec::new(self.alloc)),
+        }
     }
 
     /// Whether each of the file's points is signalled. A file without points is.
@@ -96,7 +97,7 @@ impl Files {
     {
         let file = self.known(name)?;
         let points = file.points.as_slice();
-        let fences = status::fences_of(self.allocator(), points, reach)?;
+        let fences = status::fences_of(self.alloc, points, reach)?;
         Ok(FileInfo {
             name: file.name,
             status: status::status_of(points, reach),
@@ -110,10 +111,10 @@ impl Files {
     pub fn free(&self, name: &Name) -> Result<(), Refusal>
         ensures free { MatchOption (cause_to_refuse self.now name.now) (IsOk result) (λ cause. result ≡ Err cause) }
     {
-        if self.by_name.contains_key(name) {
+        if self.has(name) {
             return Err(Refusal::Exists);
         }
-        if self.by_name.len() >= FILES {
+        if self.count() >= FILES {
             return Err(Refusal::Limit(LimitKind::Files));
         }
         Ok(())
@@ -129,8 +130,8 @@ impl Files {
         ensures unchanged { OnErr result (self.new ≡ self.old) }
     {
         self.free(&name)?;
-        let file = SyncFile::plain(self.allocator(), name, point)?;
-        self.insert(file)
+        let file = SyncFile::plain(self.alloc, name, point)?;
+        self.insert(file.boxed(self.alloc)?)
     }
 
     /// Merges two files, which both stay: the latest pending point of each context of either, above a floor that is the
@@ -164,7 +165,7 @@ impl Files {
             gathered.add(self.known(input)?);
         }
         self.free(&name)?;
-        let file = gathered.into_file(self.allocator(), name, reach)?;
+        let file = gathered.file(self.alloc, name, reach)?;
         self.insert(file)
     }
 
@@ -179,11 +180,12 @@ impl Files {
     {
         self.free(&name)?;
         let Listing { points, floor } = listing;
-        self.insert(SyncFile {
+        let file = SyncFile {
             name,
             points,
             floor,
-        })
+        };
+        self.insert(file.boxed(self.alloc)?)
     }
 
     /// Closes a file. The others keep their order.
@@ -193,8 +195,8 @@ impl Files {
         ensures known { MatchBool (has_file self.old name.now) (IsOk result) (result ≡ Err NoEntry) }
         ensures without { self.new ≡ without_file self.old name.now }
     {
-        match self.by_name.shift_remove(name) {
-            Some(_file) => Ok(()),
+        match &mut self.made {
+            Some(made) => made.remove(name),
             None => Err(Refusal::NoEntry),
         }
     }
@@ -207,24 +209,36 @@ impl Files {
         self.get(name).ok_or(Refusal::NoEntry)
     }
 
-    fn allocator(&self) -> Global {
-        *self.by_name.allocator()
+    fn has(&self, name: &Name) -> bool
+        ensures { result ≡ has_file self.now name.now }
+    {
+        self.get(name).is_some()
+    }
+
+    fn count(&self) -> usize
+        ensures { result ≡ length self.now }
+    {
+        match &self.made {
+            Some(made) => made.count(),
+            None => 0,
+        }
     }
 
     // Puts a new file last.
-    fn insert(&mut self, file: SyncFile) -> Result<(), Refusal>
-        requires free { cause_to_refuse self.old file.name ≡ None }
-        ensures last { OnOk result (self.new ≡ self.old ++ file ∷ []) }
+    fn insert(&mut self, file: Box<SyncFile>) -> Result<(), Refusal>
+        requires free { cause_to_refuse self.old file.value.name ≡ None }
+        ensures last { OnOk result (self.new ≡ self.old ++ file.value ∷ []) }
         ensures unchanged { OnErr result (self.new ≡ self.old) }
         ensures memory { IfErr result (λ e. e ≡ Memory) }
     {
-        let name = file.name;
-        let Ok(file) = Box::new(self.allocator(), file) else {
-            return Err(Refusal::Memory);
-        };
-        match self.by_name.insert(name, file) {
-            Ok(_) => Ok(()),
-            Err(_) => Err(Refusal::Memory),
+        match &mut self.made {
+            Some(made) => made.insert(file),
+            None => {
+                let mut made = ByMaking::new(self.alloc)?;
+                made.insert(file)?;
+                self.made = Some(made);
+                Ok(())
+            }
         }
     }
 }

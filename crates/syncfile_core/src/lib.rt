@@ -3,6 +3,7 @@
 //! A file lists points by rising context, and stands for all that was ever put into it above its floor.
 #![tactic(auto)]
 
+mod by_making;
 mod files;
 mod merge;
 mod running;

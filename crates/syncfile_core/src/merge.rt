@@ -8,7 +8,7 @@ ghost use Rattle.syncfile_core.specs.SyncFile.{File};
 ghost use Rattle.syncfile_core.specs.Merge.{IsGathered, IsGatheredAbove, StandsForUnion, merged_file};
 
 use crate::sync_file::SyncFile;
-use point_core::{Items, LatestPoints, Name, Reach, Refusal};
+use point_core::{CONTEXTS, Items, LatestPoints, Name, Reach, Refusal};
 use std::alloc::Global;
 
 /// The latest point of each context among a reach and the inputs so far, and the greatest of their floors.
@@ -16,6 +16,8 @@ use std::alloc::Global;
 pub(crate) struct Gathered {
     latest: LatestPoints,
     floor: Reach,
+    // How many points the inputs have, `CONTEXTS` at most: no merge of them has more.
+    count: usize,
 }
 
 impl Gathered {
@@ -26,6 +28,7 @@ impl Gathered {
         Gathered {
             latest: LatestPoints::above(reach),
             floor: *reach,
+            count: 0,
         }
     }
 
@@ -35,32 +38,36 @@ impl Gathered {
             IsGathered self.old.latest self.old.floor reach inputs →
             IsGathered self.new.latest self.new.floor reach (inputs ++ file.now ∷ []) }
     {
-        self.latest.put_all(file.points.as_slice());
-        self.floor = self.floor.joined(&file.floor);
+        let points = file.points.as_slice();
+        self.latest.put_all(points);
+        self.floor.join(&file.floor);
+        self.count = self.count.saturating_add(points.len()).min(CONTEXTS);
     }
 
     /// The file of the points that are above the reach.
     ///
     /// Refuses as `Memory` alone.
-    pub(crate) fn into_file(
-        self,
+    pub(crate) fn file(
+        &self,
         alloc: Global,
         name: Name,
         reach: &Reach,
-    ) -> Result<SyncFile, Refusal>
-        requires gathered { IsGatheredAbove self.latest self.floor reach.now }
+    ) -> Result<Box<SyncFile>, Refusal>
+        requires gathered { IsGatheredAbove self.now.latest self.now.floor reach.now }
         ensures file { (inputs : List File) →
-            IsGathered self.latest self.floor reach.now inputs →
-            IfOk result (λ f. f ≡ merged_file name inputs reach.now) }
+            IsGathered self.now.latest self.now.floor reach.now inputs →
+            IfOk result (λ f. f.value ≡ merged_file name inputs reach.now) }
         ensures union { (inputs : List File) →
-            IsGathered self.latest self.floor reach.now inputs → IfOk result (StandsForUnion inputs) }
+            IsGathered self.now.latest self.now.floor reach.now inputs →
+            IfOk result (λ f. StandsForUnion inputs f.value) }
         ensures memory { IfErr result (λ e. e ≡ Memory) }
     {
-        let points = self.latest.points(alloc, reach)?;
-        Ok(SyncFile {
+        let points = self.latest.points_expected(alloc, reach, self.count)?;
+        let file = SyncFile {
             name,
             points: Items::of(points),
             floor: self.floor,
-        })
+        };
+        file.boxed(alloc)
     }
 }

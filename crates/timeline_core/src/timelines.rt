@@ -141,6 +141,16 @@ impl Timelines {
         self.reach
     }
 
+    /// The same, where it lies.
+    ///
+    /// Takes no memory.
+    pub fn as_reach(&self) -> &Reach
+        ensures value { result.now ≡ reach_of self.now }
+        ensures timelines { AreTimelines self.now }
+    {
+        &self.reach
+    }
+
     /// The names and values, by context.
     ///
     /// Refuses as `Memory` alone.

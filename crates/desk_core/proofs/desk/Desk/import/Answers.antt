@@ -25,7 +25,7 @@ pub invariant_of-self-2 : goal.invariant_of-self-2
 invariant_of-self-2 c =
     let some = accepted_look_up c.self.inside.files c.args.file.now _ _ _ c.get.ensures.found (sym c.ok_or.ensures.value ∙ c.in_ok-file.was) in
     let made = sync_file_at-All (λ (f : File). AreMade (length c.self.inside.timelines) f.points) c.self.inside.files c.args.file.now _ c.self.invariant.files some in
-    inside-import c.import.new.self c.args.name.now c.reach-reach.result c.in_ok-file.file.now.points c.args.flags c.reach-reach.ensures.value c.in_ok-import.ensures.agrees c.import.ensures.others made c.self.invariant
+    inside-import c.import.new.self c.args.name.now c.as_reach-reach.result.now c.in_ok-file.file.now.points c.args.flags c.as_reach-reach.ensures.value c.in_ok-import.ensures.agrees c.import.ensures.others made c.self.invariant
 
 pub returns-in_err-import-clause-refused : goal.returns-in_err-import-clause-refused
 returns-in_err-import-clause-refused c =
@@ -45,4 +45,4 @@ returns-clause-done c =
     let some = accepted_look_up c.self.inside.files c.args.file.now _ _ _ c.get.ensures.found (sym c.ok_or.ensures.value ∙ c.in_ok-file.was) in
     let has = found_if (has_buffer c.self.inside.buffers c.args.name.now) (if is_sync_flags c.args.flags then None else Some Flags) c.import.result _ c.import.ensures.refused c.in_ok-import.was in
     rw (← c.self.view_is)
-    (IsDone-import _ c.args.name.now c.args.file.now c.args.flags c.reach-reach.result c.in_ok-file.file.now c.import.new.self has some c.reach-reach.ensures.value c.in_ok-import.ensures.agrees c.import.ensures.others c.import.ensures.kept)
+    (IsDone-import _ c.args.name.now c.args.file.now c.args.flags c.as_reach-reach.result.now c.in_ok-file.file.now c.import.new.self has some c.as_reach-reach.ensures.value c.in_ok-import.ensures.agrees c.import.ensures.others c.import.ensures.kept)

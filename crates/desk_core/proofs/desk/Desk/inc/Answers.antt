@@ -9,7 +9,7 @@ returns-in_err-fired-clause-sure c =
     let some = c.in_ok-ctx.ensures.ok_part in
     let has = (rw some at c.context.ensures.found).0 refl in
     let later = rw (c.in_ok-raised.ensures.ok_part) at c.raised.ensures.value in
-    let at = raised_reach-is c.self.inside.timelines c.args.name.now c.args.n c.in_ok-ctx.ctx c.reach-reach.result c.in_ok-raised.raised c.reach-reach.ensures.value (rw some at c.context.ensures.value) c.reach-reach.ensures.timelines has later in
+    let at = raised_reach-is c.self.inside.timelines c.args.name.now c.args.n c.in_ok-ctx.ctx c.as_reach-reach.result.now c.in_ok-raised.raised c.as_reach-reach.ensures.value (rw some at c.context.ensures.value) c.as_reach-reach.ensures.timelines has later in
     rw (← c.self.view_is) (λ none. absurd (sure-raised (record { timelines = c.self.inside.timelines; files = c.self.inside.files; buffers = c.self.inside.buffers; watches = c.self.inside.watches }) c.args.name.now c.args.n c.in_ok-raised.raised c.after_rise.result _ at none c.after_rise.ensures.none_fires c.in_err-fired.was))
 
 pub invariant_of-self-2 : goal.invariant_of-self-2
@@ -17,7 +17,7 @@ invariant_of-self-2 c =
     let some = c.in_ok-ctx.ensures.ok_part in
     let has = (rw some at c.context.ensures.found).0 refl in
     let later = rw (c.in_ok-raised.ensures.ok_part) at c.raised.ensures.value in
-    let at = raised_reach-is c.self.inside.timelines c.args.name.now c.args.n c.in_ok-ctx.ctx c.reach-reach.result c.in_ok-raised.raised c.reach-reach.ensures.value (rw some at c.context.ensures.value) c.reach-reach.ensures.timelines has later in
+    let at = raised_reach-is c.self.inside.timelines c.args.name.now c.args.n c.in_ok-ctx.ctx c.as_reach-reach.result.now c.in_ok-raised.raised c.as_reach-reach.ensures.value (rw some at c.context.ensures.value) c.as_reach-reach.ensures.timelines has later in
     let risen = rw (c.unwrap-value.ensures) at c.inc.ensures.raised in
     inside-raised c.inc.new.self c.args.name.now c.args.n c.after_rise.new.self c.in_ok-raised.raised risen at c.in_ok-fired.ensures.left c.self.invariant
 
@@ -26,7 +26,7 @@ returns-clause-done c =
     let some = c.in_ok-ctx.ensures.ok_part in
     let has = (rw some at c.context.ensures.found).0 refl in
     let later = rw (c.in_ok-raised.ensures.ok_part) at c.raised.ensures.value in
-    let at = raised_reach-is c.self.inside.timelines c.args.name.now c.args.n c.in_ok-ctx.ctx c.reach-reach.result c.in_ok-raised.raised c.reach-reach.ensures.value (rw some at c.context.ensures.value) c.reach-reach.ensures.timelines has later in
+    let at = raised_reach-is c.self.inside.timelines c.args.name.now c.args.n c.in_ok-ctx.ctx c.as_reach-reach.result.now c.in_ok-raised.raised c.as_reach-reach.ensures.value (rw some at c.context.ensures.value) c.as_reach-reach.ensures.timelines has later in
     let risen = rw (c.unwrap-value.ensures) at c.inc.ensures.raised in
     let value = rw (c.unwrap-value.ensures) at c.inc.ensures.value in
     rw (← c.self.view_is)

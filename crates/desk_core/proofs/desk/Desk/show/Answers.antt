@@ -11,12 +11,12 @@ pub show_rows-requires : goal.show_rows-requires
 show_rows-requires c =
     let ts = c.self.inside.timelines in
     let entries = entries_of c.self.inside.buffers c.args.name.now in
-    let is : c.deref.result.now ≡ rows_of entries (reach_of ts) = c.deref.ensures.value ∙ c.in_ok-tops.ensures.rows ∙ ap (rows_of entries) c.reach.ensures.value in
+    let is : c.deref.result.now ≡ rows_of entries (reach_of ts) = c.deref.ensures.value ∙ c.in_ok-tops.ensures.rows ∙ ap (rows_of entries) c.as_reach.ensures.value in
     record { made = rw is (rows_of-made (length ts) (reach_of ts) entries (c.self.invariant.buffers c.args.name.now)) }
 
 pub returns-clause-done : goal.returns-clause-done
 returns-clause-done c =
     let ts = c.self.inside.timelines in
     let entries = entries_of c.self.inside.buffers c.args.name.now in
-    let is : c.deref.result.now ≡ rows_of entries (reach_of ts) = c.deref.ensures.value ∙ c.in_ok-tops.ensures.rows ∙ ap (rows_of entries) c.reach.ensures.value in
+    let is : c.deref.result.now ≡ rows_of entries (reach_of ts) = c.deref.ensures.value ∙ c.in_ok-tops.ensures.rows ∙ ap (rows_of entries) c.as_reach.ensures.value in
     rw (← c.self.view_is) (IsDone-show _ c.args.name.now c.of.result (c.of.ensures ∙ c.in_ok-rows.ensures.rows ∙ ap (map (show_row ts)) is))

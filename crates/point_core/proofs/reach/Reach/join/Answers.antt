@@ -1,6 +1,6 @@
 use Rattle.std.proofs.Common.{arith}
 use Rattle.point_core.proofs.Values.{later_values-is}
-use Rattle.point_core.proofs.reach.Reach.joined.Goals as goal
+use Rattle.point_core.proofs.reach.Reach.join.Goals as goal
 
 pub returns-clause-values : goal.returns-clause-values
 returns-clause-values c =

@@ -1,5 +1,5 @@
 use Rattle.std.proofs.Common.{◌≡◌, ℕ, ◌<◌, ◌≤◌, max, get_or}
-use Rattle.point_core.proofs.reach.Reach.joined.Given as goal
+use Rattle.point_core.proofs.reach.Reach.join.Given as goal
 
 abbrev pub invariant-loop-index : goal.invariant-loop-index
 invariant-loop-index l =
