@@ -3,4 +3,8 @@ pub mod Firing
 pub mod Held
 pub mod Once
 pub mod Pending
+pub mod PointIndex
+pub mod Registered
+pub mod Indexed
+pub mod Fired
 pub mod Signalling

@@ -1,7 +1,10 @@
 pub mod Callbacks
 pub mod Fence
+pub mod PointIndex
+pub mod Registered
 pub mod Run
 pub mod SharedFence
 pub mod Signal
+pub mod Told
 pub mod Watch
 pub mod Watches

@@ -1,5 +1,5 @@
 -- Watches: which may be registered, and which fire at a rise.
-use Rattle.std.specs.Prelude.{ℕ, ◌+◌, Bool, not, ◌&&◌, nat_lt, if◌then◌else◌, List, [], ◌∷◌, ◌++◌, length, filter, replicate, Option, None, Some}
+use Rattle.std.specs.Prelude.{ℕ, ◌+◌, Bool, not, ◌&&◌, nat_eq, nat_lt, if◌then◌else◌, List, [], ◌∷◌, ◌++◌, length, filter, replicate, Option, None, Some}
 use Rattle.std.specs.List.{list_any}
 use Rattle.point_core.specs.declared.context.TheConstants.{CONTEXTS}
 use Rattle.point_core.specs.declared.entry.Point.{Point}
@@ -24,6 +24,10 @@ with_watch ws cookie points reach = registry_of (ws.pending ++ watch_of cookie p
 -- all but that of the cookie
 abbrev pub without_watch : Registry → ℕ → Registry
 without_watch ws cookie = registry_of (filter (λ w. not (is_for cookie w)) ws.pending) ws.made ws.reach
+
+-- all but those of the cookies
+abbrev pub without_watches : Registry → List ℕ → Registry
+without_watches ws cookies = registry_of (filter (λ (w : Watch). not (list_any (nat_eq w.cookie) cookies)) ws.pending) ws.made ws.reach
 
 -- all of its points are reached
 abbrev pub fires : List ℕ → Watch → Bool

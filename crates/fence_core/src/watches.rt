@@ -1,15 +1,22 @@
 // Callbacks that wait for fences.
-ghost use Rattle.std.specs.Prelude.{◌≡◌, [], Ok, Err, IfOk, IfErr, OnOk, OnErr, IsOk, MatchOption, position};
+ghost use Rattle.std.specs.Prelude.{◌≡◌, [], Ok, Err, IfOk, IfErr, OnOk, OnErr, IsOk, MatchOption, false, replicate};
+ghost use Rattle.point_core.specs.declared.context.TheConstants.{CONTEXTS};
+ghost use Rattle.std.specs.List.{list_any};
+ghost use Rattle.std.specs.Map.{values_of};
 ghost use Rattle.point_core.specs.declared.refusal.Refusal.TheVariants.{Memory};
 ghost use Rattle.point_core.specs.Reach.{IsAtLeast};
 ghost use Rattle.point_core.specs.Refusal.{IsRefusedFor};
 ghost use Rattle.fence_core.specs.Fence.{members_of};
-ghost use Rattle.fence_core.specs.Watch.{is_for, ArePending};
-ghost use Rattle.fence_core.specs.Watches.{no_watches, has_watch, cause_to_refuse, cause_to_refuse_watch, with_watch, without_watch, fired_by, after_rise_to};
+ghost use Rattle.fence_core.specs.Watch.{registry_of, ArePending};
+ghost use Rattle.fence_core.specs.Watches.{no_watches, has_watch, cause_to_refuse, cause_to_refuse_watch, with_watch, without_watch, without_watches, fires, fired_by, after_rise_to};
 
+mod point_index;
+
+use self::point_index::PointIndex;
 use crate::fence::Fence;
 use point_core::{LimitKind, Reach, Refusal};
 use std::alloc::Global;
+use std::collections::BTreeMap;
 use std::marker::Model;
 
 /// How many watches can be pending at a time.
@@ -38,19 +45,27 @@ impl Model for PendingWatch {
 /// signalled.
 #[derive(Drop)]
 pub struct Watches {
-    pending: Vec<PendingWatch>,
+    alloc: Global,
+    pending: BTreeMap<u64, PendingWatch>,
+    registrations: BTreeMap<u64, u64>,
+    index: PointIndex,
     made: u64,
     reach: Reach,
+    // the reach at which the index was last gone through
+    visited: Reach,
 }
 
 impl Model for Watches {
-    ghost use Rattle.fence_core.specs.Watch.{Registry, registry_of, ArePending};
+    ghost use Rattle.std.specs.Map.{values_of};
+    ghost use Rattle.fence_core.specs.Watch.{Registry, registry_of};
+    ghost use Rattle.fence_core.specs.Registered.{AreRegistered, IsIndexed, IsVisited};
 
     ghost Value = { Registry };
 
-    ghost view = { λ ws. registry_of ws.pending.items ws.made ws.reach };
+    ghost view = { λ ws. registry_of (values_of ws.pending.entries) ws.made ws.reach };
 
-    ghost invariant = { λ ws. ArePending ws.pending.items };
+    ghost invariant = { λ ws. AreRegistered ws.pending.entries ws.registrations.entries ws.made ×
+        IsIndexed ws.pending.entries ws.index ws.reach × IsVisited ws.index ws.visited ws.reach };
 }
 
 impl Watches {
@@ -58,11 +73,22 @@ impl Watches {
     pub fn new(alloc: Global) -> Result<Watches, Refusal>
         ensures { result ≡ Ok no_watches }
     {
-        Ok(Watches {
-            pending: Vec::new(alloc),
-            made: 0,
+        Ok(Watches::after(alloc, 0))
+    }
+
+    /// No watches, after so many were registered.
+    fn after(alloc: Global, made: u64) -> Watches
+        ensures { result ≡ registry_of [] made (replicate CONTEXTS 0) }
+    {
+        Watches {
+            alloc,
+            pending: BTreeMap::new(alloc),
+            registrations: BTreeMap::new(alloc),
+            index: PointIndex::new(alloc),
+            made,
             reach: Reach::zero(),
-        })
+            visited: Reach::zero(),
+        }
     }
 
     /// Registers a callback on a fence, as Linux's `dma_fence_add_callback` does.
@@ -80,10 +106,22 @@ impl Watches {
         if fence.is_signalled(reach) {
             return Err(Refusal::Signalled);
         }
-        let fence = Fence::of(*self.pending.allocator(), fence.members())?;
-        self.pending
-            .push(PendingWatch { cookie, fence })
-            .map_err(|_| Refusal::Memory)?;
+        let (members, registration) = (fence.members(), self.made);
+        let fence = Fence::of(self.alloc, members)?;
+        if let Err(refusal) = self.index.put_above(members, registration, reach) {
+            self.index.take_all(members, registration);
+            return Err(refusal);
+        }
+        let Ok(_new) = self.registrations.insert(cookie, registration) else {
+            self.index.take_all(members, registration);
+            return Err(Refusal::Memory);
+        };
+        let watch = PendingWatch { cookie, fence };
+        let Ok(_watch) = self.pending.insert(registration, watch) else {
+            self.registrations.remove(&cookie);
+            self.index.take_all(members, registration);
+            return Err(Refusal::Memory);
+        };
         self.reach = *reach;
         self.made += 1;
         Ok(())
@@ -96,7 +134,7 @@ impl Watches {
     pub fn free(&self, cookie: u64) -> Result<(), Refusal>
         ensures { MatchOption (cause_to_refuse self.now cookie) (IsOk result) (λ cause. result ≡ Err cause) }
     {
-        if self.place_of(cookie).is_some() {
+        if self.registrations.contains_key(&cookie) {
             return Err(Refusal::Exists);
         }
         if self.pending.len() >= WATCHES || self.made == WATCHES_EVER {
@@ -113,10 +151,13 @@ impl Watches {
         ensures told { result ≡ has_watch self.old cookie }
         ensures without { self.new ≡ without_watch self.old cookie }
     {
-        let Some(place) = self.place_of(cookie) else {
+        let Some(registration) = self.registrations.remove(&cookie) else {
             return false;
         };
-        self.pending.remove(place);
+        let Some(watch) = self.pending.remove(&registration) else {
+            return false;
+        };
+        self.index.take_all(watch.fence.members(), registration);
         true
     }
 
@@ -134,25 +175,58 @@ impl Watches {
         ensures unchanged { OnErr result (self.new ≡ self.old) }
         ensures pending { ArePending self.old.pending }
     {
-        let mut cookies = Vec::new(*self.pending.allocator());
-        for watch in &self.pending {
-            if watch.fence.is_signalled(reach) {
-                cookies.push(watch.cookie).map_err(|_| Refusal::Memory)?;
-            }
-        }
-        if !cookies.is_empty() {
-            self.pending
-                .retain(|watch| !watch.fence.is_signalled(reach));
-        }
-        self.reach = *reach;
+        let cookies = self.fired(reach)?;
+        self.remove_all(cookies.as_slice());
+        self.rise_to(reach);
         Ok(cookies)
     }
 
-    fn place_of(&self, cookie: u64) -> Option<usize>
-        ensures { result ≡ position (is_for cookie) self.now.pending }
+    /// The cookies of the watches all of whose points are signalled at this reach, by registration.
+    fn fired(&self, reach: &Reach) -> Result<Vec<u64>, Refusal>
+        requires rises { IsAtLeast reach.now self.now.reach }
+        ensures fired { IfOk result (λ cookies. cookies.items ≡ fired_by self.now reach.now) }
+        ensures memory { IfErr result (λ e. e ≡ Memory) }
+        ensures none_fires { fired_by self.now reach.now ≡ [] → IsOk result }
+        ensures pending { ArePending self.now.pending }
     {
-        self.pending.iter().position(|watch| watch.cookie == cookie)
+        let fired = self
+            .index
+            .fired(self.alloc, &self.pending, &self.visited, reach)?;
+        listed(self.alloc, &fired)
     }
+
+    /// Takes out the watches of these cookies.
+    fn remove_all(&mut self, cookies: &[u64])
+        ensures { self.new ≡ without_watches self.old cookies.now }
+    {
+        for cookie in cookies {
+            self.remove(*cookie);
+        }
+    }
+
+    /// Keeps the reach, at which no watch fires, and takes out the points that it has reached.
+    fn rise_to(&mut self, reach: &Reach)
+        requires rises { IsAtLeast reach.now self.old.reach }
+        requires none_fires { list_any (fires reach.now) self.old.pending ≡ false }
+        ensures { self.new ≡ registry_of self.old.pending self.old.made reach.now }
+    {
+        self.index.take_reached(&self.visited, reach);
+        self.reach = *reach;
+        self.visited = *reach;
+    }
+}
+
+/// The cookies, by registration.
+fn listed(alloc: Global, fired: &BTreeMap<u64, u64>) -> Result<Vec<u64>, Refusal>
+    ensures listed { IfOk result (λ cookies. cookies.items ≡ values_of fired.now.entries) }
+    ensures memory { IfErr result (λ e. e ≡ Memory) }
+    ensures none { values_of fired.now.entries ≡ [] → IsOk result }
+{
+    let mut cookies = Vec::new(alloc);
+    for cookie in fired.values() {
+        cookies.push(*cookie).map_err(|_| Refusal::Memory)?;
+    }
+    Ok(cookies)
 }
 
 #[cfg(test)]

@@ -112,6 +112,22 @@ fn members_reached_in_different_orders(rt: HostRuntime) -> Result<(), Fail> {
     Ok(())
 }
 
+// A cookie that is registered anew stands last.
+#[test]
+fn a_cookie_registered_again(rt: HostRuntime) -> Result<(), Fail> {
+    let (merged, one) = (both(rt.alloc(), 1, 1)?, plain(rt.alloc(), 1)?);
+    let mut watches = Watches::new(rt.alloc())?;
+    for (cookie, fence) in [(1, &merged), (2, &one), (3, &merged)] {
+        assert!(rt; add(&mut watches, cookie, fence, &Reach::zero())?.is_ok());
+    }
+    let first = reach(1, 0)?;
+    assert!(rt; rise(&mut watches, &first)?.as_slice() == [2].as_slice());
+    assert!(rt; watches.remove(1));
+    assert!(rt; add(&mut watches, 1, &merged, &first)?.is_ok());
+    assert!(rt; rise(&mut watches, &reach(1, 1)?)?.as_slice() == [3, 1].as_slice());
+    Ok(())
+}
+
 #[test]
 fn a_signalled_fence_is_not_watched(rt: HostRuntime) -> Result<(), Fail> {
     let (stub, one) = (Fence::of(rt.alloc(), &[])?, plain(rt.alloc(), 1)?);
@@ -162,12 +178,11 @@ fn watch_limit(rt: HostRuntime) -> Result<(), Fail> {
     Ok(())
 }
 
-// The number ever made is put where no test could bring it.
+// The number ever made starts where no test could bring it.
 #[test]
 fn the_last_watch_ever(rt: HostRuntime) -> Result<(), Fail> {
     let one = plain(rt.alloc(), 1)?;
-    let mut watches = Watches::new(rt.alloc())?;
-    watches.made = u64::MAX - 1;
+    let mut watches = Watches::after(rt.alloc(), u64::MAX - 1);
     assert!(rt; add(&mut watches, 1, &one, &Reach::zero())?.is_ok());
     assert!(rt; watches.remove(1));
     let limit = Err(Refusal::Limit(LimitKind::Watches));

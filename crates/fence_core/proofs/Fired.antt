@@ -1,0 +1,247 @@
+-- The watches that a rise fires, told by registration.
+use Rattle.std.proofs.Common.{◌≡◌, ℕ, Bool, true, false, not, cond, ◌||◌, nat_eq, refl, sym, ap, ◌∙◌, subst, List, [], ◌∷◌, ◌++◌, map, filter, Option, None, Some, inl, inr}
+use Rattle.std.specs.List.{list_any, IsDistinct, AllByRecursion}
+use Rattle.std.specs.List.Sorted.{IsStrictlySortedBy}
+use Rattle.std.specs.Map.{keys_of, values_of}
+use Rattle.std.specs.BTreeMap.{is_at}
+use Rattle.std.specs.Ordering.{nat_cmp, is_eq, ordering_reverse}
+use Rattle.std.specs.declared.cmp.Ordering.{Ordering}
+use Rattle.std.specs.declared.cmp.Ordering.TheVariants.{Less, Equal, Greater}
+use Rattle.std.specs.Cmp.{nat_eq_equiv}
+use Rattle.std.proofs.lemmas.Bool.{cases_Bool}
+use Rattle.std.proofs.lemmas.Cmp.{nat_cmp_total, eq_by_cmp_equiv}
+use Rattle.std.proofs.lemmas.Option.{same_Some, none-some}
+use Rattle.std.proofs.lemmas.Map.Keys.{IsDistinct-from_sorted}
+use Rattle.std.proofs.lemmas.Map.Entries.{lookup-filter-values, option_filter}
+use Rattle.point_core.specs.Reach.{value_at}
+use Rattle.fence_core.specs.declared.watches.point_index.WaitingPoint.{WaitingPoint}
+use Rattle.fence_core.specs.PointIndex.{holds, is_due}
+use Rattle.fence_core.specs.Registered.{IsIndexed}
+use Rattle.fence_core.proofs.PointIndex.{equal-nat}
+use Rattle.fence_core.proofs.Registered.{is_at-true, is_at-is}
+use Rattle.fence_core.proofs.Indexed.{fires-due}
+use Rattle.fence_core.specs.Watch.{Watch, is_for, cookies_of}
+use Rattle.fence_core.specs.Watches.{fires}
+use Rattle.fence_core.specs.Told.{at, cookie_if_fires, IsTold, AreSomeTold, Fires}
+
+-- the cookies of the watches that fire, by registration
+told : List ℕ → List (ℕ × Watch) → List (ℕ × ℕ)
+told reach es = map (λ (e : ℕ × Watch). (e.0, e.1.cookie)) (filter (λ e. fires reach e.1) es)
+
+cookie : Option Watch → Option ℕ
+cookie None = None
+cookie (Some w) = Some w.cookie
+
+at-map : (es : List (ℕ × Watch)) (r : ℕ) → at (map (λ (e : ℕ × Watch). (e.0, e.1.cookie)) es) r ≡ cookie (at es r)
+unfolding cookie
+at-map [] r = refl
+at-map (e ∷ es) r = by (is_at (nat_cmp r) e.0) (at-map es r)
+  where
+    by : (b : Bool) → at (map (λ (e : ℕ × Watch). (e.0, e.1.cookie)) es) r ≡ cookie (at es r) → cond b (Some e.1.cookie) (at (map (λ (e : ℕ × Watch). (e.0, e.1.cookie)) es) r) ≡ cookie (cond b (Some e.1) (at es r))
+    by true rest = refl
+    by false rest = rest
+
+cookie-filter : (reach : List ℕ) (o : Option Watch) → cookie (option_filter (fires reach) o) ≡ cookie_if_fires reach o
+unfolding cookie
+cookie-filter reach None = refl
+cookie-filter reach (Some w) = by (fires reach w)
+  where
+    by : (b : Bool) → cookie (cond b (Some w) None) ≡ cond b (Some w.cookie) None
+    by true = refl
+    by false = refl
+
+at-told : (reach : List ℕ) (es : List (ℕ × Watch)) (r : ℕ) → IsStrictlySortedBy nat_cmp (keys_of es) → at (told reach es) r ≡ cookie_if_fires reach (at es r)
+unfolding told
+at-told reach es r ordered =
+    at-map (filter (λ e. fires reach e.1) es) r
+    ∙ ap cookie (lookup-filter-values (eq_by_cmp_equiv nat_cmp_total) (fires reach) r es (IsDistinct-from_sorted nat_cmp (keys_of es) ordered))
+    ∙ cookie-filter reach (at es r)
+
+AllByRecursion-told : (P : ℕ → Type 0) (reach : List ℕ) (es : List (ℕ × Watch)) → AllByRecursion P (keys_of es) → AllByRecursion P (keys_of (told reach es))
+unfolding told
+AllByRecursion-told P reach [] all = all
+AllByRecursion-told P reach (e ∷ es) all = by (fires reach e.1) (AllByRecursion-told P reach es all.1)
+  where
+    by : (b : Bool) → AllByRecursion P (keys_of (told reach es)) → AllByRecursion P (keys_of (map (λ (e : ℕ × Watch). (e.0, e.1.cookie)) (cond b (e ∷ filter (λ e. fires reach e.1) es) (filter (λ e. fires reach e.1) es))))
+    by true rest = (all.0, rest)
+    by false rest = rest
+
+ordered-told : (reach : List ℕ) (es : List (ℕ × Watch)) → IsStrictlySortedBy nat_cmp (keys_of es) → IsStrictlySortedBy nat_cmp (keys_of (told reach es))
+unfolding told IsStrictlySortedBy
+ordered-told reach [] h = h
+ordered-told reach (e ∷ es) h = by (fires reach e.1) (AllByRecursion-told (λ y. nat_cmp e.0 y ≡ Less) reach es h.0) (ordered-told reach es h.1)
+  where
+    by : (b : Bool) → AllByRecursion (λ y. nat_cmp e.0 y ≡ Less) (keys_of (told reach es)) → IsStrictlySortedBy nat_cmp (keys_of (told reach es)) → IsStrictlySortedBy nat_cmp (keys_of (map (λ (e : ℕ × Watch). (e.0, e.1.cookie)) (cond b (e ∷ filter (λ e. fires reach e.1) es) (filter (λ e. fires reach e.1) es))))
+    by true first rest = (first, rest)
+    by false first rest = rest
+
+values-told : (reach : List ℕ) (es : List (ℕ × Watch)) → values_of (told reach es) ≡ cookies_of (filter (fires reach) (values_of es))
+unfolding told
+values-told reach [] = refl
+values-told reach (e ∷ es) = by (fires reach e.1) (values-told reach es)
+  where
+    by : (b : Bool) → values_of (told reach es) ≡ cookies_of (filter (fires reach) (values_of es)) → values_of (map (λ (e : ℕ × Watch). (e.0, e.1.cookie)) (cond b (e ∷ filter (λ e. fires reach e.1) es) (filter (λ e. fires reach e.1) es))) ≡ cookies_of (cond b (e.1 ∷ filter (fires reach) (values_of es)) (filter (fires reach) (values_of es)))
+    by true rest = ap (λ cs. e.1.cookie ∷ cs) rest
+    by false rest = rest
+
+-- two lists by rising numbers in which the same is found are the same
+at-below : (es : List (ℕ × ℕ)) (r : ℕ) → AllByRecursion (λ y. nat_cmp r y ≡ Less) (keys_of es) → at es r ≡ None
+at-below [] r low = refl
+at-below (e ∷ es) r low = ap (λ o. cond (is_eq o) (Some e.1) (at es r)) low.0 ∙ at-below es r low.1
+
+All-less : (a b : ℕ) (ks : List ℕ) → nat_cmp a b ≡ Less → AllByRecursion (λ y. nat_cmp b y ≡ Less) ks → AllByRecursion (λ y. nat_cmp a y ≡ Less) ks
+All-less a b [] less all = all
+All-less a b (k ∷ ks) less all = (nat_cmp_total.trans a b k less all.0, All-less a b ks less all.1)
+
+at-head : (e : ℕ × ℕ) (es : List (ℕ × ℕ)) → at (e ∷ es) e.0 ≡ Some e.1
+at-head e es = ap (λ b. cond b (Some e.1) (at es e.0)) (is_at-true e.0 e.0 refl)
+
+same_lists : (xs ys : List (ℕ × ℕ)) → IsStrictlySortedBy nat_cmp (keys_of xs) → IsStrictlySortedBy nat_cmp (keys_of ys) → ((r : ℕ) → at xs r ≡ at ys r) → xs ≡ ys
+unfolding IsStrictlySortedBy
+same_lists [] [] g h same = refl
+same_lists [] (y ∷ ys) g h same = absurd (none-some y.1 (same y.0 ∙ at-head y ys))
+same_lists (x ∷ xs) [] g h same = absurd (none-some x.1 (sym (same x.0) ∙ at-head x xs))
+same_lists (x ∷ xs) (y ∷ ys) g h same = by (nat_cmp x.0 y.0) refl (same_lists xs ys g.1 h.1)
+  where
+    later : x.0 ≡ y.0 → (r : ℕ) → at xs r ≡ at ys r
+    later is r = elim (cases_Bool (is_at (nat_cmp r) x.0)) [
+      | inl here ↦
+          let at_x = is_at-is r x.0 here in
+          at-below xs r (subst (λ n. AllByRecursion (λ y. nat_cmp n y ≡ Less) (keys_of xs)) (sym at_x) g.0)
+          ∙ sym (at-below ys r (subst (λ n. AllByRecursion (λ y. nat_cmp n y ≡ Less) (keys_of ys)) (sym (at_x ∙ is)) h.0))
+      | inr past ↦
+          sym (ap (λ b. cond b (Some x.1) (at xs r)) past) ∙ same r
+          ∙ ap (λ b. cond b (Some y.1) (at ys r)) (sym (ap (λ n. is_at (nat_cmp r) n) is) ∙ past)
+    ]
+
+    less_from : (b a : ℕ) → nat_cmp a b ≡ Greater → nat_cmp b a ≡ Less
+    less_from b a greater = nat_cmp_total.antisymm b a ∙ ap ordering_reverse greater
+
+    by : (o : Ordering) → nat_cmp x.0 y.0 ≡ o → (((r : ℕ) → at xs r ≡ at ys r) → xs ≡ ys) → x ∷ xs ≡ y ∷ ys
+    by Less less rest = absurd (none-some x.1 (sym (at-below (y ∷ ys) x.0 (less, All-less x.0 y.0 (keys_of ys) less h.0)) ∙ sym (same x.0) ∙ at-head x xs))
+    by Equal equal rest =
+        let is = equal-nat x.0 y.0 equal in
+        let value = same_Some x.1 y.1 (sym (at-head x xs) ∙ same x.0 ∙ ap (at (y ∷ ys)) is ∙ at-head y ys) in
+        ap (λ n. (n, x.1) ∷ xs) is ∙ ap (λ v. (y.0, v) ∷ xs) value ∙ ap (λ zs. y ∷ zs) (rest (later is))
+    by Greater greater rest =
+        let less = less_from y.0 x.0 greater in
+        absurd (none-some y.1 (sym (at-below (x ∷ xs) y.0 (less, All-less y.0 x.0 (keys_of xs) less g.0)) ∙ same y.0 ∙ at-head y ys))
+
+-- where each registration was told, the cookies stand by registration
+values-IsTold : (reach : List ℕ) (es : List (ℕ × Watch)) (fired : List (ℕ × ℕ)) → IsStrictlySortedBy nat_cmp (keys_of es) → IsStrictlySortedBy nat_cmp (keys_of fired) → ((r : ℕ) → IsTold es reach fired r) → values_of fired ≡ cookies_of (filter (fires reach) (values_of es))
+values-IsTold reach es fired ordered rising all =
+    ap values_of (same_lists fired (told reach es) rising (ordered-told reach es ordered) (λ r. all r ∙ sym (at-told reach es r ordered)))
+    ∙ values-told reach es
+
+-- where no watch was told that doesn't fire, and each that fires was, each was told
+IsTold-all : (reach : List ℕ) (es : List (ℕ × Watch)) (fired : List (ℕ × ℕ)) (r : ℕ) → AreSomeTold es reach fired → ((w : Watch) → at es r ≡ Some w → fires reach w ≡ true → IsTold es reach fired r) → IsTold es reach fired r
+IsTold-all reach es fired r some all = by (at fired r) refl
+  where
+    by : (o : Option ℕ) → at fired r ≡ o → IsTold es reach fired r
+    by (Some c) is = is ∙ sym (some r c is)
+    by None is = from (at es r) refl
+      where
+        from : (p : Option Watch) → at es r ≡ p → IsTold es reach fired r
+        from None none = is ∙ sym (ap (cookie_if_fires reach) none)
+        from (Some w) there = elim (cases_Bool (fires reach w)) [
+          | inl fired_it ↦ all w there fired_it
+          | inr not_it ↦ is ∙ sym (ap (cookie_if_fires reach) there ∙ ap (λ b. cond b (Some w.cookie) None) not_it)
+        ]
+
+-- what is told of the points that are due is the cookies of the watches that fire
+pub values-fired : (reach kept : List ℕ) (es : List (ℕ × Watch)) (index : List WaitingPoint) (fired : List (ℕ × ℕ)) → IsStrictlySortedBy nat_cmp (keys_of es) → IsIndexed es index kept → IsStrictlySortedBy nat_cmp (keys_of fired) → AreSomeTold es reach fired → ((k : WaitingPoint) → is_due k.ctx (value_at reach k.ctx) k ≡ true → holds index k ≡ true → IsTold es reach fired k.registration) → values_of fired ≡ cookies_of (filter (fires reach) (values_of es))
+values-fired reach kept es index fired ordered h rising some all =
+    values-IsTold reach es fired ordered rising (λ r. IsTold-all reach es fired r some (λ w found fired_it.
+    let k = fires-due es index reach kept r w h found fired_it in
+    subst (IsTold es reach fired) k.1 (all k.0 k.3 k.2)))
+
+-- a watch that fires is among those whose cookies are told
+pub Fires-some : (reach : List ℕ) (es : List (ℕ × Watch)) → Fires es reach → cookies_of (filter (fires reach) (values_of es)) ≡ [] → ⊥
+Fires-some reach es f none = by es f.pending none
+  where
+    by : (fs : List (ℕ × Watch)) → at fs f.registration ≡ Some f.watch → cookies_of (filter (fires reach) (values_of fs)) ≡ [] → ⊥
+    by [] is none = none-some f.watch is
+    by (e ∷ fs) is none = elim (cases_Bool (is_at (nat_cmp f.registration) e.0)) [
+      | inl here ↦
+          let same = same_Some e.1 f.watch (sym (ap (λ b. cond b (Some e.1) (at fs f.registration)) here) ∙ is) in
+          let fired = ap (fires reach) same ∙ f.fires in
+          let told = sym (ap (λ b. cookies_of (cond b (e.1 ∷ filter (fires reach) (values_of fs)) (filter (fires reach) (values_of fs)))) fired) ∙ none in
+          absurd (cc)
+      | inr past ↦ on (fires reach e.1) none (by fs (sym (ap (λ b. cond b (Some e.1) (at fs f.registration)) past) ∙ is))
+    ]
+      where
+        on : (b : Bool) → cookies_of (cond b (e.1 ∷ filter (fires reach) (values_of fs)) (filter (fires reach) (values_of fs))) ≡ [] → (cookies_of (filter (fires reach) (values_of fs)) ≡ [] → ⊥) → ⊥
+        on true none rest = absurd (cc)
+        on false none rest = rest none
+
+-- what a list of cookies takes out, one after another
+pub without_watches-none : (ws : List Watch) → filter (λ (w : Watch). not (list_any (nat_eq w.cookie) [])) ws ≡ ws
+without_watches-none [] = refl
+without_watches-none (w ∷ ws) = ap (λ vs. w ∷ vs) (without_watches-none ws)
+
+pub without_watches-push : (cookies : List ℕ) (c : ℕ) (ws : List Watch) → filter (λ w. not (is_for c w)) (filter (λ (w : Watch). not (list_any (nat_eq w.cookie) cookies)) ws) ≡ filter (λ (w : Watch). not (list_any (nat_eq w.cookie) (cookies ++ c ∷ []))) ws
+without_watches-push cookies c [] = refl
+without_watches-push cookies c (w ∷ ws) =
+    by (list_any (nat_eq w.cookie) cookies) (without_watches-push cookies c ws)
+    ∙ ap (λ b. cond (not b) (w ∷ filter (λ (w : Watch). not (list_any (nat_eq w.cookie) (cookies ++ c ∷ []))) ws) (filter (λ (w : Watch). not (list_any (nat_eq w.cookie) (cookies ++ c ∷ []))) ws)) (sym (any-push (nat_eq w.cookie) cookies c))
+  where
+    any-push : (test : ℕ → Bool) (xs : List ℕ) (x : ℕ) → list_any test (xs ++ x ∷ []) ≡ (list_any test xs || test x)
+    any-push test [] x = or-false (test x)
+      where
+        or-false : (a : Bool) → (a || false) ≡ a
+        or-false true = refl
+        or-false false = refl
+    any-push test (y ∷ xs) x = ap (λ b. test y || b) (any-push test xs x) ∙ or-assoc (test y) (list_any test xs) (test x)
+      where
+        or-assoc : (a b c : Bool) → (a || (b || c)) ≡ ((a || b) || c)
+        or-assoc true b c = refl
+        or-assoc false b c = refl
+
+    by : (b : Bool) → filter (λ w. not (is_for c w)) (filter (λ (w : Watch). not (list_any (nat_eq w.cookie) cookies)) ws) ≡ filter (λ (w : Watch). not (list_any (nat_eq w.cookie) (cookies ++ c ∷ []))) ws → filter (λ w. not (is_for c w)) (cond (not b) (w ∷ filter (λ (w : Watch). not (list_any (nat_eq w.cookie) cookies)) ws) (filter (λ (w : Watch). not (list_any (nat_eq w.cookie) cookies)) ws)) ≡ cond (not (b || is_for c w)) (w ∷ filter (λ (w : Watch). not (list_any (nat_eq w.cookie) (cookies ++ c ∷ []))) ws) (filter (λ (w : Watch). not (list_any (nat_eq w.cookie) (cookies ++ c ∷ []))) ws)
+    by true rest = rest
+    by false rest = on (is_for c w)
+      where
+        on : (d : Bool) → cond (not d) (w ∷ filter (λ w. not (is_for c w)) (filter (λ (w : Watch). not (list_any (nat_eq w.cookie) cookies)) ws)) (filter (λ w. not (is_for c w)) (filter (λ (w : Watch). not (list_any (nat_eq w.cookie) cookies)) ws)) ≡ cond (not d) (w ∷ filter (λ (w : Watch). not (list_any (nat_eq w.cookie) (cookies ++ c ∷ []))) ws) (filter (λ (w : Watch). not (list_any (nat_eq w.cookie) (cookies ++ c ∷ []))) ws)
+        on true = rest
+        on false = ap (λ vs. w ∷ vs) rest
+
+-- the cookie of a watch is among those of the watches that fire exactly where it fires
+any-fires : (reach : List ℕ) (ws : List Watch) (c : ℕ) → AllByRecursion (λ y. nat_eq c y ≡ false) (cookies_of ws) → list_any (nat_eq c) (cookies_of (filter (fires reach) ws)) ≡ false
+any-fires reach [] c apart = refl
+any-fires reach (w ∷ ws) c apart = by (fires reach w) (any-fires reach ws c apart.1)
+  where
+    by : (b : Bool) → list_any (nat_eq c) (cookies_of (filter (fires reach) ws)) ≡ false → list_any (nat_eq c) (cookies_of (cond b (w ∷ filter (fires reach) ws) (filter (fires reach) ws))) ≡ false
+    by true rest = ap (λ b. b || list_any (nat_eq c) (cookies_of (filter (fires reach) ws))) apart.0 ∙ rest
+    by false rest = rest
+
+-- a list of cookies that has one more, which no watch has, takes out the same
+filter-more : (c : ℕ) (cookies : List ℕ) (ws : List Watch) → AllByRecursion (λ y. nat_eq c y ≡ false) (cookies_of ws) → filter (λ (w : Watch). not (list_any (nat_eq w.cookie) (c ∷ cookies))) ws ≡ filter (λ (w : Watch). not (list_any (nat_eq w.cookie) cookies)) ws
+filter-more c cookies [] apart = refl
+filter-more c cookies (w ∷ ws) apart =
+    ap (λ vs. cond (not (nat_eq w.cookie c || list_any (nat_eq w.cookie) cookies)) (w ∷ vs) vs) (filter-more c cookies ws apart.1)
+    ∙ ap (λ b. cond (not (b || list_any (nat_eq w.cookie) cookies)) (w ∷ filter (λ (w : Watch). not (list_any (nat_eq w.cookie) cookies)) ws) (filter (λ (w : Watch). not (list_any (nat_eq w.cookie) cookies)) ws)) (nat_eq_equiv.symm w.cookie c ∙ apart.0)
+
+pub without_fired : (reach : List ℕ) (ws : List Watch) → IsDistinct nat_eq (cookies_of ws) → filter (λ (w : Watch). not (list_any (nat_eq w.cookie) (cookies_of (filter (fires reach) ws)))) ws ≡ filter (λ w. not (fires reach w)) ws
+unfolding IsDistinct
+without_fired reach [] distinct = refl
+without_fired reach (w ∷ ws) distinct = by (fires reach w) (without_fired reach ws distinct.1)
+  where
+    fired : List ℕ
+    fired = cookies_of (filter (fires reach) ws)
+
+    by : (b : Bool) → filter (λ (v : Watch). not (list_any (nat_eq v.cookie) fired)) ws ≡ filter (λ v. not (fires reach v)) ws → filter (λ (v : Watch). not (list_any (nat_eq v.cookie) (cookies_of (cond b (w ∷ filter (fires reach) ws) (filter (fires reach) ws))))) (w ∷ ws) ≡ cond (not b) (w ∷ filter (λ w. not (fires reach w)) ws) (filter (λ w. not (fires reach w)) ws)
+    by true rest =
+        ap (λ b. cond (not (b || list_any (nat_eq w.cookie) fired)) (w ∷ filter (λ (v : Watch). not (list_any (nat_eq v.cookie) (w.cookie ∷ fired))) ws) (filter (λ (v : Watch). not (list_any (nat_eq v.cookie) (w.cookie ∷ fired))) ws)) (nat_eq_equiv.refl w.cookie)
+        ∙ filter-more w.cookie fired ws distinct.0 ∙ rest
+    by false rest =
+        ap (λ b. cond (not b) (w ∷ filter (λ (v : Watch). not (list_any (nat_eq v.cookie) fired)) ws) (filter (λ (v : Watch). not (list_any (nat_eq v.cookie) fired)) ws)) (any-fires reach ws w.cookie distinct.0)
+        ∙ ap (λ vs. w ∷ vs) rest
+
+-- of those that don't fire none does
+pub none-left : (reach : List ℕ) (ws : List Watch) → list_any (fires reach) (filter (λ w. not (fires reach w)) ws) ≡ false
+none-left reach [] = refl
+none-left reach (w ∷ ws) = by (fires reach w) refl (none-left reach ws)
+  where
+    by : (b : Bool) → fires reach w ≡ b → list_any (fires reach) (filter (λ w. not (fires reach w)) ws) ≡ false → list_any (fires reach) (cond (not b) (w ∷ filter (λ w. not (fires reach w)) ws) (filter (λ w. not (fires reach w)) ws)) ≡ false
+    by true is rest = rest
+    by false is rest = ap (λ b. b || list_any (fires reach) (filter (λ w. not (fires reach w)) ws)) is ∙ rest

@@ -1,0 +1,10 @@
+use Rattle.std.proofs.Common.{◌≡◌, ◌≤◌, true, false}
+use Rattle.point_core.specs.Reach.{value_at}
+use Rattle.fence_core.specs.declared.watches.point_index.WaitingPoint.{WaitingPoint as Waiting}
+use Rattle.fence_core.specs.PointIndex.{holds, is_due}
+use Rattle.fence_core.proofs.watches.point_index.PointIndex.take_reached.Given as goal
+
+abbrev pub invariant-loop-index : goal.invariant-loop-index
+invariant-loop-index l = (k : Waiting) → (holds l.self k ≡ true → holds l.fn.self k ≡ true)
+    × (is_due k.ctx (value_at l.reach k.ctx) k ≡ false → holds l.self k ≡ holds l.fn.self k)
+    × (k.ctx ≤ l.index → is_due k.ctx (value_at l.reach k.ctx) k ≡ true → holds l.self k ≡ false)

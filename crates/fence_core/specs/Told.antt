@@ -1,0 +1,31 @@
+-- The watches that a rise fires, by registration.
+use Rattle.std.specs.Prelude.{◌≡◌, ℕ, true, if◌then◌else◌, List, Option, None, Some}
+use Rattle.std.specs.Map.{lookup}
+use Rattle.std.specs.BTreeMap.{is_at}
+use Rattle.std.specs.Ordering.{nat_cmp}
+use Rattle.fence_core.specs.Watch.{Watch}
+use Rattle.fence_core.specs.Watches.{fires}
+
+-- what stands at the number
+abbrev pub at : {X : Type 0} → List (ℕ × X) → ℕ → Option X
+at es r = lookup (is_at (nat_cmp r)) es
+
+-- the cookie of the watch, where it fires
+abbrev pub cookie_if_fires : List ℕ → Option Watch → Option ℕ
+cookie_if_fires reach None = None
+cookie_if_fires reach (Some w) = if fires reach w then Some w.cookie else None
+
+-- the watch of that registration was told where it fires, and else not
+abbrev pub IsTold : List (ℕ × Watch) → List ℕ → List (ℕ × ℕ) → ℕ → Type 0
+IsTold es reach fired r = at fired r ≡ cookie_if_fires reach (at es r)
+
+-- no watch was told that does not fire
+abbrev pub AreSomeTold : List (ℕ × Watch) → List ℕ → List (ℕ × ℕ) → Type 0
+AreSomeTold es reach fired = (r : ℕ) (cookie : ℕ) → at fired r ≡ Some cookie → cookie_if_fires reach (at es r) ≡ Some cookie
+
+-- some watch fires
+pub record Fires (es : List (ℕ × Watch)) (reach : List ℕ) : Type 0 where
+  pub registration : ℕ
+  pub watch : Watch
+  pub pending : at es registration ≡ Some watch
+  pub fires : fires reach watch ≡ true
