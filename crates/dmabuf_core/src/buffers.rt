@@ -101,7 +101,7 @@ impl Buffers {
             return Err(Refusal::NoEntry);
         };
         table.reserve(1, reach)?;
-        table.add(point, usage, reach);
+        table.put(point, usage, reach);
         Ok(())
     }
 
@@ -231,9 +231,7 @@ fn add_all(table: &mut Resv, points: &[Point], usage: Usage, reach: &Reach) -> R
     ensures memory { IfErr result (λ e. e ≡ Memory) }
 {
     table.reserve(count(points), reach)?;
-    for point in points {
-        table.add(*point, usage, reach);
-    }
+    table.add_all(points, usage, reach);
     Ok(())
 }
 

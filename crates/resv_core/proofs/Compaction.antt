@@ -173,7 +173,7 @@ top-weakest (e ∷ es) usage ctx low =
     ap (λ b. if b && (e.point.ctx == ctx) then later e.point.value (top es usage ctx) else top es usage ctx) (le-leb (usage_number e.usage) usage (omega arith) ∙ sym (le-leb (usage_number e.usage) 3 strong))
     ∙ ap (λ t. if applies e 3 ctx then later e.point.value t else t) (top-weakest es usage ctx low)
 
-raised_to-top-stronger : (value : ℕ) (es : List Entry) (usage weaker ctx : ℕ) → usage ≤ weaker → raised_to value (top es usage ctx) ≤ raised_to value (top es weaker ctx)
+pub raised_to-top-stronger : (value : ℕ) (es : List Entry) (usage weaker ctx : ℕ) → usage ≤ weaker → raised_to value (top es usage ctx) ≤ raised_to value (top es weaker ctx)
 raised_to-top-stronger value [] usage weaker ctx low = omega arith
 raised_to-top-stronger value (e ∷ es) usage weaker ctx low =
     let rest = raised_to-top-stronger value es usage weaker ctx low in

@@ -1,6 +1,7 @@
 pub mod Comparing
 pub mod Compaction
 pub mod Counting
+pub mod Dropping
 pub mod Replacing
 pub mod Rows
 pub mod Runs

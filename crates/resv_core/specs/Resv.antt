@@ -32,6 +32,16 @@ pub record IsTable (r : Reservation) : Type 0 where
 abbrev pub gives_way : List ℕ → Entry → Entry → Bool
 gives_way reach new old = nat_le old.point.value (value_at reach old.point.ctx) || covers new old
 
+-- points that are put with one usage
+abbrev pub entries_as : Usage → List Point → List Entry
+entries_as usage points = map (λ point. entry_of point usage) points
+
+-- the old entry may be dropped for points of a usage, by a table of their latest: it is signalled, or one of them covers it
+abbrev pub gives_way_to_any : List ℕ → List ℕ → Usage → Entry → Bool
+gives_way_to_any reach latest usage old =
+    nat_le old.point.value (value_at reach old.point.ctx)
+    || (nat_le (usage_number usage) (usage_number old.usage) && nat_le old.point.value (value_at latest old.point.ctx))
+
 -- every entry is pending, and none covers another
 pub record IsTrimmed (reach : List ℕ) (es : List Entry) : Type 0 where
   pub pending : All (λ e. value_at reach e.point.ctx < e.point.value) es

@@ -3,6 +3,7 @@
 //! A table drops and replaces entries as it likes, as long as it says the same above the reach as all that was added.
 #![tactic(auto)]
 
+mod adding;
 mod laws;
 mod plan;
 mod resv;

@@ -1,14 +1,15 @@
 // The reservation of a buffer.
-ghost use Rattle.std.specs.Prelude.{◌≡◌, ◌+◌, ◌-◌, ◌<◌, ◌≤◌, ◌↔◌, Ok, if◌then◌else◌, length, vec_len, IfErr, IfOk, IsTrue, OnErr, OnOk};
+ghost use Rattle.std.specs.Prelude.{◌≡◌, ◌+◌, ◌-◌, ◌<◌, ◌≤◌, ◌↔◌, ◌++◌, [], Ok, if◌then◌else◌, length, vec_len, IfErr, IfOk, IsTrue, OnErr, OnOk};
 ghost use Rattle.std.specs.List.{list_any};
 ghost use Rattle.std.specs.Vec.{vec_capacity};
 ghost use Rattle.point_core.specs.declared.context.TheConstants.{CONTEXTS};
 ghost use Rattle.point_core.specs.Agreement.{AgreesAbove, IsReached, listing};
 ghost use Rattle.point_core.specs.Usage.{usage_number};
 ghost use Rattle.resv_core.specs.declared.resv.TheConstants.{PLACES};
-ghost use Rattle.resv_core.specs.Resv.{IsTable, IsTrimmed, empty, entry_of, gives_way, rows_of};
-ghost use Rattle.resv_core.specs.Run.{Leaves, Reserve, Add, Trim};
+ghost use Rattle.resv_core.specs.Resv.{IsTable, IsTrimmed, empty, entries_as, entry_of, gives_way, rows_of};
+ghost use Rattle.resv_core.specs.Run.{Leaves, Reserve, Add, AddAll, Trim};
 
+use crate::adding::{SCANNED, add_all};
 use crate::tops::{Tops, USAGES, compact, latest_of};
 use point_core::{CONTEXTS, Entry, Point, Reach, Refusal, TopRow, Usage, covers, is_signalled};
 use std::alloc::Global;
@@ -125,6 +126,39 @@ impl Resv {
         {
             Some(index) => self.entries[index] = entry,
             None => self.entries.push_reserved(entry),
+        }
+    }
+
+    /// Adds fences of one usage together, once there is room for all of them. Where the table has few entries, or the fences
+    /// are many, the entries that are signalled or covered by one of them go out in one pass; else they stay until the table
+    /// is trimmed. Without fences nothing changes. Takes no memory.
+    ///
+    /// The kernel adds the fences of an imported sync file one after another.
+    pub fn add_all(&mut self, points: &[Point], usage: Usage, reach: &Reach)
+        requires room { length points.now ≤ self.old.room }
+        ensures table { IsTable self.new }
+        ensures agrees { Leaves (AddAll (entries_as usage points.now)) reach.now self.old.entries self.new.entries }
+        ensures places { length self.new.entries + self.new.room ≡ length self.old.entries + self.old.room }
+        ensures nothing { points.now ≡ [] → self.new ≡ self.old }
+    {
+        if !points.is_empty() {
+            add_all(&mut self.entries, points, usage, reach);
+        }
+    }
+
+    /// Adds a fence, so `reserve` first. In a table of few entries it does as `add`. In a larger one it takes a free place
+    /// without a look at the others, and what it covers stays until the table is trimmed. Takes no memory.
+    pub fn put(&mut self, point: Point, usage: Usage, reach: &Reach)
+        requires room { 1 ≤ self.old.room }
+        ensures table { IsTable self.new }
+        ensures agrees { Leaves (Add (entry_of point usage)) reach.now self.old.entries self.new.entries }
+        ensures falls { self.old.room ≤ self.new.room + 1 }
+        ensures places { length self.new.entries + self.new.room ≡ length self.old.entries + self.old.room }
+    {
+        if self.entries.len() < SCANNED {
+            self.add(point, usage, reach);
+        } else {
+            self.entries.push_reserved(Entry { point, usage });
         }
     }
 

@@ -32,6 +32,12 @@ fn reserve_and_add(resv: &mut Resv, point: Point, usage: Usage, reach: &Reach) -
     Ok(())
 }
 
+fn reserve_and_put(resv: &mut Resv, point: Point, usage: Usage, reach: &Reach) -> Result<(), Fail> {
+    resv.reserve(1, reach)?;
+    resv.put(point, usage, reach);
+    Ok(())
+}
+
 #[test]
 fn reservation_rows(rt: HostRuntime) -> Result<(), Fail> {
     let none = reach_of(&[])?;
@@ -100,6 +106,24 @@ fn three_hundred_and_twenty_places(rt: HostRuntime) -> Result<(), Fail> {
     Ok(())
 }
 
+// In a large table what a new entry covers stays until the table is trimmed; in a small one it is replaced.
+#[test]
+fn hundred_falling_puts_and_two_later_ones(rt: HostRuntime) -> Result<(), Fail> {
+    let none = reach_of(&[])?;
+    let mut resv = Resv::new(rt.alloc())?;
+    for value in (1..=100).rev() {
+        reserve_and_put(&mut resv, point(1, value)?, Usage::Bookkeep, &none)?;
+    }
+    reserve_and_put(&mut resv, point(1, 101)?, Usage::Bookkeep, &none)?;
+    assert_eq!(rt; resv.room(), 219);
+    resv.trim(&none);
+    reserve_and_put(&mut resv, point(1, 200)?, Usage::Bookkeep, &none)?;
+    assert_eq!(rt; resv.room(), 319);
+    let rows = [row(Usage::Bookkeep, 1, 200)?];
+    assert_eq!(rt; resv.table(&none)?.as_slice(), rows.as_slice());
+    Ok(())
+}
+
 // Four usages of every context, and then three imports of a file with a point of every context. The first fills the
 // table to the last place.
 #[test]
@@ -131,5 +155,31 @@ fn imports_into_a_full_table(rt: HostRuntime) -> Result<(), Fail> {
         }
     }
     assert_eq!(rt; resv.table(&none)?.as_slice(), rows.as_slice());
+    Ok(())
+}
+
+// Points that are added together put out what they cover and what is signalled; without any, nothing changes.
+#[test]
+fn points_added_together(rt: HostRuntime) -> Result<(), Fail> {
+    let none = reach_of(&[])?;
+    let one = reach_of(&[1])?;
+    let mut resv = Resv::new(rt.alloc())?;
+    reserve_and_add(&mut resv, point(1, 1)?, Usage::Read, &none)?;
+    reserve_and_add(&mut resv, point(2, 5)?, Usage::Write, &none)?;
+    reserve_and_add(&mut resv, point(3, 5)?, Usage::Bookkeep, &none)?;
+    let room = resv.room();
+    resv.add_all(&[], Usage::Read, &one);
+    assert_eq!(rt; resv.room(), room);
+    resv.reserve(2, &one)?;
+    resv.add_all(&[point(2, 9)?, point(3, 9)?], Usage::Read, &one);
+    assert_eq!(rt; resv.room(), room);
+    let rows = [
+        row(Usage::Write, 2, 5)?,
+        row(Usage::Read, 2, 9)?,
+        row(Usage::Read, 3, 9)?,
+        row(Usage::Bookkeep, 2, 9)?,
+        row(Usage::Bookkeep, 3, 9)?,
+    ];
+    assert_eq!(rt; resv.table(&one)?.as_slice(), rows.as_slice());
     Ok(())
 }

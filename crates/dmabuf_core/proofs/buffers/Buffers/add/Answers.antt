@@ -19,14 +19,14 @@ pub returns-in_err-reserve-clause-kept : goal.returns-in_err-reserve-clause-kept
 returns-in_err-reserve-clause-kept c = subst AreBuffers (sym (c.get_mut.follows.holds c.reserve.new.self).0) (AreBuffers-set_value c.args.name.now c.self.inside.by_name.entries c.reserve.new.self c.self.invariant c.reserve.ensures.table)
 
 pub invariant_of-self-2 : goal.invariant_of-self-2
-invariant_of-self-2 c = subst AreBuffers (sym (c.get_mut.follows.holds c.add.new.self).0) (AreBuffers-set_value c.args.name.now c.self.inside.by_name.entries c.add.new.self c.self.invariant c.add.ensures.table)
+invariant_of-self-2 c = subst AreBuffers (sym (c.get_mut.follows.holds c.put.new.self).0) (AreBuffers-set_value c.args.name.now c.self.inside.by_name.entries c.put.new.self c.self.invariant c.put.ensures.table)
 
 pub returns-clause-agrees : goal.returns-clause-agrees
 returns-clause-agrees c =
     let found = ap (λ bs. table_at bs c.args.name.now) (sym c.self.view_is) ∙ sym c.in-Some.ensures.value in
-    let written = (c.get_mut.follows.holds c.add.new.self).0 ∙ ap (λ bs. set_value (pointwise nat_eq c.args.name.now) bs c.add.new.self) c.self.view_is in
-    AgreesAbove-written (entry_of c.args.point c.args.usage ∷ []) c.args.self.now (c.get_mut.follows.lender c.add.new.self).entries c.args.name.now c.in-Some.table.now c.add.new.self found written
-    (AgreesAbove-reserved c.in-Some.table.now.entries c.reserve.new.self.entries c.add.new.self.entries (entry_of c.args.point c.args.usage ∷ []) c.reserve.ensures.agrees c.add.ensures.agrees)
+    let written = (c.get_mut.follows.holds c.put.new.self).0 ∙ ap (λ bs. set_value (pointwise nat_eq c.args.name.now) bs c.put.new.self) c.self.view_is in
+    AgreesAbove-written (entry_of c.args.point c.args.usage ∷ []) c.args.self.now (c.get_mut.follows.lender c.put.new.self).entries c.args.name.now c.in-Some.table.now c.put.new.self found written
+    (AgreesAbove-reserved c.in-Some.table.now.entries c.reserve.new.self.entries c.put.new.self.entries (entry_of c.args.point c.args.usage ∷ []) c.reserve.ensures.agrees c.put.ensures.agrees)
 
 pub returns-clause-kept : goal.returns-clause-kept
-returns-clause-kept c = subst AreBuffers (sym (c.get_mut.follows.holds c.add.new.self).0) (AreBuffers-set_value c.args.name.now c.self.inside.by_name.entries c.add.new.self c.self.invariant c.add.ensures.table)
+returns-clause-kept c = subst AreBuffers (sym (c.get_mut.follows.holds c.put.new.self).0) (AreBuffers-set_value c.args.name.now c.self.inside.by_name.entries c.put.new.self c.self.invariant c.put.ensures.table)

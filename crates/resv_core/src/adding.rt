@@ -1,0 +1,68 @@
+// Several fences of one usage, added together.
+ghost use Rattle.std.specs.Prelude.{◌≡◌, ◌+◌, ◌≤◌, ◌++◌, ◌∷◌, [], length, vec_len};
+ghost use Rattle.std.specs.Vec.{vec_capacity};
+ghost use Rattle.point_core.specs.Agreement.{AgreesAbove, HasContexts};
+ghost use Rattle.point_core.specs.Latest.{IsLatest};
+ghost use Rattle.point_core.specs.Usage.{usage_number};
+ghost use Rattle.resv_core.specs.Resv.{entries_as, entry_of, gives_way_to_any};
+
+use point_core::{Entry, LatestPoints, Point, Reach, Usage, is_signalled};
+
+/// So many entries are few: to look through them costs little.
+pub(crate) const SCANNED: usize = 32;
+
+/// Puts the points behind the entries, of which those that give way may go out. Takes no memory.
+pub(crate) fn add_all(entries: &mut Vec<Entry>, points: &[Point], usage: Usage, reach: &Reach)
+    requires places { vec_len entries.old + length points.now ≤ vec_capacity entries.old }
+    requires contexts { HasContexts entries.old.items }
+    ensures agrees { AgreesAbove reach.now entries.new.items (entries.old.items ++ entries_as usage points.now) }
+    ensures contexts { HasContexts entries.new.items }
+    ensures places { vec_capacity entries.new ≡ vec_capacity entries.old }
+{
+    make_way(entries, points, usage, reach);
+    for point in points {
+        entries.push_reserved(entry_of(*point, usage));
+    }
+}
+
+fn entry_of(point: Point, usage: Usage) -> Entry
+    ensures entry { result ≡ entry_of point usage }
+    ensures context { HasContexts (result ∷ []) }
+{
+    Entry { point, usage }
+}
+
+/// Drops the entries that give way to one of the points, in one pass, where there are few entries or many points.
+fn make_way(entries: &mut Vec<Entry>, points: &[Point], usage: Usage, reach: &Reach)
+    requires contexts { HasContexts entries.old.items }
+    ensures agrees { AgreesAbove reach.now (entries.new.items ++ entries_as usage points.now)
+        (entries.old.items ++ entries_as usage points.now) }
+    ensures contexts { HasContexts entries.new.items }
+    ensures fewer { vec_len entries.new ≤ vec_len entries.old }
+    ensures places { vec_capacity entries.new ≡ vec_capacity entries.old }
+{
+    if entries.len() >= SCANNED && points.len() < SCANNED {
+        return;
+    }
+    let latest = latest_among(points, usage, reach);
+    entries.retain(|old| !gives_way_to_any(old, &latest, usage, reach));
+}
+
+/// The latest of the points of each context, or its value where none is above that.
+fn latest_among(points: &[Point], usage: Usage, reach: &Reach) -> LatestPoints
+    ensures latest { IsLatest result reach.now (entries_as usage points.now) (usage_number usage) }
+{
+    let mut latest = LatestPoints::above(reach);
+    for point in points {
+        latest.put(*point);
+    }
+    latest
+}
+
+/// Whether the old entry may be dropped for points of that usage: it is signalled, or one of them covers it.
+fn gives_way_to_any(old: &Entry, latest: &LatestPoints, usage: Usage, reach: &Reach) -> bool
+    ensures { result ≡ gives_way_to_any reach.now latest.now usage old.now }
+{
+    is_signalled(old.point, reach)
+        || (usage.number() <= old.usage.number() && old.point.value <= latest.get(old.point.ctx))
+}
