@@ -1,4 +1,5 @@
 pub mod Adding
+pub mod Apart
 pub mod Gathering
 pub mod Keeping
 pub mod Locking

@@ -1,16 +1,16 @@
 -- A look, by the latest of a client's own puts and of what is shown.
-use Rattle.std.proofs.Common.{◌≡◌, ◌↔◌, ℕ, ◌≤◌, max, Bool, true, false, ◌&&◌, ◌||◌, List, [], ◌∷◌, inl, inr, refl, sym, ap, ◌∙◌, arith}
+use Rattle.std.proofs.Common.{◌≡◌, ◌↔◌, ℕ, ◌≤◌, max, Bool, All, true, false, ◌&&◌, ◌||◌, List, [], ◌∷◌, inl, inr, refl, sym, ap, ◌∙◌, arith}
 use Rattle.std.specs.Prelude.{nat_le}
 use Rattle.std.specs.List.{list_any}
 use Rattle.std.proofs.Math.Bool.{or-false}
-use Rattle.std.proofs.lemmas.Bool.{le-leb, lt-leb, leb-true, cases_Bool}
+use Rattle.std.proofs.lemmas.Bool.{le-leb, lt-leb, leb-true, cases_Bool, cases_lt}
 use Rattle.std.proofs.lemmas.Bool.Decides.{leb_tells, eqb_tells}
 use Rattle.std.proofs.lemmas.List.Elements.{All-head, All-tail}
 use Rattle.point_core.specs.declared.context.TheConstants.{CONTEXTS}
 use Rattle.point_core.specs.declared.entry.Point.{Point}
 use Rattle.point_core.specs.declared.entry.Entry.{Entry}
 use Rattle.point_core.specs.declared.listing.Listing.{Listing}
-use Rattle.point_core.specs.Agreement.{applies, top, as_entries, HasContexts}
+use Rattle.point_core.specs.Agreement.{applies, point_of, top, as_entries, HasContexts}
 use Rattle.point_core.specs.Latest.{raised_to, IsLatest}
 use Rattle.point_core.specs.Reach.{value_at}
 use Rattle.point_core.specs.Usage.{usage_number}
@@ -19,6 +19,7 @@ use Rattle.point_core.proofs.Latest.{raised_to-later, raised_to-if, put_if, put_
 use Rattle.point_core.proofs.Values.{value_at-replicate}
 use Rattle.clients_core.specs.Looks.{is_as_late, shows_point, shows_entry, shows_all}
 use Rattle.clients_core.specs.OwnPuts.{no_points}
+use Rattle.clients_core.proofs.Apart.{top-past}
 
 -- the latest point that the listing shows of a context, by a point or by its floor
 abbrev pub shown_at : Listing → ℕ → ℕ
@@ -39,20 +40,20 @@ le-max p q r = elim (leb_tells p q) [
 ]
 
 -- a point is shown where it is at most that
-points-shown : (p : Point) (value : ℕ) (points : List Point) → (nat_le p.value value || list_any (is_as_late p) points) ≡ nat_le p.value (raised_to value (top (as_entries points) 0 p.ctx))
-points-shown p value [] = or-false (nat_le p.value value)
-points-shown p value (q ∷ qs) = elim (eqb_tells q.ctx p.ctx) [
+point-shown : (p : Point) (value : ℕ) (points : List Point) → (nat_le p.value value || list_any (is_as_late p) points) ≡ nat_le p.value (raised_to value (top (as_entries points) 0 p.ctx))
+point-shown p value [] = or-false (nat_le p.value value)
+point-shown p value (q ∷ qs) = elim (eqb_tells q.ctx p.ctx) [
   | inl same ↦ rw same.0 (
       or-swap (nat_le p.value value) (nat_le p.value q.value) (list_any (is_as_late p) qs)
-      ∙ ap (λ (b : Bool). nat_le p.value q.value || b) (points-shown p value qs)
+      ∙ ap (λ (b : Bool). nat_le p.value q.value || b) (point-shown p value qs)
       ∙ le-max p.value q.value (raised_to value (top (as_entries qs) 0 p.ctx))
       ∙ ap (nat_le p.value) (sym (raised_to-later value q.value (top (as_entries qs) 0 p.ctx)))
       )
-  | inr other ↦ rw other.0 (points-shown p value qs)
+  | inr other ↦ rw other.0 (point-shown p value qs)
 ]
 
 shows-late : (listing : Listing) (p : Point) → shows_point listing p ≡ nat_le p.value (shown_at listing p.ctx)
-shows-late listing p = points-shown p (value_at listing.floor p.ctx) listing.points
+shows-late listing p = point-shown p (value_at listing.floor p.ctx) listing.points
 
 pub entry-shown : (listing : Listing) (usage : ℕ) (e : Entry) → (usage_number e.usage ≤ usage → e.point.value ≤ shown_at listing e.point.ctx) → shows_entry listing usage e ≡ true
 entry-shown listing usage e late = elim (leb_tells (usage_number e.usage) usage) [
@@ -108,12 +109,22 @@ all-late listing usage (e ∷ es) shown ctx =
           omega arith
     ]
 
--- by the tables of latest points
-pub latest-shown : (listing : Listing) (usage : ℕ) (es : List Entry) (own shown : List ℕ) → HasContexts es → IsLatest own no_points es usage → IsLatest shown listing.floor (as_entries listing.points) 0
-    → ((ctx : ℕ) → 1 ≤ ctx → ctx ≤ CONTEXTS → value_at own ctx ≤ value_at shown ctx) ↔ (shows_all listing usage es ≡ true)
-latest-shown listing usage es own shown within puts shows =
+-- by the table of latest points: where the point of each context is shown
+pub points-shown : (listing : Listing) (usage n : ℕ) (es : List Entry) (own : List ℕ) → n ≤ CONTEXTS → HasContexts es → All (λ e. e.point.ctx ≤ n) es → IsLatest own no_points es usage
+    → ((ctx : ℕ) → 1 ≤ ctx → ctx ≤ n → shows_point listing (point_of ctx (value_at own ctx)) ≡ true) ↔ (shows_all listing usage es ≡ true)
+points-shown listing usage n es own few contexts within puts =
     let own_is : (ctx : ℕ) → 1 ≤ ctx → ctx ≤ CONTEXTS → value_at own ctx ≡ raised_to 0 (top es usage ctx) =
     λ ctx low high. puts.values ctx low high ∙ ap (λ (v : ℕ). raised_to v (top es usage ctx)) (value_at-replicate CONTEXTS ctx) in (
-      (λ none. all-shown listing usage es within (λ ctx low high. let a = own_is ctx low high in let b = shows.values ctx low high in let c = none ctx low high in omega arith)),
-      (λ all ctx low high. let a = own_is ctx low high in let b = shows.values ctx low high in let c = all-late listing usage es all ctx in omega arith),
+      (λ shown. all-shown listing usage es contexts (λ ctx low high. elim (cases_lt n ctx) [
+        | inl past ↦ let none : raised_to 0 (top es usage ctx) ≡ 0 = ap (raised_to 0) (top-past es usage n ctx past within) in omega arith
+        | inr first ↦
+            let point = point_of ctx (value_at own ctx) in
+            let late = leb-true (value_at own ctx) (shown_at listing ctx) (sym (shows-late listing point) ∙ shown ctx low first) in
+            let is = own_is ctx low high in
+            omega arith
+      ])),
+      (λ all ctx low first.
+          let late = all-late listing usage es all ctx in
+          let is = own_is ctx low (omega arith) in
+          shows-late listing (point_of ctx (value_at own ctx)) ∙ le-leb (value_at own ctx) (shown_at listing ctx) (omega arith)),
     )

@@ -1,12 +1,13 @@
 -- A board: what looks at its words show, and what was raised on it.
-use Rattle.std.specs.Prelude.{◌≡◌, ℕ, ◌<◌, ◌≤◌, nat_le, List, [], ◌∷◌, ◌++◌, if◌then◌else◌, map, All}
-use Rattle.std.specs.List.{flat_map, range_with_len}
+use Rattle.std.specs.Prelude.{◌≡◌, ℕ, ◌<◌, ◌≤◌, nat_le, List, [], ◌∷◌, ◌++◌, if◌then◌else◌, map, All, Option, option_map}
+use Rattle.std.specs.List.{filter_map, flat_map, range_with_len}
+use Rattle.point_core.specs.declared.entry.Point.{Point}
 use Rattle.point_core.specs.declared.entry.Entry.{Entry}
 use Rattle.point_core.specs.declared.entry.Usage.{Usage}
 use Rattle.point_core.specs.declared.entry.Usage.TheVariants.{Kernel, Write, Read, Bookkeep}
 use Rattle.point_core.specs.declared.listing.Listing.{Listing}
-use Rattle.point_core.specs.Agreement.{AgreesAbove, HasContexts, listing, point_of}
-use Rattle.point_core.specs.Latest.{IsLatest}
+use Rattle.point_core.specs.Agreement.{AgreesAbove, HasContexts, listing, pending_top, point_of, top}
+use Rattle.point_core.specs.Latest.{raised_to as later_value}
 use Rattle.point_core.specs.Usage.{usage_number}
 use Rattle.words_core.specs.declared.trace.Step.{Step}
 use Rattle.words_core.specs.Layout.{board_word}
@@ -51,13 +52,29 @@ HasRaised words buffer e before after =
 abbrev pub look_at : WordsModel → ℕ → Entry → Step
 look_at words buffer e = shown (word_at words buffer (place_of e)) e.point.value
 
--- one look at each of the places, in order: the entries that these showed, none below what the seat had raised there, and
--- the table of latest points with them
-pub record HasShown (words : WordsModel) (buffer level : ℕ) (places : List Place) (before after : SeatModel) (old new : List ℕ) : Type 0 where
+-- the latest pending point of a context, as a listing has it
+abbrev pub pending_point : List ℕ → List Entry → ℕ → ℕ → Option Point
+pending_point reach es level ctx = option_map (point_of ctx) (pending_top reach es level ctx)
+
+-- one look at each of these places of a context, in order: the entries that these showed, none below what the seat had
+-- raised there, and a value, which becomes the latest of itself and them
+pub record HasShown (words : WordsModel) (buffer level ctx : ℕ) (places : List Place)
+    (before after : SeatModel) (old new : ℕ) : Type 0 where
   pub entries : List Entry
   pub at : map place_of entries ≡ places
   pub steps : after ≡ with_steps before (map (look_at words buffer) entries)
-  pub latest : (reach : List ℕ) (es : List Entry) → IsLatest old reach es level → IsLatest new reach (es ++ entries) level
+  pub contexts : All (λ e. e.point.ctx ≡ ctx) entries
+  pub latest : new ≡ later_value old (top entries level ctx)
+  pub own : All (λ e. raised_to before (word_at words buffer (place_of e)) ≤ e.point.value) entries
+
+-- one look at each place of the first contexts up to the level, in order: the same, and their pending points
+pub record HasListed (words : WordsModel) (buffer : ℕ) (level : Usage) (contexts : ℕ)
+    (before after : SeatModel) (reach : List ℕ) (points : List Point) : Type 0 where
+  pub entries : List Entry
+  pub at : map place_of entries ≡ places_to level contexts
+  pub steps : after ≡ with_steps before (map (look_at words buffer) entries)
+  pub within : All (λ e. e.point.ctx ≤ contexts) entries
+  pub pending : points ≡ filter_map (pending_point reach entries (usage_number level)) (range_with_len 1 contexts)
   pub own : All (λ e. raised_to before (word_at words buffer (place_of e)) ≤ e.point.value) entries
 
 -- one load of each value, then one look at each place of the buffer up to the level: the entries that these showed, none

@@ -1,5 +1,6 @@
 // Buffers that clients share, of words alone.
-ghost use Rattle.std.specs.Prelude.{◌≡◌, ◌<◌, ◌≤◌, ◌⊎◌, ◌↔◌, true, All, Err, IfErr, IfOk, IsOk, List};
+ghost use Rattle.std.specs.Prelude.{◌≡◌, ◌<◌, ◌≤◌, ◌⊎◌, ◌↔◌, true, All, Err, IfErr, IfOk, IsOk, List, OnErr, replicate};
+ghost use Rattle.point_core.specs.declared.context.TheConstants.{CONTEXTS};
 ghost use Rattle.point_core.specs.declared.entry.Entry.{Entry};
 ghost use Rattle.point_core.specs.Agreement.{HasContexts};
 ghost use Rattle.point_core.specs.declared.refusal.Refusal.TheVariants as refusal;
@@ -7,13 +8,12 @@ ghost use Rattle.point_core.specs.Usage.{usage_number};
 ghost use Rattle.resv_core.specs.Resv.{entry_of};
 ghost use Rattle.resv_core.specs.Settled.{gathered_values, tables_of};
 ghost use Rattle.resv_core.specs.Shared.{HasStepped};
-ghost use Rattle.clients_core.specs.Board.{AreAsPlanned, HasLooked, HasRaised, HasShown, IsRaisedBy, place_to, places_at, places_to};
+ghost use Rattle.clients_core.specs.Board.{AreAsPlanned, HasListed, HasLooked, HasRaised, HasShown, IsRaisedBy, place_to, places_at};
 ghost use Rattle.clients_core.specs.Looks.{shows_all};
 
 use crate::gathered::{gathered, listed};
-use crate::planned::planned_tables;
-use crate::raised::are_as_planned;
-use point_core::{Context, Items, LatestPoints, Listing, Point, Reach, Refusal, Usage};
+use crate::raised::{are_as_planned, raised_tables};
+use point_core::{Context, Items, Listing, Point, Reach, Refusal, Usage};
 use resv_core::{Plan, Settled, SharedTable};
 use std::alloc::Global;
 use std::marker::Model;
@@ -75,8 +75,8 @@ impl Board {
             IfOk result (λ listing. shows_all listing (usage_number usage) es ≡ true) }
         ensures memory { IfErr result (λ e. e ≡ refusal.Memory) }
     {
-        let floor = words.load_all(seat);
-        let points = latest_shown(words, seat, buffer, usage, &floor).points(alloc, &floor)?;
+        let mut floor = Reach::zero();
+        let points = look(alloc, words, seat, buffer, usage, &mut floor)?;
         Ok(Listing {
             points: Items::of(points),
             floor,
@@ -107,7 +107,7 @@ impl Board {
             return Err(Refusal::Torn);
         }
         let values = listed(alloc, &reach, words.contexts())?;
-        let tables = planned_tables(alloc, words.buffers(), plans, &reach)?;
+        let tables = raised_tables(alloc, words, all, &reach)?;
         Ok(Settled {
             values: Items::of(values),
             tables: Items::of(tables),
@@ -144,7 +144,12 @@ impl SharedTable for Board {
         buffer: usize,
         usage: Usage,
     ) -> Result<Listing, Refusal> {
-        self.export(alloc, words, seat, buffer, usage)
+        let mut floor = Reach::zero();
+        let points = look(alloc, words, seat, buffer, usage, &mut floor)?;
+        Ok(Listing {
+            points: Items::of(points),
+            floor,
+        })
     }
 
     fn settle<R: Wait>(
@@ -159,60 +164,100 @@ impl SharedTable for Board {
     }
 }
 
-/// The latest point that a buffer shows of each context up to the level, by one look at each place.
+/// A look at a buffer: the values are loaded into the floor, and then the points above them are listed. The floor is the
+/// caller's, so that it is not copied.
+///
+/// Refuses as `Memory` alone.
+fn look(
+    alloc: Global,
+    words: &Words,
+    seat: &mut Seat,
+    buffer: usize,
+    usage: Usage,
+    floor: &mut Reach,
+) -> Result<Vec<Point>, Refusal>
+    requires own { seat.old.words ≡ words.now }
+    requires buffer { buffer < words.now.buffers }
+    requires zero { floor.old ≡ replicate CONTEXTS 0 }
+    ensures stepped { HasStepped seat.old seat.new }
+    ensures looked { IfOk result (λ points.
+        HasLooked words.now buffer usage seat.old seat.new (record { points = points.items; floor = floor.new })) }
+    ensures memory { IfErr result (λ e. e ≡ refusal.Memory) }
+{
+    words.load_all_into(seat, floor);
+    let points = latest_shown(alloc, words, seat, buffer, usage, floor)?;
+    Ok(points)
+}
+
+/// The latest point that a buffer shows of each context up to the level, where it is above the reach, by one look at each
+/// place.
+///
+/// Refuses as `Memory` alone, before the first look.
 fn latest_shown(
+    alloc: Global,
     words: &Words,
     seat: &mut Seat,
     buffer: usize,
     level: Usage,
     reach: &Reach,
-) -> LatestPoints
+) -> Result<Vec<Point>, Refusal>
     requires own { seat.old.words ≡ words.now }
     requires buffer { buffer < words.now.buffers }
-    ensures shown { HasShown words.now buffer (usage_number level) (places_to level words.now.contexts) seat.old seat.new reach.now result }
+    ensures listed { IfOk result (λ points.
+        HasListed words.now buffer level words.now.contexts seat.old seat.new reach.now points.items) }
+    ensures contexts { words.now.contexts ≤ CONTEXTS }
+    ensures memory { IfErr result (λ e. e ≡ refusal.Memory) }
+    ensures refused { OnErr result (seat.new ≡ seat.old) }
 {
-    let mut latest = LatestPoints::above(reach);
-    for index in 0..words.contexts() {
-        put_context(&mut latest, words, seat, buffer, Context::at(index), level);
+    let contexts = words.contexts();
+    let mut points = Vec::with_capacity(alloc, contexts)?;
+    for index in 0..contexts {
+        let ctx = Context::at(index);
+        let reached = reach.get(ctx);
+        let value = latest_at(words, seat, buffer, ctx, level, reached);
+        if value > reached {
+            points.push_reserved(Point { ctx, value });
+        }
     }
-    latest
+    Ok(points)
 }
 
-/// Looks at each place of a context up to the level.
-fn put_context(
-    latest: &mut LatestPoints,
+/// The latest of a value and of what the places of a context show up to the level, by one look at each.
+fn latest_at(
     words: &Words,
     seat: &mut Seat,
     buffer: usize,
     ctx: Context,
     level: Usage,
-)
+    value: u64,
+) -> u64
     requires own { seat.old.words ≡ words.now }
     requires within { (buffer < words.now.buffers) × (ctx ≤ words.now.contexts) }
-    ensures shown { HasShown words.now buffer (usage_number level) (places_at level ctx) seat.old seat.new latest.old latest.new }
+    ensures shown { HasShown words.now buffer (usage_number level) ctx (places_at level ctx) seat.old seat.new value result }
 {
-    put_place(latest, words, seat, buffer, ctx, Usage::Kernel, level);
-    put_place(latest, words, seat, buffer, ctx, Usage::Write, level);
-    put_place(latest, words, seat, buffer, ctx, Usage::Read, level);
-    put_place(latest, words, seat, buffer, ctx, Usage::Bookkeep, level);
+    let kernel = later_at(words, seat, buffer, ctx, Usage::Kernel, level, value);
+    let write = later_at(words, seat, buffer, ctx, Usage::Write, level, kernel);
+    let read = later_at(words, seat, buffer, ctx, Usage::Read, level, write);
+    later_at(words, seat, buffer, ctx, Usage::Bookkeep, level, read)
 }
 
-/// Looks at the place where its usage is up to the level.
-fn put_place(
-    latest: &mut LatestPoints,
+/// The later of a value and of what a place shows. It looks where the place's usage is up to the level.
+fn later_at(
     words: &Words,
     seat: &mut Seat,
     buffer: usize,
     ctx: Context,
     usage: Usage,
     level: Usage,
-)
+    value: u64,
+) -> u64
     requires own { seat.old.words ≡ words.now }
     requires within { (buffer < words.now.buffers) × (ctx ≤ words.now.contexts) }
-    ensures shown { HasShown words.now buffer (usage_number level) (place_to level ctx usage) seat.old seat.new latest.old latest.new }
+    ensures shown { HasShown words.now buffer (usage_number level) ctx (place_to level ctx usage) seat.old seat.new value result }
 {
     if usage.number() <= level.number() {
-        let value = words.shown(seat, buffer, ctx, usage);
-        latest.put(Point { ctx, value });
+        words.shown(seat, buffer, ctx, usage).max(value)
+    } else {
+        value
     }
 }

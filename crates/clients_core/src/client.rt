@@ -5,7 +5,7 @@ ghost use Rattle.resv_core.specs.Settled.{IsWithin, increment_by, increments_of}
 
 use crate::gate::Gate;
 use crate::own_puts::{OwnPuts, no_puts};
-use point_core::{Entry, Point, Refusal};
+use point_core::{Entry, Point, Refusal, Usage};
 use resv_core::{Act, SharedTable};
 use std::alloc::Global;
 use std::sync::Wait;
@@ -85,14 +85,34 @@ fn act_once<R: Wait, T: SharedTable, G: Gate>(
             let point = Point { ctx, value };
             own[buffer].put(&Entry { point, usage });
         }
-        Act::Look(buffer, usage) => {
-            let listing = shared
-                .table
-                .export(shared.rt, shared.alloc, shared.words, seat, buffer, usage)?;
-            if !own[buffer].are_shown(&listing, usage) {
-                return Err(Refusal::Torn);
-            }
-        }
+        Act::Look(buffer, usage) => look(shared, buffer, usage, &own[buffer], seat)?,
     }
     Ok(())
+}
+
+/// One look, which has to show what its client has put into the buffer before it.
+fn look<R: Wait, T: SharedTable, G: Gate>(
+    shared: &Shared<R, T, G>,
+    buffer: usize,
+    usage: Usage,
+    own: &OwnPuts,
+    seat: &mut Seat,
+) -> Result<(), Refusal>
+    requires own { (T.made_for shared.now.table.now ≡ shared.now.words.now) × IsSinglePart shared.now.words.now seat.old }
+    requires buffer { buffer < shared.now.words.now.buffers }
+    ensures seat { IsSinglePart shared.now.words.now seat.new }
+    ensures refusals { IfErr result IsClientRefusal }
+{
+    let Shared {
+        rt,
+        alloc,
+        words,
+        table,
+        gate: _,
+    } = *shared;
+    match &table.export(rt, alloc, words, seat, buffer, usage) {
+        Ok(listing) if own.are_shown(listing, usage, words.contexts()) => Ok(()),
+        Ok(_) => Err(Refusal::Torn),
+        Err(refusal) => Err(*refusal),
+    }
 }

@@ -5,7 +5,7 @@ ghost use Rattle.point_core.specs.declared.refusal.Refusal.TheVariants as refusa
 use crate::expected::expected_in;
 use crate::gathered::{gathered, listed};
 use crate::locked_buffer::LockedBuffer;
-use point_core::{Items, Listing, Point, Refusal, Usage};
+use point_core::{Items, Listing, Point, Reach, Refusal, Usage};
 use resv_core::{Plan, Settled, SharedTable};
 use std::alloc::Global;
 use std::marker::Model;
@@ -54,8 +54,9 @@ impl SharedTable for LockedTable {
         point: Point,
         usage: Usage,
     ) -> Result<(), Refusal> {
+        let mut reach = Reach::zero();
         let mut shared = self.buffers[buffer].lock(rt);
-        let reach = words.load_all(seat);
+        words.load_all_into(seat, &mut reach);
         shared.put(point, usage, &reach)
     }
 
@@ -68,8 +69,9 @@ impl SharedTable for LockedTable {
         buffer: usize,
         usage: Usage,
     ) -> Result<Listing, Refusal> {
+        let mut reach = Reach::zero();
         let mut shared = self.buffers[buffer].lock(rt);
-        let reach = words.load_all(seat);
+        words.load_all_into(seat, &mut reach);
         shared.export(usage, &reach)
     }
 

@@ -1,37 +1,11 @@
 // The tables that plans come to.
-ghost use Rattle.std.specs.Prelude.{◌≡◌, map, IfErr, IfOk};
-ghost use Rattle.std.specs.List.{range_with_len};
 ghost use Rattle.point_core.specs.Agreement.{HasContexts};
-ghost use Rattle.point_core.specs.declared.refusal.Refusal.TheVariants as refusal;
-ghost use Rattle.resv_core.specs.Resv.{rows_of};
 ghost use Rattle.resv_core.specs.Settled.{all_puts, put_by, puts_of};
 ghost use Rattle.resv_core.specs.Tops.{AreTops};
 ghost use Rattle.clients_core.specs.Board.{TakesIn};
 
-use point_core::{Entry, Items, Reach, Refusal, TopRow};
+use point_core::{Entry, Reach};
 use resv_core::{Act, Plan, Tops};
-use std::alloc::Global;
-
-/// The rows of each buffer above the reach, of what the plans put into it.
-///
-/// Refuses as `Memory` alone.
-pub(crate) fn planned_tables(
-    alloc: Global,
-    buffers: usize,
-    plans: &[Plan],
-    reach: &Reach,
-) -> Result<Vec<Items<TopRow>>, Refusal>
-    ensures tables { IfOk result (λ tables.
-        tables.items ≡ map (λ b. rows_of (all_puts b plans.now) reach.now) (range_with_len 0 buffers)) }
-    ensures memory { IfErr result (λ e. e ≡ refusal.Memory) }
-{
-    let mut tables = Vec::with_capacity(alloc, buffers)?;
-    for buffer in 0..buffers {
-        let rows = planned_tops(buffer, plans, reach).rows(alloc, reach)?;
-        tables.push_reserved(Items::of(rows));
-    }
-    Ok(tables)
-}
 
 /// The tables of what all plans put into a buffer.
 pub(crate) fn planned_tops(buffer: usize, plans: &[Plan], reach: &Reach) -> Tops

@@ -1,22 +1,27 @@
 // What was raised on a board, beside what plans put in.
-ghost use Rattle.std.specs.Prelude.{◌≡◌, ◌<◌, ◌≤◌, ◌↔◌, ℕ, ◌∷◌, [], IsTrue, map};
+ghost use Rattle.std.specs.Prelude.{◌≡◌, ◌<◌, ◌≤◌, ◌↔◌, ℕ, ◌∷◌, [], IfErr, IfOk, IsTrue, map};
+ghost use Rattle.std.specs.List.{range_with_len};
+ghost use Rattle.point_core.specs.declared.refusal.Refusal.TheVariants as refusal;
 ghost use Rattle.point_core.specs.Agreement.{AgreesAbove, HasContexts};
 ghost use Rattle.point_core.specs.declared.entry.Usage.TheVariants.{Bookkeep};
 ghost use Rattle.words_core.specs.Seat.{raised_to};
+ghost use Rattle.resv_core.specs.Resv.{rows_of};
 ghost use Rattle.resv_core.specs.Settled.{all_puts};
 ghost use Rattle.resv_core.specs.Shared.{HasStepped};
 ghost use Rattle.resv_core.specs.Tops.{AreTops};
 ghost use Rattle.clients_core.specs.Board.{AreAsPlanned, TakesIn, places_at, raised_entry, raised_in};
 
 use crate::planned::planned_tops;
-use point_core::{Context, Entry, Point, Reach, Usage};
+use point_core::{Context, Entry, Items, Point, Reach, Refusal, TopRow, Usage};
 use resv_core::{Plan, Tops};
+use std::alloc::Global;
 use words_core::{Whole, Words};
 
 /// Whether each buffer's raises say the same above the reach as what the plans put into it.
 pub(crate) fn are_as_planned(words: &Words, all: &mut Whole, plans: &[Plan], reach: &Reach) -> bool
     requires own { all.old.words ≡ words.now }
     ensures stepped { HasStepped all.old all.new }
+    ensures same { (w : ℕ) → raised_to all.new w ≡ raised_to all.old w }
     ensures planned { IsTrue result ↔ AreAsPlanned words.now all.old plans.now reach.now }
 {
     for buffer in 0..words.buffers() {
@@ -25,6 +30,29 @@ pub(crate) fn are_as_planned(words: &Words, all: &mut Whole, plans: &[Plan], rea
         }
     }
     true
+}
+
+/// The rows of each buffer above the reach, of what was raised in it.
+///
+/// Refuses as `Memory` alone.
+pub(crate) fn raised_tables(
+    alloc: Global,
+    words: &Words,
+    all: &mut Whole,
+    reach: &Reach,
+) -> Result<Vec<Items<TopRow>>, Refusal>
+    requires own { all.old.words ≡ words.now }
+    ensures stepped { HasStepped all.old all.new }
+    ensures tables { IfOk result (λ tables.
+        tables.items ≡ map (λ b. rows_of (raised_in words.now all.old b) reach.now) (range_with_len 0 words.now.buffers)) }
+    ensures memory { IfErr result (λ e. e ≡ refusal.Memory) }
+{
+    let mut tables = Vec::with_capacity(alloc, words.buffers())?;
+    for buffer in 0..words.buffers() {
+        let rows = raised_tops(words, all, buffer, reach).rows(alloc, reach)?;
+        tables.push_reserved(Items::of(rows));
+    }
+    Ok(tables)
 }
 
 fn is_as_planned(

@@ -1,4 +1,5 @@
--- Where each word lies: a line for each context, with its value and its claim; a line for each buffer and context, with an entry for each usage; then the flags.
+-- Where each word lies: a line for each context, with its value and its claim; a line for each buffer and context, with
+-- an entry for each usage; then the flags.
 use Rattle.std.specs.Prelude.{◌≡◌, ℕ, ◌+◌, ◌-◌, ◌*◌, ◌%◌, ◌<◌, ◌≤◌}
 use Rattle.point_core.specs.declared.entry.Usage.{Usage}
 use Rattle.point_core.specs.Usage.{usage_number}

@@ -30,7 +30,11 @@ pub record WordTrace : Type 0 where
 
 -- on the context at a place
 abbrev pub context_trace : ℕ → View → WordTrace
-context_trace place v = record { start = on (value_place place) v.start; made = on (value_place place) v.trace; claim = on (claim_place place) v.trace }
+context_trace place v = record {
+  start = on (value_place place) v.start;
+  made = on (value_place place) v.trace;
+  claim = on (claim_place place) v.trace;
+}
 
 -- on one word alone
 abbrev pub word_trace : ℕ → View → WordTrace

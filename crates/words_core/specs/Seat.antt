@@ -52,4 +52,9 @@ parted seat n = record { words = seat.words; parts = n; start = seat.start ++ se
 
 -- two seats of the same words in one
 abbrev pub both_of : SeatModel → SeatModel → SeatModel
-both_of seat other = record { words = seat.words; parts = seat.parts + other.parts; start = seat.start ++ other.start; trace = seat.trace ++ other.trace }
+both_of seat other = record {
+  words = seat.words;
+  parts = seat.parts + other.parts;
+  start = seat.start ++ other.start;
+  trace = seat.trace ++ other.trace;
+}

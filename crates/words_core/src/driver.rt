@@ -43,7 +43,11 @@ impl Driver {
         requires own { self.old.seat.words ≡ words.now }
         ensures value { IfOk result (λ value. value ≡ self.old.value + n) }
         ensures added { IfOk result (λ value.
-            self.new ≡ record { seat = with_step self.old.seat (add (value_word self.old.ctx) n value); ctx = self.old.ctx; value = value }) }
+            self.new ≡ record {
+              seat = with_step self.old.seat (add (value_word self.old.ctx) n value);
+              ctx = self.old.ctx;
+              value = value;
+            }) }
         ensures overflow { IsErr result ↔ (2 ^ 64 ≤ self.old.value + n) }
         ensures refusal { IfErr result (λ e. e ≡ refusal.Overflow) }
         ensures unchanged { OnErr result (self.new ≡ self.old) }

@@ -28,7 +28,12 @@ impl Model for Seat {
     ghost Value = { SeatModel };
 
     ghost view = { λ s.
-        record { words = words_of s.token.table_id s.token.me.0.sizes; parts = s.parts; start = s.token.me.0.start; trace = s.token.me.0.trace } };
+        record {
+          words = words_of s.token.table_id s.token.me.0.sizes;
+          parts = s.parts;
+          start = s.token.me.0.start;
+          trace = s.token.me.0.trace;
+        } };
 
     ghost invariant = { λ s. (s.token.me.1 ≡ []) × (s.token.me.0.parts ≡ s.parts) × (1 ≤ s.parts) × (s.parts ≤ PARTS) };
 }

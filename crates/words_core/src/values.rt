@@ -1,5 +1,5 @@
 // The steps on the claims and values of contexts.
-ghost use Rattle.std.specs.Prelude.{◌≡◌, ℕ, ◌+◌, ◌^◌, ◌<◌, ◌≤◌, true, length, IfOk, IfErr, MatchBool};
+ghost use Rattle.std.specs.Prelude.{◌≡◌, ℕ, ◌+◌, ◌^◌, ◌<◌, ◌≤◌, true, length, replicate, IfOk, IfErr, MatchBool};
 ghost use Rattle.point_core.specs.declared.context.TheConstants.{CONTEXTS};
 ghost use Rattle.point_core.specs.declared.refusal.Refusal.TheVariants as refusal;
 ghost use Rattle.point_core.specs.Reach.{value_at};
@@ -93,12 +93,25 @@ impl Words {
         ensures full { length result ≡ CONTEXTS }
     {
         let mut reach = Reach::zero();
+        self.load_all_into(seat, &mut reach);
+        reach
+    }
+
+    /// The same into a reach that is all 0, which saves the copies of a result.
+    pub fn load_all_into(&self, seat: &mut Seat, reach: &mut Reach)
+        requires own { seat.old.words ≡ self.now }
+        requires zero { reach.old ≡ replicate CONTEXTS 0 }
+        ensures entered { seat.new ≡ with_steps seat.old (loads_of reach.new self.now.contexts) }
+        ensures later { (ctx : ℕ) → 1 ≤ ctx → ctx ≤ self.now.contexts → seen seat.old (value_word ctx) ≤ value_at reach.new ctx }
+        ensures seen { (ctx : ℕ) → 1 ≤ ctx → ctx ≤ self.now.contexts → seen seat.new (value_word ctx) ≡ value_at reach.new ctx }
+        ensures past { (ctx : ℕ) → self.now.contexts < ctx → value_at reach.new ctx ≡ 0 }
+        ensures full { length reach.new ≡ CONTEXTS }
+    {
         for index in 0..self.sizes.contexts {
             let ctx = Context::at(index);
             let value = self.load(seat, ctx);
             reach.raise_to(Point { ctx, value });
         }
-        reach
     }
 
     // The load of a seat with all parts: the word is all that its trace has added.

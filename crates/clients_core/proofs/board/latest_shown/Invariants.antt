@@ -1,6 +1,10 @@
-use Rattle.point_core.specs.Usage.{usage_number}
-use Rattle.clients_core.specs.Board.{HasShown, places_to}
+use Rattle.std.proofs.Common.{◌≡◌, ◌≤◌, vec_len, vec_capacity}
+use Rattle.clients_core.specs.Board.{HasListed}
 use Rattle.clients_core.proofs.board.latest_shown.Given as goal
 
 abbrev pub invariant-loop-index : goal.invariant-loop-index
-invariant-loop-index l = HasShown l.words l.buffer (usage_number l.level) (places_to l.level l.index) l.initial.seat l.seat l.reach l.latest
+invariant-loop-index l = record {
+  listed : HasListed l.words l.buffer l.level l.index l.initial.seat l.seat l.reach l.points.items;
+  len : vec_len l.points ≤ l.index;
+  places : vec_capacity l.points ≡ l.contexts;
+}

@@ -2,11 +2,10 @@ use Rattle.std.proofs.Common.{◌≡◌, ℕ, List, map, refl, sym, ap, ◌∙�
 use Rattle.std.specs.List.{range_with_len}
 use Rattle.std.proofs.lemmas.Result.{err_from_is_err_and}
 use Rattle.point_core.specs.Reach.{value_at}
-use Rattle.resv_core.specs.Resv.{rows_of}
-use Rattle.resv_core.specs.Settled.{all_puts, gathered_values}
+use Rattle.resv_core.specs.Settled.{gathered_values}
 use Rattle.clients_core.specs.Board.{AreAsPlanned}
 use Rattle.clients_core.proofs.Gathering.{tables_of-same_values}
-use Rattle.clients_core.proofs.Planning.{AreAsPlanned-same, value_at-gathered, values-gathered}
+use Rattle.clients_core.proofs.Planning.{AreAsPlanned-same, tables-planned, value_at-gathered, values-gathered}
 use Rattle.clients_core.proofs.board.Board.settle.Goals as goal
 
 pub returns-then-not-are_as_planned-clause-torn : goal.returns-then-not-are_as_planned-clause-torn
@@ -63,15 +62,18 @@ returns-clause-values c =
 pub returns-clause-tables : goal.returns-clause-tables
 returns-clause-tables c =
     let words = c.args.words.now in
+    let first = c.args.all.now in
+    let middle = c.are_as_planned.new.all in
     let reach = c.gathered-reach.result in
     let plans = c.args.plans.now in
-    let values : c.of.result ≡ gathered_values words.contexts c.args.all.now =
+    let values : c.of.result ≡ gathered_values words.contexts first =
     c.of.ensures
     ∙ c.in_ok-values.ensures.values
     ∙ ap (λ (n : ℕ). map (value_at reach) (range_with_len 1 n)) c.contexts.ensures.value
-    ∙ values-gathered reach c.args.all.now words.contexts c.gathered-reach.ensures.values in
-    let same = value_at-gathered reach c.args.all.now words.contexts c.gathered-reach.ensures.values c.gathered-reach.ensures.past in
+    ∙ values-gathered reach first words.contexts c.gathered-reach.ensures.values in
+    let same = value_at-gathered reach first words.contexts c.gathered-reach.ensures.values c.gathered-reach.ensures.past in
+    let planned = AreAsPlanned-same words middle c.gathered-reach.new.all plans reach reach (λ w. sym (c.are_as_planned.ensures.same w)) (λ ctx. refl) (c.are_as_planned.ensures.planned.0 c.if-not-are_as_planned.false) in
     c.of-2.ensures
     ∙ c.in_ok-tables.ensures.tables
-    ∙ ap (λ (n : ℕ). map (λ b. rows_of (all_puts b plans) reach) (range_with_len 0 n)) c.buffers.ensures.value
+    ∙ tables-planned words middle plans reach planned
     ∙ tables_of-same_values words.buffers plans reach c.of.result (λ ctx low. ap (λ (vs : List ℕ). value_at vs ctx) values ∙ same ctx)

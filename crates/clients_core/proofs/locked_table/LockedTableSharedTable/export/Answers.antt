@@ -2,4 +2,4 @@ use Rattle.clients_core.proofs.Locking.{HasLoadedOnce-load_all, floor-HasLoadedO
 use Rattle.clients_core.proofs.locked_table.LockedTableSharedTable.export.Goals as goal
 
 pub returns-clause-floor : goal.returns-clause-floor
-returns-clause-floor g c = floor-HasLoadedOnce c.export.result c.load_all-reach.result c.args.seat.now c.load_all-reach.new.seat c.export.ensures.listed (HasLoadedOnce-load_all c.load_all-reach.result c.args.seat.now c.load_all-reach.new.seat c.args.words.now c.requires.own.0 c.load_all-reach.ensures.entered)
+returns-clause-floor g c = floor-HasLoadedOnce c.export.result c.load_all_into.new.reach c.args.seat.now c.load_all_into.new.seat c.export.ensures.listed (HasLoadedOnce-load_all c.load_all_into.new.reach c.args.seat.now c.load_all_into.new.seat c.args.words.now c.requires.own.0 c.load_all_into.ensures.entered)

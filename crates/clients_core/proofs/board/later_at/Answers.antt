@@ -1,15 +1,16 @@
-use Rattle.std.proofs.Common.{◌≤◌, refl, arith}
+use Rattle.std.proofs.Common.{◌≡◌, ◌≤◌, max, arith}
 use Rattle.point_core.specs.declared.entry.Entry.{Entry}
 use Rattle.point_core.specs.Agreement.{point_of}
 use Rattle.point_core.specs.Usage.{usage_number}
 use Rattle.resv_core.specs.Resv.{entry_of}
 use Rattle.clients_core.proofs.Showing.{HasShown-one, place_to-within}
-use Rattle.clients_core.proofs.board.put_place.Goals as goal
+use Rattle.clients_core.proofs.board.later_at.Goals as goal
 
 pub returns-then-number : goal.returns-then-number
 returns-then-number c =
     let level = usage_number c.args.level in
-    let e : Entry = entry_of (point_of c.args.ctx c.shown-value.result) c.args.usage in
+    let e : Entry = entry_of (point_of c.args.ctx c.shown.result) c.args.usage in
     let low : usage_number c.args.usage ≤ level = omega (arith, c.number.ensures, c.number-2.ensures, c.if-number.true) in
-    let shown = HasShown-one c.args.words.now c.args.buffer level e c.args.seat.now c.shown-value.new.seat c.args.latest.now c.put.new.self c.shown-value.ensures.entered (λ reach es is. c.put.ensures.latest reach es e level refl low is) c.shown-value.ensures.raises in
+    let later : c.max.result ≡ max c.args.value c.shown.result = omega arith in
+    let shown = HasShown-one c.args.words.now c.args.buffer level e c.args.seat.now c.shown.new.seat c.args.value c.max.result c.shown.ensures.entered low later c.shown.ensures.raises in
     record { shown = rw (place_to-within c.args.level c.args.usage c.args.ctx low) shown }

@@ -3,7 +3,7 @@ use Rattle.point_core.specs.Reach.{value_at}
 use Rattle.point_core.specs.declared.context.TheConstants.{CONTEXTS}
 use Rattle.words_core.specs.Layout.{value_word}
 use Rattle.words_core.specs.Seat.{seen, with_steps, loads_of}
-use Rattle.words_core.proofs.words.Words.load_all.Given as goal
+use Rattle.words_core.proofs.words.Words.load_all_into.Given as goal
 
 abbrev pub invariant-loop-index : goal.invariant-loop-index
 invariant-loop-index l = record {

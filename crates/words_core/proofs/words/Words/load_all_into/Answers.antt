@@ -8,14 +8,14 @@ use Rattle.words_core.specs.Layout.{value_word}
 use Rattle.words_core.specs.Seat.{SeatModel, seen, with_steps, loads_of}
 use Rattle.words_core.specs.Words.{WordsModel}
 use Rattle.words_core.proofs.LoadingAll.{loads_of-more, later-more, past-more, raised_from_zero, seen-loads_of}
-use Rattle.words_core.proofs.words.Words.load_all.Goals as goal
+use Rattle.words_core.proofs.words.Words.load_all_into.Goals as goal
 
 pub loop-index-init : goal.loop-index-init
 loop-index-init c = record {
   entered = ap (λ (steps : List Step). record c.args.seat.now { trace = steps }) (sym (append-nil c.args.seat.now.trace));
   later = λ ctx low high. absurd (omega arith);
-  past = λ ctx low. ap (λ (reach : List ℕ). value_at reach ctx) c.zero-reach.ensures ∙ value_at-replicate CONTEXTS ctx;
-  full = ap (λ (reach : List ℕ). length reach) c.zero-reach.ensures ∙ length-replicate {A = ℕ} CONTEXTS 0;
+  past = λ ctx low. ap (λ (reach : List ℕ). value_at reach ctx) c.requires.zero ∙ value_at-replicate CONTEXTS ctx;
+  full = ap (λ (reach : List ℕ). length reach) c.requires.zero ∙ length-replicate {A = ℕ} CONTEXTS 0;
 }
 
 pub loop-index-preserved : goal.loop-index-preserved
