@@ -1,3 +1,4 @@
+mod Ends
 pub mod Fronts
 pub mod Numbered
 pub mod Widths

@@ -1,15 +1,14 @@
 // The columns of a row.
-ghost use Rattle.std.specs.Prelude.{◌≡◌, ◌++◌, ◌≤◌, ◌<◌, ◌^◌, OnOk, OnErr, Err, decimal};
-ghost use Rattle.std.specs.Io.{StartsWith};
-ghost use Rattle.point_core.specs.declared.refusal.Refusal.TheVariants.{Memory};
-ghost use Rattle.report_core.specs.Columns.{spaces, column, right};
+ghost use Rattle.std.specs.Prelude.{◌≡◌, ◌++◌, ◌+◌, ◌≤◌, decimal, length};
+ghost use Rattle.report_core.specs.Columns.{column, right};
 ghost use Rattle.report_core.specs.Subject.{subject_text};
 ghost use Rattle.report_core.specs.Row.{columns};
 
 use crate::kind::Kind;
-use crate::rows::{KIND_WIDTH, NUMBER_WIDTH, SUBJECT_WIDTH};
+use crate::line::{TEXT_LINE_BYTES, TextLine};
+use crate::rows::{COUNT_WIDTH, KIND_WIDTH, NUMBER_WIDTH, ROW_BYTES, SUBJECT_WIDTH};
 use itoa::Buffer;
-use point_core::{Name, Refusal};
+use point_core::Name;
 
 /// What a row is about: a thing with a name, or one of a numbered kind, as the client `c1`.
 #[derive(Clone, Copy)]
@@ -18,69 +17,56 @@ pub(crate) enum Subject {
     Numbered(u8, u64),
 }
 
-/// The three columns that each row begins with.
-pub(crate) fn push_columns(
-    out: &mut Vec<u8>,
-    kind: Kind,
-    subject: Subject,
-    number: u64,
-) -> Result<(), Refusal>
-    ensures ok { OnOk result (out.new.items ≡ out.old.items ++ columns kind (subject_text subject) number) }
-    ensures err { OnErr result ((result ≡ Err Memory) × StartsWith out.new.items out.old.items) }
+/// Puts the three columns that each row begins with before the line.
+pub(crate) fn put_columns(line: &mut TextLine, kind: Kind, subject: Subject, number: u64)
+    requires { length line.old + ROW_BYTES ≤ TEXT_LINE_BYTES + 1 }
+    ensures { line.new ≡ columns kind (subject_text subject) number ++ line.old }
 {
-    push_left(out, kind.word().as_bytes(), KIND_WIDTH)?;
-    push_subject(out, subject)?;
-    push_number(out, number, NUMBER_WIDTH)?;
-    Ok(())
+    put_number(line, number, NUMBER_WIDTH);
+    put_subject(line, subject);
+    put_left(line, kind.word().as_bytes(), KIND_WIDTH);
 }
 
-fn push_subject(out: &mut Vec<u8>, subject: Subject) -> Result<(), Refusal>
-    ensures ok { OnOk result (out.new.items ≡ out.old.items ++ column SUBJECT_WIDTH (subject_text subject)) }
-    ensures err { OnErr result ((result ≡ Err Memory) × StartsWith out.new.items out.old.items) }
+fn put_subject(line: &mut TextLine, subject: Subject)
+    requires { length line.old + SUBJECT_WIDTH + 1 ≤ TEXT_LINE_BYTES }
+    ensures text { line.new ≡ column SUBJECT_WIDTH (subject_text subject) ++ line.old }
+    ensures len { length line.new ≡ length line.old + SUBJECT_WIDTH + 1 }
 {
     match subject {
-        Subject::Named(name) => push_left(out, name.as_bytes(), SUBJECT_WIDTH),
+        Subject::Named(name) => put_left(line, name.as_bytes(), SUBJECT_WIDTH),
         Subject::Numbered(letter, number) => {
-            out.extend_from_slice(&[letter])?;
-            push_left(
-                out,
+            put_left(
+                line,
                 Buffer::new().format(number).as_bytes(),
                 SUBJECT_WIDTH - 1,
-            )
+            );
+            line.put_text(&[letter]);
         }
     }
 }
 
-/// The text on the left of a column, and the space behind the column.
-fn push_left(out: &mut Vec<u8>, text: &[u8], width: usize) -> Result<(), Refusal>
-    requires { width ≤ SUBJECT_WIDTH }
-    ensures ok { OnOk result (out.new.items ≡ out.old.items ++ column width text.now) }
-    ensures err { OnErr result ((result ≡ Err Memory) × StartsWith out.new.items out.old.items) }
+/// Puts the text on the left of a column, and the space behind the column, before the line.
+#[inline(always)]
+fn put_left(line: &mut TextLine, text: &[u8], width: usize)
+    requires fits { length text.now ≤ width }
+    requires room { length line.old + width + 1 ≤ TEXT_LINE_BYTES }
+    ensures text { line.new ≡ column width text.now ++ line.old }
+    ensures len { length line.new ≡ length line.old + width + 1 }
 {
-    out.extend_from_slice(text)?;
-    push_spaces(out, width.saturating_sub(text.len()))?;
-    out.extend_from_slice(b" ")?;
-    Ok(())
+    line.put_spaces(width - text.len() + 1);
+    line.put_text(text);
 }
 
-/// The number on the right of a column.
-pub(crate) fn push_number(out: &mut Vec<u8>, number: u64, width: usize) -> Result<(), Refusal>
-    requires { width ≤ SUBJECT_WIDTH }
-    ensures ok { OnOk result (out.new.items ≡ out.old.items ++ right width (decimal number)) }
-    ensures err { OnErr result ((result ≡ Err Memory) × StartsWith out.new.items out.old.items) }
+/// Puts the number on the right of a column before the line.
+#[inline(always)]
+pub(crate) fn put_number(line: &mut TextLine, number: u64, width: usize)
+    requires narrow { width ≤ NUMBER_WIDTH }
+    requires room { length line.old + NUMBER_WIDTH ≤ TEXT_LINE_BYTES }
+    ensures text { line.new ≡ right width (decimal number) ++ line.old }
+    ensures len { length line.new ≤ length line.old + NUMBER_WIDTH }
 {
-    let mut buffer = Buffer::new();
-    let digits = buffer.format(number).as_bytes();
-    push_spaces(out, width.saturating_sub(digits.len()))?;
-    out.extend_from_slice(digits)?;
-    Ok(())
-}
-
-fn push_spaces(out: &mut Vec<u8>, count: usize) -> Result<(), Refusal>
-    requires { count ≤ SUBJECT_WIDTH }
-    ensures ok { OnOk result (out.new.items ≡ out.old.items ++ spaces count) }
-    ensures err { OnErr result ((result ≡ Err Memory) × StartsWith out.new.items out.old.items) }
-{
-    out.resize(out.len() + count, b' ')?;
-    Ok(())
+    let behind = line.len();
+    line.put_number(number);
+    let digits = line.len() - behind;
+    line.put_spaces(width.saturating_sub(digits));
 }

@@ -5,6 +5,7 @@
 
 mod columns;
 mod kind;
+mod line;
 mod report;
 mod rows;
 mod settled;
@@ -12,6 +13,7 @@ mod settled;
 mod tests;
 
 pub use kind::Kind;
+pub use line::{TEXT_LINE_BYTES, TextLine};
 pub use report::{report_text, show_text};
 pub use rows::{
     COUNT_WIDTH, FILE_ROW_BYTES, KIND_WIDTH, NUMBER_WIDTH, ROW_BYTES, SUBJECT_WIDTH, file_row, row,

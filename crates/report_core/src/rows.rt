@@ -5,8 +5,9 @@ ghost use Rattle.point_core.specs.declared.refusal.Refusal.TheVariants.{Memory};
 ghost use Rattle.report_core.specs.Subject.{subject_text};
 ghost use Rattle.report_core.specs.Row.{row_text, file_row_text};
 
-use crate::columns::{Subject, push_columns, push_number};
+use crate::columns::{Subject, put_columns, put_number};
 use crate::kind::Kind;
+use crate::line::TextLine;
 use desk_core::FileRow;
 use point_core::{NAME_BYTES, Name, Refusal};
 
@@ -74,11 +75,11 @@ fn push_file_row(out: &mut Vec<u8>, file: &FileRow) -> Result<(), Refusal>
     ensures err { OnErr result ((result ≡ Err Memory) × StartsWith out.new.items out.old.items) }
 {
     let status = u64::from(file.status.number());
-    push_columns(out, Kind::File, Subject::Named(file.name), status)?;
-    out.extend_from_slice(b" ")?;
-    push_number(out, file.count, COUNT_WIDTH)?;
-    out.extend_from_slice(b"\n")?;
-    Ok(())
+    let mut line = TextLine::new();
+    put_number(&mut line, file.count, COUNT_WIDTH);
+    line.put_spaces(1);
+    put_columns(&mut line, Kind::File, Subject::Named(file.name), status);
+    line.push_to(out)
 }
 
 pub(crate) fn push_row(
@@ -90,7 +91,7 @@ pub(crate) fn push_row(
     ensures ok { OnOk result (out.new.items ≡ out.old.items ++ row_text kind (subject_text subject) number) }
     ensures err { OnErr result ((result ≡ Err Memory) × StartsWith out.new.items out.old.items) }
 {
-    push_columns(out, kind, subject, number)?;
-    out.extend_from_slice(b"\n")?;
-    Ok(())
+    let mut line = TextLine::new();
+    put_columns(&mut line, kind, subject, number);
+    line.push_to(out)
 }

@@ -11,7 +11,7 @@ use Rattle.script_core.specs.Script.{is_line_feed, lines_of, answered, numbered,
 use Rattle.script_core.proofs.LineLemmas.{numbered-cons}
 
 -- the last of the first pieces goes on with the first of the second
-abbrev glue : List (List ℕ) → List (List ℕ) → List (List ℕ)
+abbrev pub glue : List (List ℕ) → List (List ℕ) → List (List ℕ)
 glue [] qs = qs
 glue (p ∷ []) [] = p ∷ []
 glue (p ∷ []) (q ∷ qs) = (p ++ q) ∷ qs
@@ -21,7 +21,7 @@ glue-nil : (qs : List (List ℕ)) → 0 < length qs → qs ≡ glue ([] ∷ []) 
 glue-nil [] h = absurd (omega arith)
 glue-nil (q ∷ qs) h = refl
 
-glue-cons : (p : List ℕ) (ps qs : List (List ℕ)) → 0 < length ps → p ∷ glue ps qs ≡ glue (p ∷ ps) qs
+pub glue-cons : (p : List ℕ) (ps qs : List (List ℕ)) → 0 < length ps → p ∷ glue ps qs ≡ glue (p ∷ ps) qs
 glue-cons p [] qs h = absurd (omega arith)
 glue-cons p (r ∷ ps) qs h = refl
 
@@ -31,7 +31,7 @@ glue-onto_first x (p ∷ []) [] h = refl
 glue-onto_first x (p ∷ []) (q ∷ qs) h = refl
 glue-onto_first x (p ∷ r ∷ ps) qs h = refl
 
-some_lines : (bytes : List ℕ) → 0 < length (lines_of bytes)
+pub some_lines : (bytes : List ℕ) → 0 < length (lines_of bytes)
 some_lines bytes = omega (arith, length-slice_split is_line_feed bytes)
 
 cond-glue : (b : Bool) (x : ℕ) (ps qs : List (List ℕ)) → 0 < length ps → cond b ([] ∷ glue ps qs) (onto_first x (glue ps qs)) ≡ glue (cond b ([] ∷ ps) (onto_first x ps)) qs
@@ -42,7 +42,7 @@ pub lines_of-append : (xs ys : List ℕ) → lines_of (xs ++ ys) ≡ glue (lines
 lines_of-append [] ys = glue-nil (lines_of ys) (some_lines ys)
 lines_of-append (x ∷ xs) ys = ap (λ ls. cond (is_line_feed x) ([] ∷ ls) (onto_first x ls)) (lines_of-append xs ys) ∙ cond-glue (is_line_feed x) x (lines_of xs) (lines_of ys) (some_lines xs)
 
-answered-append : (number : ℕ) (body : Option Body) (front rest : List Line) → answered number body (front ++ rest) ≡ answered number body front ++ rest
+pub answered-append : (number : ℕ) (body : Option Body) (front rest : List Line) → answered number body (front ++ rest) ≡ answered number body front ++ rest
 answered-append number None front rest = refl
 answered-append number (Some body) front rest = refl
 

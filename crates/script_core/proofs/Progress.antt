@@ -1,10 +1,10 @@
 -- Lines that are answered one after another, and the texts that are written on the way.
-use Rattle.std.proofs.Common.{◌≡◌, ℕ, suc, ◌+◌, List, [], ◌∷◌, ◌++◌, length, Option, Bool, cond, refl, sym, ap, ◌∙◌, append_assoc, append-nil, zero-add, length-append, ◌<◌, subst, arith}
+use Rattle.std.proofs.Common.{◌≡◌, ℕ, suc, ◌+◌, List, [], ◌∷◌, ◌++◌, length, Option, Bool, cond, refl, sym, ap, ◌∙◌, append_assoc, append-nil, zero-add, subst}
 use Rattle.std.proofs.lemmas.List.{length_push}
 use Rattle.std.proofs.lemmas.List.Sums.{sum_by-append}
 use Rattle.std.specs.List.{count_by}
-use Rattle.std.specs.Io.KnownBytes.{Appends}
-use Rattle.std.proofs.KnownBytes.{Appends-nil, Appends-trans}
+use Rattle.std.specs.Io.KnownBytes.{Appends, Keeps}
+use Rattle.std.proofs.KnownBytes.{Appends-nil, Appends-trans, Appends-kept}
 use Rattle.desk_core.specs.declared.command.Command.{Command}
 use Rattle.desk_core.specs.declared.answer.Answer.{Answer}
 use Rattle.desk_core.specs.Answer.{is_refused}
@@ -13,13 +13,8 @@ use Rattle.script_core.specs.declared.line.Line.{Line}
 use Rattle.script_core.specs.declared.totals.Totals.{Totals}
 use Rattle.script_core.specs.Bytes.{AppendsFront}
 use Rattle.script_core.specs.Text.{text_of}
-use Rattle.script_core.specs.Output.{history_after_line, IsLineAnswer, AreLineAnswers, texts_of, WritesAnswers, WritesFront, Counts}
-
--- the history after lines that were answered so
-abbrev pub history_along : List Command → List Line → List Answer → List Command
-history_along history [] given = history
-history_along history (l ∷ ls) [] = history
-history_along history (l ∷ ls) (a ∷ rest) = history_along (history_after_line history l.body a) ls rest
+use Rattle.script_core.specs.Output.{history_after_line, IsLineAnswer, AreLineAnswers, texts_of, WritesFront, Counts}
+use Rattle.script_core.specs.Answering.{history_along, Progress, AnswersLines}
 
 AreLineAnswers-push : (history : List Command) (ls : List Line) (given : List Answer) (l : Line) (a : Answer) → AreLineAnswers history ls given → IsLineAnswer (history_along history ls given) l.body a → AreLineAnswers history (ls ++ l ∷ []) (given ++ a ∷ [])
 AreLineAnswers-push history [] [] l a each is = (is, tt)
@@ -47,16 +42,6 @@ length-answers history (m ∷ ls) (b ∷ given) each = ap suc (length-answers (h
 
 count_by_push : (p : Answer → Bool) (xs : List Answer) (x : Answer) → count_by p (xs ++ x ∷ []) ≡ count_by p xs + cond (p x) 1 0
 count_by_push p xs x = sum_by-append (λ y. cond (p y) 1 0) xs (x ∷ []) ∙ ap (λ n. count_by p xs + n) (zero-add (cond (p x) 1 0))
-
--- the lines `done` are answered: their texts are written but for those that stand in `out`
-pub record Progress (done : List Line) (desk : DeskState) (out : List ℕ) (totals : Totals) (old new : Option (List ℕ)) : Type 0 where
-  pub given : List Answer
-  pub each : AreLineAnswers [] done given
-  pub stands : HasHistory desk (history_along [] done given)
-  pub front : List ℕ
-  pub texts : texts_of done given ≡ front ++ out
-  pub appended : Appends old new front
-  pub counts : Counts totals given
 
 pub Progress-none : (desk : DeskState) (totals : Totals) (contents : Option (List ℕ)) → HasHistory desk [] → Counts totals [] → Progress [] desk [] totals contents contents
 Progress-none desk totals contents stands counts = record { given = []; each = tt; stands = stands; front = []; texts = refl; appended = Appends-nil contents; counts = counts }
@@ -113,13 +98,32 @@ Progress-front lines done rest desk out totals old new new' p e f = record {
   };
 }
 
-pub Progress-all : (lines done rest : List Line) (desk : DeskState) (out : List ℕ) (totals : Totals) (old new new' : Option (List ℕ)) → Progress done desk out totals old new
-    → lines ≡ done ++ rest → rest ≡ [] → Appends new new' out → (given : List Answer) × WritesAnswers lines given old new' × Counts totals given
-Progress-all lines done rest desk out totals old new new' p e none all =
-    let same : lines ≡ done = e ∙ ap (λ more. done ++ more) none ∙ append-nil done in
-    let written : Appends old new' (texts_of done p.given) = subst (Appends old new') (sym p.texts) (Appends-trans old new new' p.front out p.appended all) in
-    let answers : WritesAnswers done p.given old new' = record { each = p.each; written = written } in
-    (p.given, subst (λ ls. WritesAnswers ls p.given old new') (sym same) answers, p.counts)
+-- all was written, and flushed
+pub Progress-flushed : (done : List Line) (desk : DeskState) (out : List ℕ) (totals : Totals) (old new new' : Option (List ℕ)) → Progress done desk out totals old new
+    → out ≡ [] → Keeps new new' → AnswersLines done totals old new'
+Progress-flushed done desk out totals old new new' p none kept =
+    let whole : p.front ≡ texts_of done p.given = sym (p.texts ∙ ap (λ text. p.front ++ text) none ∙ append-nil p.front) in
+    record {
+      given = p.given;
+      answers = record { each = p.each; written = subst (Appends old new') whole (Appends-kept old new new' p.front p.appended kept) };
+      counts = p.counts;
+    }
+
+-- the flush failed
+pub Progress-unflushed : (done : List Line) (desk : DeskState) (out : List ℕ) (totals : Totals) (old new new' : Option (List ℕ)) → Progress done desk out totals old new
+    → Keeps new new' → WritesFront done old new'
+Progress-unflushed done desk out totals old new new' p kept = record {
+  first = done;
+  rest = [];
+  given = p.given;
+  whole = sym (append-nil done);
+  each = p.each;
+  written = record { front = p.front; rest = out; whole = p.texts; appended = Appends-kept old new new' p.front p.appended kept };
+}
+
+-- no line was answered yet
+pub Progress-empty : (desk : DeskState) (out : List ℕ) (totals : Totals) (old new : Option (List ℕ)) → Progress [] desk out totals old new → totals.lines ≡ 0
+Progress-empty desk out totals old new p = p.counts.lines ∙ length-answers [] [] p.given p.each
 
 -- nothing was written
 pub AppendsFront-none : (contents : Option (List ℕ)) (bytes : List ℕ) → AppendsFront contents contents bytes
@@ -128,15 +132,6 @@ AppendsFront-none contents bytes = record { front = []; rest = bytes; whole = re
 -- all was written
 pub AppendsFront-all : (old new : Option (List ℕ)) (bytes : List ℕ) → Appends old new bytes → AppendsFront old new bytes
 AppendsFront-all old new bytes appended = record { front = bytes; rest = []; whole = sym (append-nil bytes); appended = appended }
-
-pub lines-next : (lines done left left' : List Line) (l : Line) → lines ≡ done ++ left → left ≡ l ∷ left' → lines ≡ (done ++ l ∷ []) ++ left'
-lines-next lines done left left' l e next = e ∙ ap (λ more. done ++ more) next ∙ sym (append_assoc done (l ∷ []) left')
-
--- there are so few lines that one more can be counted
-pub Progress-room : (lines done rest : List Line) (desk : DeskState) (out : List ℕ) (totals : Totals) (old new : Option (List ℕ)) (l : Line) (n : ℕ) → Progress done desk out totals old new
-    → lines ≡ (done ++ l ∷ []) ++ rest → length lines < n → totals.lines + 1 < n
-Progress-room lines done rest desk out totals old new l n p e few =
-    omega (arith, p.counts.lines, length-answers [] done p.given p.each, ap length e, length-append (done ++ l ∷ []) rest, length_push done l)
 
 pub WritesFront-none : (lines : List Line) (contents : Option (List ℕ)) → WritesFront lines contents contents
 WritesFront-none lines contents = record { first = []; rest = lines; given = []; whole = refl; each = tt; written = AppendsFront-none contents [] }

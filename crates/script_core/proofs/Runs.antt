@@ -87,3 +87,8 @@ module _ (p : ℕ → Bool) where
 
   pub slice_split-none : (xs : List ℕ) → position p xs ≡ None → slice_split p xs ≡ xs ∷ []
   slice_split-none xs e = slice_split_none p xs (λ k d w. fails_before_first p xs k d (omega (arith, unchosen (position_or_len p xs) (length xs) e)))
+
+  pub position-below : (xs : List ℕ) (i : ℕ) → position p xs ≡ Some i → i < length xs
+  position-below xs i e =
+      let at = chosen (position_or_len p xs) (length xs) i e in
+      omega (arith, at.0, at.1)

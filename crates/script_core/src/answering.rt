@@ -1,28 +1,26 @@
 // A script from a reader, and its answers to a writer.
-ghost use Rattle.std.specs.Prelude.{◌≡◌, ◌+◌, ◌^◌, ◌<◌, ◌⊎◌, List, ℕ, [], length, take, Err, IfOk, IfSome, OnOk, OnErr, IfErr};
-ghost use Rattle.std.specs.Io.KnownBytes.{Keeps, Consumes};
+ghost use Rattle.std.specs.Prelude.{◌≡◌, ◌+◌, ◌⊎◌, List, ℕ, [], take, Err, IfOk, IfSome, OnErr, IfErr};
+ghost use Rattle.std.specs.Io.KnownBytes.{Consumes};
 ghost use Rattle.point_core.specs.declared.refusal.Refusal.TheVariants.{Read as ReadFault, Write as WriteFault, Memory};
-ghost use Rattle.desk_core.specs.declared.command.Command.{Command};
-ghost use Rattle.desk_core.specs.declared.answer.Answer.{Answer};
-ghost use Rattle.desk_core.specs.Desk.{HasHistory};
-ghost use Rattle.script_core.specs.Lines.{lines_left};
+ghost use Rattle.script_core.specs.Answering.{HasAnswered, HasAnsweredBytes};
 ghost use Rattle.script_core.specs.Bytes.{ConsumesAtMost};
-ghost use Rattle.script_core.specs.Output.{IsLineAnswer, history_after_line, WritesAnswers, WritesFront, Counts, IsInput, AnswersScript, AnswersEndedLines};
+ghost use Rattle.script_core.specs.Output.{WritesFront, IsInput, AnswersScript, AnswersEndedLines};
 ghost use Rattle.script_core.specs.Script.{script_of};
 
-use crate::line::Body;
-use crate::reading::read_whole;
-use crate::script::{Ending, Lines, SCRIPT_BYTES};
-use crate::text::print;
+use crate::answers::Answers;
+use crate::line::body_of;
+use crate::script::{Ending, SCRIPT_BYTES, last_body};
+use crate::script_lines::ScriptLines;
 use crate::totals::Totals;
-use crate::writing::{write_many, write_whole};
-use desk_core::{Answer, Desk};
 use point_core::Refusal;
 use std::alloc::Global;
 use std::io::{Read, Write};
 
-/// Reads a script and writes its answers: the text of each line's answer, in order. It reads up to the end, or one byte
-/// past the limit of a script, and flushes once, at the end. An interrupted read or write counts as failed.
+/// Reads a script and writes its answers: the text of each line's answer, in order. A line is answered when its end is read,
+/// and its answer is written before the next read. It reads up to the end, or one byte past the limit of a script, and
+/// flushes once, at the end. An interrupted read or write counts as failed.
+///
+/// Its memory does not grow with the script: of the lines it keeps what the desk holds.
 ///
 /// Refused as Read where a read failed: then the lines whose line feed was read are answered. Refused as Write where a
 /// write failed or took no byte, or the flush failed, and as Memory where a growth was refused: then a front of the answers
@@ -53,60 +51,41 @@ pub fn engine<R: Read, W: Write>(
     ensures refusals { IfErr result (λ refusal.
         (refusal ≡ ReadFault) ⊎ (refusal ≡ WriteFault) ⊎ (refusal ≡ Memory)) }
 {
-    let (bytes, ending) = read_whole(alloc, reader)?;
-    let totals = answer_lines(alloc, Lines::new(&bytes, ending), writer)?;
+    let mut answers = Answers::new(alloc)?;
+    let ending = answer_lines(reader, &mut answers, writer)?;
+    let totals = answers.finish(writer)?;
     match ending {
         Ending::Failed => Err(Refusal::Read),
         Ending::Whole | Ending::TooLong => Ok(totals),
     }
 }
 
-/// Answers the lines in order, and writes the texts of their answers. It flushes once, at the end.
-fn answer_lines<W: Write>(
-    alloc: Global,
-    lines: Lines<'_>,
+/// Reads the lines of a script and answers each when its end was read. Nothing is read while an answer is not written.
+fn answer_lines<R: Read, W: Write>(
+    reader: &mut R,
+    answers: &mut Answers,
     writer: &mut W,
-) -> Result<Totals, Refusal>
-    requires { length (lines_left lines) < 2 ^ 64 }
-    ensures ok { IfOk result (λ totals. (given : List Answer)
-        × WritesAnswers (lines_left lines.entry) given (W.contents writer.old) (W.contents writer.new)
-        × Counts totals given) }
-    ensures err { OnErr result
-        (WritesFront (lines_left lines.entry) (W.contents writer.old) (W.contents writer.new)) }
+) -> Result<Ending, Refusal>
+    requires fresh { HasAnswered [] answers.old (W.contents writer.old) (W.contents writer.old) }
+    ensures ok { IfOk result (λ ending. HasAnsweredBytes (R.remaining reader.old) (R.remaining reader.new) ending
+        answers.new (W.contents writer.old) (W.contents writer.new)) }
+    ensures within { ConsumesAtMost (SCRIPT_BYTES + 1) (R.remaining reader.old) (R.remaining reader.new) }
+    ensures err { OnErr result ((script : List ℕ) × IsInput (R.remaining reader.old) script
+        × WritesFront (script_of script) (W.contents writer.old) (W.contents writer.new)) }
     ensures refusals { IfErr result (λ refusal. (refusal ≡ WriteFault) ⊎ (refusal ≡ Memory)) }
 {
-    let mut desk = Desk::new(alloc)?;
-    let mut out = Vec::new(alloc);
-    let mut totals = Totals::new();
-    for line in lines {
-        let answer = answer_line(&mut desk, line.body);
-        print(line.number, &answer, &mut out)?;
-        totals = totals.with(&answer);
-        drop(answer);
-        write_many(writer, &mut out)?;
+    let mut lines = ScriptLines::new();
+    loop {
+        if lines.advance() {
+            let line = lines.line();
+            answers.answer(line.number, body_of(line.bytes), writer)?;
+        } else {
+            answers.write(writer)?;
+            if let Some(ending) = lines.read(reader) {
+                let line = lines.line();
+                answers.answer(line.number, last_body(ending, line.bytes), writer)?;
+                return Ok(ending);
+            }
+        }
     }
-    write_whole(writer, &out)?;
-    flush(writer)?;
-    Ok(totals)
-}
-
-/// The answer of a line, which may be a refusal: that of its command, or the refusal that the line is. It changes the desk as
-/// `Desk::step` does.
-pub fn answer_line(desk: &mut Desk, body: Body) -> Answer
-    ensures answer { (history : List Command) → HasHistory desk.old history
-        → IsLineAnswer history body result }
-    ensures stands { (history : List Command) → HasHistory desk.old history
-        → HasHistory desk.new (history_after_line history body result) }
-{
-    match body {
-        Body::Cmd(command) => desk.step(command),
-        Body::Bad(refusal) => Answer::Refused(refusal),
-    }
-}
-
-fn flush<W: Write>(writer: &mut W) -> Result<(), Refusal>
-    ensures bytes { Keeps (W.contents writer.old) (W.contents writer.new) }
-    ensures err { IfErr result (λ refusal. refusal ≡ WriteFault) }
-{
-    writer.flush().map_err(|_| Refusal::Write)
 }

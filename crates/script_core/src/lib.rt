@@ -4,11 +4,14 @@
 #![tactic(auto)]
 
 mod answering;
+mod answers;
+mod cutter;
 pub mod laws;
 mod line;
 mod number;
 mod reading;
 mod script;
+mod script_lines;
 mod table;
 #[cfg(test)]
 mod tests;
@@ -18,11 +21,14 @@ mod usages;
 mod words;
 mod writing;
 
-pub use answering::{answer_line, engine};
+pub use answering::engine;
+pub use answers::{Answers, answer_line};
+pub use cutter::LineCutter;
 pub use line::{Body, LINE_BYTES, Line, body_of};
 pub use number::DIGITS;
 pub use reading::read_whole;
 pub use script::{Ending, SCRIPT_BYTES, first_line, read_script};
+pub use script_lines::{RawLine, ScriptLines};
 pub use text::print;
 pub use totals::Totals;
 pub use writing::write_whole;

@@ -4,6 +4,7 @@ ghost use Rattle.point_core.specs.declared.refusal.Refusal.TheVariants.{Memory};
 ghost use Rattle.script_core.specs.Script.{is_line_feed, lines_of, lines_until, script_of, ending_of, last_body, answered};
 
 use crate::line::{Body, Line, body_of};
+use memchr::memchr;
 use point_core::{LimitKind, Refusal};
 use std::alloc::Global;
 
@@ -48,9 +49,8 @@ impl<'a> Lines<'a> {
     ghost use Rattle.script_core.specs.Lines.{lines_left, turns_left};
 
     /// The lines of the first `SCRIPT_BYTES` bytes, which end so.
-    pub(crate) fn new(bytes: &'a [u8], ending: Ending) -> Self
+    fn new(bytes: &'a [u8], ending: Ending) -> Self
         ensures lines { lines_left result ≡ lines_until ending (take SCRIPT_BYTES bytes.now) }
-        ensures few { length (lines_left result) < 2 ^ 32 }
     {
         Lines {
             rest: &bytes[..SCRIPT_BYTES.min(bytes.len())],
@@ -106,7 +106,7 @@ fn ending_of(script: &[u8]) -> Ending
     }
 }
 
-fn last_body(ending: Ending, last: &[u8]) -> Option<Body>
+pub(crate) fn last_body(ending: Ending, last: &[u8]) -> Option<Body>
     ensures body { result ≡ last_body ending last.now }
 {
     match ending {
@@ -127,10 +127,10 @@ pub fn first_line(bytes: &[u8]) -> Option<(&[u8], &[u8])>
     Some((&bytes[..end], &bytes[end + 1..]))
 }
 
-fn first_line_feed(bytes: &[u8]) -> Option<usize>
+pub(crate) fn first_line_feed(bytes: &[u8]) -> Option<usize>
     ensures place { result ≡ position is_line_feed bytes.now }
 {
-    bytes.iter().position(|byte| *byte == b'\n')
+    memchr(b'\n', bytes)
 }
 
 impl<'a> Iterator for Lines<'a> {

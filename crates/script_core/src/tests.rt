@@ -1,4 +1,5 @@
 // The checks of a line, the limits, and readers and writers that go piece by piece, fail or halt.
+mod lines;
 mod rows;
 mod tables;
 mod watches;

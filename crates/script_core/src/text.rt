@@ -1,15 +1,16 @@
 // The texts of answers.
-ghost use Rattle.std.specs.Prelude.{◌≡◌, ◌∷◌, ◌++◌, map, OnOk, OnErr, Err};
+ghost use Rattle.std.specs.Prelude.{◌≡◌, ◌+◌, ◌≤◌, ◌∷◌, ◌++◌, [], OnOk, OnErr, Err, codes, decimal, length};
 ghost use Rattle.std.specs.List.{flat_map};
 ghost use Rattle.std.specs.Io.{StartsWith};
 ghost use Rattle.point_core.specs.declared.refusal.Refusal.TheVariants.{Memory};
-ghost use Rattle.script_core.specs.Text.{line_text, fired_text, raised_text, fence_text, info_text, show_text, report_text};
-ghost use Rattle.script_core.specs.Text.{refusal_text, text_of};
-ghost use Rattle.script_core.specs.Word.{word_text};
+ghost use Rattle.script_core.specs.Text.{line_text, fired_text, raised_text, fence_text, info_line, info_text, show_text};
+ghost use Rattle.script_core.specs.Text.{report_text, refusal_text, details, value_line, driver_of, text_of};
+ghost use Rattle.script_core.specs.Behind.{behind_text};
 
 use desk_core::{Answer, FenceRow, Info, Maker, Report, ShowRow};
 use itoa::Buffer;
-use point_core::{Name, Refusal};
+use point_core::Refusal;
+use report_core::{NUMBER_WIDTH, TEXT_LINE_BYTES, TextLine};
 
 /// Writes the text of the answer of the line of that number behind `out`.
 ///
@@ -31,8 +32,8 @@ fn push_answer(line: u32, answer: &Answer, out: &mut Vec<u8>) -> Result<(), Refu
     ensures err { OnErr result ((result ≡ Err Memory) × StartsWith out.new.items out.old.items) }
 {
     match answer {
-        Answer::Done => push_line(out, "ok", &[]),
-        Answer::Value(value) => push_line(out, "ok", &[Word::Number(*value)]),
+        Answer::Done => push_done(out),
+        Answer::Value(value) => push_value(*value, out),
         Answer::Raised(value, fired) => push_raised(*value, fired.as_slice(), out),
         Answer::Info(info) => push_info(info, out),
         Answer::Show(rows) => push_show(rows.as_slice(), out),
@@ -41,11 +42,31 @@ fn push_answer(line: u32, answer: &Answer, out: &mut Vec<u8>) -> Result<(), Refu
     }
 }
 
+fn push_done(out: &mut Vec<u8>) -> Result<(), Refusal>
+    ensures ok { OnOk result (out.new.items ≡ out.old.items ++ line_text (codes "ok" ∷ [])) }
+    ensures err { OnErr result ((result ≡ Err Memory) × StartsWith out.new.items out.old.items) }
+{
+    out.extend_from_slice(b"ok\n")?;
+    Ok(())
+}
+
+#[inline(never)]
+fn push_value(value: u64, out: &mut Vec<u8>) -> Result<(), Refusal>
+    ensures ok { OnOk result (out.new.items ≡ out.old.items ++ value_line value) }
+    ensures err { OnErr result ((result ≡ Err Memory) × StartsWith out.new.items out.old.items) }
+{
+    let mut line = TextLine::new();
+    put_number(&mut line, value);
+    line.put_text(b"ok");
+    line.push_to(out)
+}
+
+#[inline(never)]
 fn push_raised(value: u64, fired: &[u64], out: &mut Vec<u8>) -> Result<(), Refusal>
     ensures ok { OnOk result (out.new.items ≡ out.old.items ++ raised_text value fired.now) }
     ensures err { OnErr result ((result ≡ Err Memory) × StartsWith out.new.items out.old.items) }
 {
-    push_line(out, "ok", &[Word::Number(value)])?;
+    push_value(value, out)?;
     for cookie in fired {
         push_fired(*cookie, out)?;
     }
@@ -56,126 +77,143 @@ fn push_fired(cookie: u64, out: &mut Vec<u8>) -> Result<(), Refusal>
     ensures ok { OnOk result (out.new.items ≡ out.old.items ++ fired_text cookie) }
     ensures err { OnErr result ((result ≡ Err Memory) × StartsWith out.new.items out.old.items) }
 {
-    push_line(out, "fired", &[Word::Number(cookie)])
+    let mut line = TextLine::new();
+    put_number(&mut line, cookie);
+    line.put_text(b"fired");
+    line.push_to(out)
 }
 
+#[inline(never)]
 fn push_info(info: &Info, out: &mut Vec<u8>) -> Result<(), Refusal>
     ensures ok { OnOk result (out.new.items ≡ out.old.items ++ info_text info.now) }
     ensures err { OnErr result ((result ≡ Err Memory) × StartsWith out.new.items out.old.items) }
 {
     let fences = info.fences.as_slice();
-    let status = u64::from(info.status.number());
-    let count = fences.len() as u64;
-    push_line(
-        out,
-        "ok",
-        &[
-            Word::Name(info.name),
-            Word::Number(status),
-            Word::Number(count),
-        ],
-    )?;
+    push_info_line(info, out)?;
     for fence in fences {
         push_fence(fence, out)?;
     }
     Ok(())
 }
 
+#[inline(never)]
+fn push_info_line(info: &Info, out: &mut Vec<u8>) -> Result<(), Refusal>
+    ensures ok { OnOk result (out.new.items ≡ out.old.items ++ info_line info.now) }
+    ensures err { OnErr result ((result ≡ Err Memory) × StartsWith out.new.items out.old.items) }
+{
+    let mut line = TextLine::new();
+    put_number(&mut line, info.fences.as_slice().len() as u64);
+    put_number(&mut line, u64::from(info.status.number()));
+    put_word(&mut line, info.name.as_bytes());
+    line.put_text(b"ok");
+    line.push_to(out)
+}
+
+#[inline(never)]
 fn push_fence(fence: &FenceRow, out: &mut Vec<u8>) -> Result<(), Refusal>
     ensures ok { OnOk result (out.new.items ≡ out.old.items ++ fence_text fence.now) }
     ensures err { OnErr result ((result ≡ Err Memory) × StartsWith out.new.items out.old.items) }
 {
-    let driver = match fence.driver {
-        Maker::SwSync => "sw_sync",
-        Maker::Stub => "stub",
-    };
-    let status = u64::from(fence.status.number());
-    push_line(
-        out,
-        "fence",
-        &[
-            Word::Name(fence.timeline),
-            Word::Text(driver),
-            Word::Number(fence.point),
-            Word::Number(status),
-        ],
-    )
+    let mut line = TextLine::new();
+    put_number(&mut line, u64::from(fence.status.number()));
+    put_number(&mut line, fence.point);
+    put_driver(&mut line, fence.driver);
+    put_word(&mut line, fence.timeline.as_bytes());
+    line.put_text(b"fence");
+    line.push_to(out)
 }
 
+/// Puts a space and the driver's name before the line.
+#[inline(always)]
+fn put_driver(line: &mut TextLine, driver: Maker)
+    requires { length line.old + 8 ≤ TEXT_LINE_BYTES }
+    ensures text { line.new ≡ 32 ∷ driver_of driver ++ line.old }
+    ensures len { length line.new ≤ length line.old + 8 }
+{
+    match driver {
+        Maker::SwSync => put_word(line, b"sw_sync"),
+        Maker::Stub => put_word(line, b"stub"),
+    }
+}
+
+#[inline(never)]
 fn push_show(rows: &[ShowRow], out: &mut Vec<u8>) -> Result<(), Refusal>
     ensures ok { OnOk result (out.new.items ≡ out.old.items ++ show_text rows.now) }
     ensures err { OnErr result ((result ≡ Err Memory) × StartsWith out.new.items out.old.items) }
 {
-    push_line(out, "ok", &[Word::Number(rows.len() as u64)])?;
+    push_value(rows.len() as u64, out)?;
     report_core::show_text(rows, out)?;
     Ok(())
 }
 
+#[inline(never)]
 fn push_report(report: &Report, out: &mut Vec<u8>) -> Result<(), Refusal>
     ensures ok { OnOk result (out.new.items ≡ out.old.items ++ report_text report.now) }
     ensures err { OnErr result ((result ≡ Err Memory) × StartsWith out.new.items out.old.items) }
 {
-    push_line(out, "ok", &[Word::Count(report.row_count())])?;
+    push_count(report.row_count(), out)?;
     report_core::report_text(report, out)?;
     Ok(())
 }
 
+#[inline(never)]
+fn push_count(count: u128, out: &mut Vec<u8>) -> Result<(), Refusal>
+    ensures ok { OnOk result (out.new.items ≡ out.old.items ++ value_line count) }
+    ensures err { OnErr result ((result ≡ Err Memory) × StartsWith out.new.items out.old.items) }
+{
+    let mut line = TextLine::new();
+    put_word(&mut line, Buffer::new().format(count).as_bytes());
+    line.put_text(b"ok");
+    line.push_to(out)
+}
+
+#[inline(never)]
 fn push_refusal(line: u32, refusal: Refusal, out: &mut Vec<u8>) -> Result<(), Refusal>
     ensures ok { OnOk result (out.new.items ≡ out.old.items ++ refusal_text line refusal) }
     ensures err { OnErr result ((result ≡ Err Memory) × StartsWith out.new.items out.old.items) }
 {
-    let number = Word::Number(u64::from(refusal.number()));
-    let name = Word::Text(refusal.name());
+    let mut text = TextLine::new();
+    put_details(&mut text, line, refusal);
+    put_word(&mut text, refusal.name().as_bytes());
+    put_number(&mut text, u64::from(refusal.number()));
+    text.put_text(b"err");
+    text.push_to(out)
+}
+
+/// Puts what follows the name of a refusal before the line feed.
+fn put_details(text: &mut TextLine, line: u32, refusal: Refusal)
+    requires { text.old ≡ 10 ∷ [] }
+    ensures text { text.new ≡ behind_text (details line refusal) }
+    ensures len { length text.new ≤ length text.old + 32 }
+{
     match refusal {
         Refusal::Syntax | Refusal::LongLine => {
-            push_line(
-                out,
-                "err",
-                &[
-                    number,
-                    name,
-                    Word::Text("line"),
-                    Word::Number(u64::from(line)),
-                ],
-            )
+            put_number(text, u64::from(line));
+            put_word(text, b"line");
         }
-        Refusal::Limit(kind) => push_line(out, "err", &[number, name, Word::Text(kind.word())]),
-        _ => push_line(out, "err", &[number, name]),
+        Refusal::Limit(kind) => put_word(text, kind.word().as_bytes()),
+        _ => {}
     }
 }
 
-/// A word of a line of output.
-#[derive(Clone, Copy)]
-enum Word {
-    Text(&'static str),
-    Name(Name),
-    Number(u64),
-    Count(u128),
-}
-
-/// A line of output: the words with a space between each two, and a line feed.
-fn push_line(out: &mut Vec<u8>, first: &'static str, words: &[Word]) -> Result<(), Refusal>
-    ensures ok { OnOk result (out.new.items ≡ out.old.items ++ line_text (first.now ∷ map word_text words.now)) }
-    ensures err { OnErr result ((result ≡ Err Memory) × StartsWith out.new.items out.old.items) }
+/// Puts a space and the word before the line.
+#[inline(always)]
+fn put_word(line: &mut TextLine, word: &[u8])
+    requires { length line.old + length word.now + 1 ≤ TEXT_LINE_BYTES }
+    ensures text { line.new ≡ 32 ∷ word.now ++ line.old }
+    ensures len { length line.new ≡ length line.old + length word.now + 1 }
 {
-    out.extend_from_slice(first.as_bytes())?;
-    for word in words {
-        out.extend_from_slice(b" ")?;
-        push_word(out, word)?;
-    }
-    out.extend_from_slice(b"\n")?;
-    Ok(())
+    line.put_text(word);
+    line.put_spaces(1);
 }
 
-fn push_word(out: &mut Vec<u8>, word: &Word) -> Result<(), Refusal>
-    ensures ok { OnOk result (out.new.items ≡ out.old.items ++ word_text word.now) }
-    ensures err { OnErr result ((result ≡ Err Memory) × (out.new.items ≡ out.old.items)) }
+/// Puts a space and the number before the line.
+#[inline(always)]
+fn put_number(line: &mut TextLine, number: u64)
+    requires { length line.old + NUMBER_WIDTH + 1 ≤ TEXT_LINE_BYTES }
+    ensures text { line.new ≡ 32 ∷ decimal number ++ line.old }
+    ensures len { length line.new ≤ length line.old + NUMBER_WIDTH + 1 }
 {
-    match word {
-        Word::Text(text) => out.extend_from_slice(text.as_bytes())?,
-        Word::Name(name) => out.extend_from_slice(name.as_bytes())?,
-        Word::Number(number) => out.extend_from_slice(Buffer::new().format(*number).as_bytes())?,
-        Word::Count(count) => out.extend_from_slice(Buffer::new().format(*count).as_bytes())?,
-    }
-    Ok(())
+    line.put_number(number);
+    line.put_spaces(1);
 }

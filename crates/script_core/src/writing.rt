@@ -1,5 +1,5 @@
 // The texts of answers to a writer.
-ghost use Rattle.std.specs.Prelude.{◌≡◌, ◌++◌, Err, List, ℕ, OnOk, OnErr};
+ghost use Rattle.std.specs.Prelude.{◌≡◌, ◌++◌, [], Err, List, ℕ, OnOk, OnErr};
 ghost use Rattle.std.specs.Io.KnownBytes.{Appends};
 ghost use Rattle.point_core.specs.declared.refusal.Refusal.TheVariants.{Write};
 ghost use Rattle.script_core.specs.Bytes.{AppendsFront};
@@ -20,9 +20,23 @@ pub(crate) fn write_many<W: Write>(writer: &mut W, out: &mut Vec<u8>) -> Result<
     ensures err { OnErr result (AppendsFront (W.contents writer.old) (W.contents writer.new) out.old.items) }
 {
     if out.len() >= WRITE_BYTES {
-        write_whole(writer, out)?;
-        out.clear();
+        write_out(writer, out)?;
     }
+    Ok(())
+}
+
+/// Writes the texts, and takes them out.
+///
+/// Refused as `write_whole`.
+pub(crate) fn write_out<W: Write>(writer: &mut W, out: &mut Vec<u8>) -> Result<(), Refusal>
+    ensures ok { OnOk result ((written : List ℕ) × (out.old.items ≡ written ++ out.new.items)
+        × Appends (W.contents writer.old) (W.contents writer.new) written) }
+    ensures none { OnOk result (out.new.items ≡ []) }
+    ensures refused { OnErr result (result ≡ Err Write) }
+    ensures err { OnErr result (AppendsFront (W.contents writer.old) (W.contents writer.new) out.old.items) }
+{
+    write_whole(writer, out)?;
+    out.clear();
     Ok(())
 }
 

@@ -1,7 +1,14 @@
-use Rattle.std.proofs.Common.{◌≡◌, ◌++◌}
-use Rattle.script_core.specs.Lines.{lines_left}
-use Rattle.script_core.proofs.Progress.{Progress}
+use Rattle.std.proofs.Common.{ℕ, ◌≤◌, List, length}
+use Rattle.script_core.specs.Answering.{HasAnswered}
+use Rattle.script_core.specs.ScriptLines.{HasGiven, turns_to_come}
+use Rattle.script_core.proofs.AnsweredLines.{ended_lines}
 use Rattle.script_core.proofs.answering.answer_lines.Given as goal
 
-abbrev pub invariant-loop-line : goal.invariant-loop-line
-invariant-loop-line g l = (lines_left l.fn.lines ≡ l.yielded ++ lines_left l.line-iterator) × Progress l.yielded l.desk l.out.items l.totals (g.W.Write.contents l.fn.writer) (g.W.Write.contents l.writer)
+abbrev pub invariant-loop-lines : goal.invariant-loop-lines
+invariant-loop-lines g l =
+    (given : List (List ℕ)) × HasGiven (g.R.Read.remaining l.initial.reader) (g.R.Read.remaining l.reader) l.lines given
+    × HasAnswered (ended_lines 1 given) l.answers (g.W.Write.contents l.initial.writer) (g.W.Write.contents l.writer)
+    × (l.answers.totals.lines ≤ length given)
+
+abbrev pub decreases-loop-lines : goal.decreases-loop-lines
+decreases-loop-lines g l = turns_to_come l.lines

@@ -1,0 +1,104 @@
+// A line of output, which is written from its end to its front.
+ghost use Rattle.std.specs.Prelude.{◌≡◌, ◌++◌, ◌+◌, ◌≤◌, ◌∷◌, [], OnOk, OnErr, Err, decimal, length};
+ghost use Rattle.point_core.specs.declared.refusal.Refusal.TheVariants.{Memory};
+ghost use Rattle.report_core.specs.Columns.{spaces};
+
+use crate::rows::{KIND_WIDTH, NUMBER_WIDTH, SUBJECT_WIDTH};
+use itoa::write_digits;
+use point_core::Refusal;
+use std::marker::Model;
+
+/// The most bytes of a line of output with its line feed: two short words, a name and two numbers, each with a byte behind
+/// it.
+pub const TEXT_LINE_BYTES: usize = 2 * (KIND_WIDTH + 1)
+    + (SUBJECT_WIDTH + 1)
+    + 2 * (NUMBER_WIDTH + 1);
+
+const _: () = prove!(TEXT_LINE_BYTES == 92);
+
+/// A line of output, held without memory. What is put into it goes before what is there.
+#[derive(Drop)]
+pub struct TextLine {
+    bytes: [u8; TEXT_LINE_BYTES],
+    start: usize,
+}
+
+impl Model for TextLine {
+    ghost use Rattle.std.specs.Prelude.{◌≡◌, ◌≤◌, List, ℕ, drop, take};
+    ghost use Rattle.report_core.specs.declared.line.TheConstants.{TEXT_LINE_BYTES};
+    ghost use Rattle.report_core.specs.Columns.{spaces};
+
+    ghost Value = { List ℕ };
+
+    ghost view = { λ l. drop l.start l.bytes };
+
+    // Spaces are there already where nothing was put yet.
+    ghost invariant = { λ l. (l.start ≤ TEXT_LINE_BYTES) × (take l.start l.bytes ≡ spaces l.start) };
+}
+
+impl TextLine {
+    /// The line feed alone.
+    #[inline(always)]
+    pub fn new() -> Self
+        ensures { result ≡ 10 ∷ [] }
+    {
+        let mut bytes = [b' '; TEXT_LINE_BYTES];
+        bytes[TEXT_LINE_BYTES - 1] = b'\n';
+        TextLine {
+            bytes,
+            start: TEXT_LINE_BYTES - 1,
+        }
+    }
+
+    /// How many bytes it has.
+    #[inline(always)]
+    pub fn len(&self) -> usize
+        ensures { result ≡ length self.now }
+    {
+        TEXT_LINE_BYTES - self.start
+    }
+
+    /// Puts so many spaces before the line.
+    #[inline(always)]
+    pub fn put_spaces(&mut self, count: usize)
+        requires { length self.old + count ≤ TEXT_LINE_BYTES }
+        ensures text { self.new ≡ spaces count ++ self.old }
+        ensures len { length self.new ≡ length self.old + count }
+    {
+        self.start -= count;
+    }
+
+    /// Puts the text before the line.
+    #[inline(always)]
+    pub fn put_text(&mut self, text: &[u8])
+        requires { length self.old + length text.now ≤ TEXT_LINE_BYTES }
+        ensures text { self.new ≡ text.now ++ self.old }
+        ensures len { length self.new ≡ length self.old + length text.now }
+    {
+        let end = self.start;
+        self.start -= text.len();
+        self.bytes[self.start..end].copy_from_slice(text);
+    }
+
+    /// Puts the number, in decimal, before the line.
+    #[inline(always)]
+    pub fn put_number(&mut self, number: u64)
+        requires { length self.old + NUMBER_WIDTH ≤ TEXT_LINE_BYTES }
+        ensures text { self.new ≡ decimal number ++ self.old }
+        ensures len { length self.new ≤ length self.old + NUMBER_WIDTH }
+    {
+        self.start = write_digits(number, &mut self.bytes, self.start);
+    }
+
+    /// Writes the line behind `out`.
+    ///
+    /// Refused as Memory alone, and `out` is then as it was.
+    #[inline(always)]
+    pub fn push_to(&self, out: &mut Vec<u8>) -> Result<(), Refusal>
+        ensures ok { OnOk result (out.new.items ≡ out.old.items ++ self.now) }
+        ensures err { OnErr result ((result ≡ Err Memory) × (out.new.items ≡ out.old.items)) }
+    {
+        out.extend_from_slice(&self.bytes[self.start..])?;
+        Ok(())
+    }
+}

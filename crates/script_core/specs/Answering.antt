@@ -1,0 +1,51 @@
+-- Lines that are answered one after another.
+use Rattle.std.specs.Prelude.{◌≡◌, ℕ, List, [], ◌∷◌, ◌++◌, take, Option}
+use Rattle.std.specs.Io.KnownBytes.{Appends}
+use Rattle.desk_core.specs.declared.command.Command.{Command}
+use Rattle.desk_core.specs.declared.answer.Answer.{Answer}
+use Rattle.desk_core.specs.Desk.{DeskState, HasHistory}
+use Rattle.script_core.specs.declared.line.Line.{Line}
+use Rattle.script_core.specs.declared.script.Ending.{Ending}
+use Rattle.script_core.specs.declared.script.TheConstants.{SCRIPT_BYTES}
+use Rattle.script_core.specs.declared.totals.Totals.{Totals}
+use Rattle.script_core.specs.Bytes.{WasRead}
+use Rattle.script_core.specs.Output.{history_after_line, AreLineAnswers, texts_of, WritesAnswers, Counts}
+use Rattle.script_core.specs.Script.{lines_until}
+
+-- the history after lines that were answered so
+abbrev pub history_along : List Command → List Line → List Answer → List Command
+history_along history [] given = history
+history_along history (l ∷ ls) [] = history
+history_along history (l ∷ ls) (a ∷ rest) = history_along (history_after_line history l.body a) ls rest
+
+-- the lines `done` are answered: their texts are written but for those that stand in `out`
+pub record Progress (done : List Line) (desk : DeskState) (out : List ℕ) (totals : Totals) (old new : Option (List ℕ)) : Type 0 where
+  pub given : List Answer
+  pub each : AreLineAnswers [] done given
+  pub stands : HasHistory desk (history_along [] done given)
+  pub front : List ℕ
+  pub texts : texts_of done given ≡ front ++ out
+  pub appended : Appends old new front
+  pub counts : Counts totals given
+
+-- a desk, the texts of its last answers, and how many it gave
+pub record AnswersState : Type 0 where
+  pub desk : DeskState
+  pub out : List ℕ
+  pub totals : Totals
+
+-- the lines `done` are answered
+abbrev pub HasAnswered : List Line → AnswersState → Option (List ℕ) → Option (List ℕ) → Type 0
+HasAnswered done s old new = Progress done s.desk s.out s.totals old new
+
+-- the lines were answered, and so many answers were written
+pub record AnswersLines (lines : List Line) (totals : Totals) (old new : Option (List ℕ)) : Type 0 where
+  pub given : List Answer
+  pub answers : WritesAnswers lines given old new
+  pub counts : Counts totals given
+
+-- bytes of a script were read that end so, and their lines are answered
+pub record HasAnsweredBytes (before after : Option (List ℕ)) (end : Ending) (s : AnswersState) (old new : Option (List ℕ)) : Type 0 where
+  pub bytes : List ℕ
+  pub read : WasRead before after bytes end
+  pub answered : HasAnswered (lines_until end (take SCRIPT_BYTES bytes)) s old new

@@ -1,0 +1,161 @@
+// The answers of lines, on their way to a writer.
+ghost use Rattle.std.specs.Prelude.{◌≡◌, ◌+◌, ◌<◌, ◌≤◌, ◌⊎◌, ◌++◌, ◌∷◌, [], List, ℕ, Option, IfOk, OnOk, OnErr, IfErr};
+ghost use Rattle.std.specs.Io.KnownBytes.{Keeps};
+ghost use Rattle.point_core.specs.declared.refusal.Refusal.TheVariants.{Write as WriteFault, Memory};
+ghost use Rattle.desk_core.specs.declared.command.Command.{Command};
+ghost use Rattle.desk_core.specs.Desk.{HasHistory};
+ghost use Rattle.script_core.specs.declared.line.Line.{Line as LineModel};
+ghost use Rattle.script_core.specs.Script.{answered};
+ghost use Rattle.script_core.specs.Output.{IsLineAnswer, history_after_line, WritesFront};
+
+use crate::line::Body;
+use crate::text::print;
+use crate::totals::Totals;
+use crate::writing::{write_many, write_out};
+use desk_core::{Answer, Desk};
+use point_core::Refusal;
+use std::alloc::Global;
+use std::io::Write;
+use std::marker::Model;
+
+/// The answers of lines, one after another: a desk, and the texts of its answers on their way to a writer. What it keeps is
+/// what the desk holds, and the texts that are not yet written.
+#[derive(Drop)]
+pub struct Answers {
+    desk: Desk,
+    // the texts that are not yet written
+    out: Vec<u8>,
+    totals: Totals,
+}
+
+impl Model for Answers {
+    ghost use Rattle.script_core.specs.Answering.{AnswersState};
+
+    ghost Value = { AnswersState };
+
+    ghost view = { λ a. record { desk = a.desk; out = a.out.items; totals = a.totals } };
+}
+
+impl Answers {
+    ghost use Rattle.script_core.specs.Answering.{HasAnswered, AnswersLines};
+
+    /// Of no line.
+    ///
+    /// Refused as Memory alone.
+    pub fn new(alloc: Global) -> Result<Answers, Refusal>
+        ensures none { IfOk result (λ answers. (contents : Option (List ℕ)) → HasAnswered [] answers contents contents) }
+        ensures refusals { IfErr result (λ refusal. refusal ≡ Memory) }
+    {
+        Ok(Answers {
+            desk: Desk::new(alloc)?,
+            out: Vec::new(alloc),
+            totals: Totals::new(),
+        })
+    }
+
+    /// Answers the line of that number, where it has an answer. Texts are written where they are many.
+    ///
+    /// Refused as Write where a write failed or took no byte, and as Memory where a growth was refused: then a front of the
+    /// answers is written.
+    pub fn answer<W: Write>(
+        &mut self,
+        number: u32,
+        body: Option<Body>,
+        writer: &mut W,
+    ) -> Result<(), Refusal>
+        requires few { self.old.totals.lines < number }
+        ensures ok { OnOk result ((done : List LineModel) → (start : Option (List ℕ)) →
+            HasAnswered done self.old start (W.contents writer.old)
+            → HasAnswered (done ++ answered number body []) self.new start (W.contents writer.new)) }
+        ensures err { OnErr result ((done : List LineModel) → (start : Option (List ℕ)) →
+            HasAnswered done self.old start (W.contents writer.old)
+            → WritesFront (done ++ answered number body []) start (W.contents writer.new)) }
+        ensures lines { self.new.totals.lines ≤ self.old.totals.lines + 1 }
+        ensures refusals { IfErr result (λ refusal. (refusal ≡ WriteFault) ⊎ (refusal ≡ Memory)) }
+    {
+        match body {
+            Some(body) => self.answer_body(number, body, writer),
+            None => Ok(()),
+        }
+    }
+
+    fn answer_body<W: Write>(
+        &mut self,
+        number: u32,
+        body: Body,
+        writer: &mut W,
+    ) -> Result<(), Refusal>
+        requires few { self.old.totals.lines < number }
+        ensures ok { OnOk result ((done : List LineModel) → (start : Option (List ℕ)) →
+            HasAnswered done self.old start (W.contents writer.old)
+            → HasAnswered (done ++ record { number = number; body = body } ∷ []) self.new start (W.contents writer.new)) }
+        ensures err { OnErr result ((done : List LineModel) → (start : Option (List ℕ)) →
+            HasAnswered done self.old start (W.contents writer.old)
+            → WritesFront (done ++ record { number = number; body = body } ∷ []) start (W.contents writer.new)) }
+        ensures lines { self.new.totals.lines ≤ self.old.totals.lines + 1 }
+        ensures refusals { IfErr result (λ refusal. (refusal ≡ WriteFault) ⊎ (refusal ≡ Memory)) }
+    {
+        let answer = answer_line(&mut self.desk, body);
+        print(number, &answer, &mut self.out)?;
+        self.totals = self.totals.with(&answer);
+        drop(answer);
+        write_many(writer, &mut self.out)?;
+        Ok(())
+    }
+
+    /// Writes the texts that are not yet written.
+    ///
+    /// Refused as Write where a write failed or took no byte: then a front of the answers is written.
+    pub fn write<W: Write>(&mut self, writer: &mut W) -> Result<(), Refusal>
+        ensures ok { OnOk result ((done : List LineModel) → (start : Option (List ℕ)) →
+            HasAnswered done self.old start (W.contents writer.old)
+            → HasAnswered done self.new start (W.contents writer.new)) }
+        ensures none { OnOk result (self.new.out ≡ []) }
+        ensures err { OnErr result ((done : List LineModel) → (start : Option (List ℕ)) →
+            HasAnswered done self.old start (W.contents writer.old)
+            → WritesFront done start (W.contents writer.new)) }
+        ensures lines { self.new.totals ≡ self.old.totals }
+        ensures refusals { IfErr result (λ refusal. refusal ≡ WriteFault) }
+    {
+        write_out(writer, &mut self.out)?;
+        Ok(())
+    }
+
+    /// Writes the texts that are not yet written, flushes, and tells how many lines were answered.
+    ///
+    /// Refused as Write where a write failed or took no byte, or the flush failed: then a front of the answers is written.
+    pub fn finish<W: Write>(&mut self, writer: &mut W) -> Result<Totals, Refusal>
+        ensures ok { IfOk result (λ totals. (done : List LineModel) → (start : Option (List ℕ)) →
+            HasAnswered done self.old start (W.contents writer.old)
+            → AnswersLines done totals start (W.contents writer.new)) }
+        ensures err { OnErr result ((done : List LineModel) → (start : Option (List ℕ)) →
+            HasAnswered done self.old start (W.contents writer.old)
+            → WritesFront done start (W.contents writer.new)) }
+        ensures refusals { IfErr result (λ refusal. refusal ≡ WriteFault) }
+    {
+        self.write(writer)?;
+        flush(writer)?;
+        Ok(self.totals)
+    }
+}
+
+/// The answer of a line, which may be a refusal: that of its command, or the refusal that the line is. It changes the desk as
+/// `Desk::step` does.
+pub fn answer_line(desk: &mut Desk, body: Body) -> Answer
+    ensures answer { (history : List Command) → HasHistory desk.old history
+        → IsLineAnswer history body result }
+    ensures stands { (history : List Command) → HasHistory desk.old history
+        → HasHistory desk.new (history_after_line history body result) }
+{
+    match body {
+        Body::Cmd(command) => desk.step(command),
+        Body::Bad(refusal) => Answer::Refused(refusal),
+    }
+}
+
+fn flush<W: Write>(writer: &mut W) -> Result<(), Refusal>
+    ensures bytes { Keeps (W.contents writer.old) (W.contents writer.new) }
+    ensures err { IfErr result (λ refusal. refusal ≡ WriteFault) }
+{
+    writer.flush().map_err(|_| Refusal::Write)
+}
