@@ -17,9 +17,11 @@ registration_of cookie (e ∷ es) = if is_for cookie e.1 then Some e.0 else regi
 
 -- the index holds points of pending watches alone, at least one of each, and every one that is above the reach
 pub record IsIndexed (es : List (ℕ × Watch)) (index : List WaitingPoint) (reach : List ℕ) : Type 0 where
-  pub alone : (k : WaitingPoint) → holds index k ≡ true → (w : Watch) × (at es k.registration ≡ Some w) × (is_of w.points k.registration k ≡ true)
+  pub alone : (k : WaitingPoint) → holds index k ≡ true →
+      (w : Watch) × (at es k.registration ≡ Some w) × (is_of w.points k.registration k ≡ true)
   pub some : (r : ℕ) (w : Watch) → at es r ≡ Some w → (k : WaitingPoint) × (k.registration ≡ r) × (holds index k ≡ true)
-  pub above : (r : ℕ) (w : Watch) (k : WaitingPoint) → at es r ≡ Some w → is_of (above reach w.points) r k ≡ true → holds index k ≡ true
+  pub above : (r : ℕ) (w : Watch) (k : WaitingPoint) → at es r ≡ Some w →
+      is_of (above reach w.points) r k ≡ true → holds index k ≡ true
 
 -- no point of the index was reached when it was last gone through, which was at no higher reach
 pub record IsVisited (index : List WaitingPoint) (visited reach : List ℕ) : Type 0 where

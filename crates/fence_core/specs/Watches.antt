@@ -55,4 +55,5 @@ if_none (Some cause) next = Some cause
 
 -- why none of these points may be registered
 abbrev pub cause_to_refuse_watch : Registry → ℕ → List Point → List ℕ → Option Refusal
-cause_to_refuse_watch ws cookie points reach = if_none (cause_to_refuse ws cookie) (if are_reached reach points then Some Signalled else None)
+cause_to_refuse_watch ws cookie points reach =
+    if_none (cause_to_refuse ws cookie) (if are_reached reach points then Some Signalled else None)

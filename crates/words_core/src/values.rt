@@ -102,8 +102,10 @@ impl Words {
         requires own { seat.old.words ≡ self.now }
         requires zero { reach.old ≡ replicate CONTEXTS 0 }
         ensures entered { seat.new ≡ with_steps seat.old (loads_of reach.new self.now.contexts) }
-        ensures later { (ctx : ℕ) → 1 ≤ ctx → ctx ≤ self.now.contexts → seen seat.old (value_word ctx) ≤ value_at reach.new ctx }
-        ensures seen { (ctx : ℕ) → 1 ≤ ctx → ctx ≤ self.now.contexts → seen seat.new (value_word ctx) ≡ value_at reach.new ctx }
+        ensures later { (ctx : ℕ) → 1 ≤ ctx → ctx ≤ self.now.contexts →
+            seen seat.old (value_word ctx) ≤ value_at reach.new ctx }
+        ensures seen { (ctx : ℕ) → 1 ≤ ctx → ctx ≤ self.now.contexts →
+            seen seat.new (value_word ctx) ≡ value_at reach.new ctx }
         ensures past { (ctx : ℕ) → self.now.contexts < ctx → value_at reach.new ctx ≡ 0 }
         ensures full { length reach.new ≡ CONTEXTS }
     {
