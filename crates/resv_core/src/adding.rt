@@ -17,6 +17,7 @@ pub(crate) fn add_all(entries: &mut Vec<Entry>, points: &[Point], usage: Usage, 
     requires contexts { HasContexts entries.old.items }
     ensures agrees { AgreesAbove reach.now entries.new.items (entries.old.items ++ entries_as usage points.now) }
     ensures contexts { HasContexts entries.new.items }
+    ensures few { vec_len entries.new ≤ vec_len entries.old + length points.now }
     ensures places { vec_capacity entries.new ≡ vec_capacity entries.old }
 {
     make_way(entries, points, usage, reach);

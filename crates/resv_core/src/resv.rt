@@ -138,6 +138,7 @@ impl Resv {
         requires room { length points.now ≤ self.old.room }
         ensures table { IsTable self.new }
         ensures agrees { Leaves (AddAll (entries_as usage points.now)) reach.now self.old.entries self.new.entries }
+        ensures falls { self.old.room ≤ self.new.room + length points.now }
         ensures places { length self.new.entries + self.new.room ≡ length self.old.entries + self.old.room }
         ensures nothing { points.now ≡ [] → self.new ≡ self.old }
     {
