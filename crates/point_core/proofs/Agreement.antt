@@ -257,7 +257,7 @@ All-point : (P : Point → Type 0) (o : Option ℕ) (a : ℕ) (ps : List Point) 
 All-point P None a ps here rest = rest
 All-point P (Some p) a ps here rest = All-cons P (point_of a p) ps (here p refl) rest
 
-IsStrictlyIncreasing-cons : (x : ℕ) (xs : List ℕ) → All (λ y. x < y) xs → IsStrictlyIncreasing xs → IsStrictlyIncreasing (x ∷ xs)
+pub IsStrictlyIncreasing-cons : (x : ℕ) (xs : List ℕ) → All (λ y. x < y) xs → IsStrictlyIncreasing xs → IsStrictlyIncreasing (x ∷ xs)
 IsStrictlyIncreasing-cons x xs above rising zero low = above 0 0 (omega arith)
 IsStrictlyIncreasing-cons x xs above rising (suc k) low = let next : suc k + 1 ≡ suc (k + 1) = omega arith in rw next (rising k (omega arith))
 

@@ -12,7 +12,7 @@ use Rattle.point_core.specs.Agreement.{later, top, pending, pending_top, as_entr
 use Rattle.point_core.proofs.Latest.{applies-true, applies-other}
 use Rattle.point_core.proofs.Listings.{filter_map-contexts, filter_map-range_same}
 
-IsStrictlyIncreasing-tail : (x : ℕ) (xs : List ℕ) → IsStrictlyIncreasing (x ∷ xs) → IsStrictlyIncreasing xs
+pub IsStrictlyIncreasing-tail : (x : ℕ) (xs : List ℕ) → IsStrictlyIncreasing (x ∷ xs) → IsStrictlyIncreasing xs
 IsStrictlyIncreasing-tail x xs rising = λ k low. let next : suc k + 1 ≡ suc (k + 1) = omega arith in rw next at (rising (suc k) (omega arith))
 
 IsStrictlyIncreasing-above : (x : ℕ) (xs : List ℕ) → IsStrictlyIncreasing (x ∷ xs) → (k : ℕ) → k < length xs → x < get_or xs k 0
@@ -28,7 +28,7 @@ All-unmap P f [] h = All-nil (λ p. P (f p))
 All-unmap P f (p ∷ ps) h = All-cons (λ q. P (f q)) p ps (All-head P (f p) (map f ps) h) (All-unmap P f ps (All-tail P (f p) (map f ps) h))
 
 -- the rest of a rising list is above its first
-above-first : (p : Point) (ps : List Point) → HasRisingContexts (p ∷ ps) → All (λ q. p.ctx < q.ctx) ps
+pub above-first : (p : Point) (ps : List Point) → HasRisingContexts (p ∷ ps) → All (λ q. p.ctx < q.ctx) ps
 above-first p ps rising = All-unmap (λ y. p.ctx < y) (λ (q : Point). q.ctx) ps (All-from_get_or (λ y. p.ctx < y) (map (λ (q : Point). q.ctx) ps) 0 (IsStrictlyIncreasing-above p.ctx (map (λ (q : Point). q.ctx) ps) rising))
 
 top-none_of_context : (ps : List Point) (ctx : ℕ) → All (λ p. p.ctx ≢ ctx) ps → top (as_entries ps) 0 ctx ≡ None

@@ -7,4 +7,6 @@ pub mod Named
 pub mod Names
 pub mod Reached
 mod Rows
+pub mod TwoLists
+pub mod Used
 pub mod Values

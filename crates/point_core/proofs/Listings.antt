@@ -1,5 +1,5 @@
 -- What is listed, context by context.
-use Rattle.std.proofs.Common.{◌≡◌, ℕ, ◌+◌, ◌<◌, ◌≤◌, zero, suc, refl, sym, ap, subst, ◌∙◌, List, [], ◌∷◌, ◌++◌, length, get_or, take, max, Option, None, Some, arith, nat_lt, if◌then◌else◌, inl, inr, append-nil}
+use Rattle.std.proofs.Common.{◌≡◌, ℕ, ◌+◌, ◌-◌, ◌<◌, ◌≤◌, zero, suc, refl, sym, ap, subst, ◌∙◌, List, [], ◌∷◌, ◌++◌, length, get_or, take, max, Option, None, Some, arith, nat_lt, if◌then◌else◌, inl, inr, append-nil}
 use Rattle.std.specs.Prelude.{option_map}
 use Rattle.std.specs.List.{filter_map, cons_option, range_with_len}
 use Rattle.std.proofs.lemmas.List.{map_more}
@@ -89,3 +89,17 @@ skip_above latest reach points n ctx before is reached =
     ∙ sym (append-nil _)
     ∙ ap (λ b. filter_map (point_above latest reach) (range_with_len 1 n) ++ cons_option (if b then Some (point_of ctx (value_at latest ctx)) else None) []) (sym (le-ltb _ _ reached))
     ∙ sym (above_one_more latest reach n ctx is)
+
+skip_unused : (latest reach : List ℕ) (n more : ℕ) → ((ctx : ℕ) → n < ctx → value_at latest ctx ≡ 0) → filter_map (point_above latest reach) (range_with_len 1 n) ≡ filter_map (point_above latest reach) (range_with_len 1 (more + n))
+skip_unused latest reach n zero past = ap (λ k. filter_map (point_above latest reach) (range_with_len 1 k)) (omega arith)
+skip_unused latest reach n (suc more) past =
+    let none = past (more + n + 1) (omega arith) in
+    let next : more + n + 1 ≡ suc more + n = omega arith in
+    skip_above latest reach (filter_map (point_above latest reach) (range_with_len 1 n)) (more + n) (more + n + 1) (skip_unused latest reach n more past) refl (omega arith)
+    ∙ ap (λ k. filter_map (point_above latest reach) (range_with_len 1 k)) next
+
+-- behind the last context that is used nothing is listed
+pub points_above-used : (latest reach : List ℕ) (n : ℕ) → n ≤ CONTEXTS → ((ctx : ℕ) → n < ctx → value_at latest ctx ≡ 0) → filter_map (point_above latest reach) (range_with_len 1 n) ≡ points_above latest reach
+points_above-used latest reach n few past =
+    skip_unused latest reach n (CONTEXTS - n) past
+    ∙ filter_map-contexts (point_above latest reach) (CONTEXTS - n + n) (omega arith)

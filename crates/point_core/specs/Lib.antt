@@ -6,4 +6,6 @@ pub mod Reach
 pub mod Refusal
 pub mod Status
 pub mod StoredName
+pub mod TwoLists
 pub mod Usage
+pub mod Used

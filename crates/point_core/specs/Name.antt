@@ -20,4 +20,5 @@ padded bytes = bytes ++ replicate (NAME_BYTES - length bytes) 0
 
 -- the first bytes are a name, and zeros fill the rest
 abbrev pub IsStored : ℕ → List ℕ → Type 0
-IsStored len bytes = (len ≤ NAME_BYTES) × IsName (take len bytes) × (length (take len bytes) ≡ len) × (padded (take len bytes) ≡ bytes)
+IsStored len bytes =
+    (len ≤ NAME_BYTES) × IsName (take len bytes) × (length (take len bytes) ≡ len) × (padded (take len bytes) ≡ bytes)

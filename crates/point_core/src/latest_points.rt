@@ -1,5 +1,5 @@
 // The latest point of each context.
-ghost use Rattle.std.specs.Prelude.{◌≡◌, ℕ, ◌≤◌, List, [], ◌∷◌, ◌++◌, length, max, IfOk, IfErr};
+ghost use Rattle.std.specs.Prelude.{◌≡◌, ℕ, ◌<◌, ◌≤◌, List, [], ◌∷◌, ◌++◌, length, max, IfOk, IfErr};
 ghost use Rattle.point_core.specs.declared.context.TheConstants.{CONTEXTS};
 ghost use Rattle.point_core.specs.declared.entry.Entry.{Entry};
 ghost use Rattle.point_core.specs.Agreement.{as_entries, HasContexts};
@@ -8,6 +8,7 @@ ghost use Rattle.point_core.specs.Reach.{value_at, with_value};
 ghost use Rattle.point_core.specs.Usage.{usage_number};
 
 use crate::context::{CONTEXTS, Context};
+use crate::context_values::ContextValues;
 use crate::entry::Point;
 use crate::reach::Reach;
 use crate::refusal::Refusal;
@@ -18,7 +19,7 @@ use std::marker::Model;
 /// need not be reached to be put.
 #[derive(Clone, Copy, Debug)]
 pub struct LatestPoints {
-    values: [u64; CONTEXTS],
+    values: ContextValues,
 }
 
 impl Model for LatestPoints {
@@ -50,7 +51,15 @@ impl LatestPoints {
         ensures value { result ≡ value_at self.now ctx }
         ensures context { (1 ≤ ctx) × (ctx ≤ CONTEXTS) }
     {
-        self.values[ctx.index()]
+        self.values.get(ctx.index())
+    }
+
+    /// How many contexts there are up to the last that has a point or a value.
+    pub fn used(&self) -> usize
+        ensures within { result ≤ CONTEXTS }
+        ensures past { (ctx : ℕ) → result < ctx → value_at self.now ctx ≡ 0 }
+    {
+        self.values.used()
     }
 
     /// One more point.
@@ -63,8 +72,7 @@ impl LatestPoints {
             e.point ≡ point → usage_number e.usage ≤ usage →
             IsLatest self.old reach es usage → IsLatest self.new reach (es ++ e ∷ []) usage }
     {
-        let index = point.ctx.index();
-        self.values[index] = self.values[index].max(point.value);
+        self.values.raise(point.ctx.index(), point.value);
     }
 
     /// More points.
@@ -99,7 +107,7 @@ impl LatestPoints {
         ensures memory { IfErr result (λ e. e ≡ Refusal.Memory) }
     {
         let mut points = Vec::with_capacity(alloc, expected)?;
-        for index in 0..CONTEXTS {
+        for index in 0..self.used() {
             let ctx = Context::at(index);
             let value = self.get(ctx);
             if value > reach.get(ctx) {

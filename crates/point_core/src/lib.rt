@@ -6,12 +6,14 @@
 #![tactic(auto)]
 
 mod context;
+mod context_values;
 mod entry;
 mod items;
 mod latest_points;
 pub mod laws;
 mod limits;
 mod listing;
+mod merging;
 mod name;
 mod reach;
 mod refusal;
@@ -23,6 +25,7 @@ pub use items::Items;
 pub use latest_points::LatestPoints;
 pub use limits::BUFFERS;
 pub use listing::{Listing, TopRow, canon};
+pub use merging::merged;
 pub use name::{NAME_BYTES, Name};
 pub use reach::{Reach, is_signalled};
 pub use refusal::{LimitKind, Refusal};

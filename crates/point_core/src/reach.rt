@@ -3,7 +3,8 @@ ghost use Rattle.std.specs.Prelude.{◌≡◌, ℕ, ◌+◌, ◌^◌, ◌<◌, �
 ghost use Rattle.point_core.specs.declared.context.TheConstants.{CONTEXTS};
 ghost use Rattle.point_core.specs.Reach.{value_at};
 
-use crate::context::{CONTEXTS, Context};
+use crate::context::Context;
+use crate::context_values::ContextValues;
 use crate::entry::Point;
 use std::marker::Model;
 
@@ -11,7 +12,7 @@ use std::marker::Model;
 /// the value 0.
 #[derive(Clone, Copy, Debug, PartialEq, Eq)]
 pub struct Reach {
-    values: [u64; CONTEXTS],
+    values: ContextValues,
 }
 
 impl Model for Reach {
@@ -36,7 +37,7 @@ impl Reach {
         ensures { result ≡ replicate CONTEXTS 0 }
     {
         Reach {
-            values: [0; CONTEXTS],
+            values: ContextValues::zero(),
         }
     }
 
@@ -46,7 +47,7 @@ impl Reach {
         ensures full { length self.now ≡ CONTEXTS }
         ensures context { (1 ≤ ctx) × (ctx ≤ CONTEXTS) }
     {
-        self.values[ctx.index()]
+        self.values.get(ctx.index())
     }
 
     /// The reach after the context advances by n, or none where its value would pass the greatest u64.
@@ -56,7 +57,7 @@ impl Reach {
     {
         let value = self.get(ctx).checked_add(n)?;
         let mut raised = *self;
-        raised.values[ctx.index()] = value;
+        raised.raise_to(Point { ctx, value });
         Some(raised)
     }
 
@@ -66,12 +67,19 @@ impl Reach {
         ensures full { length self.old ≡ CONTEXTS }
         ensures context { (1 ≤ point.ctx) × (point.ctx ≤ CONTEXTS) }
     {
-        let index = point.ctx.index();
-        self.values[index] = self.values[index].max(point.value);
+        self.values.raise(point.ctx.index(), point.value);
+    }
+
+    /// How many contexts there are up to the last whose value is not 0. A loop over what is reached can end there.
+    pub fn used(&self) -> usize
+        ensures within { result ≤ CONTEXTS }
+        ensures past { (ctx : ℕ) → result < ctx → value_at self.now ctx ≡ 0 }
+    {
+        self.values.used()
     }
 
     /// The values, by context.
-    pub(crate) fn values(&self) -> &[u64; CONTEXTS]
+    pub(crate) fn values(&self) -> &ContextValues
         ensures value { result.now ≡ self.now }
         ensures full { length self.now ≡ CONTEXTS }
     {
@@ -83,9 +91,7 @@ impl Reach {
         ensures values { self.new ≡ later_values self.old other.now }
         ensures full { (length self.old ≡ CONTEXTS) × (length other.now ≡ CONTEXTS) }
     {
-        for (index, value) in self.values.iter_mut().enumerate() {
-            *value = (*value).max(other.values[index]);
-        }
+        self.values.join(&other.values);
     }
 
     /// The greater value of each context.
@@ -102,12 +108,7 @@ impl Reach {
     pub fn at_least(&self, other: &Reach) -> bool
         ensures { IsTrue result ↔ IsAtLeast self.now other.now }
     {
-        for (index, value) in self.values.iter().enumerate() {
-            if *value < other.values[index] {
-                return false;
-            }
-        }
-        true
+        self.values.at_least(&other.values)
     }
 }
 

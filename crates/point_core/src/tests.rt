@@ -1,8 +1,9 @@
 // Values that people worked out.
 use crate::{
     CONTEXTS, Context, Entry, Items, LatestPoints, LimitKind, Listing, NAME_BYTES, Name, Point,
-    Reach, Refusal, Status, Usage, canon, covers, is_signalled,
+    Reach, Refusal, Status, Usage, canon, covers, is_signalled, merged,
 };
+use std::alloc::Global;
 use std::test::Fail;
 
 fn point(number: u16, value: u64) -> Result<Point, Fail> {
@@ -40,6 +41,72 @@ fn canon_goes_by_rising_context(rt: HostRuntime) -> Result<(), Fail> {
         listed.as_slice(),
         [point(1, 4)?, point(2, 9)?, point(last, 1)?].as_slice()
     );
+    Ok(())
+}
+
+/// Points of the first contexts, with low values, which repeat in no plain order.
+fn mixed_points(alloc: Global, seed: u64) -> Result<Vec<Point>, Fail> {
+    let mut points = Vec::new(alloc);
+    let mut state = seed;
+    for _ in 0..seed % 9 {
+        state = state
+            .wrapping_mul(6364136223846793005)
+            .wrapping_add(1442695040888963407);
+        let number = (state >> 40) % 6 + 1;
+        points.push(point(number as u16, (state >> 50) % 8)?)?;
+    }
+    Ok(points)
+}
+
+/// The merge of the two lists that `canon` makes of these points.
+fn merge_of(
+    alloc: Global,
+    left: &[Point],
+    right: &[Point],
+    reach: &Reach,
+) -> Result<Vec<Point>, Fail> {
+    let first = canon(alloc, left, &Reach::zero())?;
+    let second = canon(alloc, right, &Reach::zero())?;
+    Ok(merged(alloc, first.as_slice(), second.as_slice(), reach)?)
+}
+
+/// Whether they are merged as `canon` lists both together.
+fn merges_as_canon(
+    alloc: Global,
+    left: &[Point],
+    right: &[Point],
+    reach: &Reach,
+) -> Result<bool, Fail> {
+    let mut all = Vec::from_slice(alloc, left)?;
+    all.extend_from_slice(right)?;
+    let listed = canon(alloc, all.as_slice(), reach)?;
+    Ok(merge_of(alloc, left, right, reach)?.as_slice() == listed.as_slice())
+}
+
+#[test]
+fn listings_are_merged_as_canon_lists_both(rt: HostRuntime) -> Result<(), Fail> {
+    let mut reach = Reach::zero();
+    reach.raise_to(point(2, 3)?);
+    reach.raise_to(point(5, 6)?);
+    for seed in 0..300 {
+        let left = mixed_points(rt.alloc(), seed)?;
+        let right = mixed_points(rt.alloc(), seed / 7 + 1000)?;
+        assert!(rt;
+            merges_as_canon(rt.alloc(), left.as_slice(), right.as_slice(), &reach)?,
+            "at {seed}"
+        );
+    }
+    Ok(())
+}
+
+#[test]
+fn merged_rows(rt: HostRuntime) -> Result<(), Fail> {
+    let reach = Reach::zero().raised(point(2, 0)?.ctx, 4).ok_or("wraps")?;
+    let left = [point(1, 5)?, point(2, 4)?, point(4, 1)?];
+    let right = [point(1, 3)?, point(2, 9)?, point(5, 8)?];
+    let merge = merge_of(rt.alloc(), &left, &right, &reach)?;
+    let rows = [point(1, 5)?, point(2, 9)?, point(4, 1)?, point(5, 8)?];
+    assert_eq!(rt; merge.as_slice(), rows.as_slice());
     Ok(())
 }
 
@@ -126,6 +193,19 @@ fn reaches_join(rt: HostRuntime) -> Result<(), Fail> {
     raised.raise_to(point(2, 1)?);
     assert_eq!(rt; raised.get(first), 4);
     assert_eq!(rt; raised.get(second), 2);
+    Ok(())
+}
+
+#[test]
+fn a_reach_goes_as_far_as_the_last_context_in_use(rt: HostRuntime) -> Result<(), Fail> {
+    let mut reach = Reach::zero();
+    assert_eq!(rt; reach.used(), 0);
+    reach.raise_to(point(7, 1)?);
+    reach.raise_to(point(3, 9)?);
+    reach.raise_to(point(9, 0)?);
+    assert_eq!(rt; reach.used(), 7);
+    assert_eq!(rt; Reach::zero().joined(&reach).used(), 7);
+    assert_eq!(rt; reach.joined(&Reach::zero()), reach);
     Ok(())
 }
 

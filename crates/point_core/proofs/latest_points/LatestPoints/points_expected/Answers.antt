@@ -1,6 +1,6 @@
 use Rattle.std.proofs.Common.{◌++◌, ◌∷◌, [], if◌then◌else◌, ap, sym, arith, ◌∙◌}
 use Rattle.point_core.specs.Agreement.{point_of}
-use Rattle.point_core.proofs.Listings.{filter_map-contexts, push_above, skip_above}
+use Rattle.point_core.proofs.Listings.{points_above-used, push_above, skip_above}
 use Rattle.point_core.proofs.latest_points.LatestPoints.points_expected.Goals as goal
 use Rattle.point_core.proofs.latest_points.LatestPoints.points_expected.Goals.{then-value-get+in_ok-map_err, else-value-get}
 
@@ -18,4 +18,4 @@ loop-index-preserved c =
     ]
 
 pub returns-clause-points : goal.returns-clause-points
-returns-clause-points c = c.loop-index.invariant ∙ filter_map-contexts _ c.loop-index.index (omega arith)
+returns-clause-points c = c.loop-index.invariant ∙ points_above-used c.args.self.now c.args.reach.now c.loop-index.index (omega arith) (λ ctx past. c.used-index-end.ensures.past ctx (omega arith))

@@ -1,0 +1,97 @@
+// A value for each context.
+ghost use Rattle.std.specs.Prelude.{◌≡◌, ℕ, ◌<◌, ◌≤◌, ◌↔◌, length, max, slice_index, IsTrue};
+ghost use Rattle.point_core.specs.declared.context.TheConstants.{CONTEXTS};
+
+use crate::context::CONTEXTS;
+use std::marker::Model;
+
+/// A value for each context, by place from 0. What it costs to go through them follows the contexts in use, and not how many
+/// there may be.
+#[derive(Clone, Copy, Debug, PartialEq, Eq)]
+pub(crate) struct ContextValues {
+    values: [u64; CONTEXTS],
+    // how many there are up to the last that is not 0
+    used: usize,
+}
+
+impl Model for ContextValues {
+    ghost use Rattle.std.specs.Prelude.{List, ℕ};
+    ghost use Rattle.point_core.specs.Used.{AreValues, inside_of, inside_of_values};
+
+    ghost Value = { List ℕ };
+
+    ghost view = { λ v. v.values };
+
+    ghost invariant = { λ v. AreValues v.values v.used };
+
+    ghost inverse = { inside_of };
+
+    ghost inverse_ok = { inside_of_values };
+}
+
+impl ContextValues {
+    ghost use Rattle.std.specs.Prelude.{replicate, slice_set};
+    ghost use Rattle.point_core.specs.Reach.{later_values, IsAtLeast};
+
+    /// Every value is 0.
+    pub(crate) fn zero() -> ContextValues
+        ensures { result ≡ replicate CONTEXTS 0 }
+    {
+        ContextValues {
+            values: [0; CONTEXTS],
+            used: 0,
+        }
+    }
+
+    /// The value at a place.
+    pub(crate) fn get(&self, index: usize) -> u64
+        requires within { index < CONTEXTS }
+        ensures value { result ≡ slice_index self.now index }
+        ensures full { length self.now ≡ CONTEXTS }
+    {
+        self.values[index]
+    }
+
+    /// How many values there are up to the last that is not 0.
+    pub(crate) fn used(&self) -> usize
+        ensures within { result ≤ CONTEXTS }
+        ensures past { (index : ℕ) → result ≤ index → slice_index self.now index ≡ 0 }
+    {
+        self.used
+    }
+
+    /// Raises the value at a place, where it is lower.
+    pub(crate) fn raise(&mut self, index: usize, value: u64)
+        requires within { index < CONTEXTS }
+        ensures value { self.new ≡ slice_set self.old index (max (slice_index self.old index) value) }
+        ensures full { length self.old ≡ CONTEXTS }
+    {
+        if self.values[index] < value {
+            self.values[index] = value;
+            self.used = self.used.max(index + 1);
+        }
+    }
+
+    /// Raises each value to the other's, where that is greater.
+    pub(crate) fn join(&mut self, other: &ContextValues)
+        ensures values { self.new ≡ later_values self.old other.now }
+        ensures full { (length self.old ≡ CONTEXTS) × (length other.now ≡ CONTEXTS) × (length self.new ≡ CONTEXTS) }
+    {
+        for index in 0..other.used {
+            self.values[index] = self.values[index].max(other.values[index]);
+        }
+        self.used = self.used.max(other.used);
+    }
+
+    /// Whether no value is below the other's.
+    pub(crate) fn at_least(&self, other: &ContextValues) -> bool
+        ensures { IsTrue result ↔ IsAtLeast self.now other.now }
+    {
+        for index in 0..other.used {
+            if self.values[index] < other.values[index] {
+                return false;
+            }
+        }
+        true
+    }
+}

@@ -1,0 +1,76 @@
+// A merge of two lists of points in one pass over both.
+ghost use Rattle.std.specs.Prelude.{◌≡◌, [], IfOk, IfErr, MatchOption};
+ghost use Rattle.point_core.specs.Agreement.{as_entries, merged as merge_of, HasContexts, HasRisingContexts};
+ghost use Rattle.point_core.specs.TwoLists.{IsFirstOf, IsPartedAt};
+
+use crate::context::CONTEXTS;
+use crate::entry::Point;
+use crate::reach::Reach;
+use crate::refusal::Refusal;
+use std::alloc::Global;
+
+/// The pending points of two lists by rising context, as `canon` gives them of both together: the cost is that of the
+/// points, however many contexts there can be.
+///
+/// Refuses as `Memory` alone.
+pub fn merged(
+    alloc: Global,
+    left: &[Point],
+    right: &[Point],
+    reach: &Reach,
+) -> Result<Vec<Point>, Refusal>
+    requires rising { HasRisingContexts left.now × HasRisingContexts right.now }
+    ensures merged { IfOk result (λ ps. ps.items ≡ merge_of reach.now left.now right.now) }
+    ensures memory { IfErr result (λ e. e ≡ Refusal.Memory) }
+
+    // What the type of a context says of each point.
+    ensures contexts { IfOk result (λ ps. HasContexts (as_entries left.now) × HasContexts (as_entries right.now)) }
+{
+    let count = left.len().saturating_add(right.len()).min(CONTEXTS);
+    let mut points = Vec::with_capacity(alloc, count)?;
+    let mut lists = (left, right);
+    while let Some((point, ps, qs)) = first_of(lists.0, lists.1) {
+        if point.value > reach.get(point.ctx) {
+            points.push_reserved(point);
+        }
+        lists = (ps, qs);
+    }
+    Ok(points)
+}
+
+/// The latest point of the first context of both lists, and what is left of them.
+fn first_of<'a>(left: &'a [Point], right: &'a [Point]) -> Option<(Point, &'a [Point], &'a [Point])>
+    ensures first { MatchOption result
+        ((left.now ≡ []) × (right.now ≡ []))
+        (λ (p, ps, qs). IsFirstOf p ps.now qs.now left.now right.now) }
+{
+    let Some((p, ps)) = parted(left) else {
+        return match parted(right) {
+            Some((q, qs)) => Some((q, left, qs)),
+            None => None,
+        };
+    };
+    let Some((q, qs)) = parted(right) else {
+        return Some((p, ps, right));
+    };
+    if p.ctx.number() < q.ctx.number() {
+        Some((p, ps, right))
+    } else if p.ctx.number() > q.ctx.number() {
+        Some((q, left, qs))
+    } else if p.value >= q.value {
+        Some((p, ps, qs))
+    } else {
+        Some((q, ps, qs))
+    }
+}
+
+/// The first point, and the others.
+fn parted(points: &[Point]) -> Option<(Point, &[Point])>
+    ensures parts { MatchOption result (points.now ≡ []) (λ (p, ps). IsPartedAt p ps.now points.now) }
+{
+    let (first, others) = points.split_first()?;
+    let number = usize::from(first.ctx.number());
+    prove!(number >= 1);
+    prove!(number <= CONTEXTS);
+    Some((*first, others))
+}
