@@ -1,8 +1,9 @@
 -- Why a call is refused.
-use Rattle.std.proofs.Common.{◌≡◌, ℕ, ◌<◌, ◌≤◌, Bool, true, false, refl, sym, ap, ◌∙◌, subst, List, length, Option, None, Some, Result, Ok, Err, inl, inr, is_some, nat_lt, if◌then◌else◌}
+use Rattle.std.proofs.Common.{[], ◌∷◌, ◌&&◌, ◌≡◌, ℕ, ◌<◌, ◌≤◌, Bool, true, false, refl, sym, ap, ◌∙◌, subst, List, length, Option, None, Some, Result, Ok, Err, inl, inr, is_some, nat_lt, if◌then◌else◌}
 use Rattle.std.specs.List.{list_all}
 use Rattle.syncfile_core.specs.Merge.{cause_to_refuse_merge}
 use Rattle.std.specs.Prelude.{IsErrAnd, IfOk, OnOk, MatchOption, MatchBool}
+use Rattle.std.proofs.Math.Bool.{and-false}
 use Rattle.std.proofs.lemmas.Bool.{cases_Bool, cases_lt, lt-ltb, le-ltb, false≢true}
 use Rattle.point_core.specs.declared.refusal.Refusal.{Refusal}
 use Rattle.point_core.specs.declared.refusal.Refusal.TheVariants.{Exists, Limit, NoEntry}
@@ -68,6 +69,19 @@ IsRefusedFor-Err {T} o (Err f) cause e is same given =
 
 pub cause_to_refuse_merge-absent : (fs : List File) (name : List ℕ) (inputs : List (List ℕ)) → list_all (has_file fs) inputs ≡ false → cause_to_refuse_merge fs name inputs ≡ Some NoEntry
 cause_to_refuse_merge-absent fs name inputs absent = ap (λ b. if b then cause_to_refuse fs name else Some NoEntry) absent
+
+pub cause_to_refuse_merge-there : (fs : List File) (name : List ℕ) (inputs : List (List ℕ)) → list_all (has_file fs) inputs ≡ true → cause_to_refuse_merge fs name inputs ≡ cause_to_refuse fs name
+cause_to_refuse_merge-there fs name inputs there = ap (λ b. if b then cause_to_refuse fs name else Some NoEntry) there
+
+module _ (fs : List File) (name a b : List ℕ) where
+  pub cause_to_refuse_merge-first_absent : has_file fs a ≡ false → cause_to_refuse_merge fs name (a ∷ b ∷ []) ≡ Some NoEntry
+  cause_to_refuse_merge-first_absent absent = cause_to_refuse_merge-absent fs name (a ∷ b ∷ []) (ap (λ there. there && (has_file fs b && true)) absent)
+
+  pub cause_to_refuse_merge-second_absent : has_file fs b ≡ false → cause_to_refuse_merge fs name (a ∷ b ∷ []) ≡ Some NoEntry
+  cause_to_refuse_merge-second_absent absent = cause_to_refuse_merge-absent fs name (a ∷ b ∷ []) (ap (λ there. has_file fs a && (there && true)) absent ∙ and-false (has_file fs a))
+
+  pub cause_to_refuse_merge-both : has_file fs a ≡ true → has_file fs b ≡ true → cause_to_refuse_merge fs name (a ∷ b ∷ []) ≡ cause_to_refuse fs name
+  cause_to_refuse_merge-both first second = cause_to_refuse_merge-there fs name (a ∷ b ∷ []) (rw (first, second) refl)
 
 pub OnOk-always : {T E : Type 0} (r : Result T E) (P : Type 0) → P → OnOk r P
 OnOk-always (Ok v) P h = h

@@ -1,20 +1,20 @@
 -- What a merge gathers, input by input.
 use Rattle.std.proofs.Common.{◌≡◌, ℕ, ◌≤◌, refl, sym, ap, ◌∙◌, subst, List, [], ◌∷◌, ◌++◌, length, append-nil}
-use Rattle.std.proofs.lemmas.List.Elements.{All-nil, All-push}
+use Rattle.std.proofs.lemmas.List.Elements.{All-nil, All-cons, All-push}
 use Rattle.std.proofs.lemmas.Grind.{flat_map-append}
 use Rattle.std.proofs.lemmas.List.Sums.{fold-append}
 use Rattle.point_core.specs.declared.context.TheConstants.{CONTEXTS}
 use Rattle.point_core.specs.declared.entry.Point.{Point}
 use Rattle.point_core.specs.declared.entry.Entry.{Entry}
-use Rattle.point_core.specs.Agreement.{as_entries, listing, HasContexts}
+use Rattle.point_core.specs.Agreement.{as_entries, listing, merged, HasContexts}
 use Rattle.point_core.specs.Latest.{IsLatest, points_above}
 use Rattle.point_core.specs.Reach.{later_values}
 use Rattle.point_core.proofs.Agreement.{as_entries-append, HasContexts-append}
 use Rattle.point_core.proofs.Latest.{IsLatest-empty}
 use Rattle.point_core.proofs.Listings.{points_above-IsLatest}
 use Rattle.syncfile_core.specs.SyncFile.{File, file_of}
-use Rattle.syncfile_core.specs.Merge.{points_of, merged_file, IsGathered}
-use Rattle.syncfile_core.proofs.Unions.{length-floor_of}
+use Rattle.syncfile_core.specs.Merge.{points_of, merged_file, IsGathered, StandsForUnion}
+use Rattle.syncfile_core.proofs.Unions.{has_floor, length-floor_of, StandsForUnion-merged_file}
 
 points_of-last : (inputs : List File) (f : File) → points_of (inputs ++ f ∷ []) ≡ points_of inputs ++ f.points
 points_of-last inputs f = flat_map-append (λ (g : File). g.points) inputs (f ∷ []) ∙ ap (λ ps. points_of inputs ++ ps) (append-nil f.points)
@@ -41,3 +41,16 @@ pub merged-is : {table least : List ℕ} {points : List Point} (name : List ℕ)
 merged-is {table} {least} {points} name inputs reach gathered is =
     ap (λ ps. file_of name ps least) (is ∙ points_above-IsLatest gathered.latest)
     ∙ ap (file_of name (listing (as_entries (points_of inputs)) 0 reach)) gathered.floor
+
+-- of two inputs
+entries-two : (f g : File) → as_entries (points_of (f ∷ g ∷ [])) ≡ as_entries f.points ++ as_entries g.points
+entries-two f g = as_entries-append f.points (g.points ++ []) ∙ ap (λ ps. as_entries f.points ++ as_entries ps) (append-nil g.points)
+
+pub merged_file-two : (name : List ℕ) (f g : File) (reach : List ℕ) → file_of name (merged reach f.points g.points) (later_values (later_values reach f.floor) g.floor) ≡ merged_file name (f ∷ g ∷ []) reach
+merged_file-two name f g reach = ap (λ es. file_of name (listing es 0 reach) (later_values (later_values reach f.floor) g.floor)) (as_entries-append f.points g.points ∙ sym (entries-two f g))
+
+pub StandsForUnion-two : (name : List ℕ) (f g : File) (reach : List ℕ) → HasContexts (as_entries f.points) × HasContexts (as_entries g.points) → length f.floor ≡ length reach → length g.floor ≡ length reach → StandsForUnion (f ∷ g ∷ []) (merged_file name (f ∷ g ∷ []) reach)
+StandsForUnion-two name f g reach within first second =
+    StandsForUnion-merged_file name (f ∷ g ∷ []) reach
+    (subst HasContexts (sym (entries-two f g)) (HasContexts-append (as_entries f.points) (as_entries g.points) within.0 within.1))
+    (All-cons (has_floor (length reach)) f (g ∷ []) first (All-cons (has_floor (length reach)) g [] second (All-nil (has_floor (length reach)))))

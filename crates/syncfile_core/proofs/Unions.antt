@@ -11,7 +11,7 @@ use Rattle.point_core.proofs.Values.{length-later_values, IsAtLeast-refl, IsAtLe
 use Rattle.syncfile_core.specs.SyncFile.{File, StandsFor}
 use Rattle.syncfile_core.specs.Merge.{points_of, floor_of, merged_file, HaveFloors, StandsForUnion}
 
-abbrev has_floor : ℕ → File → Type 0
+abbrev pub has_floor : ℕ → File → Type 0
 has_floor n f = length f.floor ≡ n
 
 -- the floor of a merge has as many values as the reach

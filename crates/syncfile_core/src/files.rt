@@ -9,7 +9,7 @@ ghost use Rattle.syncfile_core.specs.Status.{status_of, info_of, TellsSetsOf};
 ghost use Rattle.syncfile_core.specs.Files.{has_file, file_at, without_file, names_of, HasDistinctNames, cause_to_refuse, IsRefusedFor};
 
 use crate::by_making::ByMaking;
-use crate::merge::Gathered;
+use crate::merge::{self, Gathered};
 use crate::status::{self, FileInfo};
 use crate::sync_file::SyncFile;
 use point_core::{Items, LimitKind, Listing, Name, Point, Reach, Refusal, Status};
@@ -147,7 +147,11 @@ impl Files {
             (merge_of self.old name (a.now ∷ b.now ∷ []) reach.now)) }
         ensures unchanged { OnErr result (self.new ≡ self.old) }
     {
-        self.merge_many(name, &[*a, *b], reach)
+        let left = self.known(a)?;
+        let right = self.known(b)?;
+        self.free(&name)?;
+        let file = merge::of_two(self.alloc, name, left, right, reach)?;
+        self.insert(file)
     }
 
     /// Merges any number of files, as `merge` does two. Of no files, it makes a file without points.

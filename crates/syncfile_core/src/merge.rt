@@ -11,6 +11,33 @@ use crate::sync_file::SyncFile;
 use point_core::{CONTEXTS, Items, LatestPoints, Name, Reach, Refusal};
 use std::alloc::Global;
 
+/// The merge of two files, whose points are gone through once.
+///
+/// Refuses as `Memory` alone.
+pub(crate) fn of_two(
+    alloc: Global,
+    name: Name,
+    left: &SyncFile,
+    right: &SyncFile,
+    reach: &Reach,
+) -> Result<Box<SyncFile>, Refusal>
+    ensures file { IfOk result (λ f. f.value ≡ merged_file name (left.now ∷ right.now ∷ []) reach.now) }
+    ensures union { IfOk result (λ f. StandsForUnion (left.now ∷ right.now ∷ [])
+        (merged_file name (left.now ∷ right.now ∷ []) reach.now)) }
+    ensures memory { IfErr result (λ e. e ≡ Memory) }
+{
+    let (ps, qs) = (left.points.as_slice(), right.points.as_slice());
+    let points = point_core::merged(alloc, ps, qs, reach)?;
+    let mut file = SyncFile {
+        name,
+        points: Items::of(points),
+        floor: *reach,
+    };
+    file.floor.join(&left.floor);
+    file.floor.join(&right.floor);
+    file.boxed(alloc)
+}
+
 /// The latest point of each context among a reach and the inputs so far, and the greatest of their floors.
 #[derive(Drop)]
 pub(crate) struct Gathered {
