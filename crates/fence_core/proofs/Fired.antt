@@ -8,7 +8,7 @@ use Rattle.std.specs.Ordering.{nat_cmp, is_eq, ordering_reverse}
 use Rattle.std.specs.declared.cmp.Ordering.{Ordering}
 use Rattle.std.specs.declared.cmp.Ordering.TheVariants.{Less, Equal, Greater}
 use Rattle.std.specs.Cmp.{nat_eq_equiv}
-use Rattle.std.proofs.lemmas.Bool.{cases_Bool}
+use Rattle.std.proofs.lemmas.Bool.{cases_Bool, eqb-true}
 use Rattle.std.proofs.lemmas.Cmp.{nat_cmp_total, eq_by_cmp_equiv}
 use Rattle.std.proofs.lemmas.Option.{same_Some, none-some}
 use Rattle.std.proofs.lemmas.Map.Keys.{IsDistinct-from_sorted}
@@ -22,7 +22,7 @@ use Rattle.fence_core.proofs.Registered.{is_at-true, is_at-is}
 use Rattle.fence_core.proofs.Indexed.{fires-due}
 use Rattle.fence_core.specs.Watch.{Watch, is_for, cookies_of}
 use Rattle.fence_core.specs.Watches.{fires}
-use Rattle.fence_core.specs.Told.{at, cookie_if_fires, IsTold, AreSomeTold, Fires}
+use Rattle.fence_core.specs.Told.{at, cookie_if_fires, with_cookie, IsTold, AreSomeTold, Fires}
 
 -- the cookies of the watches that fire, by registration
 told : List ℕ → List (ℕ × Watch) → List (ℕ × ℕ)
@@ -134,7 +134,7 @@ values-IsTold reach es fired ordered rising all =
     ∙ values-told reach es
 
 -- where no watch was told that doesn't fire, and each that fires was, each was told
-IsTold-all : (reach : List ℕ) (es : List (ℕ × Watch)) (fired : List (ℕ × ℕ)) (r : ℕ) → AreSomeTold es reach fired → ((w : Watch) → at es r ≡ Some w → fires reach w ≡ true → IsTold es reach fired r) → IsTold es reach fired r
+pub IsTold-all : (reach : List ℕ) (es : List (ℕ × Watch)) (fired : List (ℕ × ℕ)) (r : ℕ) → AreSomeTold es reach fired → ((w : Watch) → at es r ≡ Some w → fires reach w ≡ true → IsTold es reach fired r) → IsTold es reach fired r
 IsTold-all reach es fired r some all = by (at fired r) refl
   where
     by : (o : Option ℕ) → at fired r ≡ o → IsTold es reach fired r
@@ -245,3 +245,39 @@ none-left reach (w ∷ ws) = by (fires reach w) refl (none-left reach ws)
     by : (b : Bool) → fires reach w ≡ b → list_any (fires reach) (filter (λ w. not (fires reach w)) ws) ≡ false → list_any (fires reach) (cond (not b) (w ∷ filter (λ w. not (fires reach w)) ws) (filter (λ w. not (fires reach w)) ws)) ≡ false
     by true is rest = rest
     by false is rest = ap (λ b. b || list_any (fires reach) (filter (λ w. not (fires reach w)) ws)) is ∙ rest
+
+-- a rise came to one more point of a watch: what is told then
+module _ (es : List (ℕ × Watch)) (reach : List ℕ) (old new : List (ℕ × ℕ)) (r left : ℕ) (some : AreSomeTold es reach old) (others : (q : ℕ) → nat_eq r q ≡ false → at new q ≡ at old q) (last : left ≡ 0 → at new r ≡ with_cookie (at es r) (at old r)) (fired : left ≡ 0 → (w : Watch) → at es r ≡ Some w → fires reach w ≡ true) where
+  pub passed-last : left ≡ 0 → IsTold es reach new r
+  passed-last none = by (at es r) refl
+    where
+      before : (o : Option ℕ) → at old r ≡ o → at es r ≡ None → o ≡ None
+      before None was is = refl
+      before (Some c) was is = absurd (none-some c (sym (ap (cookie_if_fires reach) is) ∙ some r c was))
+
+      by : (o : Option Watch) → at es r ≡ o → IsTold es reach new r
+      by None is = last none ∙ ap (λ o. with_cookie o (at old r)) is ∙ before (at old r) refl is ∙ sym (ap (cookie_if_fires reach) is)
+      by (Some w) is = last none ∙ ap (λ o. with_cookie o (at old r)) is ∙ sym (ap (cookie_if_fires reach) is ∙ ap (λ b. cond b (Some w.cookie) None) (fired none w is))
+
+  module _ (not_last : nat_eq left 0 ≡ false → at new r ≡ at old r) where
+    pub passed-still : (q : ℕ) → IsTold es reach old q → IsTold es reach new q
+    passed-still q told = elim (cases_Bool (nat_eq r q)) [
+      | inr other ↦ others q other ∙ told
+      | inl same ↦
+          let is = eqb-true r q same in
+          elim (cases_Bool (nat_eq left 0)) [
+            | inl none ↦ subst (IsTold es reach new) is (passed-last (eqb-true left 0 none))
+            | inr more ↦ subst (IsTold es reach new) is (not_last more ∙ subst (IsTold es reach old) (sym is) told)
+          ]
+    ]
+
+    pub passed-some : AreSomeTold es reach new
+    passed-some q c is = elim (cases_Bool (nat_eq r q)) [
+      | inr other ↦ some q c (sym (others q other) ∙ is)
+      | inl same ↦
+          let it = eqb-true r q same in
+          elim (cases_Bool (nat_eq left 0)) [
+            | inl none ↦ sym (subst (IsTold es reach new) it (passed-last (eqb-true left 0 none))) ∙ is
+            | inr more ↦ ap (λ n. cookie_if_fires reach (at es n)) (sym it) ∙ some r c (sym (not_last more) ∙ ap (at new) it ∙ is)
+          ]
+    ]

@@ -19,11 +19,11 @@ use Rattle.fence_core.specs.declared.watches.point_index.WaitingPoint.{WaitingPo
 use Rattle.fence_core.proofs.PointIndex.{is_same-is}
 use Rattle.fence_core.proofs.Registered.{is_at-true, is_at-false, at-All}
 
-or_cases : (a b : Bool) → (a || b) ≡ true → (a ≡ true) ⊎ (b ≡ true)
+pub or_cases : (a b : Bool) → (a || b) ≡ true → (a ≡ true) ⊎ (b ≡ true)
 or_cases true b h = inl refl
 or_cases false b h = inr h
 
-or-right : (a : Bool) {b : Bool} → b ≡ true → (a || b) ≡ true
+pub or-right : (a : Bool) {b : Bool} → b ≡ true → (a || b) ≡ true
 or-right true h = refl
 or-right false h = h
 
@@ -71,7 +71,7 @@ above-later later reach (p ∷ ps) r k high h = by (is_reached later p) (is_reac
     ]
 
 -- of points that are not all reached, one is above the reach
-some-above : (reach : List ℕ) (ps : List Point) (r : ℕ) → are_reached reach ps ≡ false → (k : WaitingPoint) × (k.registration ≡ r) × (is_of (above reach ps) r k ≡ true)
+pub some-above : (reach : List ℕ) (ps : List Point) (r : ℕ) → are_reached reach ps ≡ false → (k : WaitingPoint) × (k.registration ≡ r) × (is_of (above reach ps) r k ≡ true)
 some-above reach [] r h = absurd (cc)
 some-above reach (p ∷ ps) r h = elim (cases_Bool (is_reached reach p)) [
   | inl here ↦
@@ -85,7 +85,7 @@ some-above reach (p ∷ ps) r h = elim (cases_Bool (is_reached reach p)) [
     same_itself k = and_from (nat_eq k.ctx k.ctx) (nat_eq k.value k.value && nat_eq k.registration k.registration) (eq-eqb k.ctx k.ctx refl) (and_from (nat_eq k.value k.value) (nat_eq k.registration k.registration) (eq-eqb k.value k.value refl) (eq-eqb k.registration k.registration refl))
 
 -- a point above the reach is not due there
-above-not_due : (reach : List ℕ) (ps : List Point) (r : ℕ) (k : WaitingPoint) → is_of (above reach ps) r k ≡ true → is_due k.ctx (value_at reach k.ctx) k ≡ false
+pub above-not_due : (reach : List ℕ) (ps : List Point) (r : ℕ) (k : WaitingPoint) → is_of (above reach ps) r k ≡ true → is_due k.ctx (value_at reach k.ctx) k ≡ false
 above-not_due reach [] r k h = absurd (cc)
 above-not_due reach (p ∷ ps) r k h = elim (cases_Bool (is_reached reach p)) [
   | inl here ↦ above-not_due reach ps r k (sym (ap (λ b. is_of (cond (not b) (p ∷ above reach ps) (above reach ps)) r k) here) ∙ h)
@@ -103,7 +103,7 @@ above-not_due reach (p ∷ ps) r k h = elim (cases_Bool (is_reached reach p)) [
     and-false false = refl
 
 -- all points are reached, so each is due
-reached-due : (reach : List ℕ) (ps : List Point) (r : ℕ) (k : WaitingPoint) → are_reached reach ps ≡ true → is_of ps r k ≡ true → is_due k.ctx (value_at reach k.ctx) k ≡ true
+pub reached-due : (reach : List ℕ) (ps : List Point) (r : ℕ) (k : WaitingPoint) → are_reached reach ps ≡ true → is_of ps r k ≡ true → is_due k.ctx (value_at reach k.ctx) k ≡ true
 reached-due reach [] r k all h = absurd (cc)
 reached-due reach (p ∷ ps) r k all h =
     let parts = and_parts (is_reached reach p) (are_reached reach ps) all in

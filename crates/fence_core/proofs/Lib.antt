@@ -8,3 +8,4 @@ pub mod Registered
 pub mod Indexed
 pub mod Fired
 pub mod Signalling
+pub mod Counted

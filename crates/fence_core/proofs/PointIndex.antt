@@ -2,7 +2,7 @@
 use Rattle.std.proofs.Common.{◌≡◌, ℕ, ◌+◌, if◌then◌else◌, ◌^◌, length, filter, All, zero, suc, take, ◌<◌, ◌≤◌, nat_eq, nat_le, ◌⊎◌, inl, inr, Bool, true, false, not, cond, ◌&&◌, ◌||◌, refl, sym, ap, ◌∙◌, subst, List, [], ◌∷◌, ◌++◌, arith}
 use Rattle.std.specs.declared.cmp.Ordering.{Ordering}
 use Rattle.std.specs.declared.cmp.Ordering.TheVariants.{Less, Equal, Greater}
-use Rattle.std.specs.Ordering.{is_eq, is_lt, is_gt, is_le, nat_cmp, ordering_then}
+use Rattle.std.specs.Ordering.{is_eq, is_lt, is_gt, is_le, nat_cmp, ordering_then, match_ordering}
 use Rattle.std.specs.List.{list_any}
 use Rattle.std.proofs.lemmas.Bool.{and_parts, and_from, leb-true, le-leb, eqb-true, eq-eqb, cases_Bool, false≢true}
 use Rattle.std.proofs.lemmas.Bool.Decides.{nat_tests}
@@ -13,7 +13,9 @@ use Rattle.std.specs.BTreeMap.Range.{range_contains}
 use Rattle.std.specs.declared.ops.Bound.TheVariants.{Included}
 use Rattle.std.proofs.lemmas.Map.Views.{any-filter_same}
 use Rattle.point_core.specs.declared.entry.Point.{Point}
-use Rattle.fence_core.specs.PointIndex.{waiting, is_same, holds, is_of, above, is_due, AreWaiting}
+use Rattle.std.specs.BTreeSet.{insert_key}
+use Rattle.std.specs.Set.{remove_key}
+use Rattle.fence_core.specs.PointIndex.{waiting, is_same, holds, is_of, above, is_due, number, number_of, AreWaiting}
 use Rattle.point_core.specs.declared.context.TheConstants.{CONTEXTS}
 use Rattle.fence_core.specs.declared.watches.point_index.WaitingPoint.{WaitingPoint}
 
@@ -237,7 +239,7 @@ le-from_not_gt Less h = refl
 le-from_not_gt Equal h = refl
 le-from_not_gt Greater h = absurd (cc)
 
-due-contains : (ctx value most : ℕ) (k : WaitingPoint) → is_due ctx value k ≡ true → k.registration ≤ most → range_contains order (Included (record { ctx = ctx; value = 0; registration = 0 })) (Included (record { ctx = ctx; value = value; registration = most })) k ≡ true
+pub due-contains : (ctx value most : ℕ) (k : WaitingPoint) → is_due ctx value k ≡ true → k.registration ≤ most → range_contains order (Included (record { ctx = ctx; value = 0; registration = 0 })) (Included (record { ctx = ctx; value = value; registration = most })) k ≡ true
 due-contains ctx value most k due low =
     let parts = and_parts (nat_eq k.ctx ctx) (nat_le k.value value) due in
     let is : k.ctx ≡ ctx = eqb-true k.ctx ctx parts.0 in
@@ -275,3 +277,79 @@ and-right a b c is there = (and_parts a b (sym is ∙ there)).1
 pub none-held : (ks : List WaitingPoint) (k : WaitingPoint) → length ks ≡ 0 → holds ks k ≡ false
 none-held [] k is = refl
 none-held (x ∷ ks) k is = absurd (omega arith)
+
+-- how many there are, with one more and with one less
+number-insert : (test : WaitingPoint → Bool) (key : WaitingPoint) (ks : List WaitingPoint) → list_any (λ x. is_eq (order key x)) ks ≡ false → number test (insert_key order ks key) ≡ number test ks + cond (test key) 1 0
+number-insert test key [] none = by (test key)
+  where
+    by : (b : Bool) → length (cond b (key ∷ []) []) ≡ 0 + cond b 1 0
+    by true = refl
+    by false = refl
+number-insert test key (x ∷ ks) none = on (order key x) none (number-insert test key ks)
+  where
+    more : (b c : Bool) → number test (insert_key order ks key) ≡ number test ks + cond b 1 0 → length (cond c (x ∷ filter test (insert_key order ks key)) (filter test (insert_key order ks key))) ≡ length (cond c (x ∷ filter test ks) (filter test ks)) + cond b 1 0
+    more b true is = omega arith
+    more b false is = is
+
+    first : (b : Bool) (xs : List WaitingPoint) → length (cond b (key ∷ xs) xs) ≡ length xs + cond b 1 0
+    first true xs = omega arith
+    first false xs = omega arith
+
+    on : (o : Ordering) → (is_eq o || list_any (λ x. is_eq (order key x)) ks) ≡ false → (list_any (λ x. is_eq (order key x)) ks ≡ false → number test (insert_key order ks key) ≡ number test ks + cond (test key) 1 0) → number test (match_ordering o (key ∷ x ∷ ks) (x ∷ ks) (x ∷ insert_key order ks key)) ≡ number test (x ∷ ks) + cond (test key) 1 0
+    on Less none rest = first (test key) (filter test (x ∷ ks))
+    on Equal none rest = absurd (cc)
+    on Greater none rest = more (test key) (test x) (rest none)
+
+number-remove : (test : WaitingPoint → Bool) (key : WaitingPoint) (ks : List WaitingPoint) → ((x : WaitingPoint) → is_eq (order key x) ≡ true → test x ≡ test key) → number test (remove_key (λ x. is_eq (order key x)) ks) + cond (list_any (λ x. is_eq (order key x)) ks) (cond (test key) 1 0) 0 ≡ number test ks
+number-remove test key [] same = refl
+number-remove test key (x ∷ ks) same = on (is_eq (order key x)) refl (number-remove test key ks same)
+  where
+    first : (b c : Bool) (xs : List WaitingPoint) → b ≡ c → length xs + cond c 1 0 ≡ length (cond b (x ∷ xs) xs)
+    first true true xs e = omega arith
+    first false false xs e = omega arith
+    first true false xs e = absurd (cc)
+    first false true xs e = absurd (cc)
+
+    more : (b : Bool) (xs ys : List WaitingPoint) (n : ℕ) → length xs + n ≡ length ys → length (cond b (x ∷ xs) xs) + n ≡ length (cond b (x ∷ ys) ys)
+    more true xs ys n is = omega arith
+    more false xs ys n is = is
+
+    on : (b : Bool) → is_eq (order key x) ≡ b → number test (remove_key (λ x. is_eq (order key x)) ks) + cond (list_any (λ x. is_eq (order key x)) ks) (cond (test key) 1 0) 0 ≡ number test ks → number test (cond b ks (x ∷ remove_key (λ x. is_eq (order key x)) ks)) + cond (b || list_any (λ x. is_eq (order key x)) ks) (cond (test key) 1 0) 0 ≡ number test (x ∷ ks)
+    on true is rest = first (test x) (test key) (filter test ks) (same x is)
+    on false is rest = more (test x) (filter test (remove_key (λ x. is_eq (order key x)) ks)) (filter test ks) _ rest
+
+pub number-le : (test : WaitingPoint → Bool) (ks : List WaitingPoint) → number test ks ≤ length ks
+number-le test [] = omega arith
+number-le test (x ∷ ks) = by (test x) (number-le test ks)
+  where
+    by : (b : Bool) → number test ks ≤ length ks → length (cond b (x ∷ filter test ks) (filter test ks)) ≤ length (x ∷ ks)
+    by true low = omega arith
+    by false low = omega arith
+
+pub number-take : (r : ℕ) (key : WaitingPoint) (ks : List WaitingPoint) → number_of r (remove_key (λ x. is_eq (order key x)) ks) + cond (list_any (λ x. is_eq (order key x)) ks) (cond (nat_eq key.registration r) 1 0) 0 ≡ number_of r ks
+number-take r key ks = number-remove (λ k. nat_eq k.registration r) key ks (λ x is. ap (λ n. nat_eq n r) (sym ((is_same-is key x (sym (is_eq-order key x) ∙ is)).2)))
+
+pub number-put : (r : ℕ) (key : WaitingPoint) (ks : List WaitingPoint) → list_any (λ x. is_eq (order key x)) ks ≡ false → number_of r (insert_key order ks key) ≡ number_of r ks + cond (nat_eq key.registration r) 1 0
+number-put r key ks none = number-insert (λ k. nat_eq k.registration r) key ks none
+
+-- where the key was taken out, one of its registration was counted
+pub taken-counted : (key : WaitingPoint) (old new : List WaitingPoint) → new ≡ remove_key (λ x. is_eq (order key x)) old → list_any (λ x. is_eq (order key x)) old ≡ true → (r : ℕ) → number_of r new + cond (nat_eq key.registration r) 1 0 ≡ number_of r old
+taken-counted key old new is there r =
+    ap (λ ks. number_of r ks + cond (nat_eq key.registration r) 1 0) is
+    ∙ ap (λ b. number_of r (remove_key (λ x. is_eq (order key x)) old) + cond b (cond (nat_eq key.registration r) 1 0) 0) (sym there)
+    ∙ number-take r key old
+
+pub taken-some : (key : WaitingPoint) (old new : List WaitingPoint) (held : ℕ) → new ≡ remove_key (λ x. is_eq (order key x)) old → list_any (λ x. is_eq (order key x)) old ≡ true → held ≡ number_of key.registration old → 1 ≤ held
+taken-some key old new held is there count =
+    let more = taken-counted key old new is there key.registration in
+    let one = ap (λ b. number_of key.registration new + cond b 1 0) (eq-eqb key.registration key.registration refl) in
+    omega arith
+
+pub put-counted : (key other : WaitingPoint) (old new : List WaitingPoint) (was now r : ℕ) → key ≡ other → new ≡ insert_key order old key → list_any (λ x. is_eq (order key x)) old ≡ false → was ≡ number_of r old → now ≡ was + cond (nat_eq other.registration r) 1 0 → now ≡ number_of r new
+put-counted key other old new was now r same is none count raised =
+    let more = ap (number_of r) is ∙ number-put r key old none ∙ ap (λ (k : WaitingPoint). number_of r old + cond (nat_eq k.registration r) 1 0) same in
+    omega arith
+
+pub not-true : (b : Bool) → not b ≡ true → b ≡ false
+not-true true h = sym h
+not-true false h = refl

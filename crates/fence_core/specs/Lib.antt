@@ -1,4 +1,5 @@
 pub mod Callbacks
+pub mod Counts
 pub mod Fence
 pub mod PointIndex
 pub mod Registered

@@ -1,9 +1,9 @@
 -- The points that pending watches wait for.
-use Rattle.std.specs.Prelude.{◌≡◌, ℕ, ◌<◌, ◌≤◌, ◌^◌, nat_eq, nat_le, Bool, true, not, ◌&&◌, List, filter}
+use Rattle.std.specs.Prelude.{◌≡◌, ℕ, ◌<◌, ◌≤◌, ◌^◌, nat_eq, nat_le, Bool, true, not, ◌&&◌, List, filter, length}
 use Rattle.std.specs.List.{list_any}
 use Rattle.point_core.specs.declared.context.TheConstants.{CONTEXTS}
 use Rattle.point_core.specs.declared.entry.Point.{Point}
-use Rattle.point_core.specs.Reach.{is_reached}
+use Rattle.point_core.specs.Reach.{is_reached, value_at}
 use Rattle.fence_core.specs.declared.watches.point_index.WaitingPoint.{WaitingPoint}
 
 -- a watch of that registration waits for the point
@@ -28,6 +28,22 @@ above reach points = filter (λ p. not (is_reached reach p)) points
 -- whether it is of that context, at or below the value
 abbrev pub is_due : ℕ → ℕ → WaitingPoint → Bool
 is_due ctx value k = nat_eq k.ctx ctx && nat_le k.value value
+
+-- how many of them pass the test
+abbrev pub number : (WaitingPoint → Bool) → List WaitingPoint → ℕ
+number test ks = length (filter test ks)
+
+-- how many are of that registration
+abbrev pub number_of : ℕ → List WaitingPoint → ℕ
+number_of r ks = number (λ k. nat_eq k.registration r) ks
+
+-- how many of that registration are due in a context
+abbrev pub number_due : ℕ → ℕ → ℕ → List WaitingPoint → ℕ
+number_due ctx value r ks = number (λ k. nat_eq k.registration r && is_due ctx value k) ks
+
+-- how many of that registration are due at the reach
+abbrev pub number_reached : List ℕ → ℕ → List WaitingPoint → ℕ
+number_reached reach r ks = number (λ k. nat_eq k.registration r && is_due k.ctx (value_at reach k.ctx) k) ks
 
 -- each is of a context
 pub record AreWaiting (ks : List WaitingPoint) : Type 0 where

@@ -10,6 +10,7 @@ ghost use Rattle.fence_core.specs.Fence.{members_of};
 ghost use Rattle.fence_core.specs.Watch.{registry_of, ArePending};
 ghost use Rattle.fence_core.specs.Watches.{no_watches, has_watch, cause_to_refuse, cause_to_refuse_watch, with_watch, without_watch, without_watches, fires, fired_by, after_rise_to};
 
+mod counts;
 mod point_index;
 
 use self::point_index::PointIndex;
@@ -182,12 +183,13 @@ impl Watches {
     }
 
     /// The cookies of the watches all of whose points are signalled at this reach, by registration.
-    fn fired(&self, reach: &Reach) -> Result<Vec<u64>, Refusal>
-        requires rises { IsAtLeast reach.now self.now.reach }
-        ensures fired { IfOk result (λ cookies. cookies.items ≡ fired_by self.now reach.now) }
+    fn fired(&mut self, reach: &Reach) -> Result<Vec<u64>, Refusal>
+        requires rises { IsAtLeast reach.now self.old.reach }
+        ensures same { self.new ≡ self.old }
+        ensures fired { IfOk result (λ cookies. cookies.items ≡ fired_by self.old reach.now) }
         ensures memory { IfErr result (λ e. e ≡ Memory) }
-        ensures none_fires { fired_by self.now reach.now ≡ [] → IsOk result }
-        ensures pending { ArePending self.now.pending }
+        ensures none_fires { fired_by self.old reach.now ≡ [] → IsOk result }
+        ensures pending { ArePending self.old.pending }
     {
         let fired = self
             .index

@@ -1,5 +1,5 @@
 // The points that pending watches wait for, by context and value.
-ghost use Rattle.std.specs.Prelude.{◌≡◌, ℕ, ◌<◌, ◌^◌, ◌≤◌, true, false, not, ◌&&◌, ◌||◌, []};
+ghost use Rattle.std.specs.Prelude.{◌≡◌, ℕ, ◌<◌, ◌^◌, ◌-◌, ◌≤◌, true, false, not, ◌&&◌, ◌||◌, [], length};
 ghost use Rattle.std.specs.Prelude.{OnOk, OnErr, IfOk, IfErr, IfSome, IfNone};
 ghost use Rattle.std.specs.Ordering.{nat_cmp};
 ghost use Rattle.std.specs.Map.{keys_of};
@@ -8,11 +8,16 @@ ghost use Rattle.point_core.specs.declared.refusal.Refusal.TheVariants.{Memory};
 ghost use Rattle.fence_core.specs.declared.watches.point_index.WaitingPoint.{WaitingPoint as Waiting};
 ghost use Rattle.fence_core.specs.PointIndex.{waiting, is_same, holds, is_of, above, is_due};
 ghost use Rattle.fence_core.specs.Told.{IsTold, AreSomeTold, Fires};
+ghost use Rattle.fence_core.specs.Counts.{FireByCount};
 ghost use Rattle.point_core.specs.Reach.{value_at};
 ghost use Rattle.point_core.specs.declared.context.TheConstants.{CONTEXTS};
 
+mod firing;
+
+use self::firing::{start_reached, tell_reached};
 use super::PendingWatch;
-use point_core::{CONTEXTS, Context, Point, Reach, Refusal, is_signalled};
+use super::counts::Counts;
+use point_core::{Context, Point, Reach, Refusal, is_signalled};
 use std::alloc::Global;
 use std::collections::{BTreeMap, BTreeSet};
 use std::marker::Model;
@@ -36,24 +41,48 @@ impl WaitingPoint {
             registration,
         }
     }
+
+    /// The least of a context.
+    fn first(ctx: Context) -> WaitingPoint
+        ensures { result ≡ record { ctx = ctx; value = 0; registration = 0 } }
+    {
+        WaitingPoint {
+            ctx,
+            value: 0,
+            registration: 0,
+        }
+    }
+
+    /// The greatest of a context at that value.
+    fn last(ctx: Context, value: u64) -> WaitingPoint
+        ensures { result ≡ record { ctx = ctx; value = value; registration = 2 ^ 64 - 1 } }
+    {
+        WaitingPoint {
+            ctx,
+            value,
+            registration: u64::MAX,
+        }
+    }
 }
 
 /// The points that pending watches wait for. Those of one context stand by value.
 #[derive(Drop)]
 pub(super) struct PointIndex {
     points: BTreeSet<WaitingPoint>,
+    counts: Counts,
 }
 
 impl Model for PointIndex {
     ghost use Rattle.std.specs.Prelude.{List};
     ghost use Rattle.fence_core.specs.PointIndex.{AreWaiting};
+    ghost use Rattle.fence_core.specs.Counts.{AreCounted};
     ghost use Rattle.fence_core.specs.declared.watches.point_index.WaitingPoint.{WaitingPoint};
 
     ghost Value = { List WaitingPoint };
 
     ghost view = { λ p. p.points.keys };
 
-    ghost invariant = { λ p. AreWaiting p.points.keys };
+    ghost invariant = { λ p. AreWaiting p.points.keys × AreCounted p.points.keys p.counts };
 }
 
 impl PointIndex {
@@ -63,6 +92,7 @@ impl PointIndex {
     {
         PointIndex {
             points: BTreeSet::new(alloc),
+            counts: Counts::new(alloc),
         }
     }
 
@@ -91,7 +121,7 @@ impl PointIndex {
         ensures { (k : Waiting) → holds self.new k ≡ (not (is_of points.now registration k) && holds self.old k) }
     {
         for point in points {
-            self.points.remove(&WaitingPoint::of(*point, registration));
+            self.take(WaitingPoint::of(*point, registration));
         }
     }
 
@@ -108,7 +138,7 @@ impl PointIndex {
         if self.points.is_empty() {
             return;
         }
-        for index in 0..CONTEXTS {
+        for index in 0..reach.used() {
             let ctx = Context::at(index);
             self.take_between(ctx, visited.get(ctx), reach.get(ctx));
         }
@@ -126,13 +156,25 @@ impl PointIndex {
         }
     }
 
+    #[inline(never)]
     fn take_due(&mut self, ctx: Context, value: u64)
         ensures less { (k : Waiting) → holds self.new k ≡ true → holds self.old k ≡ true }
         ensures others { (k : Waiting) → is_due ctx value k ≡ false → holds self.new k ≡ holds self.old k }
         ensures none_left { (k : Waiting) → is_due ctx value k ≡ true → holds self.new k ≡ false }
     {
         while let Some(first) = self.first_due(ctx, value) {
-            self.points.remove(&first);
+            self.take(first);
+        }
+    }
+
+    /// Takes a point out, and counts it.
+    fn take(&mut self, point: WaitingPoint)
+        ensures taken { (k : Waiting) → holds self.new k ≡ (not (is_same point k) && holds self.old k) }
+        ensures fewer { holds self.old point ≡ true → length self.new < length self.old }
+    {
+        let registration = point.registration;
+        if self.points.remove(&point) {
+            self.counts.lower(registration);
         }
     }
 
@@ -144,10 +186,19 @@ impl PointIndex {
     {
         let number = point.ctx.number();
         prove!(number >= 1);
-        let Ok(_new) = self.points.insert(WaitingPoint::of(point, registration)) else {
-            return Err(Refusal::Memory);
-        };
-        Ok(())
+        let _held = self.points.len();
+        self.counts.raise(registration)?;
+        match self.points.insert(WaitingPoint::of(point, registration)) {
+            Ok(true) => Ok(()),
+            Ok(false) => {
+                self.counts.lower(registration);
+                Ok(())
+            }
+            Err(_refused) => {
+                self.counts.lower(registration);
+                Err(Refusal::Memory)
+            }
+        }
     }
 
     /// The first point of the context at or below the value.
@@ -155,17 +206,8 @@ impl PointIndex {
         ensures some { IfSome result (λ k. (is_due ctx value k ≡ true) × (holds self.now k ≡ true)) }
         ensures none { IfNone result ((k : Waiting) → is_due ctx value k ≡ true → holds self.now k ≡ false) }
     {
-        let low = WaitingPoint {
-            ctx,
-            value: 0,
-            registration: 0,
-        };
-        let high = WaitingPoint {
-            ctx,
-            value,
-            registration: u64::MAX,
-        };
-        match self.points.range(low..=high).next() {
+        let (first, last) = (WaitingPoint::first(ctx), WaitingPoint::last(ctx, value));
+        match self.points.range(first..=last).next() {
             Some(first) => Some(*first),
             None => None,
         }
@@ -174,16 +216,18 @@ impl PointIndex {
     /// The cookies of the watches all of whose points are signalled at the reach, by registration. No point is at or
     /// below the visited reach: only the contexts whose value is another now are looked at.
     pub(super) fn fired(
-        &self,
+        &mut self,
         alloc: Global,
         pending: &BTreeMap<u64, PendingWatch>,
         visited: &Reach,
         reach: &Reach,
     ) -> Result<BTreeMap<u64, u64>, Refusal>
-        requires above { (k : Waiting) → holds self.now k ≡ true → is_due k.ctx (value_at visited.now k.ctx) k ≡ false }
+        requires above { (k : Waiting) → holds self.old k ≡ true → is_due k.ctx (value_at visited.now k.ctx) k ≡ false }
+        requires by_count { FireByCount pending.now.entries self.old reach.now }
+        ensures same { self.new ≡ self.old }
         ensures some_fired { IfOk result (λ fired. AreSomeTold pending.now.entries reach.now fired.entries) }
         ensures all { IfOk result (λ fired. (k : Waiting) → is_due k.ctx (value_at reach.now k.ctx) k ≡ true →
-            holds self.now k ≡ true → IsTold pending.now.entries reach.now fired.entries k.registration) }
+            holds self.old k ≡ true → IsTold pending.now.entries reach.now fired.entries k.registration) }
         ensures ordered { IfOk result (λ fired. IsStrictlySortedBy nat_cmp (keys_of fired.entries)) }
         ensures memory { IfErr result (λ e. e ≡ Memory) }
         ensures some_fires { OnErr result (Fires pending.now.entries reach.now) }
@@ -192,73 +236,18 @@ impl PointIndex {
         if self.points.is_empty() {
             return Ok(fired);
         }
-        for index in 0..CONTEXTS {
-            let ctx = Context::at(index);
-            if visited.get(ctx) != reach.get(ctx) {
-                self.add_fired(ctx, pending, reach, &mut fired)?;
-            }
+        if !start_reached(&self.points, &mut self.counts, visited, reach) {
+            return Ok(fired);
         }
+        tell_reached(
+            &self.points,
+            &mut self.counts,
+            pending,
+            visited,
+            reach,
+            &mut fired,
+        )?;
         let _count = fired.len();
         Ok(fired)
-    }
-
-    /// Adds to the fired watches, by registration, those that wait for a point of the context at or below its value in
-    /// the reach, and all of whose points are signalled at the reach.
-    fn add_fired(
-        &self,
-        ctx: Context,
-        pending: &BTreeMap<u64, PendingWatch>,
-        reach: &Reach,
-        fired: &mut BTreeMap<u64, u64>,
-    ) -> Result<(), Refusal>
-        requires some_fired { AreSomeTold pending.now.entries reach.now fired.old.entries }
-        ensures some_fired { AreSomeTold pending.now.entries reach.now fired.new.entries }
-        ensures still { (r : ℕ) → IsTold pending.now.entries reach.now fired.old.entries r →
-            IsTold pending.now.entries reach.now fired.new.entries r }
-        ensures all { OnOk result ((k : Waiting) → is_due ctx (value_at reach.now ctx) k ≡ true →
-            holds self.now k ≡ true → IsTold pending.now.entries reach.now fired.new.entries k.registration) }
-        ensures memory { IfErr result (λ e. e ≡ Memory) }
-        ensures some_fires { OnErr result (Fires pending.now.entries reach.now) }
-    {
-        let low = WaitingPoint {
-            ctx,
-            value: 0,
-            registration: 0,
-        };
-        let high = WaitingPoint {
-            ctx,
-            value: reach.get(ctx),
-            registration: u64::MAX,
-        };
-        for due in self.points.range(low..=high) {
-            add_if_fired(due.registration, pending, reach, fired)?;
-        }
-        Ok(())
-    }
-}
-
-fn add_if_fired(
-    registration: u64,
-    pending: &BTreeMap<u64, PendingWatch>,
-    reach: &Reach,
-    fired: &mut BTreeMap<u64, u64>,
-) -> Result<(), Refusal>
-    requires some_fired { AreSomeTold pending.now.entries reach.now fired.old.entries }
-    ensures some_fired { AreSomeTold pending.now.entries reach.now fired.new.entries }
-    ensures still { (r : ℕ) → IsTold pending.now.entries reach.now fired.old.entries r →
-        IsTold pending.now.entries reach.now fired.new.entries r }
-    ensures told { OnOk result (IsTold pending.now.entries reach.now fired.new.entries registration) }
-    ensures memory { IfErr result (λ e. e ≡ Memory) }
-    ensures some_fires { OnErr result (Fires pending.now.entries reach.now) }
-{
-    let Some(watch) = pending.get(&registration) else {
-        return Ok(());
-    };
-    if !watch.fence.is_signalled(reach) {
-        return Ok(());
-    }
-    match fired.insert(registration, watch.cookie) {
-        Ok(_before) => Ok(()),
-        Err(_refused) => Err(Refusal::Memory),
     }
 }

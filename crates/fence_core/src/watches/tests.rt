@@ -1,8 +1,11 @@
 // Values that people worked out.
 ghost use Rattle.std.specs.Prelude.{◌≡◌, IfOk};
 
+mod scan;
+
 use super::*;
 use point_core::{Context, Point};
+use std::process::Abort;
 use std::test::Fail;
 
 fn point(number: u16, value: u64) -> Result<Point, Fail>
@@ -97,19 +100,28 @@ fn watch_of_merge(rt: HostRuntime) -> Result<(), Fail> {
     Ok(())
 }
 
+fn reach_members(
+    rt: &impl Abort,
+    watches: &mut Watches,
+    merged: &Fence,
+    one: &Fence,
+) -> Result<(), Fail> {
+    for (cookie, fence) in [(1, merged), (2, one), (3, merged)] {
+        assert!(rt; add(watches, cookie, fence, &Reach::zero())?.is_ok());
+    }
+    let second = reach(0, 1)?;
+    assert!(rt; rise(watches, &second)?.is_empty());
+    assert!(rt; watches.remove(1));
+    assert!(rt; add(watches, 1, merged, &second)?.is_ok());
+    assert!(rt; rise(watches, &reach(1, 1)?)?.as_slice() == [2, 3, 1].as_slice());
+    Ok(())
+}
+
 #[test]
 fn members_reached_in_different_orders(rt: HostRuntime) -> Result<(), Fail> {
     let (merged, one) = (both(rt.alloc(), 1, 1)?, plain(rt.alloc(), 1)?);
     let mut watches = Watches::new(rt.alloc())?;
-    for (cookie, fence) in [(1, &merged), (2, &one), (3, &merged)] {
-        assert!(rt; add(&mut watches, cookie, fence, &Reach::zero())?.is_ok());
-    }
-    let second = reach(0, 1)?;
-    assert!(rt; rise(&mut watches, &second)?.is_empty());
-    assert!(rt; watches.remove(1));
-    assert!(rt; add(&mut watches, 1, &merged, &second)?.is_ok());
-    assert!(rt; rise(&mut watches, &reach(1, 1)?)?.as_slice() == [2, 3, 1].as_slice());
-    Ok(())
+    reach_members(&rt, &mut watches, &merged, &one)
 }
 
 // A cookie that is registered anew stands last.

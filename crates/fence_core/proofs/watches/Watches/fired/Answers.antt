@@ -1,4 +1,7 @@
-use Rattle.std.proofs.Common.{◌≡◌, ◌∙◌, ap, subst}
+use Rattle.std.proofs.Common.{◌≡◌, ◌∙◌, ap, sym, subst}
+use Rattle.point_core.specs.Reach.{IsAtLeast}
+use Rattle.fence_core.specs.Watch.{Registry}
+use Rattle.fence_core.proofs.Counted.{fires-by_count}
 use Rattle.std.specs.Prelude.{IfOk}
 use Rattle.fence_core.specs.Watches.{fired_by}
 use Rattle.fence_core.proofs.Fired.{Fires-some, values-fired}
@@ -15,3 +18,6 @@ returns-clause-fired c =
 pub returns-clause-none_fires : goal.returns-clause-none_fires
 returns-clause-none_fires c = λ none.
     c.listed.ensures.none (values-fired c.args.reach.now c.self.inside.reach c.self.inside.pending.entries c.self.inside.index c.in_ok-fired.fired.entries c.self.invariant.0.ordered c.self.invariant.1 c.in_ok-fired.ensures.ordered c.in_ok-fired.ensures.some_fired c.in_ok-fired.ensures.all ∙ ap (λ r. fired_by r c.args.reach.now) c.self.view_is ∙ none)
+
+pub fired-requires-clause-by_count : goal.fired-requires-clause-by_count
+fired-requires-clause-by_count c = fires-by_count c.self.inside.pending.entries c.self.inside.index c.args.reach.now c.self.inside.reach c.self.invariant.1 (subst (λ (r : Registry). IsAtLeast c.args.reach.now r.reach) (sym c.self.view_is) c.requires.rises)

@@ -6,14 +6,14 @@ use Rattle.fence_core.proofs.watches.point_index.PointIndex.first_due.Goals as g
 
 pub returns-in-Some-clause-some : goal.returns-in-Some-clause-some
 returns-in-Some-clause-some c =
-    let first = due-first c.args.ctx c.args.value 18446744073709551615 _ _ _ c.next.new.self c.in-Some.first.now c.self.inside.points.keys c.new.ensures.start c.new.ensures.end c.in-Some.ensures.steps (c.range.ensures.in_range c.new.ensures.exhausted).0 in
+    let first = due-first c.args.ctx c.args.value 18446744073709551615 _ _ _ c.next.new.self c.in-Some.first.now c.self.inside.points.keys (c.new.ensures.start ∙ c.first-first.ensures) (c.new.ensures.end ∙ c.last-last.ensures) c.in-Some.ensures.steps (c.range.ensures.in_range c.new.ensures.exhausted).0 in
     (first.0, ap (λ ks. holds ks c.in-Some.first.now) (sym c.self.view_is) ∙ first.1)
 
 pub returns-in-None-clause-none : goal.returns-in-None-clause-none
 returns-in-None-clause-none c = λ k due. elim (cases_Bool (holds c.self.inside.points.keys k)) [
   | inl there ↦
-      let low = c.self.invariant.registrations k there in
+      let low = c.self.invariant.0.registrations k there in
       ap (λ ks. holds ks k) (sym c.self.view_is)
-      ∙ due-none c.args.ctx c.args.value 18446744073709551615 _ _ c.self.inside.points.keys c.new.ensures.start c.new.ensures.end ((c.range.ensures.in_range c.new.ensures.exhausted).5 c.in-None.ensures.steps.0) k due (omega arith)
+      ∙ due-none c.args.ctx c.args.value 18446744073709551615 _ _ c.self.inside.points.keys (c.new.ensures.start ∙ c.first-first.ensures) (c.new.ensures.end ∙ c.last-last.ensures) ((c.range.ensures.in_range c.new.ensures.exhausted).5 c.in-None.ensures.steps.0) k due (omega arith)
   | inr none ↦ ap (λ ks. holds ks k) (sym c.self.view_is) ∙ none
 ]

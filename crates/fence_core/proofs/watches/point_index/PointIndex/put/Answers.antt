@@ -1,18 +1,29 @@
-use Rattle.std.proofs.Common.{ap, subst, ◌∙◌, ◌||◌, ◌≤◌}
+use Rattle.std.proofs.Common.{ap, sym, subst, ◌∙◌, ◌||◌, ◌≤◌, nat_eq, arith}
 use Rattle.point_core.specs.declared.context.TheConstants.{CONTEXTS}
 use Rattle.fence_core.specs.PointIndex.{waiting, is_same, holds}
-use Rattle.fence_core.proofs.PointIndex.{holds-put, AreWaiting-put}
+use Rattle.fence_core.proofs.PointIndex.{holds-put, AreWaiting-put, number-le, put-counted, not-true}
 use Rattle.fence_core.proofs.watches.point_index.PointIndex.put.Goals as goal
 
-pub returns-clause-put : goal.returns-clause-put
-returns-clause-put c = λ k.
-    holds-put c.self.inside.points.keys _ c.of.result k (c.in-Ok.ensures.updates.0 k)
+pub raise-requires : goal.raise-requires
+raise-requires c =
+    let low = number-le (λ k. nat_eq k.registration c.args.registration) c.self.inside.points.keys in
+    let is = c.self.invariant.1 c.args.registration in
+    let len = c.len-held.ensures.len in
+    let small = c.len-held.ensures.small in
+    record { room = omega arith }
+
+pub returns-in-Ok-true-clause-put : goal.returns-in-Ok-true-clause-put
+returns-in-Ok-true-clause-put c = λ k.
+    holds-put c.self.inside.points.keys _ c.of.result k (c.in-Ok-true.ensures.updates.0 k)
     ∙ ap (λ w. is_same w k || holds c.self.inside.points.keys k) c.of.ensures
     ∙ ap (λ ks. is_same (waiting c.args.point c.args.registration) k || holds ks k) c.self.view_is
 
-pub invariant_of-self-2 : goal.invariant_of-self-2
-invariant_of-self-2 c =
-    AreWaiting-put c.self.inside.points.keys c.insert.new.self.keys (waiting c.args.point c.args.registration) c.self.invariant
-    (subst (λ n. (1 ≤ n) × (n ≤ CONTEXTS)) c.number-number.ensures.value c.number-number.ensures.within)
-    c.ranges.registration.fits
-    (λ k. holds-put c.self.inside.points.keys c.insert.new.self.keys c.of.result k (c.in-Ok.ensures.updates.0 k) ∙ ap (λ w. is_same w k || holds c.self.inside.points.keys k) c.of.ensures)
+pub invariant_of-self-in-Ok-true : goal.invariant_of-self-in-Ok-true
+invariant_of-self-in-Ok-true c = (
+  AreWaiting-put c.self.inside.points.keys c.insert.new.self.keys (waiting c.args.point c.args.registration) c.self.invariant.0
+      (subst (λ n. (1 ≤ n) × (n ≤ CONTEXTS)) c.number-number.ensures.value c.number-number.ensures.within)
+      c.ranges.registration.fits
+      (λ k. holds-put c.self.inside.points.keys c.insert.new.self.keys c.of.result k (c.in-Ok-true.ensures.updates.0 k) ∙ ap (λ w. is_same w k || holds c.self.inside.points.keys k) c.of.ensures),
+  λ r. put-counted c.of.result (waiting c.args.point c.args.registration) c.self.inside.points.keys c.insert.new.self.keys _ _ r c.of.ensures c.in-Ok-true.ensures.keys
+      (not-true _ (sym c.in-Ok-true.ensures.added ∙ c.in-Ok-true.field-0-test)) (c.self.invariant.1 r) (c.in_ok-raise.ensures.raised r),
+)

@@ -4,4 +4,4 @@ use Rattle.fence_core.specs.PointIndex.{holds, is_of}
 use Rattle.fence_core.proofs.watches.point_index.PointIndex.take_all.Given as goal
 
 abbrev pub invariant-loop-point : goal.invariant-loop-point
-invariant-loop-point l = (k : Waiting) → holds l.self-inside.points.keys k ≡ (not (is_of (take l.point-index l.points) l.registration k) && holds l.fn.self k)
+invariant-loop-point l = (k : Waiting) → holds l.self k ≡ (not (is_of (take l.point-index l.points) l.registration k) && holds l.fn.self k)
