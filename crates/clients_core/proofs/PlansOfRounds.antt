@@ -1,36 +1,22 @@
 -- Plans of rounds: one round more, and that clients may be started with them.
-use Rattle.std.proofs.Common.{◌≡◌, ℕ, zero, suc, ◌+◌, ◌*◌, ◌^◌, ◌<◌, ◌≤◌, Bool, true, false, List, ◌++◌, map, length, replicate, None, inl, inr, refl, sym, ap, ◌∙◌, arith, length-append}
+use Rattle.std.proofs.Common.{◌≡◌, ℕ, zero, suc, ◌+◌, ◌^◌, ◌<◌, ◌≤◌, All, Bool, true, false, ◌&&◌, List, [], ◌++◌, map, length, replicate, None, inl, inr, refl, sym, subst, ap, ◌∙◌, arith}
 use Rattle.std.specs.Prelude.{nat_lt}
 use Rattle.std.specs.List.{range_with_len, flat_map, list_all}
 use Rattle.std.proofs.lemmas.Bool.{le-leb, le-ltb, lt-ltb}
 use Rattle.std.proofs.lemmas.Bool.Decides.{eqb_tells}
-use Rattle.std.proofs.lemmas.List.{append_assoc, append-nil}
+use Rattle.std.proofs.lemmas.List.Concat.{flat_map-append}
+use Rattle.std.proofs.lemmas.List.Elements.{All-drop, All-take}
 use Rattle.std.proofs.lemmas.List.Folds.{list_all-append}
 use Rattle.std.proofs.lemmas.List.FromFn.{length-map-range_with_len}
-use Rattle.std.proofs.lemmas.List.Sums.{sum_by-append}
 use Rattle.point_core.specs.declared.limits.TheConstants.{BUFFERS}
 use Rattle.resv_core.specs.declared.plan.Act.{Act}
-use Rattle.resv_core.specs.Settled.{increment_by, increments_of, values_of}
+use Rattle.resv_core.specs.Rounds.{round_of, rounds_of}
+use Rattle.resv_core.specs.Settled.{IsWithin, increments_of, put_by, puts_of, values_of}
+use Rattle.resv_core.proofs.RoundActs.{increments-rounds, length-rounds, rounds_of-more}
 use Rattle.clients_core.specs.declared.plans.TheConstants.{CLIENTS, ACTS}
 use Rattle.clients_core.specs.declared.rounds.TheConstants.{ROUNDS, ROUND_BUFFERS}
 use Rattle.clients_core.specs.Plans.{is_within, are_within, are_clients, has_few_acts, never_wraps, cause_to_refuse_plans}
-use Rattle.clients_core.specs.Rounds.{next_client, round_of, rounds_of, plans_of_rounds}
-
-flat_map-range_more : {X : Type 0} (f : ℕ → List X) (a n : ℕ) → flat_map f (range_with_len a (suc n)) ≡ flat_map f (range_with_len a n) ++ f (a + n)
-flat_map-range_more f a zero = append-nil (f a) ∙ ap f (omega arith)
-flat_map-range_more f a (suc n) =
-    ap (λ xs. f a ++ xs) (flat_map-range_more f (a + 1) n)
-    ∙ sym (append_assoc (f a) (flat_map f (range_with_len (a + 1) n)) (f (a + 1 + n)))
-    ∙ ap (λ (k : ℕ). (f a ++ flat_map f (range_with_len (a + 1) n)) ++ f k) (omega arith)
-
--- one round more
-pub rounds_of-more : (client next n : ℕ) → rounds_of (n + 1) client next ≡ rounds_of n client next ++ round_of client next (n + 1)
-rounds_of-more client next n =
-    let more : n + 1 ≡ suc n = omega arith in
-    let last : 1 + n ≡ n + 1 = omega arith in
-    ap (λ (k : ℕ). flat_map (round_of client next) (range_with_len 1 k)) more
-    ∙ flat_map-range_more (round_of client next) 1 n
-    ∙ ap (λ (k : ℕ). flat_map (round_of client next) (range_with_len 1 n) ++ round_of client next k) last
+use Rattle.clients_core.specs.Rounds.{next_client, plans_of_rounds}
 
 -- what holds of each round's acts holds of all
 all-rounds : (p : Act → Bool) (client next a n : ℕ) → ((r : ℕ) → list_all p (round_of client next r) ≡ true) → list_all p (flat_map (round_of client next) (range_with_len a n)) ≡ true
@@ -39,24 +25,49 @@ all-rounds p client next a (suc n) each =
     list_all-append p (round_of client next a) (flat_map (round_of client next) (range_with_len (a + 1) n))
     ∙ rw (each a, all-rounds p client next (a + 1) n each) refl
 
+-- what each round's acts come to alike, all of them come to
+every-round : (p : Act → Bool) (b : Bool) (client next a n : ℕ) → ((r : ℕ) → list_all p (round_of client next r) ≡ b) → list_all p (flat_map (round_of client next) (range_with_len a (suc n))) ≡ b
+every-round p b client next a zero each = list_all-append p (round_of client next a) [] ∙ rw (each a) (twice b)
+  where
+    twice : (b : Bool) → (b && true) ≡ b
+    twice true = refl
+    twice false = refl
+every-round p b client next a (suc n) each =
+    list_all-append p (round_of client next a) (flat_map (round_of client next) (range_with_len (a + 1) (suc n)))
+    ∙ rw (each a, every-round p b client next (a + 1) n each) (twice b)
+  where
+    twice : (b : Bool) → (b && b) ≡ b
+    twice true = refl
+    twice false = refl
+
+-- so the first round tells whether all are within
+pub within-first : (contexts buffers client next n : ℕ) → 0 < n → list_all (is_within contexts buffers) (rounds_of n client next) ≡ list_all (is_within contexts buffers) (round_of client next 1)
+within-first contexts buffers client next zero some = absurd (omega arith)
+within-first contexts buffers client next (suc n) some = every-round (is_within contexts buffers) (list_all (is_within contexts buffers) (round_of client next 1)) client next 1 n (λ r. refl)
+
+-- each of them is within where all are
+each-round : (contexts buffers client next a n i : ℕ) → i < n → All (IsWithin contexts buffers) (flat_map (round_of client next) (range_with_len a n)) → All (IsWithin contexts buffers) (round_of client next (a + i))
+each-round contexts buffers client next a zero i low all = absurd (omega arith)
+each-round contexts buffers client next a (suc n) zero low all =
+    let here : a + 0 ≡ a = omega arith in
+    subst (λ (r : ℕ). All (IsWithin contexts buffers) (round_of client next r)) (sym here) (All-take (IsWithin contexts buffers) 4 (flat_map (round_of client next) (range_with_len a (suc n))) all)
+each-round contexts buffers client next a (suc n) (suc i) low all =
+    let here : a + suc i ≡ a + 1 + i = omega arith in
+    subst (λ (r : ℕ). All (IsWithin contexts buffers) (round_of client next r)) (sym here) (each-round contexts buffers client next (a + 1) n i (omega arith) (All-drop (IsWithin contexts buffers) 4 (flat_map (round_of client next) (range_with_len a (suc n))) all))
+
+pub round-within : (contexts buffers client next n i : ℕ) → i < n → All (IsWithin contexts buffers) (rounds_of n client next) → All (IsWithin contexts buffers) (round_of client next (i + 1))
+round-within contexts buffers client next n i low all =
+    let here : i + 1 ≡ 1 + i = omega arith in
+    subst (λ (r : ℕ). All (IsWithin contexts buffers) (round_of client next r)) (sym here) (each-round contexts buffers client next 1 n i low all)
+
+-- what one round more puts in
+pub puts-more : (buffer client next n : ℕ) → puts_of buffer (rounds_of (n + 1) client next) ≡ puts_of buffer (rounds_of n client next) ++ puts_of buffer (round_of client next (n + 1))
+puts-more buffer client next n =
+    ap (puts_of buffer) (rounds_of-more client next n)
+    ∙ flat_map-append (put_by buffer) (rounds_of n client next) (round_of client next (n + 1))
+
 rounds-within : (clients client next n : ℕ) → client ≤ clients → next ≤ clients → list_all (is_within clients ROUND_BUFFERS) (rounds_of n client next) ≡ true
 rounds-within clients client next n own other = all-rounds (is_within clients ROUND_BUFFERS) client next 1 n (λ r. rw (le-leb client clients own, le-leb next clients other) refl)
-
-length-rounds : (client next a n : ℕ) → length (flat_map (round_of client next) (range_with_len a n)) ≡ 4 * n
-length-rounds client next a zero = refl
-length-rounds client next a (suc n) =
-    let here : length (round_of client next a) ≡ 4 = refl in
-    let rest = length-rounds client next (a + 1) n in
-    let whole = length-append (round_of client next a) (flat_map (round_of client next) (range_with_len (a + 1) n)) in
-    omega arith
-
-increments-rounds : (client next a n : ℕ) → increments_of (flat_map (round_of client next) (range_with_len a n)) ≡ n
-increments-rounds client next a zero = refl
-increments-rounds client next a (suc n) =
-    let here : increments_of (round_of client next a) ≡ 1 = refl in
-    let rest = increments-rounds client next (a + 1) n in
-    let whole = sum_by-append increment_by (round_of client next a) (flat_map (round_of client next) (range_with_len (a + 1) n)) in
-    omega arith
 
 -- what holds of each client's plan holds of all
 all-clients : (p : List Act → Bool) (f : ℕ → List Act) (a n : ℕ) → ((i : ℕ) → a ≤ i → i < a + n → p (f i) ≡ true) → list_all p (map f (range_with_len a n)) ≡ true

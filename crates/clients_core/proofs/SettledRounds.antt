@@ -18,11 +18,12 @@ use Rattle.point_core.proofs.Agreement.{AgreesAbove-append, AgreesAbove-comm, Ag
 use Rattle.point_core.proofs.Canonical.{listing-itself}
 use Rattle.resv_core.specs.declared.plan.Act.{Act}
 use Rattle.resv_core.specs.Resv.{entry_of, row_of, rows_at, rows_of}
+use Rattle.resv_core.specs.Rounds.{round_of, rounds_of}
 use Rattle.resv_core.specs.Settled.{puts_of, all_puts}
 use Rattle.resv_core.proofs.Runs.{rows_of-AgreesAbove}
 use Rattle.clients_core.specs.declared.rounds.TheConstants.{ROUND_BUFFERS}
 use Rattle.clients_core.specs.Plans.{settled_of}
-use Rattle.clients_core.specs.Rounds.{next_client, round_of, rounds_of, plans_of_rounds, rows_of_clients, settled_of_rounds}
+use Rattle.clients_core.specs.Rounds.{next_client, plans_of_rounds, rows_of_clients, settled_of_rounds}
 use Rattle.clients_core.proofs.PlansOfRounds.{values-rounds}
 
 -- what the rounds of a client put on a timeline

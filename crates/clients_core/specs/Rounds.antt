@@ -4,27 +4,13 @@ use Rattle.std.specs.List.{flat_map, range_with_len}
 use Rattle.point_core.specs.declared.entry.Usage.{Usage}
 use Rattle.point_core.specs.declared.entry.Usage.TheVariants.{Write, Read, Bookkeep}
 use Rattle.point_core.specs.declared.listing.TopRow.{TopRow}
-use Rattle.point_core.specs.Agreement.{point_of}
 use Rattle.resv_core.specs.declared.plan.Act.{Act}
-use Rattle.resv_core.specs.declared.plan.Act.TheVariants.{Inc, Put, Look}
 use Rattle.resv_core.specs.declared.plan.Settled.{Settled}
+use Rattle.resv_core.specs.Rounds.{rounds_of}
 
 -- the client that comes next; the first comes next to the last
 abbrev pub next_client : ℕ → ℕ → ℕ
 next_client clients client = if client == clients then 1 else client + 1
-
--- a round: a fence of the client's own timeline, one step of that timeline, a fence of the next client's, and a look
-abbrev pub round_of : ℕ → ℕ → ℕ → List Act
-round_of client next round =
-    Put 0 (point_of client (2 * round)) Write
-    ∷ Inc 1
-    ∷ Put 1 (point_of next (3 * round)) Read
-    ∷ Look 0 Read
-    ∷ []
-
--- the rounds are numbered from 1
-abbrev pub rounds_of : ℕ → ℕ → ℕ → List Act
-rounds_of rounds client next = flat_map (round_of client next) (range_with_len 1 rounds)
 
 -- a plan for each client, numbered from 1
 abbrev pub plans_of_rounds : ℕ → ℕ → List (List Act)

@@ -1,12 +1,13 @@
 // What one client does.
 ghost use Rattle.std.specs.Prelude.{◌≡◌, ◌+◌, ◌^◌, ◌<◌, ◌≤◌, length, All, IfErr, OnOk};
 ghost use Rattle.clients_core.specs.Clients.{IsClientRefusal, IsSinglePart, IsDriving};
+ghost use Rattle.resv_core.specs.Rounds.{acts_of_rounds};
 ghost use Rattle.resv_core.specs.Settled.{IsWithin, increment_by, increments_of};
 
 use crate::gate::Gate;
 use crate::own_puts::{OwnPuts, no_puts};
 use point_core::{Entry, Point, Refusal, Usage};
-use resv_core::{Act, SharedTable};
+use resv_core::{Act, Acts, Plan, ROUND_ACTS, Rounds, SharedTable};
 use std::alloc::Global;
 use std::sync::Wait;
 use words_core::{Driver, Seat, Words};
@@ -21,13 +22,76 @@ pub(crate) struct Shared<'a, R, T, G> {
     pub gate: &'a G,
 }
 
-/// The acts of a client, in order, each between the gate's two calls.
+/// The acts of a client's plan, in order, each between the gate's two calls.
 ///
 /// Ends at the first act that is refused: as `TimedOut` where the gate gave up, as `Torn` and as `Memory`.
 pub(crate) fn act_all<R: Wait, T: SharedTable, G: Gate>(
     shared: &Shared<R, T, G>,
     client: usize,
+    plan: &Plan,
+    driver: &mut Driver,
+    seat: &mut Seat,
+) -> Result<(), Refusal>
+    requires own { (T.made_for shared.now.table.now ≡ shared.now.words.now) × IsSinglePart shared.now.words.now seat.old }
+    requires driver { IsDriving shared.now.words.now driver.old }
+    requires within { All (IsWithin shared.now.words.now.contexts shared.now.words.now.buffers) plan.now }
+    requires fits { driver.old.value + increments_of plan.now < 2 ^ 64 }
+    ensures seats { IsSinglePart shared.now.words.now seat.new × IsDriving shared.now.words.now driver.new }
+    ensures refusals { IfErr result IsClientRefusal }
+{
+    let mut own = no_puts(shared.alloc, shared.words.buffers())?;
+    match plan.acts() {
+        Acts::Listed(acts) => act_listed(shared, client, 0, acts, own.as_mut_slice(), driver, seat),
+        Acts::InRounds(rounds) => act_rounds(
+            shared,
+            client,
+            &rounds,
+            own.as_mut_slice(),
+            driver,
+            seat,
+        ),
+    }
+}
+
+/// The acts of rounds, one round after another.
+fn act_rounds<R: Wait, T: SharedTable, G: Gate>(
+    shared: &Shared<R, T, G>,
+    client: usize,
+    rounds: &Rounds,
+    own: &mut [OwnPuts],
+    driver: &mut Driver,
+    seat: &mut Seat,
+) -> Result<(), Refusal>
+    requires own { (T.made_for shared.now.table.now ≡ shared.now.words.now) × IsSinglePart shared.now.words.now seat.old }
+    requires driver { IsDriving shared.now.words.now driver.old }
+    requires within { All (IsWithin shared.now.words.now.contexts shared.now.words.now.buffers) (acts_of_rounds rounds.now) }
+    requires fits { driver.old.value + increments_of (acts_of_rounds rounds.now) < 2 ^ 64 }
+    requires buffers { length own.old ≡ shared.now.words.now.buffers }
+    ensures seats { IsSinglePart shared.now.words.now seat.new × IsDriving shared.now.words.now driver.new }
+    ensures refusals { IfErr result IsClientRefusal }
+{
+    for index in 0..rounds.count {
+        let first = ROUND_ACTS * index as usize;
+        act_listed(
+            shared,
+            client,
+            first,
+            &rounds.round(index + 1),
+            own,
+            driver,
+            seat,
+        )?;
+    }
+    Ok(())
+}
+
+/// Acts one after another, which are numbered from the place of the first.
+fn act_listed<R: Wait, T: SharedTable, G: Gate>(
+    shared: &Shared<R, T, G>,
+    client: usize,
+    first: usize,
     acts: &[Act],
+    own: &mut [OwnPuts],
     driver: &mut Driver,
     seat: &mut Seat,
 ) -> Result<(), Refusal>
@@ -35,15 +99,19 @@ pub(crate) fn act_all<R: Wait, T: SharedTable, G: Gate>(
     requires driver { IsDriving shared.now.words.now driver.old }
     requires within { All (IsWithin shared.now.words.now.contexts shared.now.words.now.buffers) acts.now }
     requires fits { driver.old.value + increments_of acts.now < 2 ^ 64 }
+    requires places { first + length acts.now < 2 ^ 64 }
+    requires buffers { length own.old ≡ shared.now.words.now.buffers }
     ensures seats { IsSinglePart shared.now.words.now seat.new × IsDriving shared.now.words.now driver.new }
+    ensures advanced { OnOk result (driver.new.value ≡ driver.old.value + increments_of acts.now) }
+    ensures buffers { length own.new ≡ length own.old }
     ensures refusals { IfErr result IsClientRefusal }
 {
-    let mut own = no_puts(shared.alloc, shared.words.buffers())?;
-    for (place, act) in acts.iter().enumerate() {
+    for (index, act) in acts.iter().enumerate() {
+        let place = first + index;
         if !shared.gate.enter(client, place) {
             return Err(Refusal::TimedOut);
         }
-        let done = act_once(shared, act, own.as_mut_slice(), driver, seat);
+        let done = act_once(shared, act, own, driver, seat);
         shared.gate.leave(client, place);
         done?;
     }

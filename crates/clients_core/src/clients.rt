@@ -13,7 +13,7 @@ use crate::gathered::gathered;
 use crate::plans::{check_plans, total_increment};
 use crate::workers::work_all;
 use point_core::{Context, Reach, Refusal};
-use resv_core::{Act, Plan, Settled, SharedTable};
+use resv_core::{Plan, Settled, SharedTable};
 use std::alloc::Global;
 use std::sync::Wait;
 use std::thread::Threads;
@@ -84,17 +84,17 @@ fn are_totals(reach: &Reach, plans: &[Plan]) -> bool
     ensures { IsTrue result ↔ (map (value_at reach.now) (range_with_len 1 (length plans.now)) ≡ values_of plans.now) }
 {
     for (index, plan) in plans.iter().enumerate() {
-        if !is_total(reach.get(Context::at(index)), plan.as_slice()) {
+        if !is_total(reach.get(Context::at(index)), plan) {
             return false;
         }
     }
     true
 }
 
-fn is_total(value: u64, acts: &[Act]) -> bool
-    ensures { IsTrue result ↔ (value ≡ increments_of acts.now) }
+fn is_total(value: u64, plan: &Plan) -> bool
+    ensures { IsTrue result ↔ (value ≡ increments_of plan.now) }
 {
-    match total_increment(acts) {
+    match total_increment(plan) {
         Some(total) => value == total,
         None => false,
     }

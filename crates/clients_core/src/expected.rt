@@ -1,10 +1,11 @@
 // What plans put into a buffer.
 ghost use Rattle.std.specs.Prelude.{◌≡◌, ◌++◌, IfErr, IfOk, OnOk};
 ghost use Rattle.point_core.specs.declared.refusal.Refusal.TheVariants as refusal;
+ghost use Rattle.resv_core.specs.Rounds.{acts_of_rounds};
 ghost use Rattle.resv_core.specs.Settled.{all_puts, put_by, puts_of};
 
 use point_core::{Entry, Refusal};
-use resv_core::{Act, Plan};
+use resv_core::{Act, Acts, Plan, Rounds};
 use std::alloc::Global;
 
 /// What all plans put into a buffer, plan by plan.
@@ -18,9 +19,30 @@ pub(crate) fn expected_in(
 {
     let mut entries = Vec::new(alloc);
     for plan in plans {
-        push_puts(&mut entries, buffer, plan.as_slice())?;
+        push_plan(&mut entries, buffer, plan)?;
     }
     Ok(entries)
+}
+
+/// Appends what a plan puts into a buffer.
+fn push_plan(entries: &mut Vec<Entry>, buffer: usize, plan: &Plan) -> Result<(), Refusal>
+    ensures puts { OnOk result (entries.new.items ≡ entries.old.items ++ puts_of buffer plan.now) }
+    ensures memory { IfErr result (λ e. e ≡ refusal.Memory) }
+{
+    match plan.acts() {
+        Acts::Listed(acts) => push_puts(entries, buffer, acts),
+        Acts::InRounds(rounds) => push_rounds(entries, buffer, &rounds),
+    }
+}
+
+fn push_rounds(entries: &mut Vec<Entry>, buffer: usize, rounds: &Rounds) -> Result<(), Refusal>
+    ensures puts { OnOk result (entries.new.items ≡ entries.old.items ++ puts_of buffer (acts_of_rounds rounds.now)) }
+    ensures memory { IfErr result (λ e. e ≡ refusal.Memory) }
+{
+    for index in 0..rounds.count {
+        push_puts(entries, buffer, &rounds.round(index + 1))?;
+    }
+    Ok(())
 }
 
 /// Appends what the acts put into a buffer.

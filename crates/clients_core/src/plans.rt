@@ -7,7 +7,7 @@ ghost use Rattle.clients_core.specs.Plans.{cause_to_refuse_plans, is_within, are
 ghost use Rattle.resv_core.specs.Settled.{increment_by, increments_of};
 
 use point_core::{BUFFERS, LimitKind, Refusal};
-use resv_core::{Act, Plan};
+use resv_core::{Act, Acts, Plan};
 
 /// The most clients.
 pub const CLIENTS: usize = 8;
@@ -54,10 +54,22 @@ fn are_within(plans: &[Plan], contexts: usize, buffers: usize) -> bool
 {
     plans
         .iter()
-        .all(|plan| is_plan_within(plan.as_slice(), contexts, buffers))
+        .all(|plan| is_plan_within(plan, contexts, buffers))
 }
 
-fn is_plan_within(acts: &[Act], contexts: usize, buffers: usize) -> bool
+/// Whether each act of the plan is. All rounds are, if the first is.
+fn is_plan_within(plan: &Plan, contexts: usize, buffers: usize) -> bool
+    ensures { result ≡ list_all (is_within contexts buffers) plan.now }
+{
+    match plan.acts() {
+        Acts::Listed(acts) => are_acts_within(acts, contexts, buffers),
+        Acts::InRounds(rounds) => {
+            rounds.count == 0 || are_acts_within(&rounds.round(1), contexts, buffers)
+        }
+    }
+}
+
+fn are_acts_within(acts: &[Act], contexts: usize, buffers: usize) -> bool
     ensures { result ≡ list_all (is_within contexts buffers) acts.now }
 {
     acts.iter().all(|act| is_within(act, contexts, buffers))
@@ -79,24 +91,34 @@ fn is_within(act: &Act, contexts: usize, buffers: usize) -> bool
 fn have_few_acts(plans: &[Plan]) -> bool
     ensures { result ≡ list_all has_few_acts plans.now }
 {
-    plans.iter().all(|plan| plan.as_slice().len() <= ACTS)
+    plans.iter().all(|plan| plan.len() <= ACTS)
 }
 
 /// Whether no plan advances its timeline past the greatest u64.
 fn never_wrap(plans: &[Plan]) -> bool
     ensures { result ≡ list_all never_wraps plans.now }
 {
-    plans.iter().all(|plan| never_wraps(plan.as_slice()))
+    plans.iter().all(|plan| never_wraps(plan))
 }
 
-fn never_wraps(acts: &[Act]) -> bool
-    ensures { result ≡ never_wraps acts.now }
+fn never_wraps(plan: &Plan) -> bool
+    ensures { result ≡ never_wraps plan.now }
 {
-    total_increment(acts).is_some()
+    total_increment(plan).is_some()
 }
 
-/// By how much the acts advance their client's timeline, or none past the greatest u64.
-pub(crate) fn total_increment(acts: &[Act]) -> Option<u64>
+/// By how much a plan advances its client's timeline, or none past the greatest u64.
+pub(crate) fn total_increment(plan: &Plan) -> Option<u64>
+    ensures fits { IsSome result ↔ (increments_of plan.now < 2 ^ 64) }
+    ensures total { IfSome result (λ total. total ≡ increments_of plan.now) }
+{
+    match plan.acts() {
+        Acts::Listed(acts) => increment_of_all(acts),
+        Acts::InRounds(rounds) => Some(u64::from(rounds.count)),
+    }
+}
+
+fn increment_of_all(acts: &[Act]) -> Option<u64>
     ensures fits { IsSome result ↔ (increments_of acts.now < 2 ^ 64) }
     ensures total { IfSome result (λ total. total ≡ increments_of acts.now) }
 {

@@ -7,7 +7,7 @@ ghost use Rattle.resv_core.specs.Settled.{IsWithin, increments_of};
 use crate::client::{Shared, act_all};
 use crate::gate::Gate;
 use point_core::{Context, Refusal};
-use resv_core::{Act, Plan, SharedTable};
+use resv_core::{Plan, SharedTable};
 use std::alloc::Global;
 use std::sync::Wait;
 use std::thread;
@@ -39,14 +39,14 @@ impl<'a> Promise<Ended> for Loan<'a> {
 fn work<R: Wait, T: SharedTable, G: Gate>(
     shared: &Shared<R, T, G>,
     index: usize,
-    acts: &[Act],
+    plan: &Plan,
     driving: Seat,
     mut looking: Seat,
 ) -> Ended
     requires own { T.made_for shared.now.table.now ≡ shared.now.words.now }
     requires seats { IsSinglePart shared.now.words.now driving × IsSinglePart shared.now.words.now looking }
     requires client { (index < shared.now.words.now.contexts) × (index < CONTEXTS) }
-    requires plan { IsPlan shared.now.words.now acts.now }
+    requires plan { IsPlan shared.now.words.now plan.now }
     ensures { IsGivenBack shared.now.words.now result }
 {
     let mut driver = match shared.words.driver(driving, Context::at(index)) {
@@ -59,7 +59,7 @@ fn work<R: Wait, T: SharedTable, G: Gate>(
             };
         }
     };
-    let answer = act_all(shared, index + 1, acts, &mut driver, &mut looking);
+    let answer = act_all(shared, index + 1, plan, &mut driver, &mut looking);
     Ended {
         driving: driver.finish(),
         looking,
@@ -74,14 +74,14 @@ fn start<'s, E, R: Wait + Sync, T: SharedTable, G: Gate>(
     scope: &Scope<'s, E>,
     shared: &Shared<'s, R, T, G>,
     index: usize,
-    acts: &'s [Act],
+    plan: &'s Plan,
     driving: Seat,
     looking: Seat,
 ) -> Result<PromisedHandle<Ended, Loan<'s>>, Refusal>
     requires own { T.made_for shared.now.table.now ≡ shared.now.words.now }
     requires seats { IsSinglePart shared.now.words.now driving × IsSinglePart shared.now.words.now looking }
     requires client { (index < shared.now.words.now.contexts) × (index < CONTEXTS) }
-    requires plan { IsPlan shared.now.words.now acts.now }
+    requires plan { IsPlan shared.now.words.now plan.now }
     ensures promise { IfOk result (λ worker. worker.promise.words.now ≡ shared.now.words.now) }
     ensures refusals { IfErr result IsClientRefusal }
 {
@@ -98,7 +98,7 @@ fn start<'s, E, R: Wait + Sync, T: SharedTable, G: Gate>(
             requires own { T.made_for table.now ≡ words.now }
             requires seats { IsSinglePart words.now driving × IsSinglePart words.now looking }
             requires client { (index < words.now.contexts) × (index < CONTEXTS) }
-            requires plan { IsPlan words.now acts.now }
+            requires plan { IsPlan words.now plan.now }
             ensures { IsGivenBack words.entry.now result }
         {
             let shared = Shared {
@@ -108,7 +108,7 @@ fn start<'s, E, R: Wait + Sync, T: SharedTable, G: Gate>(
                 table,
                 gate,
             };
-            work(&shared, index, acts, driving, looking)
+            work(&shared, index, plan, driving, looking)
         },
     );
     match started {
@@ -139,7 +139,7 @@ fn start_all<'s, E, R: Wait + Sync, T: SharedTable, G: Gate>(
     for (index, plan) in plans.iter().enumerate() {
         let driving = shared.words.part(all, 1);
         let looking = shared.words.part(all, 1);
-        let worker = start(scope, shared, index, plan.as_slice(), driving, looking)?;
+        let worker = start(scope, shared, index, plan, driving, looking)?;
         workers.push_reserved(worker);
     }
     Ok(())

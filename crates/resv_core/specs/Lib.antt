@@ -1,4 +1,5 @@
 pub mod Resv
+pub mod Rounds
 pub mod Run
 pub mod Settled
 pub mod Shared

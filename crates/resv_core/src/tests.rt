@@ -1,5 +1,5 @@
 // Worked rows of reservations.
-use crate::{PLACES, Resv};
+use crate::{Act, PLACES, Plan, Resv, Rounds};
 use point_core::{CONTEXTS, Context, Point, Reach, TopRow, Usage};
 use std::test::Fail;
 
@@ -181,5 +181,18 @@ fn points_added_together(rt: HostRuntime) -> Result<(), Fail> {
         row(Usage::Bookkeep, 3, 9)?,
     ];
     assert_eq!(rt; resv.table(&one)?.as_slice(), rows.as_slice());
+    Ok(())
+}
+
+#[test]
+fn a_plan_of_rounds(rt: HostRuntime) -> Result<(), Fail> {
+    let rounds = Rounds {
+        client: Context::at(0),
+        next: Context::at(1),
+        count: 3,
+    };
+    assert_eq!(rt; Plan::of_rounds(rounds).len(), 12);
+    let Point { ctx, value } = point(2, 9)?;
+    assert!(rt; rounds.round(3)[2] == Act::Put(1, Point { ctx, value }, Usage::Read));
     Ok(())
 }

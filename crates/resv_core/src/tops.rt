@@ -179,7 +179,7 @@ fn push_rows(rows: &mut Vec<TopRow>, usage: Usage, latest: &LatestPoints, reach:
     ensures few { vec_len rows.new ≤ vec_len rows.old + CONTEXTS }
     ensures places { vec_capacity rows.new ≡ vec_capacity rows.old }
 {
-    for index in 0..CONTEXTS {
+    for index in 0..latest.used() {
         let ctx = Context::at(index);
         let point = latest.get(ctx);
         if point > reach.get(ctx) {

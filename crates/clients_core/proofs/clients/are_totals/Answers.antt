@@ -9,7 +9,7 @@ loop-index-preserved c =
     let reach = c.args.reach.now in
     let plans = c.args.plans.now in
     let i = c.loop-index.index in
-    let acts = c.as_slice.result.now in
+    let acts = c.index-plans-index.result in
     let low : i < length plans = search rules in
     let here : acts ≡ get_or plans i acts = search rules in
     let total : value_at reach c.at.result ≡ increments_of acts = sym c.get.ensures.value ∙ search rules in
@@ -20,7 +20,7 @@ returns-then-not-is_total c =
     let reach = c.args.reach.now in
     let plans = c.args.plans.now in
     let i = c.loop-index.index in
-    let acts = c.as_slice.result.now in
+    let acts = c.index-plans-index.result in
     let low : i < length plans = search rules in
     let here : acts ≡ get_or plans i acts = search rules in (
       (λ no. search rules),

@@ -1,4 +1,4 @@
-use Rattle.std.proofs.Common.{◌≡◌, take}
+use Rattle.std.proofs.Common.{take}
 use Rattle.point_core.proofs.Agreement.{HasContexts-append}
 use Rattle.resv_core.specs.Settled.{all_puts, puts_of}
 use Rattle.clients_core.proofs.Topping.{flat_map-take_more}
@@ -8,8 +8,7 @@ pub loop-plan-preserved : goal.loop-plan-preserved
 loop-plan-preserved c =
     let buffer = c.args.buffer in
     let before = all_puts buffer (take c.loop-plan.plan-index c.args.plans.now) in
-    let acts : c.as_slice.result.now ≡ c.plan-item.result = c.as_slice.ensures.acts in
-    let taken = rw acts at c.put_plan.ensures.tops in
+    let taken = c.put_plan.ensures.tops in
     rw (flat_map-take_more (puts_of buffer) c.args.plans.now c.loop-plan.plan-index c.plan-item.result c.loop-plan-test.true c.plan-item.is)
     record {
       tops = taken.tops c.args.reach.now before c.loop-plan.invariant.tops;

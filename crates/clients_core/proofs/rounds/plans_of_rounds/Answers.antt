@@ -2,7 +2,8 @@ use Rattle.std.proofs.Common.{◌≡◌, ◌+◌, ◌++◌, ◌∷◌, [], ℕ, 
 use Rattle.std.specs.List.{range_with_len}
 use Rattle.std.proofs.lemmas.List.FromFn.{map-range_with_len_more}
 use Rattle.resv_core.specs.declared.plan.Act.{Act}
-use Rattle.clients_core.specs.Rounds.{next_client, rounds_of, plans_of_rounds}
+use Rattle.resv_core.specs.Rounds.{rounds_of}
+use Rattle.clients_core.specs.Rounds.{next_client, plans_of_rounds}
 use Rattle.clients_core.proofs.PlansOfRounds.{accepted-rounds}
 use Rattle.clients_core.proofs.SettledRounds.{settled-rounds}
 use Rattle.clients_core.proofs.rounds.plans_of_rounds.Goals as goal
@@ -15,12 +16,12 @@ loop-index-preserved c =
     let plan : ℕ → List Act = λ client. rounds_of rounds client (next_client clients client) in
     let here : 1 + n ≡ n + 1 = omega arith in
     let own : c.at.result ≡ n + 1 = omega arith in
-    let next : c.at-next.result ≡ next_client clients (n + 1) = c.at-next.ensures ∙ c.place_after.ensures.next in
-    let acts : c.in_ok-plan.plan ≡ plan (n + 1) = c.in_ok-plan.ensures.acts ∙ ap (λ (client : ℕ). rounds_of rounds client c.at-next.result) own ∙ ap (rounds_of rounds (n + 1)) next in
+    let next : c.at-in-loop-index.result ≡ next_client clients (n + 1) = c.at-in-loop-index.ensures ∙ c.place_after.ensures.next in
+    let acts : c.of_rounds.result ≡ plan (n + 1) = c.of_rounds.ensures.acts ∙ ap (λ (client : ℕ). rounds_of rounds client c.at-in-loop-index.result) own ∙ ap (rounds_of rounds (n + 1)) next in
     record {
       plans =
           c.push_reserved.ensures.items
-          ∙ ap (λ (plans : List (List Act)). plans ++ c.in_ok-plan.plan ∷ []) c.loop-index.invariant.plans
+          ∙ ap (λ (plans : List (List Act)). plans ++ c.of_rounds.result ∷ []) c.loop-index.invariant.plans
           ∙ ap (λ (acts : List Act). map plan (range_with_len 1 n) ++ acts ∷ []) acts
           ∙ sym (map-range_with_len_more plan 1 n (n + 1) here);
       len = omega arith;

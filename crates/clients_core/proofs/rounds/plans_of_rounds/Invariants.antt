@@ -1,6 +1,7 @@
 use Rattle.std.proofs.Common.{◌≡◌, map, vec_len, vec_capacity}
 use Rattle.std.specs.List.{range_with_len}
-use Rattle.clients_core.specs.Rounds.{rounds_of, next_client}
+use Rattle.resv_core.specs.Rounds.{rounds_of}
+use Rattle.clients_core.specs.Rounds.{next_client}
 use Rattle.clients_core.proofs.rounds.plans_of_rounds.Given as goal
 
 abbrev pub invariant-loop-index : goal.invariant-loop-index

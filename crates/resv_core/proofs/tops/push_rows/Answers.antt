@@ -1,6 +1,5 @@
 use Rattle.std.proofs.Common.{◌++◌, ap, refl, ◌∙◌, map, arith}
-use Rattle.point_core.specs.Latest.{point_above}
-use Rattle.point_core.proofs.Listings.{filter_map-contexts, push_above, skip_above}
+use Rattle.point_core.proofs.Listings.{points_above-used, push_above, skip_above}
 use Rattle.resv_core.specs.Resv.{row_of}
 use Rattle.resv_core.proofs.Rows.{row-more}
 use Rattle.resv_core.proofs.tops.push_rows.Goals as goal
@@ -28,4 +27,4 @@ loop-index-preserved c =
 pub returns-clause-rows : goal.returns-clause-rows
 returns-clause-rows c =
     c.loop-index.invariant.rows
-    ∙ ap (λ ps. c.args.rows.now.items ++ map (row_of c.args.usage) ps) (filter_map-contexts (point_above c.args.latest.now c.args.reach.now) c.loop-index.index (omega arith))
+    ∙ ap (λ ps. c.args.rows.now.items ++ map (row_of c.args.usage) ps) (points_above-used c.args.latest.now c.args.reach.now c.loop-index.index (omega arith) (λ ctx past. c.used-index-end.ensures.past ctx (omega arith)))
