@@ -1,4 +1,5 @@
 mod Ends
 pub mod Fronts
 pub mod Numbered
+pub mod Placed
 pub mod Widths

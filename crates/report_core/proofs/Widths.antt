@@ -32,8 +32,11 @@ length-kind_word (Level Write) = omega arith
 length-kind_word (Level Read) = omega arith
 length-kind_word (Level Bookkeep) = omega arith
 
-length-decimal : (number : ℕ) → number < 2 ^ 64 → length (decimal number) ≤ NUMBER_WIDTH
+pub length-decimal : (number : ℕ) → number < 2 ^ 64 → length (decimal number) ≤ NUMBER_WIDTH
 length-decimal number n = length-decimal-le 20 number (omega arith) (omega arith) n
+
+pub length-kind_column : (kind : Kind) → length (column KIND_WIDTH (kind_word kind)) ≡ KIND_WIDTH + 1
+length-kind_column kind = length-column KIND_WIDTH (kind_word kind) (length-kind_word kind)
 
 length-columns : (kind : Kind) (subject : List ℕ) (number : ℕ) → length subject ≤ SUBJECT_WIDTH → number < 2 ^ 64 → length (columns kind subject number) + 1 ≡ ROW_BYTES
 length-columns kind subject number s n =
@@ -42,7 +45,7 @@ length-columns kind subject number s n =
     let third = right NUMBER_WIDTH (decimal number) in
     let whole : length (columns kind subject number) ≡ length (first ++ second) + length third = length-append (first ++ second) third in
     let front : length (first ++ second) ≡ length first + length second = length-append first second in
-    let a : length first ≡ KIND_WIDTH + 1 = length-column KIND_WIDTH (kind_word kind) (length-kind_word kind) in
+    let a : length first ≡ KIND_WIDTH + 1 = length-kind_column kind in
     let b : length second ≡ SUBJECT_WIDTH + 1 = length-column SUBJECT_WIDTH subject s in
     let d : length third ≡ NUMBER_WIDTH = length-right NUMBER_WIDTH (decimal number) (length-decimal number n) in
     omega (arith, whole, front, a, b, d)

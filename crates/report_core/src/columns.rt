@@ -1,14 +1,15 @@
 // The columns of a row.
-ghost use Rattle.std.specs.Prelude.{◌≡◌, ◌++◌, ◌+◌, ◌≤◌, decimal, length};
-ghost use Rattle.report_core.specs.Columns.{column, right};
+ghost use Rattle.std.specs.Prelude.{◌≡◌, ◌++◌, ◌∷◌, [], ◌+◌, ◌≤◌, OnOk, OnErr, Err, decimal, length, take, drop};
+ghost use Rattle.point_core.specs.declared.refusal.Refusal.TheVariants.{Memory};
+ghost use Rattle.report_core.specs.Columns.{right};
 ghost use Rattle.report_core.specs.Subject.{subject_text};
 ghost use Rattle.report_core.specs.Row.{columns};
 
 use crate::kind::Kind;
 use crate::line::{TEXT_LINE_BYTES, TextLine};
-use crate::rows::{COUNT_WIDTH, KIND_WIDTH, NUMBER_WIDTH, ROW_BYTES, SUBJECT_WIDTH};
-use itoa::Buffer;
-use point_core::Name;
+use crate::rows::{COUNT_WIDTH, KIND_BYTES, NUMBER_WIDTH, ROW_BYTES, SUBJECT_WIDTH};
+use itoa::{Buffer, write_digits};
+use point_core::{Name, Refusal};
 
 /// What a row is about: a thing with a name, or one of a numbered kind, as the client `c1`.
 #[derive(Clone, Copy)]
@@ -17,44 +18,52 @@ pub(crate) enum Subject {
     Numbered(u8, u64),
 }
 
-/// Puts the three columns that each row begins with before the line.
-pub(crate) fn put_columns(line: &mut TextLine, kind: Kind, subject: Subject, number: u64)
-    requires { length line.old + ROW_BYTES ≤ TEXT_LINE_BYTES + 1 }
-    ensures { line.new ≡ columns kind (subject_text subject) number ++ line.old }
+/// Writes the three columns that each row begins with behind `out`, and one more byte behind them.
+///
+/// Refused as Memory alone, and `out` is then as it was.
+#[inline(always)]
+pub(crate) fn push_columns(
+    out: &mut Vec<u8>,
+    kind: Kind,
+    subject: Subject,
+    number: u64,
+    last: u8,
+) -> Result<(), Refusal>
+    ensures ok { OnOk result (out.new.items ≡ out.old.items ++ (columns kind (subject_text subject) number ++ last ∷ [])) }
+    ensures err { OnErr result ((result ≡ Err Memory) × (out.new.items ≡ out.old.items)) }
 {
-    put_number(line, number, NUMBER_WIDTH);
-    put_subject(line, subject);
-    put_left(line, kind.word().as_bytes(), KIND_WIDTH);
+    let mut row = [b' '; ROW_BYTES];
+    row[ROW_BYTES - 1] = last;
+    write_digits(number, &mut row, ROW_BYTES - 1);
+    put_subject(&mut row, subject);
+    put_at(&mut row, 0, kind.column());
+    out.extend_from_slice(&row)?;
+    Ok(())
 }
 
-fn put_subject(line: &mut TextLine, subject: Subject)
-    requires { length line.old + SUBJECT_WIDTH + 1 ≤ TEXT_LINE_BYTES }
-    ensures text { line.new ≡ column SUBJECT_WIDTH (subject_text subject) ++ line.old }
-    ensures len { length line.new ≡ length line.old + SUBJECT_WIDTH + 1 }
+/// Puts the subject where the second column begins.
+#[inline(always)]
+fn put_subject(row: &mut [u8; ROW_BYTES], subject: Subject)
+    ensures text { row.new ≡ take KIND_BYTES row.old ++ subject_text subject
+        ++ drop (KIND_BYTES + length (subject_text subject)) row.old }
+    ensures len { length (subject_text subject) ≤ SUBJECT_WIDTH }
 {
     match subject {
-        Subject::Named(name) => put_left(line, name.as_bytes(), SUBJECT_WIDTH),
+        Subject::Named(name) => put_at(row, KIND_BYTES, name.as_bytes()),
         Subject::Numbered(letter, number) => {
-            put_left(
-                line,
-                Buffer::new().format(number).as_bytes(),
-                SUBJECT_WIDTH - 1,
-            );
-            line.put_text(&[letter]);
+            put_at(row, KIND_BYTES, &[letter]);
+            put_at(row, KIND_BYTES + 1, Buffer::new().format(number).as_bytes());
         }
     }
 }
 
-/// Puts the text on the left of a column, and the space behind the column, before the line.
+/// Puts the text at a place of the row.
 #[inline(always)]
-fn put_left(line: &mut TextLine, text: &[u8], width: usize)
-    requires fits { length text.now ≤ width }
-    requires room { length line.old + width + 1 ≤ TEXT_LINE_BYTES }
-    ensures text { line.new ≡ column width text.now ++ line.old }
-    ensures len { length line.new ≡ length line.old + width + 1 }
+fn put_at(row: &mut [u8; ROW_BYTES], place: usize, text: &[u8])
+    requires { place + length text.now ≤ ROW_BYTES }
+    ensures { row.new ≡ take place row.old ++ text.now ++ drop (place + length text.now) row.old }
 {
-    line.put_spaces(width - text.len() + 1);
-    line.put_text(text);
+    row[place..place + text.len()].copy_from_slice(text);
 }
 
 /// Puts the number on the right of a column before the line.

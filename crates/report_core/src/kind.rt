@@ -1,7 +1,9 @@
 // What a row tells of.
 ghost use Rattle.std.specs.Prelude.{◌≡◌};
+ghost use Rattle.report_core.specs.Columns.{column};
 ghost use Rattle.report_core.specs.Kind.{usage_word, kind_word};
 
+use crate::rows::{KIND_BYTES, KIND_WIDTH};
 use point_core::Usage;
 
 /// What a row tells of: its first column.
@@ -24,6 +26,22 @@ impl Kind {
             Kind::File => "file",
             Kind::Buffer => "buffer",
             Kind::Level(usage) => usage_word(usage),
+        }
+    }
+
+    /// The first column, with the space behind it.
+    #[inline(always)]
+    pub(crate) fn column(self) -> &'static [u8; KIND_BYTES]
+        ensures { result.now ≡ column KIND_WIDTH (kind_word self) }
+    {
+        match self {
+            Kind::Timeline => b"timeline ",
+            Kind::File => b"file     ",
+            Kind::Buffer => b"buffer   ",
+            Kind::Level(Usage::Kernel) => b"kernel   ",
+            Kind::Level(Usage::Write) => b"write    ",
+            Kind::Level(Usage::Read) => b"read     ",
+            Kind::Level(Usage::Bookkeep) => b"bookkeep ",
         }
     }
 }

@@ -75,9 +75,9 @@ impl TextLine {
         ensures text { self.new ≡ text.now ++ self.old }
         ensures len { length self.new ≡ length self.old + length text.now }
     {
-        let end = self.start;
-        self.start -= text.len();
-        self.bytes[self.start..end].copy_from_slice(text);
+        let start = self.start - text.len();
+        self.bytes[start..self.start].copy_from_slice(text);
+        self.start = start;
     }
 
     /// Puts the number, in decimal, before the line.

@@ -5,7 +5,7 @@ ghost use Rattle.point_core.specs.declared.refusal.Refusal.TheVariants.{Memory};
 ghost use Rattle.report_core.specs.Subject.{subject_text};
 ghost use Rattle.report_core.specs.Row.{row_text, file_row_text};
 
-use crate::columns::{Subject, put_columns, put_number};
+use crate::columns::{Subject, push_columns, put_number};
 use crate::kind::Kind;
 use crate::line::TextLine;
 use desk_core::FileRow;
@@ -13,6 +13,9 @@ use point_core::{NAME_BYTES, Name, Refusal};
 
 /// The places of a row's first column: the longest words, `timeline` and `bookkeep`, fill it.
 pub const KIND_WIDTH: usize = 8;
+
+/// The bytes of the first column with the space behind it.
+pub(crate) const KIND_BYTES: usize = KIND_WIDTH + 1;
 
 /// The places of the second column: the longest name fills it.
 pub const SUBJECT_WIDTH: usize = NAME_BYTES;
@@ -75,13 +78,13 @@ fn push_file_row(out: &mut Vec<u8>, file: &FileRow) -> Result<(), Refusal>
     ensures err { OnErr result ((result ≡ Err Memory) × StartsWith out.new.items out.old.items) }
 {
     let status = u64::from(file.status.number());
-    let mut line = TextLine::new();
-    put_number(&mut line, file.count, COUNT_WIDTH);
-    line.put_spaces(1);
-    put_columns(&mut line, Kind::File, Subject::Named(file.name), status);
-    line.push_to(out)
+    let mut count = TextLine::new();
+    put_number(&mut count, file.count, COUNT_WIDTH);
+    push_columns(out, Kind::File, Subject::Named(file.name), status, b' ')?;
+    count.push_to(out)
 }
 
+#[inline(always)]
 pub(crate) fn push_row(
     out: &mut Vec<u8>,
     kind: Kind,
@@ -91,7 +94,5 @@ pub(crate) fn push_row(
     ensures ok { OnOk result (out.new.items ≡ out.old.items ++ row_text kind (subject_text subject) number) }
     ensures err { OnErr result ((result ≡ Err Memory) × StartsWith out.new.items out.old.items) }
 {
-    let mut line = TextLine::new();
-    put_columns(&mut line, kind, subject, number);
-    line.push_to(out)
+    push_columns(out, kind, subject, number, b'\n')
 }

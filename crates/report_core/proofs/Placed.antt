@@ -1,0 +1,68 @@
+-- A row whose parts are put at their places.
+use Rattle.std.proofs.Common.{◌≡◌, ℕ, ◌+◌, ◌-◌, ◌≤◌, List, [], ◌∷◌, ◌++◌, length, take, drop, sym, ap, ◌∙◌, arith, append_assoc, length-append}
+use Rattle.std.proofs.Math.Seq.{take-append_seam, drop-append_seam}
+use Rattle.std.proofs.lemmas.List.{take-append-drop, take-append-le, take-replicate, drop-append-le, drop-drop, drop-replicate, length-replicate, length-take-le, replicate-append-replicate}
+use Rattle.report_core.specs.declared.rows.TheConstants.{KIND_BYTES, SUBJECT_WIDTH, NUMBER_WIDTH, ROW_BYTES}
+use Rattle.report_core.specs.Columns.{spaces, column, right}
+
+take-front : (front rest : List ℕ) (n : ℕ) → length front ≡ n → take n (front ++ rest) ≡ front
+take-front front rest n size = ap (λ k. take k (front ++ rest)) (sym size) ∙ take-append_seam front rest
+
+drop-front : (front rest : List ℕ) (n : ℕ) → length front ≡ n → drop n (front ++ rest) ≡ rest
+drop-front front rest n size = ap (λ k. drop k (front ++ rest)) (sym size) ∙ drop-append_seam front rest
+
+-- a text that is put behind another is put with it
+pub put-next : (row one two : List ℕ) (place : ℕ) → place + length one ≤ length row → (first : List ℕ) → first ≡ take place row ++ one ++ drop (place + length one) row → take (place + length one) first ++ two ++ drop (place + length one + length two) first ≡ take place row ++ (one ++ two) ++ drop (place + length (one ++ two)) row
+put-next row one two place room first is =
+    let next = place + length one in
+    let front = take place row ++ one in
+    let size : length front ≡ next = omega (arith, length-append (take place row) one, length-take-le place row (omega arith)) in
+    let ahead : take next first ≡ front = ap (take next) is ∙ take-front front (drop next row) next size in
+    let behind : drop next first ≡ drop next row = ap (drop next) is ∙ drop-front front (drop next row) next size in
+    let far : drop (next + length two) first ≡ drop (next + length two) row = sym (drop-drop (length two) next first) ∙ ap (drop (length two)) behind ∙ drop-drop (length two) next row in
+    let same : next + length two ≡ place + length (one ++ two) = omega (arith, length-append one two) in
+    ap (λ x. x ++ two ++ drop (next + length two) first) ahead
+    ∙ ap (λ x. front ++ two ++ x) (far ∙ ap (λ k. drop k row) same)
+    ∙ ap (λ x. x ++ drop (place + length (one ++ two)) row) (append_assoc (take place row) one two)
+
+regroup : (k s a o b d l : List ℕ) → k ++ (s ++ ((a ++ (o ++ b)) ++ (d ++ l))) ≡ ((k ++ ((s ++ a) ++ o)) ++ (b ++ d)) ++ l
+regroup k s a o b d l =
+    let rest = d ++ l in
+    let gap : (a ++ (o ++ b)) ++ rest ≡ a ++ (o ++ (b ++ rest)) = append_assoc a (o ++ b) rest ∙ ap (λ x. a ++ x) (append_assoc o b rest) in
+    let middle : ((s ++ a) ++ o) ++ (b ++ rest) ≡ s ++ (a ++ (o ++ (b ++ rest))) = append_assoc (s ++ a) o (b ++ rest) ∙ append_assoc s a (o ++ (b ++ rest)) in
+    let front = k ++ ((s ++ a) ++ o) in
+    let whole : (front ++ (b ++ d)) ++ l ≡ k ++ (((s ++ a) ++ o) ++ (b ++ rest)) =
+    append_assoc front (b ++ d) l ∙ ap (λ x. front ++ x) (append_assoc b d l) ∙ append_assoc k ((s ++ a) ++ o) (b ++ rest) in
+    ap (λ x. k ++ (s ++ x)) gap ∙ sym (whole ∙ ap (λ x. k ++ x) middle)
+
+-- the number is put first, then the subject, then what the row tells of
+pub row-columns : (kind subject digits blank numbered named row : List ℕ) (start last : ℕ) → length kind ≡ KIND_BYTES → length subject ≤ SUBJECT_WIDTH → length digits ≤ NUMBER_WIDTH → length numbered ≡ ROW_BYTES → start + length digits ≡ 61 → blank ≡ spaces 61 ++ last ∷ [] → drop start numbered ≡ digits ++ drop 61 blank → take start numbered ≡ take start blank → named ≡ take KIND_BYTES numbered ++ subject ++ drop (KIND_BYTES + length subject) numbered → row ≡ take 0 named ++ kind ++ drop (0 + length kind) named → row ≡ kind ++ column SUBJECT_WIDTH subject ++ right NUMBER_WIDTH digits ++ last ∷ []
+row-columns kind subject digits blank numbered named row start last word fits few size end none written before put is =
+    let from = KIND_BYTES + length subject in
+    let gap = SUBJECT_WIDTH - length subject in
+    let room = NUMBER_WIDTH - length digits in
+    let tail : drop 61 blank ≡ last ∷ [] = ap (drop 61) none in
+    let front : take start blank ≡ spaces start = ap (take start) none ∙ take-append-le start (spaces 61) (last ∷ []) (omega arith) ∙ take-replicate start 61 32 (omega arith) in
+    let whole : numbered ≡ spaces start ++ (digits ++ last ∷ []) =
+    sym (take-append-drop start numbered)
+    ∙ ap (λ x. x ++ drop start numbered) (before ∙ front)
+    ∙ ap (λ x. spaces start ++ x) (written ∙ ap (λ x. digits ++ x) tail) in
+    let within : from ≤ length (spaces start) = omega (arith, length-replicate {A = ℕ} start 32) in
+    let parts : start - from ≡ gap + (1 + room) = omega arith in
+    let between : spaces (start - from) ≡ spaces gap ++ (32 ∷ [] ++ spaces room) =
+    ap spaces parts
+    ∙ sym (replicate-append-replicate gap (1 + room) 32)
+    ∙ ap (λ x. spaces gap ++ x) (sym (replicate-append-replicate 1 room 32)) in
+    let behind : drop from numbered ≡ (spaces gap ++ (32 ∷ [] ++ spaces room)) ++ (digits ++ last ∷ []) =
+    ap (drop from) whole
+    ∙ drop-append-le from (spaces start) (digits ++ last ∷ []) within
+    ∙ ap (λ x. x ++ (digits ++ last ∷ [])) (drop-replicate from start 32 ∙ between) in
+    let first : length (take KIND_BYTES numbered) ≡ KIND_BYTES = length-take-le KIND_BYTES numbered (omega (arith, size)) in
+    let rest : drop KIND_BYTES named ≡ subject ++ drop from numbered =
+    ap (drop KIND_BYTES) (put ∙ append_assoc (take KIND_BYTES numbered) subject (drop from numbered))
+    ∙ drop-front (take KIND_BYTES numbered) (subject ++ drop from numbered) KIND_BYTES first in
+    let at : 0 + length kind ≡ KIND_BYTES = omega (arith, word) in
+    is
+    ∙ ap (λ k. kind ++ drop k named) at
+    ∙ ap (λ x. kind ++ x) (rest ∙ ap (λ x. subject ++ x) behind)
+    ∙ regroup kind subject (spaces gap) (32 ∷ []) (spaces room) digits (last ∷ [])
