@@ -1,15 +1,10 @@
 -- The text of an answer, line by line against what is expected.
-use Rattle.std.proofs.Common.{◌≡◌, ◌≢◌, ℕ, ◌==◌, Bool, true, false, not, List, length, [], ◌∷◌, ◌++◌, refl, sym, ap, ◌∙◌, append_assoc, append-nil, map, Bor, arith}
+use Rattle.std.proofs.Common.{◌≡◌, ◌≢◌, ℕ, Bool, true, false, not, List, [], ◌∷◌, ◌++◌, refl, sym, ap, ◌∙◌, append_assoc, append-nil}
 use Rattle.std.specs.Str.{bytes_eq}
 use Rattle.std.proofs.lemmas.Slice.Eq.{bytes_eq-Decides}
 use Rattle.std.proofs.lemmas.List.{append_cancel_left}
 use Rattle.std.proofs.lemmas.List.Concat.{flat_map-append}
-use Rattle.std.proofs.lemmas.Bool.Decides.{nat_tests}
 use Rattle.check_core.specs.Expected.{ended, output_of_lines, is_asked, differs}
-
--- the lines that items point to
-abbrev pub lines_of_items : List (Bor (List ℕ)) → List (List ℕ)
-lines_of_items items = map (λ item. item.now) items
 
 not_true : (b : Bool) → b ≢ true → b ≡ false
 not_true true h = absurd (h refl)
@@ -20,7 +15,7 @@ pub came-push : (text came came' line : List ℕ) (before : List (List ℕ)) →
 came-push text came came' line before is next =
     is ∙ ap (λ c. output_of_lines before ++ c) next ∙ sym (append_assoc (output_of_lines before) (ended line) came') ∙ ap (λ out. out ++ came') (ap (λ one. output_of_lines before ++ one) (sym (append-nil (ended line))) ∙ sym (flat_map-append ended before (line ∷ [])))
 
-is_asked-middle : (before : List (List ℕ)) (line : List ℕ) (after : List (List ℕ)) → is_asked (before ++ line ∷ after) ≡ true
+pub is_asked-middle : (before : List (List ℕ)) (line : List ℕ) (after : List (List ℕ)) → is_asked (before ++ line ∷ after) ≡ true
 is_asked-middle [] line after = refl
 is_asked-middle (b ∷ before) line after = refl
 
@@ -51,30 +46,3 @@ pub more-differs : (text came : List ℕ) (expected : List (List ℕ)) → is_as
 more-differs text came expected asked is more =
     sym (differs-from expected text asked (λ same.
     more (append_cancel_left (output_of_lines expected) came [] (sym is ∙ same ∙ sym (append-nil (output_of_lines expected))))))
-
-pub none-differs : (expected : List (List ℕ)) (text : List ℕ) → is_asked expected ≡ false → false ≡ differs expected text
-none-differs [] text e = refl
-none-differs (line ∷ more) text e = cc
-
-pub lines_of_items-push : (items : List (Bor (List ℕ))) (item : Bor (List ℕ)) → lines_of_items (items ++ item ∷ []) ≡ lines_of_items items ++ item.now ∷ []
-lines_of_items-push [] item = refl
-lines_of_items-push (x ∷ items) item = ap (λ lines. x.now ∷ lines) (lines_of_items-push items item)
-
--- the next line that is expected
-pub expected-next : (expected left left' : List (List ℕ)) (items : List (Bor (List ℕ))) (item : Bor (List ℕ)) → expected ≡ lines_of_items items ++ left → left ≡ item.now ∷ left' → expected ≡ lines_of_items (items ++ item ∷ []) ++ left'
-expected-next expected left left' items item e next =
-    e ∙ ap (λ l. lines_of_items items ++ l) next ∙ sym (append_assoc (lines_of_items items) (item.now ∷ []) left') ∙ ap (λ l. l ++ left') (sym (lines_of_items-push items item))
-
-pub expected-all : (expected before left : List (List ℕ)) → expected ≡ before ++ left → left ≡ [] → expected ≡ before
-expected-all expected before left e none = e ∙ ap (λ l. before ++ l) none ∙ append-nil before
-
-pub nothing_left : (xs : List ℕ) → (length xs == 0) ≡ true → xs ≡ []
-nothing_left [] e = refl
-nothing_left (x ∷ xs) e = absurd (grind (arith, nat_tests))
-
-pub something_left : (xs : List ℕ) → (length xs == 0) ≡ false → xs ≢ []
-something_left [] e = absurd (grind (arith, nat_tests))
-something_left (x ∷ xs) e = λ none. cc
-
-pub is_asked-push : (items : List (Bor (List ℕ))) (item : Bor (List ℕ)) → true ≡ is_asked (lines_of_items (items ++ item ∷ []))
-is_asked-push items item = sym (ap is_asked (lines_of_items-push items item) ∙ is_asked-middle (lines_of_items items) item.now [])

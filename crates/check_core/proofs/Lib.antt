@@ -1,4 +1,5 @@
 mod Comparing
 mod Counts
 mod Progress
+mod Stages
 mod Texts

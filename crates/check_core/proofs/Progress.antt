@@ -1,175 +1,296 @@
 -- Lines that are checked one after another.
-use Rattle.std.proofs.Common.{◌≡◌, ℕ, ◌+◌, ◌≤◌, zero, suc, Bool, true, false, cond, nat_le, List, [], ◌∷◌, length, drop, take, Option, None, Some, refl, sym, ap, ◌∙◌, subst, arith}
-use Rattle.std.proofs.lemmas.Bool.{le-leb}
-use Rattle.std.proofs.lemmas.List.{take_all}
-use Rattle.std.proofs.lemmas.List.Splits.{length-slice_split}
-use Rattle.std.proofs.lemmas.List.Sums.{count_by-le-length}
-use Rattle.desk_core.specs.declared.command.Command.{Command}
+use Rattle.std.proofs.Common.{◌≡◌, ℕ, ◌+◌, ◌≤◌, inl, inr, Bool, true, false, cond, List, [], ◌∷◌, ◌++◌, length, drop, take, Option, None, Some, is_some, option_to_list, refl, sym, ap, ◌∙◌, subst, append_assoc, append-nil, arith}
+use Rattle.std.proofs.Math.Seq.{drop-append_seam}
+use Rattle.std.proofs.lemmas.Bool.{cases_lt, lt-ltb, le-leb}
+use Rattle.std.proofs.lemmas.List.{take_all, length_push}
+use Rattle.point_core.specs.declared.refusal.Refusal.TheVariants.{LongLine}
 use Rattle.desk_core.specs.declared.answer.Answer.{Answer}
-use Rattle.desk_core.specs.Desk.{DeskState, HasHistory}
+use Rattle.desk_core.specs.Desk.{HasHistory}
 use Rattle.script_core.specs.declared.line.Body.{Body}
+use Rattle.script_core.specs.declared.line.Body.TheVariants.{Bad}
 use Rattle.script_core.specs.declared.line.Line.{Line}
+use Rattle.script_core.specs.declared.line.TheConstants.{LINE_BYTES}
+use Rattle.script_core.specs.declared.script.Ending.{Ending}
 use Rattle.script_core.specs.declared.script.Ending.TheVariants as ending
 use Rattle.script_core.specs.declared.script.TheConstants.{SCRIPT_BYTES}
-use Rattle.script_core.specs.Line.{body_of}
-use Rattle.script_core.specs.Output.{history_after_line, AreLineAnswers}
-use Rattle.script_core.specs.Script.{is_line_feed, lines_of, answered, numbered, lines_until, script_of}
+use Rattle.script_core.specs.Answering.{history_along}
+use Rattle.script_core.specs.Cutting.{cut}
+use Rattle.script_core.specs.Line.{body_from, body_of}
+use Rattle.script_core.specs.Output.{AreLineAnswers, IsInput}
+use Rattle.script_core.specs.Script.{lines_of, lines_until, ending_of, script_of}
+use Rattle.script_core.specs.ScriptLines.{LinesState, HasEnded}
 use Rattle.script_core.specs.Text.{text_of}
+use Rattle.script_core.specs.Words.{words_of}
+use Rattle.script_core.proofs.AnsweredLines.{body_of-cut, ended_lines, line-answered, last-answered}
+use Rattle.script_core.proofs.Inputs.{input_from}
+use Rattle.script_core.proofs.Progress.{AreLineAnswers-push, history_along-push, length-answers}
+use Rattle.check_core.specs.declared.checker.Checker.{Checker}
 use Rattle.check_core.specs.declared.tally.Tally.{Tally}
-use Rattle.check_core.specs.Expected.{expected_behind, expected_of, is_asked, differs}
-use Rattle.check_core.specs.Check.{asked_count, differing_count, ChecksScript, IsJudged, IsAnswered, IsPassed, IsChecked}
-use Rattle.check_core.specs.Tally.{one_if, IsEmpty}
+use Rattle.check_core.specs.Expected.{expected_text, expected_behind, expected_of, is_asked, differs}
+use Rattle.check_core.specs.Check.{asked_count, differing_count, ChecksScript, IsJudged, IsFresh, Expects, IsJudgedAt, IsAnswered, IsTaken, IsEnded, HasCheckedBytes}
+use Rattle.check_core.specs.Stage.{IsAt}
+use Rattle.check_core.specs.Tally.{one_if, IsBelow}
 use Rattle.check_core.proofs.Counts.{counts-agree}
 
--- with these answers of the lines that are left, the whole script is checked
-pub record Whole (script : List ℕ) (left : List Line) (tally : Tally) (given : List Answer) : Type 0 where
-  pub all : List Answer
-  pub each : AreLineAnswers [] (numbered ending.Whole 1 (lines_of script)) all
-  pub lines : length all ≡ tally.lines + length given
-  pub checked : one_if (is_asked (expected_of script 0)) + asked_count script (numbered ending.Whole 1 (lines_of script)) ≡ tally.checked + asked_count script left
-  pub differing : one_if (differs (expected_of script 0) []) + differing_count script (numbered ending.Whole 1 (lines_of script)) all ≡ tally.differing + differing_count script left given
+-- ---- counts among the lines of a script
 
--- the first lines are checked, so many
-pub record Progress (script : List ℕ) (left : List (List ℕ)) (number : ℕ) (desk : DeskState) (tally : Tally) : Type 0 where
-  pub history : List Command
-  pub stands : HasHistory desk history
-  pub place : left ≡ drop number (lines_of script)
-  pub few : number + length left ≡ length (lines_of script)
-  pub lines : tally.lines ≤ number
-  pub checked : tally.checked ≤ number + 1
-  pub differing : tally.differing ≤ number + 1
-  pub whole : (given : List Answer) → AreLineAnswers history (numbered ending.Whole (number + 1) left) given → Whole script (numbered ending.Whole (number + 1) left) tally given
+abbrev pub expected_at : List (List ℕ) → ℕ → List (List ℕ)
+expected_at lines number = expected_behind (drop number lines)
 
-drop-next : (xs : List (List ℕ)) (n : ℕ) (x : List ℕ) (rest : List (List ℕ)) → x ∷ rest ≡ drop n xs → rest ≡ drop (n + 1) xs
-drop-next [] zero x rest e = absurd (cc)
-drop-next [] (suc n) x rest e = absurd (cc)
-drop-next (y ∷ xs) zero x rest e = cc
-drop-next (y ∷ xs) (suc n) x rest e =
-    let next : suc n + 1 ≡ suc (n + 1) = omega arith in
-    rw next (drop-next xs n x rest e)
+abbrev pub asked_among : List (List ℕ) → List Line → ℕ
+asked_among lines [] = 0
+asked_among lines (l ∷ ls) = one_if (is_asked (expected_at lines l.number)) + asked_among lines ls
 
-numbered-line : (number : ℕ) (line : List ℕ) (more : List (List ℕ)) → numbered ending.Whole number (line ∷ more) ≡ answered number (body_of line) (numbered ending.Whole (number + 1) more)
-numbered-line number line [] = refl
-numbered-line number line (next ∷ more) = refl
+abbrev pub differing_among : List (List ℕ) → List Line → List Answer → ℕ
+differing_among lines [] given = 0
+differing_among lines (l ∷ ls) [] = 0
+differing_among lines (l ∷ ls) (a ∷ rest) =
+    one_if (differs (expected_at lines l.number) (text_of l.number a)) + differing_among lines ls rest
+
+asked_among-push : (lines : List (List ℕ)) (ls : List Line) (l : Line) → asked_among lines (ls ++ l ∷ []) ≡ asked_among lines ls + one_if (is_asked (expected_at lines l.number))
+asked_among-push lines [] l = omega arith
+asked_among-push lines (m ∷ ls) l = omega (arith, asked_among-push lines ls l)
+
+differing_among-push : (lines : List (List ℕ)) (ls : List Line) (given : List Answer) (l : Line) (a : Answer) → length given ≡ length ls → differing_among lines (ls ++ l ∷ []) (given ++ a ∷ []) ≡ differing_among lines ls given + one_if (differs (expected_at lines l.number) (text_of l.number a))
+differing_among-push lines [] [] l a e = omega arith
+differing_among-push lines [] (b ∷ given) l a e = absurd (omega (arith, e))
+differing_among-push lines (m ∷ ls) [] l a e = absurd (omega (arith, e))
+differing_among-push lines (m ∷ ls) (b ∷ given) l a e =
+    let shorter : length given ≡ length ls = omega (arith, e) in
+    omega (arith, differing_among-push lines ls given l a shorter)
+
+asked_among-script : (script : List ℕ) (ls : List Line) → asked_among (lines_of script) ls ≡ asked_count script ls
+asked_among-script script [] = refl
+asked_among-script script (l ∷ ls) = ap (λ n. one_if (is_asked (expected_of script l.number)) + n) (asked_among-script script ls)
+
+differing_among-script : (script : List ℕ) (ls : List Line) (given : List Answer) → differing_among (lines_of script) ls given ≡ differing_count script ls given
+differing_among-script script [] given = refl
+differing_among-script script (l ∷ ls) [] = refl
+differing_among-script script (l ∷ ls) (a ∷ rest) = ap (λ n. one_if (differs (expected_of script l.number) (text_of l.number a)) + n) (differing_among-script script ls rest)
+
+-- all that is checked, of lines that stand among these
+abbrev asked_of : List (List ℕ) → List Line → ℕ
+asked_of lines ls = one_if (is_asked (expected_at lines 0)) + asked_among lines ls
+
+abbrev differing_of : List (List ℕ) → List Line → List Answer → ℕ
+differing_of lines ls given = one_if (differs (expected_at lines 0) []) + differing_among lines ls given
+
+-- ---- the lines `given` are checked, but for the last of them that has an answer, of which `expected` is expected so far
+
+pub record HasChecked (given : List (List ℕ)) (c : Checker) : Type 0 where
+  pub answers : List Answer
+  pub each : AreLineAnswers [] (ended_lines 1 given) answers
+  pub stands : HasHistory c.desk (history_along [] (ended_lines 1 given) answers)
+  pub expected : List (List ℕ)
+  pub at : IsAt c.stage expected c.text.items
+  pub lines : c.tally.lines ≡ length answers
+  pub few : IsBelow c.tally (length given + 1)
+  pub checked : (more : List (List ℕ)) →
+      asked_of (given ++ more) (ended_lines 1 given) ≡ c.tally.checked + one_if (is_asked (expected ++ expected_behind more))
+  pub differing : (more : List (List ℕ)) →
+      differing_of (given ++ more) (ended_lines 1 given) answers ≡ c.tally.differing + one_if (differs (expected ++ expected_behind more) c.text.items)
+
+pub HasChecked-none : (c : Checker) → IsFresh c → HasChecked [] c
+HasChecked-none c fresh = record {
+  answers = [];
+  each = tt;
+  stands = fresh.stands;
+  expected = [];
+  at = subst (λ s. IsAt s [] c.text.items) (sym fresh.stage) refl;
+  lines = fresh.tally.lines;
+  few = record {
+    lines = omega (arith, fresh.tally.lines);
+    checked = omega (arith, fresh.tally.checked);
+    differing = omega (arith, fresh.tally.differing);
+  };
+  checked = λ more. omega (arith, fresh.tally.checked);
+  differing = λ more. omega (arith, fresh.tally.differing, ap (λ text. one_if (differs (expected_behind more) text)) fresh.text);
+}
+
+-- a line without an answer is not cut
+note-whole : (line : List ℕ) → body_of line ≡ None → cut line ≡ line
+note-whole line none = elim (cases_lt LINE_BYTES (length line)) [
+  | inl h ↦ (let long = ap (λ b. cond b (Some (Bad LongLine)) (body_from (words_of line))) (lt-ltb LINE_BYTES (length line) h) in
+      absurd (cc))
+  | inr h ↦ take_all (LINE_BYTES + 1) line (omega arith)
+]
 
 one_at_most : (b : Bool) → one_if b ≤ 1
 one_at_most true = omega arith
 one_at_most false = omega arith
 
--- nothing is answered yet, and what stands above the first line was compared with nothing
-pub Progress-start : (script : List ℕ) (left : List (List ℕ)) (desk : DeskState) (tally tally' : Tally) → left ≡ lines_of script → HasHistory desk [] → IsEmpty tally → IsJudged tally tally' (expected_behind left) [] → Progress script left 0 desk tally'
-Progress-start script left desk tally tally' e stands empty judged =
-    let of : expected_behind left ≡ expected_of script 0 = ap expected_behind e in
-    let checked : tally'.checked ≡ one_if (is_asked (expected_of script 0)) = omega (arith, judged.checked, empty.checked, ap (λ x. one_if (is_asked x)) of) in
-    let differing : tally'.differing ≡ one_if (differs (expected_of script 0) []) = omega (arith, judged.differing, empty.differing, ap (λ x. one_if (differs x [])) of) in
-    let lines : tally'.lines ≡ 0 = judged.lines ∙ empty.lines in
-    record {
-      history = [];
-      stands = stands;
-      place = e;
-      few = omega (arith, ap length e);
-      lines = omega arith;
-      checked = omega (arith, one_at_most (is_asked (expected_of script 0)));
-      differing = omega (arith, one_at_most (differs (expected_of script 0) []));
-      whole = λ given each. record {
-        all = given;
-        each = subst (λ ls. AreLineAnswers [] (numbered ending.Whole 1 ls) given) e each;
-        lines = omega arith;
-        checked = ap (λ n. n + asked_count script (numbered ending.Whole 1 (lines_of script))) (sym checked) ∙ ap (λ ls. tally'.checked + asked_count script (numbered ending.Whole 1 ls)) (sym e);
-        differing = ap (λ n. n + differing_count script (numbered ending.Whole 1 (lines_of script)) given) (sym differing) ∙ ap (λ ls. tally'.differing + differing_count script (numbered ending.Whole 1 ls) given) (sym e);
+-- ---- one line more
+
+module _ (given : List (List ℕ)) (line bytes : List ℕ) (number : ℕ) (place : number ≡ length given + 1) (held : bytes ≡ cut line) (c c' : Checker) (p : HasChecked given c) where
+  abbrev done : List Line
+  done = ended_lines 1 given
+
+  abbrev with_line : List (List ℕ)
+  with_line = given ++ line ∷ []
+
+  among : (more : List (List ℕ)) → with_line ++ more ≡ given ++ line ∷ more
+  among more = append_assoc given (line ∷ []) more
+
+  body_is : (body : Option Body) → body ≡ body_of bytes → body_of line ≡ body
+  body_is body is = sym (is ∙ ap body_of held ∙ body_of-cut line)
+
+  -- a line without an answer
+  module _ (is : None ≡ body_of bytes) (x : Expects c c' (option_to_list (expected_text bytes))) where
+    none : body_of line ≡ None
+    none = body_is None is
+
+    whole : bytes ≡ line
+    whole = held ∙ note-whole line none
+
+    same : done ≡ ended_lines 1 with_line
+    same = sym (append-nil done) ∙ line-answered given line bytes number None place held is
+
+    abbrev expected' : List (List ℕ)
+    expected' = p.expected ++ option_to_list (expected_text bytes)
+
+    behind : (more : List (List ℕ)) → expected_behind (line ∷ more) ≡ option_to_list (expected_text line) ++ expected_behind more
+    behind more = ap (λ b. cond (is_some b) [] (option_to_list (expected_text line) ++ expected_behind more)) none
+
+    expected-more : (more : List (List ℕ)) → p.expected ++ expected_behind (line ∷ more) ≡ expected' ++ expected_behind more
+    expected-more more =
+        ap (λ xs. p.expected ++ xs) (behind more) ∙ sym (append_assoc p.expected (option_to_list (expected_text line)) (expected_behind more)) ∙ ap (λ b. (p.expected ++ option_to_list (expected_text b)) ++ expected_behind more) (sym whole)
+
+    checked-note : (more : List (List ℕ)) → asked_of (with_line ++ more) (ended_lines 1 with_line) ≡ c'.tally.checked + one_if (is_asked (expected' ++ expected_behind more))
+    checked-note more =
+        ap (λ ls. asked_of ls (ended_lines 1 with_line)) (among more) ∙ ap (λ ls. asked_of (given ++ line ∷ more) ls) (sym same) ∙ p.checked (line ∷ more) ∙ ap (λ xs. c.tally.checked + one_if (is_asked xs)) (expected-more more) ∙ ap (λ t. t.checked + one_if (is_asked (expected' ++ expected_behind more))) (sym x.tally)
+
+    differing-note : (more : List (List ℕ)) → differing_of (with_line ++ more) (ended_lines 1 with_line) p.answers ≡ c'.tally.differing + one_if (differs (expected' ++ expected_behind more) c'.text.items)
+    differing-note more =
+        ap (λ ls. differing_of ls (ended_lines 1 with_line) p.answers) (among more) ∙ ap (λ ls. differing_of (given ++ line ∷ more) ls p.answers) (sym same) ∙ p.differing (line ∷ more) ∙ ap (λ xs. c.tally.differing + one_if (differs xs c.text.items)) (expected-more more) ∙ ap (λ t. t.differing + one_if (differs (expected' ++ expected_behind more) c.text.items)) (sym x.tally) ∙ ap (λ text. c'.tally.differing + one_if (differs (expected' ++ expected_behind more) text)) (sym x.text)
+
+    HasChecked-note : HasChecked with_line c'
+    HasChecked-note = record {
+      answers = p.answers;
+      each = subst (λ ls. AreLineAnswers [] ls p.answers) same p.each;
+      stands = subst (λ ls. HasHistory c'.desk (history_along [] ls p.answers)) same (subst (λ d. HasHistory d (history_along [] done p.answers)) (sym x.desk) p.stands);
+      expected = expected';
+      at = subst (λ text. IsAt c'.stage expected' text) (sym x.text) (x.at p.expected p.at);
+      lines = ap (λ t. t.lines) x.tally ∙ p.lines;
+      few = record {
+        lines = omega (arith, p.few.lines, ap (λ t. t.lines) x.tally, length_push given line);
+        checked = omega (arith, p.few.checked, ap (λ t. t.checked) x.tally, length_push given line);
+        differing = omega (arith, p.few.differing, ap (λ t. t.differing) x.tally, length_push given line);
       };
+      checked = checked-note;
+      differing = differing-note;
     }
-
-module _ (script line : List ℕ) (left : List (List ℕ)) (number : ℕ) (desk desk' : DeskState) (tally tally' : Tally) (p : Progress script (line ∷ left) number desk tally) where
-  place' : left ≡ drop (number + 1) (lines_of script)
-  place' = drop-next (lines_of script) number line left p.place
-
-  few' : number + 1 + length left ≡ length (lines_of script)
-  few' = omega (arith, p.few)
-
-  -- a note, or a line without words
-  passed : numbered ending.Whole (number + 1) (line ∷ left) ≡ numbered ending.Whole (number + 1 + 1) left → IsPassed desk desk' tally tally' → Progress script left (number + 1) desk' tally'
-  passed same is = record {
-    history = p.history;
-    stands = subst (λ d. HasHistory d p.history) (sym is.desk_is) p.stands;
-    place = place';
-    few = few';
-    lines = omega (arith, p.lines, ap (λ t. t.lines) is.tally_is);
-    checked = omega (arith, p.checked, ap (λ t. t.checked) is.tally_is);
-    differing = omega (arith, p.differing, ap (λ t. t.differing) is.tally_is);
-    whole = λ given each.
-        subst (λ t. Whole script (numbered ending.Whole (number + 1 + 1) left) t given) (sym is.tally_is)
-        (subst (λ ls. Whole script ls tally given) same (p.whole given (subst (λ ls. AreLineAnswers p.history ls given) (sym same) each)));
-  }
 
   -- a line that has an answer
-  more_whole : (body : Body) (answer : Answer) (given : List Answer) → tally'.lines ≡ tally.lines + 1
-      → tally'.checked ≡ tally.checked + one_if (is_asked (expected_of script (number + 1)))
-      → tally'.differing ≡ tally.differing + one_if (differs (expected_of script (number + 1)) (text_of (number + 1) answer))
-      → Whole script (record { number = number + 1; body = body } ∷ numbered ending.Whole (number + 1 + 1) left) tally (answer ∷ given)
-      → Whole script (numbered ending.Whole (number + 1 + 1) left) tally' given
-  more_whole body answer given lines checked differing w = record {
-    all = w.all;
-    each = w.each;
-    lines = omega (arith, w.lines, lines);
-    checked = omega (arith, w.checked, checked);
-    differing = omega (arith, w.differing, differing);
-  }
+  module _ (body : Body) (is : Some body ≡ body_of bytes) (x : IsAnswered c c' number body) where
+    abbrev a : Answer
+    a = x.opened.answered.given
 
-  answered_line : (body : Body) → numbered ending.Whole (number + 1) (line ∷ left) ≡ record { number = number + 1; body = body } ∷ numbered ending.Whole (number + 1 + 1) left → IsAnswered desk desk' tally tally' (number + 1) body (expected_behind left) → Progress script left (number + 1) desk' tally'
-  answered_line body same is =
-      let a = is.answered.given in
-      let of : expected_behind left ≡ expected_of script (number + 1) = ap expected_behind place' in
-      let checked : tally'.checked ≡ tally.checked + one_if (is_asked (expected_of script (number + 1))) = is.checked ∙ ap (λ x. tally.checked + one_if (is_asked x)) of in
-      let differing : tally'.differing ≡ tally.differing + one_if (differs (expected_of script (number + 1)) (text_of (number + 1) a)) =
-      is.differing ∙ ap (λ x. tally.differing + one_if (differs x is.text)) of ∙ ap (λ x. tally.differing + one_if (differs (expected_of script (number + 1)) x)) is.answered.text_is in
-      record {
-        history = history_after_line p.history body a;
-        stands = is.answered.stands p.history p.stands;
-        place = place';
-        few = few';
-        lines = omega (arith, p.lines, is.lines);
-        checked = omega (arith, p.checked, checked, one_at_most (is_asked (expected_of script (number + 1))));
-        differing = omega (arith, p.differing, differing, one_at_most (differs (expected_of script (number + 1)) (text_of (number + 1) a)));
-        whole = λ given each.
-            more_whole body a given is.lines checked differing
-            (subst (λ ls. Whole script ls tally (a ∷ given)) same
-            (p.whole (a ∷ given) (subst (λ ls. AreLineAnswers p.history ls (a ∷ given)) (sym same) (is.answered.is p.history p.stands, each))));
-      }
+    abbrev l : Line
+    l = record { number = number; body = body }
 
-  step : (body : Option Body) → body_of line ≡ body → IsChecked desk desk' tally tally' (number + 1) body (expected_behind left) → Progress script left (number + 1) desk' tally'
-  step None e is = passed (numbered-line (number + 1) line left ∙ ap (λ b. answered (number + 1) b (numbered ending.Whole (number + 1 + 1) left)) e) is
-  step (Some body) e is = answered_line body (numbered-line (number + 1) line left ∙ ap (λ b. answered (number + 1) b (numbered ending.Whole (number + 1 + 1) left)) e) is
+    pushed : done ++ l ∷ [] ≡ ended_lines 1 with_line
+    pushed = line-answered given line bytes number (Some body) place held is
 
--- one line more
-pub Progress-line : (script line : List ℕ) (before left : List (List ℕ)) (number : ℕ) (desk desk' : DeskState) (tally tally' : Tally) → Progress script before number desk tally → before ≡ line ∷ left → IsChecked desk desk' tally tally' (number + 1) (body_of line) (expected_behind left) → Progress script left (number + 1) desk' tally'
-Progress-line script line before left number desk desk' tally tally' p e is =
-    step script line left number desk desk' tally tally' (subst (λ b. Progress script b number desk tally) e p) (body_of line) refl is
+    judged : IsJudged c.tally x.between.tally p.expected c.text.items
+    judged = x.judged.judged p.expected p.at
 
--- the lines of a script that is not too long
-script_of-short : (script : List ℕ) → length script ≤ SCRIPT_BYTES → script_of script ≡ numbered ending.Whole 1 (lines_of script)
-script_of-short script few =
-    let ends : cond (nat_le (length script) SCRIPT_BYTES) ending.Whole ending.TooLong ≡ ending.Whole = ap (λ b. cond b ending.Whole ending.TooLong) (le-leb (length script) SCRIPT_BYTES few) in
-    ap (λ end. lines_until end (take SCRIPT_BYTES script)) ends ∙ ap (λ xs. numbered ending.Whole 1 (lines_of xs)) (take_all SCRIPT_BYTES script few)
+    stands : HasHistory x.between.desk (history_along [] done p.answers)
+    stands = subst (λ d. HasHistory d (history_along [] done p.answers)) (sym x.judged.desk) p.stands
 
-pub Progress-end : (script : List ℕ) (left : List (List ℕ)) (number : ℕ) (desk : DeskState) (tally : Tally) → length script ≤ SCRIPT_BYTES → Progress script left number desk tally → left ≡ [] → ChecksScript script tally
-Progress-end script left number desk tally few p e =
-    let none : numbered ending.Whole (number + 1) left ≡ [] = ap (numbered ending.Whole (number + 1)) e in
-    let last : AreLineAnswers p.history (numbered ending.Whole (number + 1) left) [] = subst (λ ls. AreLineAnswers p.history ls []) (sym none) tt in
-    let w : Whole script [] tally [] = subst (λ ls. Whole script ls tally []) none (p.whole [] last) in
-    let of : numbered ending.Whole 1 (lines_of script) ≡ script_of script = sym (script_of-short script few) in
-    let differing : tally.differing ≡ one_if (differs (expected_of script 0) []) + differing_count script (script_of script) w.all =
-    omega (arith, w.differing, ap (λ ls. differing_count script ls w.all) of) in
-    record {
-      given = w.all;
-      each = subst (λ ls. AreLineAnswers [] ls w.all) of w.each;
-      lines = omega (arith, w.lines);
-      checked = omega (arith, w.checked, ap (asked_count script) of);
-      differing = differing;
-      agrees = counts-agree script w.all tally.differing differing;
+    no_more : (more : List (List ℕ)) → p.expected ++ expected_behind (line ∷ more) ≡ p.expected
+    no_more more =
+        ap (λ b. p.expected ++ cond (is_some b) [] (option_to_list (expected_text line) ++ expected_behind more)) (body_is (Some body) is) ∙ append-nil p.expected
+
+    here : (more : List (List ℕ)) → expected_at (given ++ line ∷ more) number ≡ expected_behind more
+    here more =
+        let end : number ≡ length with_line = omega (arith, place, length_push given line) in
+        ap (λ ls. expected_at ls number) (sym (among more)) ∙ ap (λ n. expected_behind (drop n (with_line ++ more))) end ∙ ap expected_behind (drop-append_seam with_line more)
+
+    checked-answer : (more : List (List ℕ)) → asked_of (with_line ++ more) (ended_lines 1 with_line) ≡ c'.tally.checked + one_if (is_asked (expected_behind more))
+    checked-answer more =
+        let all = given ++ line ∷ more in
+        let before : asked_of all done ≡ c.tally.checked + one_if (is_asked p.expected) = p.checked (line ∷ more) ∙ ap (λ xs. c.tally.checked + one_if (is_asked xs)) (no_more more) in
+        let one : asked_among all (done ++ l ∷ []) ≡ asked_among all done + one_if (is_asked (expected_behind more)) = asked_among-push all done l ∙ ap (λ xs. asked_among all done + one_if (is_asked xs)) (here more) in
+        let now : asked_of all (done ++ l ∷ []) ≡ c'.tally.checked + one_if (is_asked (expected_behind more)) = omega (arith, before, one, judged.checked, x.opened.checked) in
+        ap (λ ls. asked_of ls (ended_lines 1 with_line)) (among more) ∙ ap (λ ls. asked_of all ls) (sym pushed) ∙ now
+
+    differing-answer : (more : List (List ℕ)) → differing_of (with_line ++ more) (ended_lines 1 with_line) (p.answers ++ a ∷ []) ≡ c'.tally.differing + one_if (differs (expected_behind more) c'.text.items)
+    differing-answer more =
+        let all = given ++ line ∷ more in
+        let behind = expected_behind more in
+        let before : differing_of all done p.answers ≡ c.tally.differing + one_if (differs p.expected c.text.items) = p.differing (line ∷ more) ∙ ap (λ xs. c.tally.differing + one_if (differs xs c.text.items)) (no_more more) in
+        let one : differing_among all (done ++ l ∷ []) (p.answers ++ a ∷ []) ≡ differing_among all done p.answers + one_if (differs behind c'.text.items) =
+        differing_among-push all done p.answers l a (length-answers [] done p.answers p.each) ∙ ap (λ xs. differing_among all done p.answers + one_if (differs xs (text_of number a))) (here more) ∙ ap (λ text. differing_among all done p.answers + one_if (differs behind text)) (sym x.opened.answered.text_is) in
+        let now : differing_of all (done ++ l ∷ []) (p.answers ++ a ∷ []) ≡ c'.tally.differing + one_if (differs behind c'.text.items) = omega (arith, before, one, judged.differing, x.opened.differing) in
+        ap (λ ls. differing_of ls (ended_lines 1 with_line) (p.answers ++ a ∷ [])) (among more) ∙ ap (λ ls. differing_of all ls (p.answers ++ a ∷ [])) (sym pushed) ∙ now
+
+    HasChecked-answer : HasChecked with_line c'
+    HasChecked-answer = record {
+      answers = p.answers ++ a ∷ [];
+      each = subst (λ ls. AreLineAnswers [] ls (p.answers ++ a ∷ [])) pushed (AreLineAnswers-push [] done p.answers l a p.each (x.opened.answered.is (history_along [] done p.answers) stands));
+      stands = subst (λ ls. HasHistory c'.desk (history_along [] ls (p.answers ++ a ∷ []))) pushed
+          (subst (λ h. HasHistory c'.desk h) (sym (history_along-push [] done p.answers l a p.each)) (x.opened.answered.stands (history_along [] done p.answers) stands));
+      expected = [];
+      at = subst (λ s. IsAt s [] c'.text.items) (sym x.opened.stage) refl;
+      lines = omega (arith, x.opened.lines, judged.lines, p.lines, length_push p.answers a);
+      few = record {
+        lines = omega (arith, p.few.lines, x.opened.lines, judged.lines, length_push given line);
+        checked = omega (arith, p.few.checked, x.opened.checked, judged.checked, one_at_most (is_asked p.expected), length_push given line);
+        differing = omega (arith, p.few.differing, x.opened.differing, judged.differing, one_at_most (differs p.expected c.text.items), length_push given line);
+      };
+      checked = checked-answer;
+      differing = differing-answer;
     }
 
--- a script has few lines
-pub few_lines : (script : List ℕ) (left : List (List ℕ)) (number : ℕ) (desk : DeskState) (tally : Tally) → length script ≤ SCRIPT_BYTES → Progress script left number desk tally → number + length left ≤ SCRIPT_BYTES + 1
-few_lines script left number desk tally few p =
-    omega (arith, p.few, length-slice_split is_line_feed script, count_by-le-length is_line_feed script)
+  pub HasChecked-line : (body : Option Body) → body ≡ body_of bytes → IsTaken c c' number body (expected_text bytes) → HasChecked (given ++ line ∷ []) c'
+  HasChecked-line None is x = HasChecked-note is x
+  HasChecked-line (Some body) is x = HasChecked-answer body is x
+
+-- ---- the end of the script
+
+-- no more is expected of the last answer
+pub HasChecked-end : (script : List ℕ) (c c' : Checker) → script_of script ≡ ended_lines 1 (lines_of script) → HasChecked (lines_of script) c → IsJudgedAt c c' → ChecksScript script c'.tally
+HasChecked-end script c c' of p x =
+    let lines = lines_of script in
+    let done = ended_lines 1 lines in
+    let judged = x.judged p.expected p.at in
+    let asked : asked_of lines done ≡ c.tally.checked + one_if (is_asked p.expected) =
+    ap (λ ls. asked_of ls done) (sym (append-nil lines)) ∙ p.checked [] ∙ ap (λ xs. c.tally.checked + one_if (is_asked xs)) (append-nil p.expected) in
+    let differ : differing_of lines done p.answers ≡ c.tally.differing + one_if (differs p.expected c.text.items) =
+    ap (λ ls. differing_of ls done p.answers) (sym (append-nil lines)) ∙ p.differing [] ∙ ap (λ xs. c.tally.differing + one_if (differs xs c.text.items)) (append-nil p.expected) in
+    let differing : c'.tally.differing ≡ one_if (differs (expected_of script 0) []) + differing_count script (script_of script) p.answers =
+    omega (arith, judged.differing, differ, differing_among-script script done p.answers, ap (λ ls. differing_count script ls p.answers) of) in
+    record {
+      given = p.answers;
+      each = subst (λ ls. AreLineAnswers [] ls p.answers) (sym of) p.each;
+      lines = judged.lines ∙ p.lines;
+      checked = omega (arith, judged.checked, asked, asked_among-script script done, ap (asked_count script) of);
+      differing = differing;
+      agrees = counts-agree script p.answers c'.tally.differing differing;
+    }
+
+-- the last line, where the script was read to its end
+pub Checked-last : (before now : Option (List ℕ)) (s : LinesState) (end : Ending) (given : List (List ℕ)) (e : HasEnded before now s end given) (bytes : List ℕ) (number : ℕ) (c c' : Checker)
+    → end ≡ ending.Whole → number ≡ s.number → bytes ≡ s.line → HasChecked given c → IsEnded c c' number (body_of bytes) (expected_text bytes) → ChecksScript e.bytes c'.tally
+Checked-last before now s ending.TooLong given e bytes number c c' is n held p x = absurd (cc)
+Checked-last before now s ending.Failed given e bytes number c c' is n held p x = absurd (cc)
+Checked-last before now s ending.Whole given e bytes number c c' is n held p x =
+    let script = e.bytes in
+    let short : length script ≤ SCRIPT_BYTES = e.read.ends.0 in
+    let all : take SCRIPT_BYTES script ≡ script = take_all SCRIPT_BYTES script short in
+    let lines : given ++ e.last ∷ [] ≡ lines_of script = sym e.split ∙ ap lines_of all in
+    let cut_is = held ∙ e.is.held in
+    let ends : ending_of script ≡ ending.Whole = ap (λ b. cond b ending.Whole ending.TooLong) (le-leb (length script) SCRIPT_BYTES short) in
+    let of : script_of script ≡ ended_lines 1 (given ++ e.last ∷ []) =
+    ap (λ end. lines_until end (take SCRIPT_BYTES script)) ends ∙ sym (last-answered before now s ending.Whole given e bytes number (body_of bytes) n held refl) ∙ line-answered given e.last bytes number (body_of bytes) (n ∙ e.number) cut_is refl in
+    let taken = HasChecked-line given e.last bytes number (n ∙ e.number) cut_is c x.between p (body_of bytes) refl x.taken in
+    HasChecked-end script x.between c' (of ∙ ap (ended_lines 1) lines) (subst (λ ls. HasChecked ls x.between) lines taken) x.judged
+
+-- what was read up to the reader's end is the script
+pub Checked-input : (before after : Option (List ℕ)) (end : Ending) (tally : Tally) → end ≡ ending.Whole → HasCheckedBytes before after end tally → (script : List ℕ) × IsInput before script × ChecksScript script tally
+Checked-input before after ending.TooLong tally is c = absurd (cc)
+Checked-input before after ending.Failed tally is c = absurd (cc)
+Checked-input before after ending.Whole tally is c =
+    let input = input_from before after c.bytes c.read.consumed in
+    let same : c.bytes ≡ input.0 = sym (input.1.whole ∙ ap (λ more. c.bytes ++ more) (input.1.end c.read.ends.1) ∙ append-nil c.bytes) in
+    (input.0, input.1.input, subst (λ script. ChecksScript script tally) same (c.checks is))

@@ -1,18 +1,24 @@
 -- What a check of a script finds.
-use Rattle.std.specs.Prelude.{◌≡◌, ◌↔◌, ℕ, ◌+◌, ◌<◌, List, [], ◌∷◌, length, Option, None, Some}
+use Rattle.std.specs.Prelude.{◌≡◌, ◌↔◌, ℕ, ◌+◌, ◌<◌, List, [], ◌∷◌, ◌++◌, length, Option, None, Some, option_to_list}
 use Rattle.std.specs.Io.KnownBytes.{Consumes}
-use Rattle.desk_core.specs.declared.command.Command.{Command}
 use Rattle.desk_core.specs.declared.answer.Answer.{Answer}
-use Rattle.desk_core.specs.Desk.{DeskState, HasHistory}
+use Rattle.desk_core.specs.Desk.{HasHistory}
 use Rattle.script_core.specs.declared.line.Body.{Body}
 use Rattle.script_core.specs.declared.line.Line.{Line}
+use Rattle.script_core.specs.declared.script.Ending.{Ending}
+use Rattle.script_core.specs.declared.script.Ending.TheVariants as ending
 use Rattle.script_core.specs.declared.script.TheConstants.{SCRIPT_BYTES}
-use Rattle.script_core.specs.Output.{IsLineAnswer, history_after_line, AreLineAnswers}
+use Rattle.script_core.specs.Bytes.{WasRead}
+use Rattle.script_core.specs.Output.{AreLineAnswers}
 use Rattle.script_core.specs.Script.{script_of}
 use Rattle.script_core.specs.Text.{text_of}
+use Rattle.check_core.specs.declared.checker.Checker.{Checker}
+use Rattle.check_core.specs.declared.stage.Stage.TheVariants.{Unasked}
 use Rattle.check_core.specs.declared.tally.Tally.{Tally}
+use Rattle.check_core.specs.Answering.{AnswersInto}
 use Rattle.check_core.specs.Expected.{expected_of, IsAsExpected, is_asked, differs}
-use Rattle.check_core.specs.Tally.{one_if}
+use Rattle.check_core.specs.Stage.{IsAt}
+use Rattle.check_core.specs.Tally.{one_if, IsEmpty}
 
 -- each answer's text is as expected of its line
 abbrev pub AreAsExpected : List ℕ → List Line → List Answer → Type 0
@@ -54,32 +60,60 @@ pub record IsTooLong (old new : Option (List ℕ)) : Type 0 where
   pub consumed : Consumes old new bytes
   pub long : SCRIPT_BYTES < length bytes
 
--- the desk answered a line, and this is the answer's text
-pub record AnswersInto (desk desk' : DeskState) (number : ℕ) (body : Body) (text : List ℕ) : Type 0 where
-  pub given : Answer
-  pub is : (history : List Command) → HasHistory desk history → IsLineAnswer history body given
-  pub stands : (history : List Command) → HasHistory desk history → HasHistory desk' (history_after_line history body given)
-  pub text_is : text ≡ text_of number given
-
 -- one text was compared
 pub record IsJudged (tally tally' : Tally) (expected : List (List ℕ)) (text : List ℕ) : Type 0 where
   pub lines : tally'.lines ≡ tally.lines
   pub checked : tally'.checked ≡ tally.checked + one_if (is_asked expected)
   pub differing : tally'.differing ≡ tally.differing + one_if (differs expected text)
 
--- a line was answered, and its answer compared
-pub record IsAnswered (desk desk' : DeskState) (tally tally' : Tally) (number : ℕ) (body : Body) (expected : List (List ℕ)) : Type 0 where
-  pub text : List ℕ
-  pub answered : AnswersInto desk desk' number body text
-  pub lines : tally'.lines ≡ tally.lines + 1
-  pub checked : tally'.checked ≡ tally.checked + one_if (is_asked expected)
-  pub differing : tally'.differing ≡ tally.differing + one_if (differs expected text)
+-- Of what is checked so far nothing is answered, and nothing expected.
+pub record IsFresh (c : Checker) : Type 0 where
+  pub stands : HasHistory c.desk []
+  pub tally : IsEmpty c.tally
+  pub text : c.text.items ≡ []
+  pub stage : c.stage ≡ Unasked
 
--- nothing changes at a line without an answer
-pub record IsPassed (desk desk' : DeskState) (tally tally' : Tally) : Type 0 where
-  pub desk_is : desk' ≡ desk
-  pub tally_is : tally' ≡ tally
+-- ---- the steps from line to line
 
-abbrev pub IsChecked : DeskState → DeskState → Tally → Tally → ℕ → Option Body → List (List ℕ) → Type 0
-IsChecked desk desk' tally tally' number None expected = IsPassed desk desk' tally tally'
-IsChecked desk desk' tally tally' number (Some body) expected = IsAnswered desk desk' tally tally' number body expected
+-- so much more is expected of the last answer
+pub record Expects (c c' : Checker) (lines : List (List ℕ)) : Type 0 where
+  pub desk : c'.desk ≡ c.desk
+  pub tally : c'.tally ≡ c.tally
+  pub text : c'.text.items ≡ c.text.items
+  pub at : (expected : List (List ℕ)) → IsAt c.stage expected c.text.items → IsAt c'.stage (expected ++ lines) c.text.items
+
+-- no more is expected of the last answer, and it was counted
+pub record IsJudgedAt (c c' : Checker) : Type 0 where
+  pub desk : c'.desk ≡ c.desk
+  pub judged : (expected : List (List ℕ)) → IsAt c.stage expected c.text.items → IsJudged c.tally c'.tally expected c.text.items
+
+-- a line was answered, and nothing is expected of it yet
+pub record IsOpened (c c' : Checker) (number : ℕ) (body : Body) : Type 0 where
+  pub answered : AnswersInto c.desk c'.desk number body c'.text.items
+  pub stage : c'.stage ≡ Unasked
+  pub lines : c'.tally.lines ≡ c.tally.lines + 1
+  pub checked : c'.tally.checked ≡ c.tally.checked
+  pub differing : c'.tally.differing ≡ c.tally.differing
+
+-- a line was answered, the answer before it being counted
+pub record IsAnswered (c c' : Checker) (number : ℕ) (body : Body) : Type 0 where
+  pub between : Checker
+  pub judged : IsJudgedAt c between
+  pub opened : IsOpened between c' number body
+
+-- the next line, by what it says and what it expects
+abbrev pub IsTaken : Checker → Checker → ℕ → Option Body → Option (List ℕ) → Type 0
+IsTaken c c' number None line = Expects c c' (option_to_list line)
+IsTaken c c' number (Some body) line = IsAnswered c c' number body
+
+-- the last line was taken, and the last answer counted
+pub record IsEnded (c c' : Checker) (number : ℕ) (body : Option Body) (line : Option (List ℕ)) : Type 0 where
+  pub between : Checker
+  pub taken : IsTaken c between number body line
+  pub judged : IsJudgedAt between c'
+
+-- bytes of a script were read that end so, and they are checked where they are all of it
+pub record HasCheckedBytes (before after : Option (List ℕ)) (end : Ending) (tally : Tally) : Type 0 where
+  pub bytes : List ℕ
+  pub read : WasRead before after bytes end
+  pub checks : end ≡ ending.Whole → ChecksScript bytes tally

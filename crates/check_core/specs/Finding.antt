@@ -5,9 +5,9 @@ use Rattle.check_core.specs.declared.finding.Finding.TheVariants.{Unasked, AsExp
 abbrev pub is_asked_finding : Finding → Bool
 is_asked_finding Unasked = false
 is_asked_finding AsExpected = true
-is_asked_finding (Differs d) = true
+is_asked_finding Differs = true
 
 abbrev pub is_difference : Finding → Bool
 is_difference Unasked = false
 is_difference AsExpected = false
-is_difference (Differs d) = true
+is_difference Differs = true

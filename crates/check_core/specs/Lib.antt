@@ -1,6 +1,6 @@
+pub mod Answering
 pub mod Check
 pub mod Expected
 pub mod Finding
-pub mod Lines
-pub mod RawLines
+pub mod Stage
 pub mod Tally

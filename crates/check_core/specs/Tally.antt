@@ -1,5 +1,5 @@
 -- How many answers of a script were as expected.
-use Rattle.std.specs.Prelude.{◌≡◌, ℕ, ◌+◌, ◌^◌, ◌<◌, Bool, if◌then◌else◌}
+use Rattle.std.specs.Prelude.{◌≡◌, ℕ, ◌+◌, ◌^◌, ◌<◌, ◌≤◌, Bool, if◌then◌else◌}
 use Rattle.check_core.specs.declared.tally.Tally.{Tally}
 
 -- what a line adds to a count
@@ -15,3 +15,15 @@ pub record IsEmpty (tally : Tally) : Type 0 where
 pub record HasRoom (tally : Tally) : Type 0 where
   pub checked : tally.checked + 1 < 2 ^ 64
   pub differing : tally.differing + 1 < 2 ^ 64
+
+-- each count is below that number
+pub record IsBelow (tally : Tally) (number : ℕ) : Type 0 where
+  pub lines : tally.lines < number
+  pub checked : tally.checked < number
+  pub differing : tally.differing < number
+
+-- at most one finding more is counted
+pub record CountsOne (tally tally' : Tally) : Type 0 where
+  pub lines : tally'.lines ≡ tally.lines
+  pub checked : tally'.checked ≤ tally.checked + 1
+  pub differing : tally'.differing ≤ tally.differing + 1

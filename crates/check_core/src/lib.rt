@@ -3,11 +3,12 @@
 //! What a note expects, and when an answer is as expected, is told as functions of the bytes (`specs/`).
 #![tactic(auto)]
 
+mod checker;
 mod checking;
 mod expected;
 mod finding;
 mod front;
-mod lines;
+mod stage;
 mod tally;
 mod telling;
 #[cfg(test)]

@@ -29,16 +29,16 @@ impl Tally {
     }
 
     /// One finding more.
-    pub(crate) fn count(&mut self, finding: &Finding<'_>)
+    pub(crate) fn count(&mut self, finding: Finding)
         requires { HasRoom self.old }
         ensures lines { self.new.lines ≡ self.old.lines }
-        ensures checked { self.new.checked ≡ self.old.checked + one_if (is_asked_finding finding.now) }
-        ensures differing { self.new.differing ≡ self.old.differing + one_if (is_difference finding.now) }
+        ensures checked { self.new.checked ≡ self.old.checked + one_if (is_asked_finding finding) }
+        ensures differing { self.new.differing ≡ self.old.differing + one_if (is_difference finding) }
     {
         match finding {
             Finding::Unasked => {}
             Finding::AsExpected => self.checked += 1,
-            Finding::Differs(_) => {
+            Finding::Differs => {
                 self.checked += 1;
                 self.differing += 1;
             }

@@ -2,42 +2,42 @@
 ghost use Rattle.std.specs.Prelude.{◌≡◌, IfErr};
 ghost use Rattle.point_core.specs.declared.refusal.Refusal.TheVariants.{Write as WriteFault};
 
-use crate::checking::ScriptLine;
 use crate::finding::Difference;
 use crate::tally::Tally;
 use point_core::Refusal;
+use script_core::first_line;
 use std::io::Write;
 
 /// Writes the line's number and bytes, and the first line of its answer that differs. Bytes other than printable ASCII are
 /// written as in a Rust literal.
 pub(crate) fn tell_difference<W: Write>(
-    line: &ScriptLine<'_>,
+    number: u32,
+    bytes: &[u8],
     difference: &Difference<'_>,
     writer: &mut W,
 ) -> Result<(), Refusal>
     ensures refusals { IfErr result (λ refusal. refusal ≡ WriteFault) }
 {
-    tell_line(line, writer)?;
+    tell_line(number, bytes, writer)?;
     match difference.expected {
         Some(expected) => tell(writer, "expected", expected)?,
         None => tell_word(writer, "expected nothing more")?,
     }
     tell_word(writer, ", ")?;
-    match difference.came {
-        Some(came) => tell(writer, "came", came)?,
+    match first_line(difference.came) {
+        Some((came, _)) => tell(writer, "came", came)?,
         None => tell_word(writer, "came nothing")?,
     }
     tell_word(writer, "\n")
 }
 
-fn tell_line<W: Write>(line: &ScriptLine<'_>, writer: &mut W) -> Result<(), Refusal>
+fn tell_line<W: Write>(number: u32, bytes: &[u8], writer: &mut W) -> Result<(), Refusal>
     ensures refusals { IfErr result (λ refusal. refusal ≡ WriteFault) }
 {
-    let number = line.number;
     if number == 0 {
         return tell_word(writer, "line 0: above the first command: ");
     }
-    let command = line.bytes.escape_ascii();
+    let command = bytes.escape_ascii();
     write!(writer, "line {number}: {command}: ").map_err(|_| Refusal::Write)
 }
 

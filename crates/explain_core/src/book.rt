@@ -1,4 +1,6 @@
 // Where names and cookies were made.
+ghost use Rattle.std.specs.Prelude.{◌≡◌, IfErr};
+ghost use Rattle.point_core.specs.declared.refusal.Refusal.TheVariants.{Memory};
 
 use crate::names::{Space, made_by};
 use desk_core::{Answer, Command};
@@ -41,7 +43,9 @@ impl Book {
         line: u32,
         command: &Command,
         answer: &Answer,
-    ) -> Result<(), Refusal> {
+    ) -> Result<(), Refusal>
+        ensures refusals { IfErr result (λ refusal. refusal ≡ Memory) }
+    {
         if let Answer::Raised(_, fired) = answer {
             self.forget_cookies(fired.as_slice());
         }
@@ -54,7 +58,9 @@ impl Book {
         Ok(())
     }
 
-    fn enter_name(&mut self, line: u32, command: &Command) -> Result<(), Refusal> {
+    fn enter_name(&mut self, line: u32, command: &Command) -> Result<(), Refusal>
+        ensures refusals { IfErr result (λ refusal. refusal ≡ Memory) }
+    {
         if let Some((space, name)) = made_by(command) {
             let made = MadeName { space, name, line };
             self.names.push(made).map_err(|_| Refusal::Memory)?;
@@ -62,7 +68,9 @@ impl Book {
         Ok(())
     }
 
-    fn enter_cookie(&mut self, line: u32, cookie: u64) -> Result<(), Refusal> {
+    fn enter_cookie(&mut self, line: u32, cookie: u64) -> Result<(), Refusal>
+        ensures refusals { IfErr result (λ refusal. refusal ≡ Memory) }
+    {
         let made = MadeCookie { cookie, line };
         self.cookies.push(made).map_err(|_| Refusal::Memory)
     }

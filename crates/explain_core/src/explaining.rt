@@ -1,24 +1,30 @@
 // A script from a reader, its answers to a writer, and to another why lines were refused.
-ghost use Rattle.std.specs.Prelude.{◌≡◌, ◌+◌, List, ℕ, IfOk};
-ghost use Rattle.script_core.specs.declared.script.TheConstants.{SCRIPT_BYTES};
+ghost use Rattle.std.specs.Prelude.{◌≡◌, ◌+◌, ◌⊎◌, [], take, Err, List, ℕ, IfOk, IfSome, OnErr, IfErr};
+ghost use Rattle.std.specs.Io.KnownBytes.{Consumes};
+ghost use Rattle.point_core.specs.declared.refusal.Refusal.TheVariants.{Read as ReadFault, Write as WriteFault, Memory};
+ghost use Rattle.script_core.specs.Answering.{HasAnswered, HasAnsweredBytes};
 ghost use Rattle.script_core.specs.Bytes.{ConsumesAtMost};
-ghost use Rattle.script_core.specs.Output.{IsInput, AnswersScript};
+ghost use Rattle.script_core.specs.Output.{IsInput, WritesFront, AnswersScript, AnswersEndedLines};
+ghost use Rattle.script_core.specs.Script.{script_of};
+ghost use Rattle.script_core.specs.declared.script.TheConstants.{SCRIPT_BYTES};
 
-use crate::book::Book;
-use crate::look::{Look, Place};
-use crate::refused::explain_command;
-use crate::syntax::{explain_long_line, explain_syntax};
-use desk_core::{Answer, Desk};
-use point_core::{LimitKind, Refusal};
-use script_core::{Body, Ending, SCRIPT_BYTES, Totals, answer_line, body_of, engine, read_whole};
+use crate::explainer::Explainer;
+use crate::look::Look;
+use point_core::Refusal;
+use script_core::{Ending, ScriptLines, Totals, body_of, last_body};
 use std::alloc::Global;
 use std::io::{Read, Write};
 
-/// Runs a script by `engine`, and writes behind its answers, to `notes`, why each line was refused: its number, the word that
-/// is at fault and a sentence; of a wait each point that is not reached.
+/// Runs a script as `engine` does, and writes behind the answer of each refused line, to `notes`, why it was refused: its
+/// number, the word that is at fault and a sentence; of a wait each point that is not reached. The answer of a line is written
+/// before its explanation, and both before the next read.
 ///
-/// Refused as Read where a read failed, and as Limit where the script has more than `SCRIPT_BYTES` bytes, and then nothing is
-/// answered; as `engine` is; and as Write or Memory where the explanations fail, when the answers are written.
+/// Its memory does not grow with the script: of the lines it keeps what two desks hold, and of each name and cookie that stands
+/// for something the line that made it.
+///
+/// Refused as Read where a read failed: then the lines whose line feed was read are answered. Refused as Write where a write
+/// failed or took no byte, of an answer or an explanation, or the flush failed, and as Memory where a growth was refused: then
+/// a front of the answers is written.
 pub fn explain<R: Read, W: Write, N: Write>(
     alloc: Global,
     look: Look,
@@ -28,77 +34,85 @@ pub fn explain<R: Read, W: Write, N: Write>(
 ) -> Result<Totals, Refusal>
     ensures ok { IfOk result (λ totals. (script : List ℕ) × IsInput (R.remaining reader.old) script
         × AnswersScript script totals (W.contents writer.old) (W.contents writer.new)) }
+
+    // What is read is the script, up to the byte behind its limit.
+    ensures reads { IfOk result (λ _. IfSome (R.remaining reader.old) (λ input.
+        Consumes (R.remaining reader.old) (R.remaining reader.new) (take (SCRIPT_BYTES + 1) input))) }
+
+    // Whatever the result, no byte is read past that one.
     ensures within { ConsumesAtMost (SCRIPT_BYTES + 1) (R.remaining reader.old) (R.remaining reader.new) }
+
+    // The lines whose line feed was read are answered.
+    ensures read { result ≡ Err ReadFault
+        → AnswersEndedLines (R.remaining reader.old) (R.remaining reader.new)
+        (W.contents writer.old) (W.contents writer.new) }
+
+    // A front of the answers is written.
+    ensures err { OnErr result ((script : List ℕ) × IsInput (R.remaining reader.old) script
+        × WritesFront (script_of script) (W.contents writer.old) (W.contents writer.new)) }
+    ensures refusals { IfErr result (λ refusal.
+        (refusal ≡ ReadFault) ⊎ (refusal ≡ WriteFault) ⊎ (refusal ≡ Memory)) }
 {
-    let (bytes, ending) = read_whole(alloc, reader)?;
-    match ending {
-        Ending::Whole => explain_script(alloc, look, &bytes, writer, notes),
-        Ending::TooLong => Err(Refusal::Limit(LimitKind::Script)),
-        Ending::Failed => Err(Refusal::Read),
-    }
+    let mut explainer = Explainer::new(alloc, look)?;
+    explain_script(&mut explainer, reader, writer, notes)
 }
 
-fn explain_script<W: Write, N: Write>(
-    alloc: Global,
-    look: Look,
-    script: &[u8],
+fn explain_script<R: Read, W: Write, N: Write>(
+    explainer: &mut Explainer,
+    reader: &mut R,
     writer: &mut W,
     notes: &mut N,
 ) -> Result<Totals, Refusal>
-    ensures ok { IfOk result (λ totals.
-        AnswersScript script.now totals (W.contents writer.old) (W.contents writer.new)) }
+    requires fresh { HasAnswered [] explainer.old.answers (W.contents writer.old) (W.contents writer.old) }
+    ensures ok { IfOk result (λ totals. (script : List ℕ) × IsInput (R.remaining reader.old) script
+        × AnswersScript script totals (W.contents writer.old) (W.contents writer.new)) }
+    ensures reads { IfOk result (λ _. IfSome (R.remaining reader.old) (λ input.
+        Consumes (R.remaining reader.old) (R.remaining reader.new) (take (SCRIPT_BYTES + 1) input))) }
+    ensures within { ConsumesAtMost (SCRIPT_BYTES + 1) (R.remaining reader.old) (R.remaining reader.new) }
+    ensures read { result ≡ Err ReadFault
+        → AnswersEndedLines (R.remaining reader.old) (R.remaining reader.new)
+        (W.contents writer.old) (W.contents writer.new) }
+    ensures err { OnErr result ((script : List ℕ) × IsInput (R.remaining reader.old) script
+        × WritesFront (script_of script) (W.contents writer.old) (W.contents writer.new)) }
+    ensures refusals { IfErr result (λ refusal.
+        (refusal ≡ ReadFault) ⊎ (refusal ≡ WriteFault) ⊎ (refusal ≡ Memory)) }
 {
-    let mut reader = script;
-    let totals = engine(alloc, &mut reader, writer)?;
-    explain_lines(alloc, look, script, notes)?;
-    Ok(totals)
-}
-
-/// Answers the lines again, on a desk of its own.
-fn explain_lines<N: Write>(
-    alloc: Global,
-    look: Look,
-    script: &[u8],
-    notes: &mut N,
-) -> Result<(), Refusal> {
-    let mut desk = Desk::new(alloc)?;
-    let mut book = Book::new(alloc);
-    explain_each(alloc, look, &mut desk, &mut book, script, notes)
-}
-
-fn explain_each<N: Write>(
-    alloc: Global,
-    look: Look,
-    desk: &mut Desk,
-    book: &mut Book,
-    script: &[u8],
-    notes: &mut N,
-) -> Result<(), Refusal> {
-    for (line, bytes) in (1..=u32::MAX).zip(script.split(|byte| *byte == b'\n')) {
-        if let Some(body) = body_of(bytes) {
-            let place = Place { line, look };
-            explain_line(alloc, desk, book, &place, bytes, body, notes)?;
-        }
+    let ending = explain_lines(explainer, reader, writer, notes)?;
+    let totals = explainer.answers.finish(writer)?;
+    match ending {
+        Ending::Failed => Err(Refusal::Read),
+        Ending::Whole | Ending::TooLong => Ok(totals),
     }
-    Ok(())
 }
 
-fn explain_line<N: Write>(
-    alloc: Global,
-    desk: &mut Desk,
-    book: &mut Book,
-    place: &Place,
-    bytes: &[u8],
-    body: Body,
+/// Reads the lines of a script, and answers and explains each when its end was read. Nothing is read while an answer is not
+/// written.
+fn explain_lines<R: Read, W: Write, N: Write>(
+    explainer: &mut Explainer,
+    reader: &mut R,
+    writer: &mut W,
     notes: &mut N,
-) -> Result<(), Refusal> {
-    let answer = answer_line(desk, body);
-    match (&body, &answer) {
-        (Body::Cmd(command), Answer::Refused(refusal)) => {
-            explain_command(desk, book, place, command, *refusal, notes)
+) -> Result<Ending, Refusal>
+    requires fresh { HasAnswered [] explainer.old.answers (W.contents writer.old) (W.contents writer.old) }
+    ensures ok { IfOk result (λ ending. HasAnsweredBytes (R.remaining reader.old) (R.remaining reader.new) ending
+        explainer.new.answers (W.contents writer.old) (W.contents writer.new)) }
+    ensures within { ConsumesAtMost (SCRIPT_BYTES + 1) (R.remaining reader.old) (R.remaining reader.new) }
+    ensures err { OnErr result ((script : List ℕ) × IsInput (R.remaining reader.old) script
+        × WritesFront (script_of script) (W.contents writer.old) (W.contents writer.new)) }
+    ensures refusals { IfErr result (λ refusal. (refusal ≡ WriteFault) ⊎ (refusal ≡ Memory)) }
+{
+    let mut lines = ScriptLines::new();
+    loop {
+        if lines.advance() {
+            let line = lines.line();
+            explainer.explain(&line, body_of(line.bytes), writer, notes)?;
+        } else {
+            explainer.answers.write(writer)?;
+            if let Some(ending) = lines.read(reader) {
+                let line = lines.line();
+                explainer.explain(&line, last_body(ending, line.bytes), writer, notes)?;
+                return Ok(ending);
+            }
         }
-        (Body::Cmd(command), _) => book.enter(place.line, command, &answer),
-        (Body::Bad(Refusal::LongLine), _) => explain_long_line(place, bytes, notes),
-        (Body::Bad(_), _) => explain_syntax(alloc, place, bytes, notes),
     }
 }

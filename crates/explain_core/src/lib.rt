@@ -2,6 +2,7 @@
 #![tactic(auto)]
 
 mod book;
+mod explainer;
 mod explaining;
 mod look;
 mod names;

@@ -1,4 +1,6 @@
 // How an explanation looks.
+ghost use Rattle.std.specs.Prelude.{◌≡◌, IfErr};
+ghost use Rattle.point_core.specs.declared.refusal.Refusal.TheVariants.{Write as WriteFault};
 
 use point_core::Refusal;
 use std::io::Write;
@@ -19,7 +21,9 @@ pub(crate) struct Place {
 }
 
 /// Writes `line N: `.
-pub(crate) fn begin<N: Write>(place: &Place, notes: &mut N) -> Result<(), Refusal> {
+pub(crate) fn begin<N: Write>(place: &Place, notes: &mut N) -> Result<(), Refusal>
+    ensures refusals { IfErr result (λ refusal. refusal ≡ WriteFault) }
+{
     let line = place.line;
     match place.look {
         Look::Plain => write!(notes, "line {line}: "),
@@ -29,27 +33,25 @@ pub(crate) fn begin<N: Write>(place: &Place, notes: &mut N) -> Result<(), Refusa
 }
 
 /// Writes `line N: "WORD"`. Bytes of the word that do not print are written as in a Rust literal.
-pub(crate) fn begin_word<N: Write>(
-    place: &Place,
-    word: &[u8],
-    notes: &mut N,
-) -> Result<(), Refusal> {
+pub(crate) fn begin_word<N: Write>(place: &Place, word: &[u8], notes: &mut N) -> Result<(), Refusal>
+    ensures refusals { IfErr result (λ refusal. refusal ≡ WriteFault) }
+{
     begin(place, notes)?;
     let word = word.escape_ascii();
     write!(notes, "\"{word}\"").map_err(|_| Refusal::Write)
 }
 
 /// Writes `line N: "WORD": `.
-pub(crate) fn begin_with<N: Write>(
-    place: &Place,
-    word: &[u8],
-    notes: &mut N,
-) -> Result<(), Refusal> {
+pub(crate) fn begin_with<N: Write>(place: &Place, word: &[u8], notes: &mut N) -> Result<(), Refusal>
+    ensures refusals { IfErr result (λ refusal. refusal ≡ WriteFault) }
+{
     begin_word(place, word, notes)?;
     write!(notes, ": ").map_err(|_| Refusal::Write)
 }
 
 /// Writes a sentence, and ends the line.
-pub(crate) fn end<N: Write>(sentence: &str, notes: &mut N) -> Result<(), Refusal> {
+pub(crate) fn end<N: Write>(sentence: &str, notes: &mut N) -> Result<(), Refusal>
+    ensures refusals { IfErr result (λ refusal. refusal ≡ WriteFault) }
+{
     writeln!(notes, "{sentence}").map_err(|_| Refusal::Write)
 }

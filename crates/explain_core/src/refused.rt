@@ -1,4 +1,6 @@
 // Why a command was refused.
+ghost use Rattle.std.specs.Prelude.{◌≡◌, IfErr};
+ghost use Rattle.point_core.specs.declared.refusal.Refusal.TheVariants.{Write as WriteFault};
 
 use crate::book::Book;
 use crate::look::{Place, begin, begin_with, end};
@@ -15,7 +17,9 @@ pub(crate) fn explain_command<N: Write>(
     command: &Command,
     refusal: Refusal,
     notes: &mut N,
-) -> Result<(), Refusal> {
+) -> Result<(), Refusal>
+    ensures refusals { IfErr result (λ refusal. refusal ≡ WriteFault) }
+{
     match refusal {
         Refusal::NoEntry => explain_missing(desk, place, command, notes),
         Refusal::Exists => explain_exists(book, place, command, notes),
@@ -49,7 +53,9 @@ fn explain_missing<N: Write>(
     place: &Place,
     command: &Command,
     notes: &mut N,
-) -> Result<(), Refusal> {
+) -> Result<(), Refusal>
+    ensures refusals { IfErr result (λ refusal. refusal ≡ WriteFault) }
+{
     for (space, name) in looked_up(command).into_iter().flatten() {
         if !is_there(desk, space, name) {
             begin_with(place, name.as_bytes(), notes)?;
@@ -66,7 +72,9 @@ fn explain_exists<N: Write>(
     place: &Place,
     command: &Command,
     notes: &mut N,
-) -> Result<(), Refusal> {
+) -> Result<(), Refusal>
+    ensures refusals { IfErr result (λ refusal. refusal ≡ WriteFault) }
+{
     if let Command::Watch(_, cookie) = command {
         begin(place, notes)?;
         let line = book.line_of_cookie(*cookie).unwrap_or(0);
@@ -95,7 +103,9 @@ fn explain_overflow<N: Write>(
     place: &Place,
     command: &Command,
     notes: &mut N,
-) -> Result<(), Refusal> {
+) -> Result<(), Refusal>
+    ensures refusals { IfErr result (λ refusal. refusal ≡ WriteFault) }
+{
     match command {
         Command::Inc(timeline, count) => {
             begin_with(place, timeline.as_bytes(), notes)?;
@@ -129,7 +139,9 @@ fn explain_pending<N: Write>(
     place: &Place,
     command: &Command,
     notes: &mut N,
-) -> Result<(), Refusal> {
+) -> Result<(), Refusal>
+    ensures refusals { IfErr result (λ refusal. refusal ≡ WriteFault) }
+{
     let Command::Wait(file) = command else {
         begin(place, notes)?;
         return end("the file is not signalled", notes);
@@ -150,7 +162,9 @@ fn explain_fences<N: Write>(
     file: &Name,
     fences: &[FenceRow],
     notes: &mut N,
-) -> Result<(), Refusal> {
+) -> Result<(), Refusal>
+    ensures refusals { IfErr result (λ refusal. refusal ≡ WriteFault) }
+{
     for fence in fences {
         if let Status::Active = fence.status {
             begin_with(place, file.as_bytes(), notes)?;
@@ -161,7 +175,9 @@ fn explain_fences<N: Write>(
     Ok(())
 }
 
-fn explain_fence<N: Write>(fence: &FenceRow, value: u64, notes: &mut N) -> Result<(), Refusal> {
+fn explain_fence<N: Write>(fence: &FenceRow, value: u64, notes: &mut N) -> Result<(), Refusal>
+    ensures refusals { IfErr result (λ refusal. refusal ≡ WriteFault) }
+{
     let timeline = fence.timeline.as_bytes().escape_ascii();
     let point = fence.point;
     let left = point.saturating_sub(value);

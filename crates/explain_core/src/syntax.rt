@@ -1,8 +1,10 @@
 // Which word of a line that is no command is at fault, and why.
+ghost use Rattle.std.specs.Prelude.{◌≡◌, ◌⊎◌, IfErr};
+ghost use Rattle.point_core.specs.declared.refusal.Refusal.TheVariants.{Write as WriteFault, Memory};
 
 use crate::look::{Place, begin, begin_with, begin_word, end};
 use point_core::{Name, Refusal};
-use script_core::{DIGITS, LINE_BYTES};
+use script_core::{DIGITS, LINE_BYTES, SCRIPT_BYTES};
 use std::alloc::Global;
 use std::io::Write;
 use strsim::osa_distance;
@@ -48,14 +50,27 @@ const GREATEST_NUMBER: &[u8] = b"18446744073709551615";
 /// Tells why a line is too long.
 pub(crate) fn explain_long_line<N: Write>(
     place: &Place,
-    line: &[u8],
+    length: usize,
     notes: &mut N,
-) -> Result<(), Refusal> {
+) -> Result<(), Refusal>
+    ensures refusals { IfErr result (λ refusal. refusal ≡ WriteFault) }
+{
     begin(place, notes)?;
-    let count = line.len();
     writeln!(
         notes,
-        "it has {count} bytes, and a line has at most {LINE_BYTES}"
+        "it has {length} bytes, and a line has at most {LINE_BYTES}"
+    )
+    .map_err(|_| Refusal::Write)
+}
+
+/// Tells why a script is too long.
+pub(crate) fn explain_long_script<N: Write>(place: &Place, notes: &mut N) -> Result<(), Refusal>
+    ensures refusals { IfErr result (λ refusal. refusal ≡ WriteFault) }
+{
+    begin(place, notes)?;
+    writeln!(
+        notes,
+        "the script goes on, and a script has at most {SCRIPT_BYTES} bytes"
     )
     .map_err(|_| Refusal::Write)
 }
@@ -67,7 +82,9 @@ pub(crate) fn explain_syntax<N: Write>(
     place: &Place,
     line: &[u8],
     notes: &mut N,
-) -> Result<(), Refusal> {
+) -> Result<(), Refusal>
+    ensures refusals { IfErr result (λ refusal. (refusal ≡ WriteFault) ⊎ (refusal ≡ Memory)) }
+{
     for word in line.split(|byte| *byte == b' ') {
         if let Some(reason) = strange_byte(word) {
             begin_with(place, word, notes)?;
@@ -115,7 +132,9 @@ fn explain_no_command<N: Write>(
     place: &Place,
     word: &[u8],
     notes: &mut N,
-) -> Result<(), Refusal> {
+) -> Result<(), Refusal>
+    ensures refusals { IfErr result (λ refusal. (refusal ≡ WriteFault) ⊎ (refusal ≡ Memory)) }
+{
     let nearest = nearest(alloc, word)?;
     begin_word(place, word, notes)?;
     match nearest {
@@ -131,7 +150,9 @@ fn explain_no_command<N: Write>(
 /// The command that differs in the fewest letters, where these are few; two letters in each other's place count as one.
 ///
 /// Refused as Memory alone.
-fn nearest(alloc: Global, word: &[u8]) -> Result<Option<&'static str>, Refusal> {
+fn nearest(alloc: Global, word: &[u8]) -> Result<Option<&'static str>, Refusal>
+    ensures refusals { IfErr result (λ refusal. refusal ≡ Memory) }
+{
     let Ok(text) = str::from_utf8(word) else {
         return Ok(None);
     };
@@ -153,7 +174,9 @@ fn explain_words<N: Write>(
     kinds: &[Kind],
     rest: &[u8],
     notes: &mut N,
-) -> Result<(), Refusal> {
+) -> Result<(), Refusal>
+    ensures refusals { IfErr result (λ refusal. refusal ≡ WriteFault) }
+{
     let mut kinds = kinds.iter();
     for word in rest.split(|byte| *byte == b' ') {
         if word.is_empty() {

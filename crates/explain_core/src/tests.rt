@@ -2,24 +2,86 @@
 
 use crate::{Look, explain};
 use point_core::Refusal;
-use script_core::engine;
+use script_core::{SCRIPT_BYTES, engine};
 use std::alloc::Global;
 use std::io;
 use std::io::{Read, Write};
 use std::process::Abort;
 use std::test::Fail;
 
+// Hands out a script, at most `piece` bytes a read, and fails at its end where it is to fail.
+#[derive(Drop)]
+struct Source<'a> {
+    script: &'a [u8],
+    piece: usize,
+    fails: bool,
+}
+
+impl<'a> Read for Source<'a> {
+    fn read(&mut self, buf: &mut [u8]) -> io::Result<usize> {
+        let count = self.piece.min(buf.len()).min(self.script.len());
+        if count == 0 && self.fails {
+            return Err(io::Error::from(io::ErrorKind::Interrupted));
+        }
+        let (front, rest) = self.script.split_at(count);
+        buf[..count].copy_from_slice(front);
+        self.script = rest;
+        Ok(count)
+    }
+}
+
+// Takes so many bytes, and then none.
+#[derive(Drop)]
+struct Sink {
+    taken: Vec<u8>,
+    room: usize,
+}
+
+impl Write for Sink {
+    fn write(&mut self, buf: &[u8]) -> io::Result<usize> {
+        let count = buf.len().min(self.room);
+        if self.taken.extend_from_slice(&buf[..count]).is_err() {
+            return Err(io::Error::from(io::ErrorKind::OutOfMemory));
+        }
+        self.room -= count;
+        Ok(count)
+    }
+
+    fn flush(&mut self) -> io::Result<()> {
+        Ok(())
+    }
+}
+
+// The notes are the wanted ones, and the answers those of the engine, in whatever pieces the script comes.
 fn assert_notes(
     rt: &impl Abort,
     alloc: Global,
     look: Look,
-    script: &str,
+    script: &[u8],
     wanted: &str,
 ) -> Result<(), Fail> {
-    let mut reader = script.as_bytes();
+    for piece in [1, 4096] {
+        assert_notes_by(rt, alloc, look, script, wanted, piece)?;
+    }
+    Ok(())
+}
+
+fn assert_notes_by(
+    rt: &impl Abort,
+    alloc: Global,
+    look: Look,
+    script: &[u8],
+    wanted: &str,
+    piece: usize,
+) -> Result<(), Fail> {
+    let mut reader = script;
     let mut answers = Vec::new(alloc);
     engine(alloc, &mut reader, &mut answers)?;
-    let mut reader = script.as_bytes();
+    let mut reader = Source {
+        script,
+        piece,
+        fails: false,
+    };
     let mut told = Vec::new(alloc);
     let mut notes = Vec::new(alloc);
     explain(alloc, look, &mut reader, &mut told, &mut notes)?;
@@ -76,7 +138,7 @@ fn lines_that_are_no_command(rt: HostRuntime) -> Result<(), Fail> {
         ),
     ];
     for (script, wanted) in scripts {
-        assert_notes(&rt, rt.alloc(), Look::Plain, script, wanted)?;
+        assert_notes(&rt, rt.alloc(), Look::Plain, script.as_bytes(), wanted)?;
     }
     Ok(())
 }
@@ -121,7 +183,7 @@ fn refused_commands(rt: HostRuntime) -> Result<(), Fail> {
         ),
     ];
     for (script, wanted) in scripts {
-        assert_notes(&rt, rt.alloc(), Look::Plain, script, wanted)?;
+        assert_notes(&rt, rt.alloc(), Look::Plain, script.as_bytes(), wanted)?;
     }
     Ok(())
 }
@@ -129,78 +191,138 @@ fn refused_commands(rt: HostRuntime) -> Result<(), Fail> {
 #[test]
 fn numbers_in_bold(rt: HostRuntime) -> Result<(), Fail> {
     let wanted = "\x1b[1mline 1:\x1b[0m \"a\": there is no timeline of that name\n";
-    assert_notes(&rt, rt.alloc(), Look::Bold, "value a\n", wanted)
+    assert_notes(&rt, rt.alloc(), Look::Bold, b"value a\n", wanted)
 }
 
+// Its length is told, also where its bytes are not kept.
 #[test]
 fn long_line(rt: HostRuntime) -> Result<(), Fail> {
-    let mut script = Vec::from_slice(rt.alloc(), b"# ")?;
-    for _ in 0..255 {
-        script.push(b'x')?;
-    }
-    let mut reader = script.as_slice();
-    let mut told = Vec::new(rt.alloc());
-    let mut notes = Vec::new(rt.alloc());
-    explain(rt.alloc(), Look::Plain, &mut reader, &mut told, &mut notes)?;
-    assert_eq!(rt;
-        notes.as_slice(),
-        b"line 1: it has 257 bytes, and a line has at most 256\n".as_slice()
-    );
-    Ok(())
-}
-
-// Has no bytes, and fails.
-#[derive(Drop)]
-struct Failing;
-
-impl Read for Failing {
-    fn read(&mut self, _buf: &mut [u8]) -> io::Result<usize> {
-        Err(io::Error::from(io::ErrorKind::Interrupted))
-    }
-}
-
-// Takes so many bytes, and then none.
-#[derive(Drop)]
-struct Sink {
-    room: usize,
-}
-
-impl Write for Sink {
-    fn write(&mut self, buf: &[u8]) -> io::Result<usize> {
-        let count = buf.len().min(self.room);
-        self.room -= count;
-        Ok(count)
-    }
-
-    fn flush(&mut self) -> io::Result<()> {
-        Ok(())
-    }
-}
-
-#[test]
-fn failed_read(rt: HostRuntime) {
-    let mut told = Vec::new(rt.alloc());
-    let mut notes = Vec::new(rt.alloc());
-    let ended = explain(rt.alloc(), Look::Plain, &mut Failing, &mut told, &mut notes);
-    assert_eq!(rt; ended.err(), Some(Refusal::Read));
-    assert!(rt; told.is_empty());
-}
-
-#[test]
-fn failed_notes(rt: HostRuntime) -> Result<(), Fail> {
-    let wanted = "line 1: \"a\": there is no timeline of that name\n";
-    for room in 0..wanted.len() {
-        let mut reader = b"value a\n".as_slice();
-        let mut told = Vec::new(rt.alloc());
-        let ended = explain(
+    for length in [257, 20_000] {
+        let mut script = Vec::from_slice(rt.alloc(), b"# ")?;
+        for _ in 2..length {
+            script.push(b'x')?;
+        }
+        let wanted = format!(in rt.alloc();
+            "line 1: it has {length} bytes, and a line has at most 256\n"
+        )?;
+        assert_notes(
+            &rt,
             rt.alloc(),
             Look::Plain,
-            &mut reader,
-            &mut told,
-            &mut Sink { room },
-        );
-        assert_eq!(rt; ended.err(), Some(Refusal::Write), "{room}");
-        assert_eq!(rt; told.as_slice(), b"err 2 NoEntry\n".as_slice());
+            script.as_slice(),
+            wanted.as_str(),
+        )?;
     }
     Ok(())
+}
+
+#[test]
+fn long_script(rt: HostRuntime) -> Result<(), Fail> {
+    let mut script = Vec::from_slice(rt.alloc(), b"value a\n")?;
+    for _ in script.len()..SCRIPT_BYTES + 1 {
+        script.push(b'\n')?;
+    }
+    let wanted = "line 1: \"a\": there is no timeline of that name\n\
+        line 1048570: the script goes on, and a script has at most 1048576 bytes\n";
+    assert_notes(&rt, rt.alloc(), Look::Plain, script.as_slice(), wanted)
+}
+
+// A script of refused lines; of each its answer, and its note.
+const REFUSED: &[u8] = b"value a\nvalue b\nvalue c\n";
+
+const ANSWERS: &[u8] = b"err 2 NoEntry\nerr 2 NoEntry\nerr 2 NoEntry\n";
+
+const ANSWER_BYTES: usize = 14;
+
+const NOTES: &[u8] = b"line 1: \"a\": there is no timeline of that name
+line 2: \"b\": there is no timeline of that name
+line 3: \"c\": there is no timeline of that name
+";
+
+const NOTE_BYTES: usize = 47;
+
+fn sink_of(alloc: Global, room: usize) -> Sink {
+    Sink {
+        taken: Vec::new(alloc),
+        room,
+    }
+}
+
+fn assert_ended(
+    rt: &impl Abort,
+    alloc: Global,
+    reader: &mut Source<'_>,
+    rooms: (usize, usize),
+    refusal: Refusal,
+    wanted: (&[u8], &[u8]),
+) {
+    let mut told = sink_of(alloc, rooms.0);
+    let mut notes = sink_of(alloc, rooms.1);
+    let ended = explain(alloc, Look::Plain, reader, &mut told, &mut notes);
+    assert_eq!(rt; ended.err(), Some(refusal));
+    assert_eq!(rt; told.taken.as_slice(), wanted.0);
+    assert_eq!(rt; notes.taken.as_slice(), wanted.1);
+}
+
+// A line is explained behind its answer, and before the next one is read.
+#[test]
+fn failed_read(rt: HostRuntime) {
+    for cut in 0..REFUSED.len() {
+        let mut reader = Source {
+            script: &REFUSED[..cut],
+            piece: 5,
+            fails: true,
+        };
+        let lines = cut / 8;
+        let wanted = (
+            &ANSWERS[..lines * ANSWER_BYTES],
+            &NOTES[..lines * NOTE_BYTES],
+        );
+        let rooms = (usize::MAX, usize::MAX);
+        assert_ended(&rt, rt.alloc(), &mut reader, rooms, Refusal::Read, wanted);
+    }
+}
+
+fn whole_source() -> Source<'static> {
+    Source {
+        script: REFUSED,
+        piece: 4096,
+        fails: false,
+    }
+}
+
+// Nothing is told of a line whose answer was not written.
+#[test]
+fn failed_answers(rt: HostRuntime) {
+    for room in 0..ANSWERS.len() {
+        let notes = &NOTES[..room / ANSWER_BYTES * NOTE_BYTES];
+        let wanted = (&ANSWERS[..room], notes);
+        let rooms = (room, usize::MAX);
+        assert_ended(
+            &rt,
+            rt.alloc(),
+            &mut whole_source(),
+            rooms,
+            Refusal::Write,
+            wanted,
+        );
+    }
+}
+
+// The answer is written of the line that could not be explained, and of none behind it.
+#[test]
+fn failed_notes(rt: HostRuntime) {
+    for room in 0..NOTES.len() {
+        let answers = &ANSWERS[..(room / NOTE_BYTES + 1) * ANSWER_BYTES];
+        let wanted = (answers, &NOTES[..room]);
+        let rooms = (usize::MAX, room);
+        assert_ended(
+            &rt,
+            rt.alloc(),
+            &mut whole_source(),
+            rooms,
+            Refusal::Write,
+            wanted,
+        );
+    }
 }

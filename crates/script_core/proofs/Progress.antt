@@ -16,13 +16,13 @@ use Rattle.script_core.specs.Text.{text_of}
 use Rattle.script_core.specs.Output.{history_after_line, IsLineAnswer, AreLineAnswers, texts_of, WritesFront, Counts}
 use Rattle.script_core.specs.Answering.{history_along, Progress, AnswersLines}
 
-AreLineAnswers-push : (history : List Command) (ls : List Line) (given : List Answer) (l : Line) (a : Answer) → AreLineAnswers history ls given → IsLineAnswer (history_along history ls given) l.body a → AreLineAnswers history (ls ++ l ∷ []) (given ++ a ∷ [])
+pub AreLineAnswers-push : (history : List Command) (ls : List Line) (given : List Answer) (l : Line) (a : Answer) → AreLineAnswers history ls given → IsLineAnswer (history_along history ls given) l.body a → AreLineAnswers history (ls ++ l ∷ []) (given ++ a ∷ [])
 AreLineAnswers-push history [] [] l a each is = (is, tt)
 AreLineAnswers-push history [] (b ∷ given) l a each is = absurd each
 AreLineAnswers-push history (m ∷ ls) [] l a each is = absurd each
 AreLineAnswers-push history (m ∷ ls) (b ∷ given) l a each is = (each.0, AreLineAnswers-push (history_after_line history m.body b) ls given l a each.1 is)
 
-history_along-push : (history : List Command) (ls : List Line) (given : List Answer) (l : Line) (a : Answer) → AreLineAnswers history ls given → history_along history (ls ++ l ∷ []) (given ++ a ∷ []) ≡ history_after_line (history_along history ls given) l.body a
+pub history_along-push : (history : List Command) (ls : List Line) (given : List Answer) (l : Line) (a : Answer) → AreLineAnswers history ls given → history_along history (ls ++ l ∷ []) (given ++ a ∷ []) ≡ history_after_line (history_along history ls given) l.body a
 history_along-push history [] [] l a each = refl
 history_along-push history [] (b ∷ given) l a each = absurd each
 history_along-push history (m ∷ ls) [] l a each = absurd each

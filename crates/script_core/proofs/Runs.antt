@@ -1,5 +1,5 @@
 -- The runs of elements between those that pass a test, from the front of a list.
-use Rattle.std.proofs.Common.{◌≡◌, ℕ, ◌+◌, ◌<◌, ◌≤◌, suc, Bool, true, false, not, cond, nat_lt, List, [], ◌∷◌, length, get_or, take, drop, filter, None, Some, unwrap_or, refl, sym, ap, ◌∙◌, arith, rules, drop-cons, add-one, one-add, add-zero, get_or-drop, length-take, length-drop}
+use Rattle.std.proofs.Common.{◌≡◌, ℕ, ◌+◌, ◌<◌, ◌≤◌, zero, suc, Bool, true, false, not, cond, nat_lt, List, [], ◌∷◌, length, get_or, take, drop, filter, None, Some, unwrap_or, refl, sym, ap, subst, ◌∙◌, arith, rules, drop-cons, add-one, one-add, add-zero, get_or-drop, length-take, length-drop}
 use Rattle.std.proofs.Math.Seq.{drop-length, take-length}
 use Rattle.std.specs.List.{slice_split, position_or_len, position, after_first}
 use Rattle.std.proofs.lemmas.List.Splits.{slice_split_first, slice_split_none}
@@ -70,14 +70,30 @@ module _ (p : ℕ → Bool) where
   fails : (x : ℕ) → not (p x) ≡ true → p x ≡ false
   fails x e = search rules
 
-  -- the first run begins at i and has n elements
-  pub runs-first : (xs : List ℕ) (i n : ℕ) → position (λ x. not (p x)) xs ≡ Some i → unwrap_or (position p (drop i xs)) (length (drop i xs)) ≡ n → runs xs ≡ take n (drop i xs) ∷ runs (drop n (drop i xs))
-  runs-first xs i n s e =
+  -- the elements from the first that does not pass
+  pub runs-from : (xs : List ℕ) (i : ℕ) → position (λ x. not (p x)) xs ≡ Some i → runs xs ≡ runs (drop i xs)
+  runs-from xs i s =
       let at = chosen (start xs) (length xs) i s in
-      let skipped : runs (drop i xs) ≡ runs xs = ap (λ k. runs (drop k xs)) (sym at.1) ∙ runs-drop_start xs in
+      sym (runs-drop_start xs) ∙ ap (λ k. runs (drop k xs)) at.1
+
+  pub runs-from_begins : (xs : List ℕ) (i : ℕ) → position (λ x. not (p x)) xs ≡ Some i → (0 < length (drop i xs)) × (p (get_or (drop i xs) 0 0) ≡ false)
+  runs-from_begins xs i s =
+      let at = chosen (start xs) (length xs) i s in
       let other : p (get_or xs (start xs) 0) ≡ false = fails (get_or xs (start xs) 0) (passes_at_first (λ x. not (p x)) xs 0 at.0) in
-      let head : p (get_or (drop i xs) 0 0) ≡ false = ap p (get_or-drop i xs 0 0 ∙ ap (λ k. get_or xs k 0) (add-zero i ∙ sym at.1)) ∙ other in
-      sym skipped ∙ runs-front (drop i xs) n (omega (arith, length-drop i xs)) head e
+      (omega (arith, length-drop i xs), ap p (get_or-drop i xs 0 0 ∙ ap (λ k. get_or xs k 0) (add-zero i ∙ sym at.1)) ∙ other)
+
+  front_case : (xs : List ℕ) (n : ℕ) (b : Bool) → 0 < position_or_len p xs → 0 < length xs → unwrap_or (cond b (Some (position_or_len p xs)) None) (length xs) ≡ n → 0 < n
+  front_case xs n true h l e = subst (λ k. 0 < k) e h
+  front_case xs n false h l e = subst (λ k. 0 < k) e l
+
+  first_of_front : (xs : List ℕ) (n : ℕ) → 0 < length xs → 0 < n → take 1 (take n xs) ≡ take 1 xs
+  first_of_front [] n l h = absurd (omega arith)
+  first_of_front (x ∷ xs) zero l h = absurd (omega arith)
+  first_of_front (x ∷ xs) (suc n) l h = refl
+
+  -- the first run begins as the elements do
+  pub runs-front_first : (xs : List ℕ) (n : ℕ) → 0 < length xs → p (get_or xs 0 0) ≡ false → unwrap_or (position p xs) (length xs) ≡ n → take 1 (take n xs) ≡ take 1 xs
+  runs-front_first xs n l f e = first_of_front xs n l (front_case xs n (nat_lt (position_or_len p xs) (length xs)) (begins xs l f) l e)
 
   -- what stands before the first element that passes, and what stands behind it
   pub slice_split-some : (xs : List ℕ) (i : ℕ) → position p xs ≡ Some i → slice_split p xs ≡ take i xs ∷ slice_split p (drop (i + 1) xs)

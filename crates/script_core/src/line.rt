@@ -3,7 +3,7 @@ ghost use Rattle.std.specs.Prelude.{◌≡◌};
 ghost use Rattle.script_core.specs.Line.{body_of};
 
 use crate::table::command;
-use crate::words::first_word;
+use crate::words::{from_word, part_word};
 use desk_core::Command;
 use point_core::Refusal;
 
@@ -35,10 +35,11 @@ pub fn body_of(line: &[u8]) -> Option<Body>
     if line.len() > LINE_BYTES {
         return Some(Body::Bad(Refusal::LongLine));
     }
-    let (word, rest) = first_word(line)?;
-    if word.starts_with(b"#") {
+    let line = from_word(line)?;
+    if line.starts_with(b"#") {
         return None;
     }
+    let (word, rest) = part_word(line);
     match command(word, rest) {
         Some(command) => Some(Body::Cmd(command)),
         None => Some(Body::Bad(Refusal::Syntax)),

@@ -106,7 +106,9 @@ fn ending_of(script: &[u8]) -> Ending
     }
 }
 
-pub(crate) fn last_body(ending: Ending, last: &[u8]) -> Option<Body>
+/// What stands behind a script's last line feed says, by how the script ends: a line where it was read whole, which may have no
+/// answer; the refusal of a script that is too long; nothing where a read failed.
+pub fn last_body(ending: Ending, last: &[u8]) -> Option<Body>
     ensures body { result ≡ last_body ending last.now }
 {
     match ending {

@@ -6,11 +6,15 @@ ghost use Rattle.point_core.specs.declared.refusal.Refusal.TheVariants.{Memory};
 ghost use Rattle.script_core.specs.Text.{line_text, fired_text, raised_text, fence_text, info_line, info_text, show_text};
 ghost use Rattle.script_core.specs.Text.{report_text, refusal_text, details, value_line, driver_of, text_of};
 ghost use Rattle.script_core.specs.Behind.{behind_text};
+ghost use Rattle.script_core.specs.declared.text.TheConstants.{DRIVER_BYTES};
 
 use desk_core::{Answer, FenceRow, Info, Maker, Report, ShowRow};
 use itoa::Buffer;
 use point_core::Refusal;
 use report_core::{NUMBER_WIDTH, TEXT_LINE_BYTES, TextLine};
+
+/// The most bytes of a driver's name, those of `sw_sync`.
+const DRIVER_BYTES: usize = 7;
 
 /// Writes the text of the answer of the line of that number behind `out`.
 ///
@@ -73,6 +77,7 @@ fn push_raised(value: u64, fired: &[u64], out: &mut Vec<u8>) -> Result<(), Refus
     Ok(())
 }
 
+#[inline(always)]
 fn push_fired(cookie: u64, out: &mut Vec<u8>) -> Result<(), Refusal>
     ensures ok { OnOk result (out.new.items ≡ out.old.items ++ fired_text cookie) }
     ensures err { OnErr result ((result ≡ Err Memory) × StartsWith out.new.items out.old.items) }
@@ -109,7 +114,7 @@ fn push_info_line(info: &Info, out: &mut Vec<u8>) -> Result<(), Refusal>
     line.push_to(out)
 }
 
-#[inline(never)]
+#[inline(always)]
 fn push_fence(fence: &FenceRow, out: &mut Vec<u8>) -> Result<(), Refusal>
     ensures ok { OnOk result (out.new.items ≡ out.old.items ++ fence_text fence.now) }
     ensures err { OnErr result ((result ≡ Err Memory) × StartsWith out.new.items out.old.items) }
@@ -126,9 +131,9 @@ fn push_fence(fence: &FenceRow, out: &mut Vec<u8>) -> Result<(), Refusal>
 /// Puts a space and the driver's name before the line.
 #[inline(always)]
 fn put_driver(line: &mut TextLine, driver: Maker)
-    requires { length line.old + 8 ≤ TEXT_LINE_BYTES }
+    requires { length line.old + 1 + DRIVER_BYTES ≤ TEXT_LINE_BYTES }
     ensures text { line.new ≡ 32 ∷ driver_of driver ++ line.old }
-    ensures len { length line.new ≤ length line.old + 8 }
+    ensures len { length line.new ≤ length line.old + 1 + DRIVER_BYTES }
 {
     match driver {
         Maker::SwSync => put_word(line, b"sw_sync"),

@@ -1,8 +1,8 @@
 // Words of a line: runs of bytes other than the space.
-ghost use Rattle.std.specs.Prelude.{◌≡◌, ◌∷◌, [], option_map, MatchOption, length, ◌≤◌, unwrap_or, position, not};
+ghost use Rattle.std.specs.Prelude.{◌≡◌, ◌∷◌, [], option_map, MatchOption, length, ◌≤◌, position, not, take, IfSome};
 ghost use Rattle.std.specs.List.{prefix_len, position_or_len};
 ghost use Rattle.std.specs.Str.{bytes_eq};
-ghost use Rattle.script_core.specs.Words.{is_space, words_of, one_of, two_of, three_of, four_of};
+ghost use Rattle.script_core.specs.Words.{is_space, words_of, BeginsWithWord, one_of, two_of, three_of, four_of};
 
 /// The first word, and the bytes behind it.
 pub(crate) fn first_word(bytes: &[u8]) -> Option<(&[u8], &[u8])>
@@ -10,10 +10,29 @@ pub(crate) fn first_word(bytes: &[u8]) -> Option<(&[u8], &[u8])>
         (words_of bytes.now ≡ [])
         (λ w. words_of bytes.now ≡ w.0.now ∷ words_of w.1.now) }
 {
+    let bytes = from_word(bytes)?;
+    Some(part_word(bytes))
+}
+
+/// The bytes from the first word on.
+pub(crate) fn from_word(bytes: &[u8]) -> Option<&[u8]>
+    ensures words { MatchOption result
+        (words_of bytes.now ≡ [])
+        (λ b. words_of bytes.now ≡ words_of b.now) }
+    ensures begins { IfSome result (λ b. BeginsWithWord b.now) }
+{
     let start = first_other_than_space(bytes)?;
-    let bytes = &bytes[start..];
+    Some(&bytes[start..])
+}
+
+/// The word that the bytes begin with, and the bytes behind it.
+pub(crate) fn part_word(bytes: &[u8]) -> (&[u8], &[u8])
+    requires begins { BeginsWithWord bytes.now }
+    ensures words { words_of bytes.now ≡ result.0.now ∷ words_of result.1.now }
+    ensures first { take 1 result.0.now ≡ take 1 bytes.now }
+{
     let end = first_space(bytes).unwrap_or(bytes.len());
-    Some(bytes.split_at(end))
+    bytes.split_at(end)
 }
 
 fn first_other_than_space(bytes: &[u8]) -> Option<usize>

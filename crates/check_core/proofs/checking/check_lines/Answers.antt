@@ -1,14 +1,66 @@
-use Rattle.std.proofs.Common.{ap, length, arith}
-use Rattle.check_core.proofs.Progress.{Progress-line, Progress-end, few_lines}
+-- Each exit is told by the lines that were given, and by how far they are checked.
+use Rattle.std.proofs.Common.{[], ◌∷◌, ◌++◌, refl, sym, subst, ◌∙◌}
+use Rattle.check_core.specs.Tally.{IsBelow}
+use Rattle.script_core.proofs.AnsweredLines.{ended-within}
+use Rattle.check_core.proofs.Progress.{HasChecked-none, HasChecked-line, Checked-last}
 use Rattle.check_core.proofs.checking.check_lines.Goals as goal
 
-pub overflow_add-number : goal.overflow_add-number
-overflow_add-number g c =
-    omega (arith, few_lines _ _ _ _ _ c.requires.few c.loop-bytes.invariant, ap length c.in-Some.ensures.steps)
+pub loop-lines-init : goal.loop-lines-init
+loop-lines-init g c =
+    ([], c.new-lines.ensures.none (g.R.Read.remaining c.args.reader.now), HasChecked-none c.args.checker.now c.requires.fresh)
 
-pub loop-bytes-preserved : goal.loop-bytes-preserved
-loop-bytes-preserved g c =
-    Progress-line _ _ _ _ _ _ _ _ _ c.loop-bytes.invariant c.in-Some.ensures.steps c.in_ok-check_line.ensures.ok
+pub take-requires : goal.take-requires
+take-requires g c =
+    let at = c.loop-lines.invariant in
+    let more = c.if-advance.ensures.next (g.R.Read.remaining c.args.reader.now) (g.R.Read.remaining c.loop-lines.reader) at.0 at.1 in
+    record { few = subst (IsBelow c.loop-lines.checker.tally) (sym (c.line-line.ensures.number ∙ more.number)) at.2.few }
 
-pub returns-clause-ok : goal.returns-clause-ok
-returns-clause-ok g c = Progress-end _ _ _ _ _ c.requires.few c.loop-bytes.invariant c.in_default.ensures.steps.0
+pub loop-lines-preserved-in-Continue-1 : goal.loop-lines-preserved-in-Continue-1
+loop-lines-preserved-in-Continue-1 g c =
+    let at = c.loop-lines.invariant in
+    let more = c.if-advance.ensures.next (g.R.Read.remaining c.args.reader.now) (g.R.Read.remaining c.loop-lines.reader) at.0 at.1 in
+    let line = c.line-line.result in
+    let place = c.line-line.ensures.number ∙ more.number in
+    let held = c.line-line.ensures.bytes ∙ more.is.held in (
+      at.0 ++ more.line ∷ [],
+      more.more,
+      HasChecked-line at.0 more.line line.bytes.now line.number place held c.loop-lines.checker c.take.new.self at.2 _ refl c.in_ok-take.ensures.ok,
+    )
+
+pub end-requires : goal.end-requires
+end-requires g c =
+    let at = c.loop-lines.invariant in
+    let before = g.R.Read.remaining c.args.reader.now in
+    let none = c.if-advance.ensures.next before (g.R.Read.remaining c.loop-lines.reader) at.0 at.1 in
+    let ended = c.in-Some.ensures.ended before at.0 none.0 in
+    record { few = subst (IsBelow c.loop-lines.checker.tally) (sym (c.line-line-in-Some.ensures.number ∙ ended.number)) at.2.few }
+
+pub returns-in_err-end-clause-within : goal.returns-in_err-end-clause-within
+returns-in_err-end-clause-within g c =
+    let at = c.loop-lines.invariant in
+    let before = g.R.Read.remaining c.args.reader.now in
+    let none = c.if-advance.ensures.next before (g.R.Read.remaining c.loop-lines.reader) at.0 at.1 in
+    ended-within before (g.R.Read.remaining c.read.new.reader) c.read.new.self c.in-Some.ending at.0 (c.in-Some.ensures.ended before at.0 none.0)
+
+pub returns-in-Some-clause-ok : goal.returns-in-Some-clause-ok
+returns-in-Some-clause-ok g c =
+    let at = c.loop-lines.invariant in
+    let before = g.R.Read.remaining c.args.reader.now in
+    let left = g.R.Read.remaining c.read.new.reader in
+    let none = c.if-advance.ensures.next before (g.R.Read.remaining c.loop-lines.reader) at.0 at.1 in
+    let ended = c.in-Some.ensures.ended before at.0 none.0 in
+    let line = c.line-line-in-Some.result in
+    record {
+      bytes = ended.bytes;
+      read = ended.read;
+      checks = λ whole.
+          Checked-last before left c.read.new.self c.in-Some.ending at.0 ended line.bytes.now line.number c.loop-lines.checker c.end.new.self
+          whole c.line-line-in-Some.ensures.number c.line-line-in-Some.ensures.bytes at.2 (c.in_ok-end.ensures.ok whole);
+    }
+
+pub returns-in-Some-clause-within : goal.returns-in-Some-clause-within
+returns-in-Some-clause-within g c =
+    let at = c.loop-lines.invariant in
+    let before = g.R.Read.remaining c.args.reader.now in
+    let none = c.if-advance.ensures.next before (g.R.Read.remaining c.loop-lines.reader) at.0 at.1 in
+    ended-within before (g.R.Read.remaining c.read.new.reader) c.read.new.self c.in-Some.ending at.0 (c.in-Some.ensures.ended before at.0 none.0)

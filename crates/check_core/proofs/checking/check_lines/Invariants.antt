@@ -1,6 +1,12 @@
-use Rattle.check_core.specs.RawLines.{raw_lines_left}
-use Rattle.check_core.proofs.Progress.{Progress}
+use Rattle.std.proofs.Common.{ℕ, List}
+use Rattle.script_core.specs.ScriptLines.{HasGiven, turns_to_come}
+use Rattle.check_core.proofs.Progress.{HasChecked}
 use Rattle.check_core.proofs.checking.check_lines.Given as goal
 
-abbrev pub invariant-loop-bytes : goal.invariant-loop-bytes
-invariant-loop-bytes g l = Progress l.script (raw_lines_left l.behind) l.number l.checker.desk l.checker.tally
+abbrev pub invariant-loop-lines : goal.invariant-loop-lines
+invariant-loop-lines g l =
+    (given : List (List ℕ)) × HasGiven (g.R.Read.remaining l.initial.reader) (g.R.Read.remaining l.reader) l.lines given
+    × HasChecked given l.checker
+
+abbrev pub decreases-loop-lines : goal.decreases-loop-lines
+decreases-loop-lines g l = turns_to_come l.lines

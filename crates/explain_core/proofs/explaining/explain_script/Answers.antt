@@ -1,11 +1,45 @@
--- The engine read the script itself.
-use Rattle.std.proofs.Common.{ℕ, List, subst}
-use Rattle.script_core.specs.Output.{AnswersScript}
+use Rattle.std.proofs.Common.{take, refl}
+use Rattle.std.proofs.lemmas.Result.{err_from_is_err_and}
+use Rattle.script_core.specs.declared.script.TheConstants.{SCRIPT_BYTES}
+use Rattle.script_core.specs.Script.{lines_until}
+use Rattle.script_core.proofs.Inputs.{front_written, all_written, ended_written, reads_front, WritesFront-all}
 use Rattle.explain_core.proofs.explaining.explain_script.Goals as goal
 
-pub returns : goal.returns
-returns g c =
-    let told = c.in_ok-totals.ensures.ok in
+pub returns-in_err-totals-clause-err : goal.returns-in_err-totals-clause-err
+returns-in_err-totals-clause-err g c =
+    let q = err_from_is_err_and c.from_residual-in_err-totals.result c.from_residual-in_err-totals.ensures.1 in
+    let b = c.in_ok-ending.ensures.ok in
+    let start = g.W.Write.contents c.args.writer.now in
+    let lines = lines_until c.in_ok-ending.ending (take SCRIPT_BYTES b.bytes) in
+    rw q.1 (front_written _ _ b.bytes b.bytes c.in_ok-ending.ending lines b.read refl refl start _ (c.in_err-totals.ensures.err lines start b.answered))
+
+pub returns-in-Failed-clause-read : goal.returns-in-Failed-clause-read
+returns-in-Failed-clause-read g c _ =
+    let b = c.in_ok-ending.ensures.ok in
+    let start = g.W.Write.contents c.args.writer.now in
+    let lines = lines_until c.in_ok-ending.ending (take SCRIPT_BYTES b.bytes) in
+    let w = c.in_ok-totals.ensures.ok lines start b.answered in
+    ended_written _ _ b.bytes b.bytes c.in_ok-ending.ending lines b.read refl refl start _ c.in_ok-totals.totals c.in-Failed.is (w.given, w.answers, w.counts)
+
+pub returns-in-Failed-clause-err : goal.returns-in-Failed-clause-err
+returns-in-Failed-clause-err g c =
+    let b = c.in_ok-ending.ensures.ok in
+    let start = g.W.Write.contents c.args.writer.now in
+    let lines = lines_until c.in_ok-ending.ending (take SCRIPT_BYTES b.bytes) in
+    let w = c.in_ok-totals.ensures.ok lines start b.answered in
+    front_written _ _ b.bytes b.bytes c.in_ok-ending.ending lines b.read refl refl start _ (WritesFront-all lines w.given start _ w.answers)
+
+pub returns-in-Whole : goal.returns-in-Whole
+returns-in-Whole g c =
+    let b = c.in_ok-ending.ensures.ok in
+    let start = g.W.Write.contents c.args.writer.now in
+    let lines = lines_until c.in_ok-ending.ending (take SCRIPT_BYTES b.bytes) in
+    let w = c.in_ok-totals.ensures.ok lines start b.answered in
     record {
-      ok = subst (λ (script : List ℕ). AnswersScript script c.in_ok-totals.totals (g.W.Write.contents c.args.writer.now) (g.W.Write.contents c.engine.new.writer)) told.1 told.2;
+      ok = all_written _ _ b.bytes b.bytes c.in_ok-ending.ending lines b.read refl refl start _ c.in_ok-totals.totals c.in-Whole.is (w.given, w.answers, w.counts);
+      reads = reads_front _ _ b.bytes c.in_ok-ending.ending b.read c.in-Whole.is;
+      within = c.in_ok-ending.ensures.within;
+      read = λ e. absurd (cc);
+      err = tt;
+      refusals = tt;
     }

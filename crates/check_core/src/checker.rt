@@ -1,0 +1,206 @@
+// What a check keeps from line to line.
+ghost use Rattle.std.specs.Prelude.{◌≡◌, ◌+◌, ◌<◌, ◌≤◌, ◌⊎◌, ◌∷◌, [], length, option_to_list, IfOk, OnOk, IfErr};
+ghost use Rattle.point_core.specs.declared.refusal.Refusal.TheVariants.{Write as WriteFault, Memory};
+ghost use Rattle.script_core.specs.declared.script.Ending.TheVariants.{Whole};
+ghost use Rattle.script_core.specs.Line.{body_of};
+ghost use Rattle.check_core.specs.Expected.{expected_text};
+ghost use Rattle.check_core.specs.Stage.{place_of};
+ghost use Rattle.check_core.specs.Answering.{AnswersInto};
+ghost use Rattle.check_core.specs.Tally.{HasRoom, IsBelow, CountsOne};
+
+use crate::expected::expected_text;
+use crate::finding::{Difference, Finding};
+use crate::stage::Stage;
+use crate::tally::Tally;
+use crate::telling::tell_difference;
+use desk_core::Desk;
+use point_core::Refusal;
+use script_core::{Body, Ending, answer_line, body_of, print};
+use std::alloc::Global;
+use std::io::Write;
+
+/// What a check keeps from line to line: a desk, the counts, and the last line that has an answer.
+#[derive(Drop)]
+pub(crate) struct Checker {
+    desk: Desk,
+    pub(crate) tally: Tally,
+    // of the last line that has an answer; 0 stands for what is above the first
+    number: u32,
+    bytes: Vec<u8>,
+    // its answer, and how far that came as expected
+    text: Vec<u8>,
+    stage: Stage,
+    ghost within: { place_of stage ≤ length text.items },
+}
+
+impl Checker {
+    ghost use Rattle.check_core.specs.Check.{IsFresh, Expects, IsAnswered, IsTaken, IsOpened, IsJudgedAt, IsEnded};
+
+    pub(crate) fn new(alloc: Global) -> Result<Checker, Refusal>
+        ensures fresh { IfOk result IsFresh }
+        ensures refusals { IfErr result (λ refusal. refusal ≡ Memory) }
+    {
+        Ok(Checker {
+            desk: Desk::new(alloc)?,
+            tally: Tally::new(),
+            number: 0,
+            bytes: Vec::new(alloc),
+            text: Vec::new(alloc),
+            stage: Stage::Unasked,
+        })
+    }
+
+    /// Takes the next line: it is answered, where it has an answer, or else what it expects is compared with the last answer.
+    /// Of a line that is too long so many bytes are enough that it still is.
+    pub(crate) fn take<W: Write>(
+        &mut self,
+        number: u32,
+        bytes: &[u8],
+        writer: &mut W,
+    ) -> Result<(), Refusal>
+        requires few { IsBelow self.old.tally number }
+        ensures ok { OnOk result (IsTaken self.old self.new number (body_of bytes.now) (expected_text bytes.now)) }
+        ensures few { OnOk result (IsBelow self.new.tally (number + 1)) }
+        ensures refusals { IfErr result (λ refusal. (refusal ≡ WriteFault) ⊎ (refusal ≡ Memory)) }
+    {
+        match body_of(bytes) {
+            Some(body) => self.answer(number, bytes, body, writer),
+            None => self.note(bytes, writer),
+        }
+    }
+
+    /// Takes the last line, which may lack its line feed. It is one where the script was read to its end.
+    pub(crate) fn end<W: Write>(
+        &mut self,
+        ending: Ending,
+        number: u32,
+        bytes: &[u8],
+        writer: &mut W,
+    ) -> Result<(), Refusal>
+        requires few { IsBelow self.old.tally number }
+        ensures ok { OnOk result (ending ≡ Whole
+            → IsEnded self.old self.new number (body_of bytes.now) (expected_text bytes.now)) }
+        ensures refusals { IfErr result (λ refusal. (refusal ≡ WriteFault) ⊎ (refusal ≡ Memory)) }
+    {
+        match ending {
+            Ending::Whole => self.take_last(number, bytes, writer),
+            Ending::TooLong | Ending::Failed => Ok(()),
+        }
+    }
+
+    fn take_last<W: Write>(
+        &mut self,
+        number: u32,
+        bytes: &[u8],
+        writer: &mut W,
+    ) -> Result<(), Refusal>
+        requires few { IsBelow self.old.tally number }
+        ensures ok { OnOk result (IsEnded self.old self.new number (body_of bytes.now) (expected_text bytes.now)) }
+        ensures refusals { IfErr result (λ refusal. (refusal ≡ WriteFault) ⊎ (refusal ≡ Memory)) }
+    {
+        self.take(number, bytes, writer)?;
+        self.judge(writer)?;
+        Ok(())
+    }
+
+    /// A line that has an answer: no more is expected of the one before it.
+    fn answer<W: Write>(
+        &mut self,
+        number: u32,
+        bytes: &[u8],
+        body: Body,
+        writer: &mut W,
+    ) -> Result<(), Refusal>
+        requires few { IsBelow self.old.tally number }
+        ensures ok { OnOk result (IsAnswered self.old self.new number body) }
+        ensures few { OnOk result (IsBelow self.new.tally (number + 1)) }
+        ensures refusals { IfErr result (λ refusal. (refusal ≡ WriteFault) ⊎ (refusal ≡ Memory)) }
+    {
+        self.judge(writer)?;
+        self.open(number, bytes, body)?;
+        Ok(())
+    }
+
+    /// Answers a line, of whose answer nothing is expected yet.
+    fn open(&mut self, number: u32, bytes: &[u8], body: Body) -> Result<(), Refusal>
+        requires few { self.old.tally.lines < number }
+        ensures ok { OnOk result (IsOpened self.old self.new number body) }
+        ensures refusals { IfErr result (λ refusal. refusal ≡ Memory) }
+    {
+        self.number = number;
+        self.bytes.clear();
+        self.bytes.extend_from_slice(bytes)?;
+        self.stage = Stage::Unasked;
+        answer_into(&mut self.desk, number, body, &mut self.text)?;
+        self.tally.lines += 1;
+        Ok(())
+    }
+
+    /// A line without an answer, which may expect one of the last answer.
+    fn note<W: Write>(&mut self, bytes: &[u8], writer: &mut W) -> Result<(), Refusal>
+        ensures expects { Expects self.old self.new (option_to_list (expected_text bytes.now)) }
+        ensures refusals { IfErr result (λ refusal. refusal ≡ WriteFault) }
+    {
+        match expected_text(bytes) {
+            Some(line) => self.expect(line, writer),
+            None => Ok(()),
+        }
+    }
+
+    /// One more line is expected of the last answer. It is told where that is the first that differs.
+    fn expect<W: Write>(&mut self, line: &[u8], writer: &mut W) -> Result<(), Refusal>
+        ensures expects { Expects self.old self.new (line.now ∷ []) }
+        ensures refusals { IfErr result (λ refusal. refusal ≡ WriteFault) }
+    {
+        let before = self.stage;
+        self.stage = before.with(&self.text, line);
+        match self.stage {
+            Stage::Differs => self.tell(before, Some(line), writer),
+            Stage::Unasked | Stage::Came(_) => Ok(()),
+        }
+    }
+
+    /// No more is expected of the last answer: counts it, and tells where more came.
+    fn judge<W: Write>(&mut self, writer: &mut W) -> Result<(), Refusal>
+        requires room { HasRoom self.old.tally }
+        ensures judged { IsJudgedAt self.old self.new }
+        ensures counts { CountsOne self.old.tally self.new.tally }
+        ensures refusals { IfErr result (λ refusal. refusal ≡ WriteFault) }
+    {
+        let finding = self.stage.finding(&self.text);
+        self.tally.count(finding);
+        match finding {
+            Finding::Differs => self.tell(self.stage, None, writer),
+            Finding::Unasked | Finding::AsExpected => Ok(()),
+        }
+    }
+
+    /// Tells that this was expected and something else came, where none was told at that stage.
+    fn tell<W: Write>(
+        &self,
+        stage: Stage,
+        expected: Option<&[u8]>,
+        writer: &mut W,
+    ) -> Result<(), Refusal>
+        requires within { place_of stage ≤ length self.now.text.items }
+        ensures refusals { IfErr result (λ refusal. refusal ≡ WriteFault) }
+    {
+        match stage.left(&self.text) {
+            Some(came) => {
+                let difference = Difference { expected, came };
+                tell_difference(self.number, &self.bytes, &difference, writer)
+            }
+            None => Ok(()),
+        }
+    }
+}
+
+/// Answers a line, and leaves the text of its answer alone in `text`.
+fn answer_into(desk: &mut Desk, number: u32, body: Body, text: &mut Vec<u8>) -> Result<(), Refusal>
+    ensures ok { OnOk result (AnswersInto desk.old desk.new number body text.new.items) }
+    ensures refusals { IfErr result (λ refusal. refusal ≡ Memory) }
+{
+    text.clear();
+    let answer = answer_line(desk, body);
+    print(number, &answer, text)
+}

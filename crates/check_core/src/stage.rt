@@ -1,0 +1,70 @@
+// How far an answer came as expected.
+ghost use Rattle.std.specs.Prelude.{◌≡◌, ◌≤◌, ◌++◌, ◌∷◌, [], List, ℕ, length, option_map};
+ghost use Rattle.check_core.specs.Finding.{is_asked_finding, is_difference};
+ghost use Rattle.check_core.specs.Expected.{is_asked, differs};
+
+use crate::finding::Finding;
+use crate::front::strip_line;
+
+/// How far an answer came as expected, by the lines that are expected of it so far.
+#[derive(Clone, Copy)]
+pub(crate) enum Stage {
+    /// None is expected.
+    Unasked,
+    /// They came, and are the first of its text, up to this place.
+    Came(usize),
+    /// It differs, whatever else is expected.
+    Differs,
+}
+
+impl Stage {
+    ghost use Rattle.check_core.specs.Stage.{place_of, left_of, IsAt};
+
+    /// What of the text the next expected line is compared with; none where that can't matter.
+    pub(crate) fn left(self, text: &[u8]) -> Option<&[u8]>
+        requires within { place_of self ≤ length text.now }
+        ensures left { option_map (λ l. l.now) result ≡ left_of self text.now }
+    {
+        match self {
+            Stage::Unasked => Some(text),
+            Stage::Came(place) => Some(&text[place..]),
+            Stage::Differs => None,
+        }
+    }
+
+    /// With one more line that is expected.
+    pub(crate) fn with(self, text: &[u8], line: &[u8]) -> Stage
+        requires within { place_of self ≤ length text.now }
+        ensures within { place_of result ≤ length text.now }
+        ensures next { (expected : List (List ℕ)) → IsAt self expected text.now
+            → IsAt result (expected ++ line.now ∷ []) text.now }
+    {
+        let Some(left) = self.left(text) else {
+            return Stage::Differs;
+        };
+        match strip_line(left, line) {
+            Some(rest) => Stage::Came(text.len() - rest.len()),
+            None => Stage::Differs,
+        }
+    }
+
+    /// What is found where no more is expected.
+    pub(crate) fn finding(self, text: &[u8]) -> Finding
+        ensures asked { (expected : List (List ℕ)) → IsAt self expected text.now
+            → is_asked_finding result ≡ is_asked expected }
+        ensures difference { (expected : List (List ℕ)) → IsAt self expected text.now
+            → is_difference result ≡ differs expected text.now }
+    {
+        match self {
+            Stage::Unasked => Finding::Unasked,
+            Stage::Came(place) => {
+                if place < text.len() {
+                    Finding::Differs
+                } else {
+                    Finding::AsExpected
+                }
+            }
+            Stage::Differs => Finding::Differs,
+        }
+    }
+}
