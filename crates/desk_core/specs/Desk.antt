@@ -32,7 +32,8 @@ pub record Holds (desk : DeskState) (world : World) : Type 0 where
   pub points : map (λ (f : File). f.points) desk.files ≡ map listed_points world.files
   pub buffers : names_of desk.buffers ≡ map (λ (b : MadeBuffer). b.name) world.buffers
   pub kept : AreBuffers desk.buffers
-  pub tables : (name : List ℕ) → AgreesAbove (reach_of world.timelines) (entries_of desk.buffers name) (buffer_put_set world.buffers name)
+  pub tables : (name : List ℕ) →
+      AgreesAbove (reach_of world.timelines) (entries_of desk.buffers name) (buffer_put_set world.buffers name)
   pub watches : AreWatchesOf (reach_of world.timelines) desk.watches.pending world.watches
   pub watches_made : desk.watches.made ≡ world.watches_made
 
