@@ -1,5 +1,5 @@
 -- How far a table of values goes.
-use Rattle.std.specs.Prelude.{◌≡◌, ◌≤◌, ℕ, List, [], ◌∷◌, zero, suc, length}
+use Rattle.std.specs.Prelude.{◌≡◌, ◌≤◌, ◌-◌, ℕ, List, [], ◌∷◌, ◌++◌, zero, suc, length, replicate}
 use Rattle.std.proofs.Common.{ap, sym}
 use Rattle.point_core.specs.declared.context.TheConstants.{CONTEXTS}
 use Rattle.point_core.specs.declared.context_values.ContextValues.TheInside.{Inside}
@@ -24,3 +24,11 @@ inside_of values = record { values = values; used = used_of values }
 
 pub inside_of_values : (v : Inside) → AreValues v.values v.used → inside_of v.values ≡ v
 inside_of_values v h = ap (λ used. record { values = v.values; used = used }) (sym h.2)
+
+-- a value for each context, where the ones past the list are 0
+abbrev pub padded : List ℕ → List ℕ
+padded values = values ++ replicate (CONTEXTS - length values) 0
+
+-- the values up to the last that is not 0
+abbrev pub AreInUse : List ℕ → Type 0
+AreInUse values = (length values ≤ CONTEXTS) × (length values ≡ used_of (padded values))

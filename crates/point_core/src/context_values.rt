@@ -32,6 +32,7 @@ impl Model for ContextValues {
 impl ContextValues {
     ghost use Rattle.std.specs.Prelude.{replicate, slice_set};
     ghost use Rattle.point_core.specs.Reach.{later_values, IsAtLeast};
+    ghost use Rattle.point_core.specs.Used.{padded, AreInUse};
 
     /// Every value is 0.
     pub(crate) fn zero() -> ContextValues
@@ -72,23 +73,34 @@ impl ContextValues {
         }
     }
 
-    /// Raises each value to the other's, where that is greater.
-    pub(crate) fn join(&mut self, other: &ContextValues)
-        ensures values { self.new ≡ later_values self.old other.now }
-        ensures full { (length self.old ≡ CONTEXTS) × (length other.now ≡ CONTEXTS) × (length self.new ≡ CONTEXTS) }
+    /// The values up to the last that is not 0.
+    pub(crate) fn in_use(&self) -> &[u64]
+        ensures values { padded result.now ≡ self.now }
+        ensures in_use { AreInUse result.now }
+        ensures full { length self.now ≡ CONTEXTS }
     {
-        for index in 0..other.used {
-            self.values[index] = self.values[index].max(other.values[index]);
+        &self.values[..self.used]
+    }
+
+    /// Raises each value to the other's, where that is greater.
+    pub(crate) fn join(&mut self, other: &[u64])
+        requires in_use { AreInUse other.now }
+        ensures values { self.new ≡ later_values self.old (padded other.now) }
+        ensures full { (length self.old ≡ CONTEXTS) × (length self.new ≡ CONTEXTS) }
+    {
+        for index in 0..other.len() {
+            self.values[index] = self.values[index].max(other[index]);
         }
-        self.used = self.used.max(other.used);
+        self.used = self.used.max(other.len());
     }
 
     /// Whether no value is below the other's.
-    pub(crate) fn at_least(&self, other: &ContextValues) -> bool
-        ensures { IsTrue result ↔ IsAtLeast self.now other.now }
+    pub(crate) fn at_least(&self, other: &[u64]) -> bool
+        requires in_use { AreInUse other.now }
+        ensures { IsTrue result ↔ IsAtLeast self.now (padded other.now) }
     {
-        for index in 0..other.used {
-            if self.values[index] < other.values[index] {
+        for index in 0..other.len() {
+            if self.values[index] < other[index] {
                 return false;
             }
         }

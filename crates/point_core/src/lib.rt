@@ -8,6 +8,7 @@
 mod context;
 mod context_values;
 mod entry;
+mod floor;
 mod items;
 mod latest_points;
 pub mod laws;
@@ -21,6 +22,7 @@ mod status;
 
 pub use context::{CONTEXTS, Context};
 pub use entry::{Entry, Point, Usage, covers};
+pub use floor::Floor;
 pub use items::Items;
 pub use latest_points::LatestPoints;
 pub use limits::BUFFERS;

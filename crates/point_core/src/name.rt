@@ -79,8 +79,11 @@ fn padded(bytes: &[u8]) -> [u8; NAME_BYTES]
     stored
 }
 
+// How many values a byte has.
+const BYTE_VALUES: usize = 1 << u8::BITS;
+
 // For each byte that is allowed in a name the byte itself, and a comma for each other.
-static ALLOWED_BYTES: [u8; 256] = *b"\
+static ALLOWED_BYTES: [u8; BYTE_VALUES] = *b"\
     ,,,,,,,,,,,,,,,,,,,,,,,,,,,,,,,,\
     ,,,,,,,,,,,,,-.,0123456789,,,,,,\
     ,ABCDEFGHIJKLMNOPQRSTUVWXYZ,,,,_\
@@ -118,15 +121,17 @@ impl Eq for Name {
 }
 
 impl Hash for Name {
-    ghost use Rattle.std.specs.Hash as fed;
-    ghost use Rattle.std.proofs.Common.{rules};
-    ghost use Rattle.std.specs.Cmp.Rules.{hashing};
+    ghost use Rattle.std.specs.Prelude.{[], ◌∷◌};
+    ghost use Rattle.std.proofs.Common.{ap, sym};
+    ghost use Rattle.std.specs.Cmp.Lexicographic.{same_text};
+    ghost use Rattle.point_core.specs.Name.{padded};
 
-    ghost hash_input = { fed.slice fed.u8 };
+    ghost hash_input = { λ name. padded name ∷ [] };
 
-    ghost respects_eq = { Prim.search (hashing, rules) };
+    ghost respects_eq = { λ x y same. ap (λ name. padded name ∷ []) (same_text x y (sym same)) };
 
+    // As one piece of a fixed length, since a slice would be written byte by byte.
     fn hash<H: Hasher>(&self, state: &mut H) {
-        self.as_bytes().hash(state);
+        state.write(&self.bytes);
     }
 }

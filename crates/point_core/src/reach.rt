@@ -6,6 +6,7 @@ ghost use Rattle.point_core.specs.Reach.{value_at};
 use crate::context::Context;
 use crate::context_values::ContextValues;
 use crate::entry::Point;
+use crate::floor::Floor;
 use std::marker::Model;
 
 /// The value of each context: a point is signalled once the value has reached it. A context that was not made has
@@ -50,6 +51,15 @@ impl Reach {
         self.values.get(ctx.index())
     }
 
+    /// The value of the context at a place, from 0.
+    pub fn at(&self, index: usize) -> u64
+        requires within { index < CONTEXTS }
+        ensures value { result ≡ value_at self.now (index + 1) }
+        ensures full { length self.now ≡ CONTEXTS }
+    {
+        self.values.get(index)
+    }
+
     /// The reach after the context advances by n, or none where its value would pass the greatest u64.
     pub fn raised(&self, ctx: Context, n: u64) -> Option<Reach>
         ensures fits { IsSome result ↔ (value_at self.now ctx + n < 2 ^ 64) }
@@ -91,7 +101,7 @@ impl Reach {
         ensures values { self.new ≡ later_values self.old other.now }
         ensures full { (length self.old ≡ CONTEXTS) × (length other.now ≡ CONTEXTS) }
     {
-        self.values.join(&other.values);
+        self.values.join(other.values.in_use());
     }
 
     /// The greater value of each context.
@@ -108,7 +118,22 @@ impl Reach {
     pub fn at_least(&self, other: &Reach) -> bool
         ensures { IsTrue result ↔ IsAtLeast self.now other.now }
     {
-        self.values.at_least(&other.values)
+        self.values.at_least(other.values.in_use())
+    }
+
+    /// Raises each value to the floor's, where that is greater.
+    pub fn join_floor(&mut self, floor: &Floor)
+        ensures values { self.new ≡ later_values self.old floor.now }
+        ensures full { (length self.old ≡ CONTEXTS) × (length floor.now ≡ CONTEXTS) }
+    {
+        self.values.join(floor.in_use());
+    }
+
+    /// Whether no value is below the floor's.
+    pub fn at_least_floor(&self, floor: &Floor) -> bool
+        ensures { IsTrue result ↔ IsAtLeast self.now floor.now }
+    {
+        self.values.at_least(floor.in_use())
     }
 }
 

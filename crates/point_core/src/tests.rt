@@ -1,7 +1,7 @@
 // Values that people worked out.
 use crate::{
-    CONTEXTS, Context, Entry, Items, LatestPoints, LimitKind, Listing, NAME_BYTES, Name, Point,
-    Reach, Refusal, Status, Usage, canon, covers, is_signalled, merged,
+    CONTEXTS, Context, Entry, Floor, Items, LatestPoints, LimitKind, Listing, NAME_BYTES, Name,
+    Point, Reach, Refusal, Status, Usage, canon, covers, is_signalled, merged,
 };
 use std::alloc::Global;
 use std::test::Fail;
@@ -206,6 +206,22 @@ fn a_reach_goes_as_far_as_the_last_context_in_use(rt: HostRuntime) -> Result<(),
     assert_eq!(rt; reach.used(), 7);
     assert_eq!(rt; Reach::zero().joined(&reach).used(), 7);
     assert_eq!(rt; reach.joined(&Reach::zero()), reach);
+    Ok(())
+}
+
+#[test]
+fn a_floor_is_the_reach_that_it_was_made_of(rt: HostRuntime) -> Result<(), Fail> {
+    let mut reach = Reach::zero();
+    reach.raise_to(point(7, 4)?);
+    let floor = Floor::of(rt.alloc(), &reach)?;
+    assert_eq!(rt; floor.to_reach(), reach);
+    assert!(rt; reach.at_least_floor(&floor) && !Reach::zero().at_least_floor(&floor));
+    let mut joined = Reach::zero();
+    joined.raise_to(point(2, 3)?);
+    joined.join_floor(&floor);
+    assert_eq!(rt; joined.get(point(2, 0)?.ctx), 3);
+    assert_eq!(rt; joined.get(point(7, 0)?.ctx), 4);
+    assert_eq!(rt; Floor::zero(rt.alloc()).to_reach(), Reach::zero());
     Ok(())
 }
 

@@ -119,7 +119,8 @@ pub record IsKept (sizes : Sizes) (words : List ℕ) (views : List View) : Type 
   pub sized : Each (KnowsSizes sizes) views
   -- each word was won once at most, by all seats together
   pub won_once : (w : ℕ) → total (wins_on w) views ≤ 1
-  pub values : (place : ℕ) → place < sizes.contexts → IsValue (slice_index words (value_place place)) (map (context_trace place) views)
+  pub values : (place : ℕ) → place < sizes.contexts →
+      IsValue (slice_index words (value_place place)) (map (context_trace place) views)
   pub set_once : (k : ℕ) → IsClaimOrFlag sizes k → IsSetOnce (slice_index words k) (map (word_trace k) views)
   pub entries : (k : ℕ) → IsBoardWord sizes k → IsEntry (slice_index words k) (map (word_trace k) views)
   pub unused : (k : ℕ) → IsUnused sizes k → slice_index words k ≡ 0

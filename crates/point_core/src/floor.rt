@@ -1,0 +1,70 @@
+// A reach that is kept.
+ghost use Rattle.std.specs.Prelude.{◌≡◌, length, IfOk, IfErr};
+ghost use Rattle.point_core.specs.declared.context.TheConstants.{CONTEXTS};
+ghost use Rattle.point_core.specs.Used.{padded, AreInUse};
+
+use crate::reach::Reach;
+use crate::refusal::Refusal;
+use std::alloc::Global;
+use std::marker::Model;
+
+/// A reach that is kept for long: its memory follows the contexts in use, and not how many there may be.
+#[derive(Debug, Drop)]
+pub struct Floor {
+    // up to the last that is not 0
+    values: Vec<u64>,
+}
+
+impl Model for Floor {
+    ghost use Rattle.std.specs.Prelude.{List, ℕ};
+    ghost use Rattle.point_core.specs.Used.{padded, AreInUse};
+
+    ghost Value = { List ℕ };
+
+    ghost view = { λ f. padded f.values.items };
+
+    ghost invariant = { λ f. AreInUse f.values.items };
+}
+
+impl Floor {
+    ghost use Rattle.std.specs.Prelude.{replicate};
+
+    /// Every value is 0. Takes no memory.
+    pub fn zero(alloc: Global) -> Floor
+        ensures { result ≡ replicate CONTEXTS 0 }
+    {
+        Floor {
+            values: Vec::new(alloc),
+        }
+    }
+
+    /// The values of a reach.
+    ///
+    /// Refuses as `Memory` alone.
+    pub fn of(alloc: Global, reach: &Reach) -> Result<Floor, Refusal>
+        ensures floor { IfOk result (λ f. f ≡ reach.now) }
+        ensures memory { IfErr result (λ e. e ≡ Refusal.Memory) }
+    {
+        Ok(Floor {
+            values: reach.values().in_use().to_vec(alloc)?,
+        })
+    }
+
+    /// The reach that is kept.
+    pub fn to_reach(&self) -> Reach
+        ensures { result ≡ self.now }
+    {
+        let mut reach = Reach::zero();
+        reach.join_floor(self);
+        reach
+    }
+
+    /// The values up to the last that is not 0.
+    pub(crate) fn in_use(&self) -> &[u64]
+        ensures values { padded result.now ≡ self.now }
+        ensures in_use { AreInUse result.now }
+        ensures full { length self.now ≡ CONTEXTS }
+    {
+        self.values.as_slice()
+    }
+}
