@@ -1,7 +1,7 @@
 // Worked rows of buffers.
 use crate::{Buffers, SyncFlags};
 use point_core::{
-    BUFFERS, CONTEXTS, Context, LimitKind, Name, Point, Reach, Refusal, TopRow, Usage,
+    BUFFERS, CONTEXTS, Context, Floor, LimitKind, Name, Point, Reach, Refusal, TopRow, Usage,
 };
 use std::alloc::Global;
 use std::process::Abort;
@@ -182,19 +182,19 @@ fn export_of_an_idle_buffer(rt: HostRuntime) -> Result<(), Fail> {
 }
 
 /// A file of no points, made of a listing in which nothing is pending.
-fn idle_file(buffers: &Buffers) -> Result<SyncFile, Fail> {
+fn idle_file(alloc: Global, buffers: &Buffers) -> Result<SyncFile, Fail> {
     let listing = buffers.export(&name("B")?, WRITE, &Reach::zero())?;
     Ok(SyncFile {
         name: name("e")?,
         points: listing.points,
-        floor: listing.floor,
+        floor: Floor::of(alloc, &listing.floor)?,
     })
 }
 
 #[test]
 fn import_of_an_idle_file(rt: HostRuntime) -> Result<(), Fail> {
     let mut buffers = buffer_b(rt.alloc())?;
-    let file = idle_file(&buffers)?;
+    let file = idle_file(rt.alloc(), &buffers)?;
     assert_eq!(rt; import(&mut buffers, &file, WRITE)?, None);
     assert!(rt; has_rows(&buffers, &Reach::zero(), &[])?);
     Ok(())

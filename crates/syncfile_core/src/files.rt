@@ -12,7 +12,7 @@ use crate::by_making::ByMaking;
 use crate::merge::{self, Gathered};
 use crate::status::{self, FileInfo};
 use crate::sync_file::SyncFile;
-use point_core::{Items, LimitKind, Listing, Name, Point, Reach, Refusal, Status};
+use point_core::{Floor, Items, LimitKind, Listing, Name, Point, Reach, Refusal, Status};
 use std::alloc::Global;
 use std::marker::Model;
 
@@ -187,7 +187,7 @@ impl Files {
         let file = SyncFile {
             name,
             points,
-            floor,
+            floor: Floor::of(self.alloc, &floor)?,
         };
         self.insert(file.boxed(self.alloc)?)
     }

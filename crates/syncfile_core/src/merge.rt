@@ -1,14 +1,14 @@
 // What a merge gathers of its inputs.
-ghost use Rattle.std.specs.Prelude.{◌≡◌, ℕ, List, [], ◌∷◌, ◌++◌, IfOk, IfErr};
+ghost use Rattle.std.specs.Prelude.{◌≡◌, ℕ, List, [], ◌∷◌, ◌++◌, length, IfOk, IfErr};
 ghost use Rattle.point_core.specs.declared.entry.Entry.{Entry};
 ghost use Rattle.point_core.specs.declared.refusal.Refusal.TheVariants.{Memory};
 ghost use Rattle.point_core.specs.Agreement.{as_entries, HasContexts};
 ghost use Rattle.point_core.specs.Latest.{IsLatest};
 ghost use Rattle.syncfile_core.specs.SyncFile.{File};
-ghost use Rattle.syncfile_core.specs.Merge.{IsGathered, IsGatheredAbove, StandsForUnion, merged_file};
+ghost use Rattle.syncfile_core.specs.Merge.{IsGathered, IsGatheredAbove, StandsForUnion, merged_file, floor_of};
 
 use crate::sync_file::SyncFile;
-use point_core::{CONTEXTS, Items, LatestPoints, Name, Reach, Refusal};
+use point_core::{CONTEXTS, Floor, Items, LatestPoints, Name, Reach, Refusal};
 use std::alloc::Global;
 
 /// The merge of two files, whose points are gone through once.
@@ -28,14 +28,31 @@ pub(crate) fn of_two(
 {
     let (ps, qs) = (left.points.as_slice(), right.points.as_slice());
     let points = point_core::merged(alloc, ps, qs, reach)?;
-    let mut file = SyncFile {
+    let file = SyncFile {
         name,
         points: Items::of(points),
-        floor: *reach,
+        floor: floor_of_two(alloc, left, right, reach)?,
     };
-    file.floor.join(&left.floor);
-    file.floor.join(&right.floor);
     file.boxed(alloc)
+}
+
+/// The greatest value of each context, among the reach and the floors of both files.
+///
+/// Refuses as `Memory` alone.
+fn floor_of_two(
+    alloc: Global,
+    left: &SyncFile,
+    right: &SyncFile,
+    reach: &Reach,
+) -> Result<Floor, Refusal>
+    ensures floor { IfOk result (λ f. f ≡ floor_of reach.now (left.now ∷ right.now ∷ [])) }
+    ensures floors { (length left.now.floor ≡ length reach.now) × (length right.now.floor ≡ length reach.now) }
+    ensures memory { IfErr result (λ e. e ≡ Memory) }
+{
+    let mut floor = *reach;
+    floor.join_floor(&left.floor);
+    floor.join_floor(&right.floor);
+    Floor::of(alloc, &floor)
 }
 
 /// The latest point of each context among a reach and the inputs so far, and the greatest of their floors.
@@ -67,7 +84,7 @@ impl Gathered {
     {
         let points = file.points.as_slice();
         self.latest.put_all(points);
-        self.floor.join(&file.floor);
+        self.floor.join_floor(&file.floor);
         self.count = self.count.saturating_add(points.len()).min(CONTEXTS);
     }
 
@@ -93,7 +110,7 @@ impl Gathered {
         let file = SyncFile {
             name,
             points: Items::of(points),
-            floor: self.floor,
+            floor: Floor::of(alloc, &self.floor)?,
         };
         file.boxed(alloc)
     }

@@ -10,7 +10,7 @@ ghost use Rattle.syncfile_core.specs.Running.{reach_seen, HasLoadedAll, IsBorneO
 
 use crate::status;
 use crate::sync_file::SyncFile;
-use point_core::{Items, LatestPoints, Name, Point, Reach, Refusal, Status};
+use point_core::{Floor, Items, LatestPoints, Name, Point, Reach, Refusal, Status};
 use std::alloc::Global;
 use words_core::{Seat, Words};
 
@@ -52,7 +52,7 @@ impl SyncFile {
         Ok(SyncFile {
             name,
             points: Items::of(points),
-            floor: reach,
+            floor: Floor::of(alloc, &reach)?,
         })
     }
 
@@ -118,7 +118,7 @@ fn bear_out(file: &SyncFile, made: usize, reach: &Reach) -> Result<(), Refusal>
     ensures borne_out { OnOk result (IsBorneOutAt reach.now made file.now) }
     ensures foreign { IfErr result (λ e. (e ≡ refusal.Foreign) × (¬ IsBorneOutAt reach.now made file.now)) }
 {
-    if reach.at_least(&file.floor) && has_contexts(made, file.points.as_slice()) {
+    if reach.at_least_floor(&file.floor) && has_contexts(made, file.points.as_slice()) {
         Ok(())
     } else {
         Err(Refusal::Foreign)

@@ -3,7 +3,7 @@ ghost use Rattle.std.specs.Prelude.{◌≡◌, IfOk, IfErr};
 ghost use Rattle.point_core.specs.declared.refusal.Refusal.TheVariants.{Memory};
 ghost use Rattle.syncfile_core.specs.SyncFile.{plain_file};
 
-use point_core::{Items, Name, Point, Reach, Refusal};
+use point_core::{Floor, Items, Name, Point, Refusal};
 use std::alloc::Global;
 use std::marker::Model;
 
@@ -13,7 +13,7 @@ use std::marker::Model;
 pub struct SyncFile {
     pub name: Name,
     pub points: Items<Point>,
-    pub floor: Reach,
+    pub floor: Floor,
 }
 
 impl Model for SyncFile {
@@ -40,7 +40,7 @@ impl SyncFile {
         Ok(SyncFile {
             name,
             points: Items::of(points),
-            floor: Reach::zero(),
+            floor: Floor::zero(alloc),
         })
     }
 

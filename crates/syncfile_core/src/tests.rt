@@ -77,7 +77,7 @@ fn has_points(files: &Files, text: &str, points: &[Point]) -> Result<bool, Fail>
 
 fn has_floor(files: &Files, text: &str, floor: &Reach) -> Result<bool, Fail> {
     let file = files.get(&name(text)?).ok_or("not there")?;
-    Ok(file.floor == *floor)
+    Ok(file.floor.to_reach() == *floor)
 }
 
 fn tells(
@@ -113,7 +113,7 @@ fn a_created_file_has_one_point(rt: HostRuntime) -> Result<(), Fail> {
     assert!(rt; has_floor(&files, "f", &Reach::zero())?);
     let plain = SyncFile::plain(rt.alloc(), name("f")?, point(1, 0)?)?;
     assert!(rt; has_points(&files, "f", plain.points.as_slice())?);
-    assert!(rt; has_floor(&files, "f", &plain.floor)?);
+    assert!(rt; has_floor(&files, "f", &plain.floor.to_reach())?);
     Ok(())
 }
 

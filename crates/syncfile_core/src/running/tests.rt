@@ -46,7 +46,7 @@ fn merges_to(
     floor.raise_to(point(1, 5)?);
     let status = merged.poll(words, seat)?;
     let lists = merged.points.as_slice() == [listed].as_slice();
-    Ok(lists && merged.floor == floor && status == Status::Active)
+    Ok(lists && merged.floor.to_reach() == floor && status == Status::Active)
 }
 
 #[test]
@@ -76,7 +76,9 @@ fn files_of_other_words_are_foreign(rt: HostRuntime) -> Result<(), Fail> {
     let past = plain(rt.alloc(), 3, 1)?;
     assert!(rt; past.poll(&words, &mut seat) == Err(Refusal::Foreign));
     let mut later = plain(rt.alloc(), 2, 2)?;
-    later.floor.raise_to(point(1, 5)?);
+    let mut floor = Reach::zero();
+    floor.raise_to(point(1, 5)?);
+    later.floor = Floor::of(rt.alloc(), &floor)?;
     assert!(rt; later.poll(&words, &mut seat) == Err(Refusal::Foreign));
     Ok(())
 }

@@ -1,4 +1,4 @@
-use Rattle.std.proofs.Common.{◌≡◌, ◌++◌, length, sym, subst, ap, ◌∙◌}
+use Rattle.std.proofs.Common.{◌≡◌, ◌++◌, sym, subst, ap, ◌∙◌}
 use Rattle.point_core.specs.Agreement.{as_entries, HasRisingContexts}
 use Rattle.point_core.proofs.Agreement.{listing-rising}
 use Rattle.syncfile_core.specs.SyncFile.{File}
@@ -14,6 +14,4 @@ returns-clause-union c =
     let ps : c.as_slice-ps.result.now ≡ c.args.left.now.points = c.as_slice-ps.ensures ∙ ap (λ (f : File). f.points) c.left.view_is in
     let qs : c.as_slice-qs.result.now ≡ c.args.right.now.points = c.as_slice-qs.ensures ∙ ap (λ (f : File). f.points) c.right.view_is in
     let within = rw (ps, qs) at c.in_ok-points.ensures.contexts in
-    let first : length c.args.left.now.floor ≡ length c.args.reach.now = sym (ap (λ (f : File). length f.floor) c.left.view_is) ∙ c.join.ensures.full.1 ∙ sym c.join.ensures.full.0 in
-    let second : length c.args.right.now.floor ≡ length c.args.reach.now = sym (ap (λ (f : File). length f.floor) c.right.view_is) ∙ c.join-2.ensures.full.1 ∙ sym c.join.ensures.full.0 in
-    IfOk-then c.boxed.result c.boxed.ensures.file (λ f is. StandsForUnion-two c.args.name c.args.left.now c.args.right.now c.args.reach.now within first second)
+    IfOk-then c.boxed.result c.boxed.ensures.file (λ f is. StandsForUnion-two c.args.name c.args.left.now c.args.right.now c.args.reach.now within c.floor_of_two.ensures.floors.0 c.floor_of_two.ensures.floors.1)

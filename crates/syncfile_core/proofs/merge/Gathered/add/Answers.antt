@@ -10,6 +10,6 @@ returns c = record {
       let floor : c.file.inside.floor ≡ c.args.file.now.floor = ap (λ (f : File). f.floor) c.file.view_is in
       let added =
       IsGathered-last inputs (record c.args.file.now { points = c.as_slice-points.result.now; floor = c.file.inside.floor }) before
-      (c.put_all.ensures.latest reach _ before.latest) c.put_all.ensures.contexts c.join.ensures.values c.join.ensures.full in
+      (c.put_all.ensures.latest reach _ before.latest) c.put_all.ensures.contexts c.join_floor.ensures.values c.join_floor.ensures.full in
       rw (points, floor) at added;
 }

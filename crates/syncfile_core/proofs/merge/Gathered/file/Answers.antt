@@ -1,7 +1,8 @@
-use Rattle.std.proofs.Common.{sym, subst, ◌∙◌}
+use Rattle.std.proofs.Common.{sym, subst, ap, ◌∙◌}
 use Rattle.point_core.specs.Agreement.{as_entries, HasRisingContexts}
 use Rattle.point_core.proofs.Agreement.{listing-rising}
 use Rattle.point_core.proofs.Listings.{points_above-IsLatest}
+use Rattle.syncfile_core.specs.SyncFile.{file_of}
 use Rattle.syncfile_core.specs.Merge.{points_of, StandsForUnion}
 use Rattle.syncfile_core.proofs.Unions.{StandsForUnion-merged_file}
 use Rattle.syncfile_core.proofs.Merging.{merged-is}
@@ -15,9 +16,9 @@ invariant_of-file c =
 
 pub returns-clause-file : goal.returns-clause-file
 returns-clause-file c = λ inputs gathered.
-    IfOk-then c.boxed.result c.boxed.ensures.file (λ f is. is ∙ merged-is c.args.name inputs c.args.reach.now gathered (c.of.ensures ∙ c.in_ok-points.ensures.points))
+    IfOk-then c.boxed.result c.boxed.ensures.file (λ f is. is ∙ ap (file_of c.args.name c.of.result) c.in_ok-of.ensures.floor ∙ merged-is c.args.name inputs c.args.reach.now gathered (c.of.ensures ∙ c.in_ok-points.ensures.points))
 
 pub returns-clause-union : goal.returns-clause-union
 returns-clause-union c = λ inputs gathered.
-    IfOk-then c.boxed.result c.boxed.ensures.file (λ f is. subst (StandsForUnion inputs) (sym (is ∙ merged-is c.args.name inputs c.args.reach.now gathered (c.of.ensures ∙ c.in_ok-points.ensures.points)))
+    IfOk-then c.boxed.result c.boxed.ensures.file (λ f is. subst (StandsForUnion inputs) (sym (is ∙ ap (file_of c.args.name c.of.result) c.in_ok-of.ensures.floor ∙ merged-is c.args.name inputs c.args.reach.now gathered (c.of.ensures ∙ c.in_ok-points.ensures.points)))
     (StandsForUnion-merged_file c.args.name inputs c.args.reach.now gathered.contexts gathered.floors))

@@ -41,7 +41,8 @@ returns-clause-file c =
     let listed : c.of.result ≡ merged reach c.as_slice.result.now c.as_slice-2.result.now = c.of.ensures ∙ c.in_ok-points.ensures.points ∙ merged-IsLatest reach c.as_slice.result.now c.as_slice-2.result.now latest in
     let points : c.as_slice.result.now ≡ c.args.a.now.points = c.as_slice.ensures ∙ ap (λ (f : File). f.points) c.a.view_is in
     let points' : c.as_slice-2.result.now ≡ c.args.b.now.points = c.as_slice-2.ensures ∙ ap (λ (f : File). f.points) c.b.view_is in
-    ap (λ ps. file_of c.args.name ps reach) (listed ∙ ap (λ ps. merged reach ps c.as_slice-2.result.now) points ∙ ap (merged reach c.args.a.now.points) points')
+    ap (file_of c.args.name c.of.result) c.in_ok-of.ensures.floor
+    ∙ ap (λ ps. file_of c.args.name ps reach) (listed ∙ ap (λ ps. merged reach ps c.as_slice-2.result.now) points ∙ ap (merged reach c.args.a.now.points) points')
     ∙ ap (λ r. file_of c.args.name (merged r c.args.a.now.points c.args.b.now.points) r) c.load_all-reach.ensures.seen
 
 pub returns-clause-borne_out : goal.returns-clause-borne_out
@@ -62,5 +63,6 @@ returns-clause-union c =
     let within = subst (λ ps. HasContexts (as_entries ps)) points c.put_all.ensures.contexts in
     let within' = subst (λ ps. HasContexts (as_entries ps)) points' c.put_all-2.ensures.contexts in
     λ one other stands stands'.
-    subst (λ ps. AgreesAbove reach (as_entries ps) (one ++ other)) (sym lists)
-    (StandsFor-merged reach c.args.a.now c.args.b.now within within' c.in_ok-bear_out.ensures.borne_out.floor c.in_ok-bear_out-2.ensures.borne_out.floor one other stands stands')
+    subst (λ floor. AgreesAbove floor (as_entries c.of.result) (one ++ other)) (sym c.in_ok-of.ensures.floor)
+    (subst (λ ps. AgreesAbove reach (as_entries ps) (one ++ other)) (sym lists)
+    (StandsFor-merged reach c.args.a.now c.args.b.now within within' c.in_ok-bear_out.ensures.borne_out.floor c.in_ok-bear_out-2.ensures.borne_out.floor one other stands stands'))
