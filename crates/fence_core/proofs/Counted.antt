@@ -4,12 +4,11 @@ use Rattle.std.specs.List.{list_any}
 use Rattle.std.specs.Ordering.{is_gt, is_eq}
 use Rattle.std.specs.BTreeMap.Range.{range_contains}
 use Rattle.std.specs.declared.ops.Bound.TheVariants.{Included}
-use Rattle.std.proofs.lemmas.Bool.{cases_Bool, and_parts, and_from, eqb-true, eq-eqb, le-leb, false≢true}
+use Rattle.std.proofs.lemmas.Bool.{cases_Bool, cases_lt, and_parts, and_from, eqb-true, eq-eqb, le-leb, false≢true}
 use Rattle.std.proofs.lemmas.Bool.Decides.{nat_tests}
 use Rattle.std.proofs.lemmas.List.Elements.{All-head, All-tail}
 use Rattle.std.proofs.lemmas.Option.{same_Some}
 use Rattle.point_core.specs.Reach.{IsAtLeast, value_at}
-use Rattle.point_core.specs.declared.context.TheConstants.{CONTEXTS}
 use Rattle.fence_core.specs.declared.watches.point_index.WaitingPoint.{WaitingPoint}
 use Rattle.fence_core.specs.Watch.{Watch}
 use Rattle.fence_core.specs.Watches.{fires}
@@ -160,8 +159,27 @@ reached_to-none reach r ks waiting = number-none _ ks (λ k there. let low = wai
     and-false true = refl
     and-false false = refl
 
-pub reached_to-all : (reach : List ℕ) (r : ℕ) (ks : List WaitingPoint) → AreWaiting ks → number_reached_to CONTEXTS reach r ks ≡ number_reached reach r ks
-reached_to-all reach r ks waiting = number-same _ _ ks (λ k there. let most = waiting.contexts k there in ap (λ b. nat_eq k.registration r && (b && is_due k.ctx (value_at reach k.ctx) k)) (le-leb k.ctx CONTEXTS most.1))
+pub reached_to-all : (reach : List ℕ) (r n : ℕ) (ks : List WaitingPoint) → ((k : WaitingPoint) → holds ks k ≡ true → n < k.ctx → is_due k.ctx (value_at reach k.ctx) k ≡ false) → number_reached_to n reach r ks ≡ number_reached reach r ks
+reached_to-all reach r n ks none = number-same _ _ ks (λ k there. elim (cases_lt n k.ctx) [
+  | inl past ↦ neither (nat_eq k.registration r) (nat_le k.ctx n) (is_due k.ctx (value_at reach k.ctx) k) (none k there past)
+  | inr most ↦ ap (λ b. nat_eq k.registration r && (b && is_due k.ctx (value_at reach k.ctx) k)) (le-leb k.ctx n most)
+])
+  where
+    neither : (a b d : Bool) → d ≡ false → (a && (b && d)) ≡ (a && d)
+    neither true true d is = refl
+    neither true false d is = sym is
+    neither false b d is = refl
+
+-- a point above the floor is not due at 0
+pub not_due-zero : (ctx floor value : ℕ) (k : WaitingPoint) → value ≡ 0 → is_due ctx floor k ≡ false → is_due ctx value k ≡ false
+not_due-zero ctx floor value k none above = lower (nat_eq k.ctx ctx) above
+  where
+    past : nat_le k.value floor ≡ false → nat_le k.value value ≡ false
+    past is = grind (arith, nat_tests)
+
+    lower : (b : Bool) → (b && nat_le k.value floor) ≡ false → (b && nat_le k.value value) ≡ false
+    lower true is = past is
+    lower false is = refl
 
 pub reached_to-more : (reach : List ℕ) (r n m : ℕ) (ks : List WaitingPoint) → m ≡ n + 1 → number_reached_to m reach r ks ≡ number_reached_to n reach r ks + number_due m (value_at reach m) r ks
 reached_to-more reach r n m ks next = number-sum _ _ _ ks (λ k. by k (nat_eq k.registration r))

@@ -8,7 +8,7 @@ use Rattle.std.specs.Ordering.{nat_cmp, is_eq, ordering_reverse}
 use Rattle.std.specs.declared.cmp.Ordering.{Ordering}
 use Rattle.std.specs.declared.cmp.Ordering.TheVariants.{Less, Equal, Greater}
 use Rattle.std.specs.Cmp.{nat_eq_equiv}
-use Rattle.std.proofs.lemmas.Bool.{cases_Bool, eqb-true}
+use Rattle.std.proofs.lemmas.Bool.{cases_Bool, eqb-true, false≢true}
 use Rattle.std.proofs.lemmas.Cmp.{nat_cmp_total, eq_by_cmp_equiv}
 use Rattle.std.proofs.lemmas.Option.{same_Some, none-some}
 use Rattle.std.proofs.lemmas.Map.Keys.{IsDistinct-from_sorted}
@@ -154,6 +154,32 @@ values-fired reach kept es index fired ordered h rising some all =
     values-IsTold reach es fired ordered rising (λ r. IsTold-all reach es fired r some (λ w found fired_it.
     let k = fires-due es index reach kept r w h found fired_it in
     subst (IsTold es reach fired) k.1 (all k.0 k.3 k.2)))
+
+-- where no point is due, no watch fires
+pub none-due : (reach kept : List ℕ) (es : List (ℕ × Watch)) (index : List WaitingPoint) → IsStrictlySortedBy nat_cmp (keys_of es) → IsIndexed es index kept → ((k : WaitingPoint) → holds index k ≡ true → is_due k.ctx (value_at reach k.ctx) k ≡ false) → cookies_of (filter (fires reach) (values_of es)) ≡ []
+unfolding IsStrictlySortedBy
+none-due reach kept es index ordered h none =
+    sym (values-fired reach kept es index [] ordered h tt (λ r cookie is. absurd (none-some cookie is)) (λ k due there. absurd (false≢true (sym (none k there) ∙ due))))
+
+none-of : (reach : List ℕ) (w : Watch) (ws : List Watch) → cookies_of (filter (fires reach) (w ∷ ws)) ≡ [] → (fires reach w ≡ false) × (cookies_of (filter (fires reach) ws) ≡ [])
+none-of reach w ws none = by (fires reach w) refl
+  where
+    by : (b : Bool) → fires reach w ≡ b → (fires reach w ≡ false) × (cookies_of (filter (fires reach) ws) ≡ [])
+    by true fired = absurd (cc)
+    by false not_it = (not_it, sym (ap (λ b. cookies_of (cond b (w ∷ filter (fires reach) ws) (filter (fires reach) ws))) not_it) ∙ none)
+
+pub all-stay : (reach : List ℕ) (ws : List Watch) → cookies_of (filter (fires reach) ws) ≡ [] → filter (λ w. not (fires reach w)) ws ≡ ws
+all-stay reach [] none = refl
+all-stay reach (w ∷ ws) none =
+    let parts = none-of reach w ws none in
+    ap (λ b. cond (not b) (w ∷ filter (λ v. not (fires reach v)) ws) (filter (λ v. not (fires reach v)) ws)) parts.0
+    ∙ ap (λ vs. w ∷ vs) (all-stay reach ws parts.1)
+
+pub none-fires : (reach : List ℕ) (ws : List Watch) → cookies_of (filter (fires reach) ws) ≡ [] → list_any (fires reach) ws ≡ false
+none-fires reach [] none = refl
+none-fires reach (w ∷ ws) none =
+    let parts = none-of reach w ws none in
+    ap (λ b. b || list_any (fires reach) ws) parts.0 ∙ none-fires reach ws parts.1
 
 -- a watch that fires is among those whose cookies are told
 pub Fires-some : (reach : List ℕ) (es : List (ℕ × Watch)) → Fires es reach → cookies_of (filter (fires reach) (values_of es)) ≡ [] → ⊥

@@ -1,5 +1,5 @@
 -- The index of waiting points: with one watch taken out, with one more, and after a rise.
-use Rattle.std.proofs.Common.{◌≡◌, ◌≢◌, ℕ, ◌<◌, nat_eq, nat_le, Bool, true, false, not, cond, ◌&&◌, ◌||◌, refl, sym, ap, ◌∙◌, subst, List, [], ◌∷◌, Option, None, Some, arith, inl, inr, ◌⊎◌}
+use Rattle.std.proofs.Common.{◌≡◌, ◌≢◌, ℕ, ◌<◌, nat_eq, nat_le, Bool, true, false, not, cond, ◌&&◌, ◌||◌, refl, sym, ap, ◌∙◌, List, [], ◌∷◌, Option, None, Some, arith, inl, inr, ◌⊎◌}
 use Rattle.std.specs.List.{AllByRecursion}
 use Rattle.std.specs.Map.{keys_of}
 use Rattle.std.specs.BTreeMap.{is_at}
@@ -13,8 +13,7 @@ use Rattle.fence_core.specs.Watch.{Watch}
 use Rattle.fence_core.specs.Watches.{fires}
 use Rattle.fence_core.specs.Told.{at}
 use Rattle.fence_core.specs.PointIndex.{waiting, is_same, holds, is_of, above, is_due}
-use Rattle.point_core.proofs.Values.{IsAtLeast-refl, IsAtLeast-trans}
-use Rattle.fence_core.specs.Registered.{IsIndexed, IsVisited}
+use Rattle.fence_core.specs.Registered.{IsIndexed}
 use Rattle.fence_core.specs.declared.watches.point_index.WaitingPoint.{WaitingPoint}
 use Rattle.fence_core.proofs.PointIndex.{is_same-is}
 use Rattle.fence_core.proofs.Registered.{is_at-true, is_at-false, at-All}
@@ -230,50 +229,3 @@ holds-undo es index grown back reach made ps h before others out k = elim (cases
   | inl its ↦ out k ∙ ap (λ b. not b && holds grown k) its ∙ sym (not_held es index reach made k h before (is_of-registration ps made k its))
   | inr none ↦ out k ∙ ap (λ b. not b && holds grown k) none ∙ others k none
 ]
-
-pub IsVisited-none : (index : List WaitingPoint) (visited reach : List ℕ) → index ≡ [] → visited ≡ reach → IsVisited index visited reach
-IsVisited-none index visited reach is same = record {
-  above = λ k there. absurd (false≢true (sym (ap (λ ks. holds ks k) is) ∙ there));
-  low = subst (IsAtLeast reach) (sym same) (IsAtLeast-refl reach);
-}
-
--- nothing new in the index
-pub IsVisited-less : (index fewer : List WaitingPoint) (visited reach : List ℕ) → IsVisited index visited reach → ((k : WaitingPoint) → holds fewer k ≡ true → holds index k ≡ true) → IsVisited fewer visited reach
-IsVisited-less index fewer visited reach h less = record {
-  above = λ k there. h.above k (less k there);
-  low = h.low;
-}
-
--- what is due at a reach is due at a higher one
-due-later : (later reach : List ℕ) (k : WaitingPoint) → IsAtLeast later reach → is_due k.ctx (value_at reach k.ctx) k ≡ true → is_due k.ctx (value_at later k.ctx) k ≡ true
-due-later later reach k high due =
-    let parts = and_parts (nat_eq k.ctx k.ctx) (nat_le k.value (value_at reach k.ctx)) due in
-    let low = leb-true k.value (value_at reach k.ctx) parts.1 in
-    let up = high.values k.ctx in
-    and_from (nat_eq k.ctx k.ctx) (nat_le k.value (value_at later k.ctx)) parts.0 (le-leb k.value (value_at later k.ctx) (omega arith))
-
-not_due-lower : (later reach : List ℕ) (k : WaitingPoint) → IsAtLeast later reach → is_due k.ctx (value_at later k.ctx) k ≡ false → is_due k.ctx (value_at reach k.ctx) k ≡ false
-not_due-lower later reach k high none = elim (cases_Bool (is_due k.ctx (value_at reach k.ctx) k)) [
-  | inl due ↦ absurd (false≢true (sym none ∙ due-later later reach k high due))
-  | inr other ↦ other
-]
-
--- points above a reach more
-pub IsVisited-push : (index grown : List WaitingPoint) (later reach visited : List ℕ) (ps : List Point) (made : ℕ) → IsVisited index visited reach → IsAtLeast later reach → ((k : WaitingPoint) → holds grown k ≡ (is_of (above later ps) made k || holds index k)) → IsVisited grown visited later
-IsVisited-push index grown later reach visited ps made h high held = record {
-  above = λ k there. elim (or_cases (is_of (above later ps) made k) (holds index k) (sym (held k) ∙ there)) [
-    | inl new ↦ not_due-lower later visited k (IsAtLeast-trans high h.low) (above-not_due later ps made k new)
-    | inr old ↦ h.above k old
-  ];
-  low = IsAtLeast-trans high h.low;
-}
-
--- gone through at a reach, it has no point that is due there
-pub IsVisited-rise : (index : List WaitingPoint) (reach : List ℕ) → ((k : WaitingPoint) → is_due k.ctx (value_at reach k.ctx) k ≡ true → holds index k ≡ false) → IsVisited index reach reach
-IsVisited-rise index reach none = record {
-  above = λ k there. elim (cases_Bool (is_due k.ctx (value_at reach k.ctx) k)) [
-    | inl due ↦ absurd (false≢true (sym (none k due) ∙ there))
-    | inr other ↦ other
-  ];
-  low = IsAtLeast-refl reach;
-}

@@ -9,3 +9,4 @@ pub mod Indexed
 pub mod Fired
 pub mod Signalling
 pub mod Counted
+pub mod Above

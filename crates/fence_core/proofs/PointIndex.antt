@@ -4,6 +4,7 @@ use Rattle.std.specs.declared.cmp.Ordering.{Ordering}
 use Rattle.std.specs.declared.cmp.Ordering.TheVariants.{Less, Equal, Greater}
 use Rattle.std.specs.Ordering.{is_eq, is_lt, is_gt, is_le, nat_cmp, ordering_then, match_ordering}
 use Rattle.std.specs.List.{list_any}
+use Rattle.std.specs.Prelude.{IfSome, slice_get}
 use Rattle.std.proofs.lemmas.Bool.{and_parts, and_from, leb-true, le-leb, eqb-true, eq-eqb, cases_Bool, false≢true}
 use Rattle.std.proofs.lemmas.Bool.Decides.{nat_tests}
 use Rattle.std.proofs.lemmas.Cmp.{ranked}
@@ -102,6 +103,16 @@ due-between ctx value most k low high = elim (gt-then _ _ low) [
   ]
 ]
 
+-- of the points of a context, the one that comes first has the least value
+pub order-value : (a b : WaitingPoint) → is_gt (order a b) ≡ false → a.ctx ≡ b.ctx → a.value ≤ b.value
+order-value a b first same = elim (gt-then _ _ first) [
+  | inl less ↦ let below = less-nat a.ctx b.ctx less in absurd (omega arith)
+  | inr equal ↦ elim (gt-then _ _ equal.1) [
+    | inl less ↦ let below = less-nat a.value b.value less in omega arith
+    | inr last ↦ let at = equal-nat a.value b.value last.0 in omega arith
+  ]
+]
+
 pub between-due : (ctx value most : ℕ) (k : WaitingPoint) → is_due ctx value k ≡ true → k.registration ≤ most → (is_gt (order (record { ctx = ctx; value = 0; registration = 0 }) k) ≡ false) × (is_gt (order k (record { ctx = ctx; value = value; registration = most })) ≡ false)
 between-due ctx value most k due low =
     let parts = and_parts (nat_eq k.ctx ctx) (nat_le k.value value) due in
@@ -196,6 +207,16 @@ due-first ctx value most low high r rest x ks low_is high_is is all =
       due-between ctx value most x (subst (λ w. is_gt (order w x) ≡ false) low_is h.0.0) (subst (λ w. is_gt (order x w) ≡ false) high_is h.0.1),
       sym (found-holds x ks) ∙ h.1,
     )
+
+pub due-least : (ctx value most : ℕ) (low high : WaitingPoint) (r rest : List WaitingPoint) (x : WaitingPoint) (ks : List WaitingPoint) → low ≡ record { ctx = ctx; value = 0; registration = 0 } → high ≡ record { ctx = ctx; value = value; registration = most } → r ≡ x ∷ rest → is_due ctx value x ≡ true
+    → ((q : WaitingPoint) → (is_gt (order low q) ≡ false) × (is_gt (order q high) ≡ false) → list_any (λ y. is_eq (order q y)) ks ≡ true → IfSome (slice_get r 0) (λ k. is_gt (order k q) ≡ false)) → (k : WaitingPoint) → is_due ctx value k ≡ true → k.registration ≤ most → holds ks k ≡ true → x.value ≤ k.value
+due-least ctx value most low high r rest x ks low_is high_is is its least k due last there =
+    let between = between-due ctx value most k due last in
+    let head = least k (subst (λ w. is_gt (order w k) ≡ false) (sym low_is) between.0, subst (λ w. is_gt (order k w) ≡ false) (sym high_is) between.1) (found-holds k ks ∙ there) in
+    let first : is_gt (order x k) ≡ false = subst (λ xs. IfSome (slice_get xs 0) (λ y. is_gt (order y k) ≡ false)) is head in
+    let same = eqb-true x.ctx ctx (and_parts (nat_eq x.ctx ctx) (nat_le x.value value) its).0 in
+    let also = eqb-true k.ctx ctx (and_parts (nat_eq k.ctx ctx) (nat_le k.value value) due).0 in
+    order-value x k first (same ∙ sym also)
 
 pub due-none : (ctx value most : ℕ) (low high : WaitingPoint) (ks : List WaitingPoint) → low ≡ record { ctx = ctx; value = 0; registration = 0 } → high ≡ record { ctx = ctx; value = value; registration = most } → ((q : WaitingPoint) → (is_gt (order low q) ≡ false) × (is_gt (order q high) ≡ false) → list_any (λ y. is_eq (order q y)) ks ≡ false) → (k : WaitingPoint) → is_due ctx value k ≡ true → k.registration ≤ most → holds ks k ≡ false
 due-none ctx value most low high ks low_is high_is none k due last =

@@ -1,5 +1,5 @@
 -- The points that pending watches wait for.
-use Rattle.std.specs.Prelude.{◌≡◌, ℕ, ◌<◌, ◌≤◌, ◌^◌, nat_eq, nat_le, Bool, true, not, ◌&&◌, List, filter, length}
+use Rattle.std.specs.Prelude.{◌≡◌, ℕ, ◌<◌, ◌≤◌, ◌^◌, nat_eq, nat_le, Bool, true, false, not, ◌&&◌, List, filter, length}
 use Rattle.std.specs.List.{list_any}
 use Rattle.point_core.specs.declared.context.TheConstants.{CONTEXTS}
 use Rattle.point_core.specs.declared.entry.Point.{Point}
@@ -49,3 +49,7 @@ number_reached reach r ks = number (λ k. nat_eq k.registration r && is_due k.ct
 pub record AreWaiting (ks : List WaitingPoint) : Type 0 where
   pub contexts : (k : WaitingPoint) → holds ks k ≡ true → (1 ≤ k.ctx) × (k.ctx ≤ CONTEXTS)
   pub registrations : (k : WaitingPoint) → holds ks k ≡ true → k.registration < 2 ^ 64
+
+-- each is above the value that the floor has for its context
+abbrev pub AreAbove : List WaitingPoint → List ℕ → Type 0
+AreAbove ks floor = (k : WaitingPoint) → holds ks k ≡ true → is_due k.ctx (value_at floor k.ctx) k ≡ false

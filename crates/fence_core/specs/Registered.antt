@@ -1,13 +1,12 @@
 -- What watches keep: the pending ones by registration, the registrations by cookie, and the points that are waited for.
-use Rattle.std.specs.Prelude.{◌≡◌, ℕ, ◌<◌, true, false, if◌then◌else◌, List, [], ◌∷◌, Option, None, Some}
+use Rattle.std.specs.Prelude.{◌≡◌, ℕ, ◌<◌, true, if◌then◌else◌, List, [], ◌∷◌, Option, None, Some}
 use Rattle.std.specs.List.{AllByRecursion}
 use Rattle.std.specs.List.Sorted.{IsStrictlySortedBy}
 use Rattle.std.specs.Map.{keys_of, values_of}
 use Rattle.std.specs.Ordering.{nat_cmp}
-use Rattle.point_core.specs.Reach.{IsAtLeast, value_at}
 use Rattle.fence_core.specs.Watch.{Watch, is_for, ArePending}
 use Rattle.fence_core.specs.Told.{at}
-use Rattle.fence_core.specs.PointIndex.{holds, is_of, is_due, above}
+use Rattle.fence_core.specs.PointIndex.{holds, is_of, above}
 use Rattle.fence_core.specs.declared.watches.point_index.WaitingPoint.{WaitingPoint}
 
 -- the registration of the pending watch of that cookie
@@ -22,11 +21,6 @@ pub record IsIndexed (es : List (ℕ × Watch)) (index : List WaitingPoint) (rea
   pub some : (r : ℕ) (w : Watch) → at es r ≡ Some w → (k : WaitingPoint) × (k.registration ≡ r) × (holds index k ≡ true)
   pub above : (r : ℕ) (w : Watch) (k : WaitingPoint) → at es r ≡ Some w →
       is_of (above reach w.points) r k ≡ true → holds index k ≡ true
-
--- no point of the index was reached when it was last gone through, which was at no higher reach
-pub record IsVisited (index : List WaitingPoint) (visited reach : List ℕ) : Type 0 where
-  pub above : (k : WaitingPoint) → holds index k ≡ true → is_due k.ctx (value_at visited k.ctx) k ≡ false
-  pub low : IsAtLeast reach visited
 
 -- the registrations rise, are below the number ever made, and are found by the cookies
 pub record AreRegistered (es : List (ℕ × Watch)) (registrations : List (ℕ × ℕ)) (made : ℕ) : Type 0 where

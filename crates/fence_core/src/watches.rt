@@ -11,6 +11,7 @@ ghost use Rattle.fence_core.specs.Watch.{registry_of, ArePending};
 ghost use Rattle.fence_core.specs.Watches.{no_watches, has_watch, cause_to_refuse, cause_to_refuse_watch, with_watch, without_watch, without_watches, fires, fired_by, after_rise_to};
 
 mod counts;
+mod floor;
 mod point_index;
 
 use self::point_index::PointIndex;
@@ -52,21 +53,19 @@ pub struct Watches {
     index: PointIndex,
     made: u64,
     reach: Reach,
-    // the reach at which the index was last gone through
-    visited: Reach,
 }
 
 impl Model for Watches {
     ghost use Rattle.std.specs.Map.{values_of};
     ghost use Rattle.fence_core.specs.Watch.{Registry, registry_of};
-    ghost use Rattle.fence_core.specs.Registered.{AreRegistered, IsIndexed, IsVisited};
+    ghost use Rattle.fence_core.specs.Registered.{AreRegistered, IsIndexed};
 
     ghost Value = { Registry };
 
     ghost view = { λ ws. registry_of (values_of ws.pending.entries) ws.made ws.reach };
 
     ghost invariant = { λ ws. AreRegistered ws.pending.entries ws.registrations.entries ws.made ×
-        IsIndexed ws.pending.entries ws.index ws.reach × IsVisited ws.index ws.visited ws.reach };
+        IsIndexed ws.pending.entries ws.index ws.reach };
 }
 
 impl Watches {
@@ -88,7 +87,6 @@ impl Watches {
             index: PointIndex::new(alloc),
             made,
             reach: Reach::zero(),
-            visited: Reach::zero(),
         }
     }
 
@@ -176,6 +174,10 @@ impl Watches {
         ensures unchanged { OnErr result (self.new ≡ self.old) }
         ensures pending { ArePending self.old.pending }
     {
+        if self.index.is_above(reach) {
+            self.reach = *reach;
+            return Ok(Vec::new(self.alloc));
+        }
         let cookies = self.fired(reach)?;
         self.remove_all(cookies.as_slice());
         self.rise_to(reach);
@@ -191,9 +193,7 @@ impl Watches {
         ensures none_fires { fired_by self.old reach.now ≡ [] → IsOk result }
         ensures pending { ArePending self.old.pending }
     {
-        let fired = self
-            .index
-            .fired(self.alloc, &self.pending, &self.visited, reach)?;
+        let fired = self.index.fired(self.alloc, &self.pending, reach)?;
         listed(self.alloc, &fired)
     }
 
@@ -212,9 +212,8 @@ impl Watches {
         requires none_fires { list_any (fires reach.now) self.old.pending ≡ false }
         ensures { self.new ≡ registry_of self.old.pending self.old.made reach.now }
     {
-        self.index.take_reached(&self.visited, reach);
+        self.index.take_reached(reach);
         self.reach = *reach;
-        self.visited = *reach;
     }
 }
 

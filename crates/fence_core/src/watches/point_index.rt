@@ -6,9 +6,9 @@ ghost use Rattle.std.specs.Map.{keys_of};
 ghost use Rattle.std.specs.List.Sorted.{IsStrictlySortedBy};
 ghost use Rattle.point_core.specs.declared.refusal.Refusal.TheVariants.{Memory};
 ghost use Rattle.fence_core.specs.declared.watches.point_index.WaitingPoint.{WaitingPoint as Waiting};
-ghost use Rattle.fence_core.specs.PointIndex.{waiting, is_same, holds, is_of, above, is_due};
+ghost use Rattle.fence_core.specs.PointIndex.{waiting, is_same, holds, is_of, above, is_due, AreWaiting};
 ghost use Rattle.fence_core.specs.Told.{IsTold, AreSomeTold, Fires};
-ghost use Rattle.fence_core.specs.Counts.{FireByCount};
+ghost use Rattle.fence_core.specs.Counts.{AreCounted, FireByCount};
 ghost use Rattle.point_core.specs.Reach.{value_at};
 ghost use Rattle.point_core.specs.declared.context.TheConstants.{CONTEXTS};
 
@@ -17,6 +17,7 @@ mod firing;
 use self::firing::{start_reached, tell_reached};
 use super::PendingWatch;
 use super::counts::Counts;
+use super::floor::Floor;
 use point_core::{Context, Point, Reach, Refusal, is_signalled};
 use std::alloc::Global;
 use std::collections::{BTreeMap, BTreeSet};
@@ -70,11 +71,12 @@ impl WaitingPoint {
 pub(super) struct PointIndex {
     points: BTreeSet<WaitingPoint>,
     counts: Counts,
+    floor: Floor,
 }
 
 impl Model for PointIndex {
     ghost use Rattle.std.specs.Prelude.{List};
-    ghost use Rattle.fence_core.specs.PointIndex.{AreWaiting};
+    ghost use Rattle.fence_core.specs.PointIndex.{AreWaiting, AreAbove};
     ghost use Rattle.fence_core.specs.Counts.{AreCounted};
     ghost use Rattle.fence_core.specs.declared.watches.point_index.WaitingPoint.{WaitingPoint};
 
@@ -82,7 +84,8 @@ impl Model for PointIndex {
 
     ghost view = { λ p. p.points.keys };
 
-    ghost invariant = { λ p. AreWaiting p.points.keys × AreCounted p.points.keys p.counts };
+    ghost invariant = { λ p.
+        AreWaiting p.points.keys × AreCounted p.points.keys p.counts × AreAbove p.points.keys p.floor };
 }
 
 impl PointIndex {
@@ -93,6 +96,7 @@ impl PointIndex {
         PointIndex {
             points: BTreeSet::new(alloc),
             counts: Counts::new(alloc),
+            floor: Floor::highest(),
         }
     }
 
@@ -125,10 +129,16 @@ impl PointIndex {
         }
     }
 
-    /// Takes out the points that are at or below the reach. None is at or below the visited one: only the contexts
-    /// whose value is another now are looked at.
-    pub(super) fn take_reached(&mut self, visited: &Reach, reach: &Reach)
-        requires above { (k : Waiting) → holds self.old k ≡ true → is_due k.ctx (value_at visited.now k.ctx) k ≡ false }
+    /// Whether the floor shows that no point is at or below the reach.
+    pub(super) fn is_above(&self, reach: &Reach) -> bool
+        ensures { result ≡ true → (k : Waiting) → holds self.now k ≡ true →
+            is_due k.ctx (value_at reach.now k.ctx) k ≡ false }
+    {
+        self.floor.at_least(reach)
+    }
+
+    /// Takes out the points that are at or below the reach. Only the contexts where it is above the floor are looked at.
+    pub(super) fn take_reached(&mut self, reach: &Reach)
         ensures less { (k : Waiting) → holds self.new k ≡ true → holds self.old k ≡ true }
         ensures above { (k : Waiting) → is_due k.ctx (value_at reach.now k.ctx) k ≡ false →
             holds self.new k ≡ holds self.old k }
@@ -139,23 +149,14 @@ impl PointIndex {
             return;
         }
         for index in 0..reach.used() {
-            let ctx = Context::at(index);
-            self.take_between(ctx, visited.get(ctx), reach.get(ctx));
+            if self.floor.is_below(reach, index) {
+                let ctx = Context::at(index);
+                self.take_due(ctx, reach.get(ctx));
+            }
         }
     }
 
-    /// Takes out the points of the context at or below the value, where none is at or below the lower one.
-    fn take_between(&mut self, ctx: Context, low: u64, value: u64)
-        requires above { (k : Waiting) → holds self.old k ≡ true → is_due ctx low k ≡ false }
-        ensures less { (k : Waiting) → holds self.new k ≡ true → holds self.old k ≡ true }
-        ensures others { (k : Waiting) → is_due ctx value k ≡ false → holds self.new k ≡ holds self.old k }
-        ensures none_left { (k : Waiting) → is_due ctx value k ≡ true → holds self.new k ≡ false }
-    {
-        if low != value {
-            self.take_due(ctx, value);
-        }
-    }
-
+    /// Takes out the points of the context at or below the value.
     #[inline(never)]
     fn take_due(&mut self, ctx: Context, value: u64)
         ensures less { (k : Waiting) → holds self.new k ≡ true → holds self.old k ≡ true }
@@ -165,6 +166,18 @@ impl PointIndex {
         while let Some(first) = self.first_due(ctx, value) {
             self.take(first);
         }
+        self.raise_floor(ctx);
+    }
+
+    /// Raises the floor of a context to just below its first point.
+    fn raise_floor(&mut self, ctx: Context)
+        ensures same { self.new ≡ self.old }
+    {
+        let value = match self.first_due(ctx, u64::MAX) {
+            Some(first) => first.value - 1,
+            None => u64::MAX,
+        };
+        self.floor.set(ctx, value);
     }
 
     /// Takes a point out, and counts it.
@@ -179,31 +192,21 @@ impl PointIndex {
     }
 
     fn put(&mut self, point: Point, registration: u64) -> Result<(), Refusal>
+        requires above { 1 ≤ point.value }
         ensures put { OnOk result ((k : Waiting) →
             holds self.new k ≡ (is_same (waiting point registration) k || holds self.old k)) }
         ensures memory { IfErr result (λ e. e ≡ Memory) }
         ensures unchanged { OnErr result (self.new ≡ self.old) }
     {
-        let number = point.ctx.number();
-        prove!(number >= 1);
-        let _held = self.points.len();
-        self.counts.raise(registration)?;
-        match self.points.insert(WaitingPoint::of(point, registration)) {
-            Ok(true) => Ok(()),
-            Ok(false) => {
-                self.counts.lower(registration);
-                Ok(())
-            }
-            Err(_refused) => {
-                self.counts.lower(registration);
-                Err(Refusal::Memory)
-            }
-        }
+        self.floor.lower(&point);
+        insert(&mut self.points, &mut self.counts, point, registration)
     }
 
     /// The first point of the context at or below the value.
     fn first_due(&self, ctx: Context, value: u64) -> Option<WaitingPoint>
         ensures some { IfSome result (λ k. (is_due ctx value k ≡ true) × (holds self.now k ≡ true)) }
+        ensures first { IfSome result (λ first. (k : Waiting) → is_due ctx value k ≡ true → holds self.now k ≡ true →
+            first.value ≤ k.value) }
         ensures none { IfNone result ((k : Waiting) → is_due ctx value k ≡ true → holds self.now k ≡ false) }
     {
         let (first, last) = (WaitingPoint::first(ctx), WaitingPoint::last(ctx, value));
@@ -213,16 +216,14 @@ impl PointIndex {
         }
     }
 
-    /// The cookies of the watches all of whose points are signalled at the reach, by registration. No point is at or
-    /// below the visited reach: only the contexts whose value is another now are looked at.
+    /// The cookies of the watches all of whose points are signalled at the reach, by registration. Only the contexts where
+    /// it is above the floor are looked at.
     pub(super) fn fired(
         &mut self,
         alloc: Global,
         pending: &BTreeMap<u64, PendingWatch>,
-        visited: &Reach,
         reach: &Reach,
     ) -> Result<BTreeMap<u64, u64>, Refusal>
-        requires above { (k : Waiting) → holds self.old k ≡ true → is_due k.ctx (value_at visited.now k.ctx) k ≡ false }
         requires by_count { FireByCount pending.now.entries self.old reach.now }
         ensures same { self.new ≡ self.old }
         ensures some_fired { IfOk result (λ fired. AreSomeTold pending.now.entries reach.now fired.entries) }
@@ -233,21 +234,45 @@ impl PointIndex {
         ensures some_fires { OnErr result (Fires pending.now.entries reach.now) }
     {
         let mut fired = BTreeMap::new(alloc);
-        if self.points.is_empty() {
+        let (points, floor) = (&self.points, &self.floor);
+        if !start_reached(points, &mut self.counts, floor, reach) {
             return Ok(fired);
         }
-        if !start_reached(&self.points, &mut self.counts, visited, reach) {
-            return Ok(fired);
-        }
-        tell_reached(
-            &self.points,
-            &mut self.counts,
-            pending,
-            visited,
-            reach,
-            &mut fired,
-        )?;
+        tell_reached(points, &mut self.counts, pending, floor, reach, &mut fired)?;
         let _count = fired.len();
         Ok(fired)
+    }
+}
+
+/// Puts a point in, and counts it.
+fn insert(
+    points: &mut BTreeSet<WaitingPoint>,
+    counts: &mut Counts,
+    point: Point,
+    registration: u64,
+) -> Result<(), Refusal>
+    requires waiting { AreWaiting points.old.keys }
+    requires counted { AreCounted points.old.keys counts.old }
+    ensures waiting { AreWaiting points.new.keys }
+    ensures counted { AreCounted points.new.keys counts.new }
+    ensures put { OnOk result ((k : Waiting) →
+        holds points.new.keys k ≡ (is_same (waiting point registration) k || holds points.old.keys k)) }
+    ensures memory { IfErr result (λ e. e ≡ Memory) }
+    ensures unchanged { OnErr result (points.new.keys ≡ points.old.keys) }
+{
+    let number = point.ctx.number();
+    prove!(number >= 1);
+    let _held = points.len();
+    counts.raise(registration)?;
+    match points.insert(WaitingPoint::of(point, registration)) {
+        Ok(true) => Ok(()),
+        Ok(false) => {
+            counts.lower(registration);
+            Ok(())
+        }
+        Err(_refused) => {
+            counts.lower(registration);
+            Err(Refusal::Memory)
+        }
     }
 }

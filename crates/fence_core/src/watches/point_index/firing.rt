@@ -13,19 +13,20 @@ ghost use Rattle.fence_core.specs.Watches.{fires};
 use super::WaitingPoint;
 use crate::watches::PendingWatch;
 use crate::watches::counts::Counts;
-use point_core::{CONTEXTS, Context, Reach, Refusal};
+use crate::watches::floor::Floor;
+use point_core::{Context, Reach, Refusal};
 use std::collections::{BTreeMap, BTreeSet};
 
 /// A rise begins: of the watches that have a point at or below the reach, it has come to none. Tells whether there are any.
 pub(super) fn start_reached(
     points: &BTreeSet<WaitingPoint>,
     counts: &mut Counts,
-    visited: &Reach,
+    floor: &Floor,
     reach: &Reach,
 ) -> bool
     requires waiting { AreWaiting points.now.keys }
     requires above { (k : Waiting) → holds points.now.keys k ≡ true →
-        is_due k.ctx (value_at visited.now k.ctx) k ≡ false }
+        is_due k.ctx (value_at floor.now k.ctx) k ≡ false }
     ensures same { (r : ℕ) → held counts.new r ≡ held counts.old r }
     ensures started { (k : Waiting) → is_due k.ctx (value_at reach.now k.ctx) k ≡ true →
         holds points.now.keys k ≡ true → left counts.new k.registration ≡ held counts.old k.registration }
@@ -34,31 +35,12 @@ pub(super) fn start_reached(
 {
     let mut is_some = false;
     for index in 0..reach.used() {
-        let ctx = Context::at(index);
-        if start_between(points, counts, ctx, visited.get(ctx), reach.get(ctx)) {
-            is_some = true;
+        if floor.is_below(reach, index) {
+            let ctx = Context::at(index);
+            is_some |= start_due(points, counts, ctx, reach.get(ctx));
         }
     }
     is_some
-}
-
-/// The same for the points of a context at or below the value, where none is at or below the lower one.
-fn start_between(
-    points: &BTreeSet<WaitingPoint>,
-    counts: &mut Counts,
-    ctx: Context,
-    low: u64,
-    value: u64,
-) -> bool
-    requires waiting { AreWaiting points.now.keys }
-    requires above { (k : Waiting) → holds points.now.keys k ≡ true → is_due ctx low k ≡ false }
-    ensures same { (r : ℕ) → held counts.new r ≡ held counts.old r }
-    ensures started { (k : Waiting) → is_due ctx value k ≡ true → holds points.now.keys k ≡ true →
-        left counts.new k.registration ≡ held counts.old k.registration }
-    ensures still { (r : ℕ) → left counts.old r ≡ held counts.old r → left counts.new r ≡ held counts.old r }
-    ensures none { result ≡ false → (k : Waiting) → is_due ctx value k ≡ true → holds points.now.keys k ≡ false }
-{
-    low != value && start_due(points, counts, ctx, value)
 }
 
 /// The same for the points of a context at or below the value.
@@ -86,13 +68,13 @@ pub(super) fn tell_reached(
     points: &BTreeSet<WaitingPoint>,
     counts: &mut Counts,
     pending: &BTreeMap<u64, PendingWatch>,
-    visited: &Reach,
+    floor: &Floor,
     reach: &Reach,
     fired: &mut BTreeMap<u64, u64>,
 ) -> Result<(), Refusal>
     requires waiting { AreWaiting points.now.keys }
     requires above { (k : Waiting) → holds points.now.keys k ≡ true →
-        is_due k.ctx (value_at visited.now k.ctx) k ≡ false }
+        is_due k.ctx (value_at floor.now k.ctx) k ≡ false }
     requires by_count { FireByCount pending.now.entries points.now.keys reach.now }
     requires started { (k : Waiting) → is_due k.ctx (value_at reach.now k.ctx) k ≡ true →
         holds points.now.keys k ≡ true → left counts.old k.registration ≡ number_of k.registration points.now.keys }
@@ -104,27 +86,59 @@ pub(super) fn tell_reached(
     ensures memory { IfErr result (λ e. e ≡ Memory) }
     ensures some_fires { OnErr result (Fires pending.now.entries reach.now) }
 {
-    for index in 0..CONTEXTS {
+    for index in 0..reach.used() {
         let ctx = Context::at(index);
-        tell_due(points, counts, ctx, pending, visited, reach, fired)?;
+        tell_due(points, counts, ctx, pending, floor, reach, fired)?;
     }
     Ok(())
 }
 
 /// The same for the points of a context.
-#[inline(never)]
 fn tell_due(
     points: &BTreeSet<WaitingPoint>,
     counts: &mut Counts,
     ctx: Context,
     pending: &BTreeMap<u64, PendingWatch>,
-    visited: &Reach,
+    floor: &Floor,
     reach: &Reach,
     fired: &mut BTreeMap<u64, u64>,
 ) -> Result<(), Refusal>
     requires waiting { AreWaiting points.now.keys }
     requires above { (k : Waiting) → holds points.now.keys k ≡ true →
-        is_due ctx (value_at visited.now ctx) k ≡ false }
+        is_due ctx (value_at floor.now ctx) k ≡ false }
+    requires room { (r : ℕ) → number_due ctx (value_at reach.now ctx) r points.now.keys ≤ left counts.old r }
+    requires fires { (r : ℕ) (w : Watch) → at pending.now.entries r ≡ Some w →
+        1 ≤ number_due ctx (value_at reach.now ctx) r points.now.keys →
+        left counts.old r ≤ number_due ctx (value_at reach.now ctx) r points.now.keys → fires reach.now w ≡ true }
+    requires some_fired { AreSomeTold pending.now.entries reach.now fired.old.entries }
+    ensures same { (r : ℕ) → held counts.new r ≡ held counts.old r }
+    ensures passed { OnOk result ((r : ℕ) →
+        left counts.new r + number_due ctx (value_at reach.now ctx) r points.now.keys ≡ left counts.old r) }
+    ensures some_fired { AreSomeTold pending.now.entries reach.now fired.new.entries }
+    ensures still { (r : ℕ) → IsTold pending.now.entries reach.now fired.old.entries r →
+        IsTold pending.now.entries reach.now fired.new.entries r }
+    ensures told { OnOk result ((r : ℕ) → 1 ≤ number_due ctx (value_at reach.now ctx) r points.now.keys →
+        left counts.new r ≡ 0 → IsTold pending.now.entries reach.now fired.new.entries r) }
+    ensures memory { IfErr result (λ e. e ≡ Memory) }
+    ensures some_fires { OnErr result (Fires pending.now.entries reach.now) }
+{
+    if !floor.is_below(reach, ctx.index()) {
+        return Ok(());
+    }
+    tell_points(points, counts, ctx, pending, reach, fired)
+}
+
+/// The same for the points of a context whose value has risen.
+#[inline(never)]
+fn tell_points(
+    points: &BTreeSet<WaitingPoint>,
+    counts: &mut Counts,
+    ctx: Context,
+    pending: &BTreeMap<u64, PendingWatch>,
+    reach: &Reach,
+    fired: &mut BTreeMap<u64, u64>,
+) -> Result<(), Refusal>
+    requires waiting { AreWaiting points.now.keys }
     requires room { (r : ℕ) → number_due ctx (value_at reach.now ctx) r points.now.keys ≤ left counts.old r }
     requires fires { (r : ℕ) (w : Watch) → at pending.now.entries r ≡ Some w →
         1 ≤ number_due ctx (value_at reach.now ctx) r points.now.keys →
@@ -142,9 +156,6 @@ fn tell_due(
     ensures some_fires { OnErr result (Fires pending.now.entries reach.now) }
 {
     let value = reach.get(ctx);
-    if visited.get(ctx) == value {
-        return Ok(());
-    }
     let (first, last) = (WaitingPoint::first(ctx), WaitingPoint::last(ctx, value));
     for due in points.range(first..=last) {
         pass(due.registration, counts, pending, fired)?;

@@ -19,5 +19,5 @@ pub returns-clause-none_fires : goal.returns-clause-none_fires
 returns-clause-none_fires c = λ none.
     c.listed.ensures.none (values-fired c.args.reach.now c.self.inside.reach c.self.inside.pending.entries c.self.inside.index c.in_ok-fired.fired.entries c.self.invariant.0.ordered c.self.invariant.1 c.in_ok-fired.ensures.ordered c.in_ok-fired.ensures.some_fired c.in_ok-fired.ensures.all ∙ ap (λ r. fired_by r c.args.reach.now) c.self.view_is ∙ none)
 
-pub fired-requires-clause-by_count : goal.fired-requires-clause-by_count
-fired-requires-clause-by_count c = fires-by_count c.self.inside.pending.entries c.self.inside.index c.args.reach.now c.self.inside.reach c.self.invariant.1 (subst (λ (r : Registry). IsAtLeast c.args.reach.now r.reach) (sym c.self.view_is) c.requires.rises)
+pub fired-requires : goal.fired-requires
+fired-requires c = record { by_count = fires-by_count c.self.inside.pending.entries c.self.inside.index c.args.reach.now c.self.inside.reach c.self.invariant.1 (subst (λ (r : Registry). IsAtLeast c.args.reach.now r.reach) (sym c.self.view_is) c.requires.rises) }

@@ -7,8 +7,7 @@ use Rattle.fence_core.specs.Watches.{without_watch}
 use Rattle.fence_core.specs.PointIndex.{is_of, holds}
 use Rattle.fence_core.proofs.Pending.{filter-other}
 use Rattle.fence_core.proofs.Registered.{is_some-registration_of, at-registration_of, values_of-remove, AreRegistered-remove}
-use Rattle.fence_core.proofs.PointIndex.{and-right}
-use Rattle.fence_core.proofs.Indexed.{IsIndexed-remove, IsVisited-less}
+use Rattle.fence_core.proofs.Indexed.{IsIndexed-remove}
 use Rattle.fence_core.proofs.watches.Watches.remove.Goals as goal
 
 pub returns-in_default-clause-told : goal.returns-in_default-clause-told
@@ -44,7 +43,6 @@ invariant_of-self-2 c =
       AreRegistered-remove c.self.inside.pending.entries c.remove-2.new.self.entries c.self.inside.registrations.entries c.remove.new.self.entries c.self.inside.made c.args.cookie c.in-Some.registration c.self.invariant.0 (sym c.in-Some.ensures.value) c.in-Some-remove.ensures.entries c.in-Some-remove.ensures.ordered c.in-Some.ensures.updates.0,
       IsIndexed-remove c.self.inside.pending.entries c.remove-2.new.self.entries c.self.inside.index c.take_all.new.self c.self.inside.reach c.in-Some.registration c.in-Some-remove.watch c.self.invariant.1 (sym c.in-Some-remove.ensures.value) c.in-Some-remove.ensures.updates.0
           (λ k. c.take_all.ensures k ∙ ap (λ ps. not (is_of ps c.in-Some.registration k) && holds c.self.inside.index k) its),
-      IsVisited-less c.self.inside.index c.take_all.new.self c.self.inside.visited c.self.inside.reach c.self.invariant.2 (λ k there. and-right _ _ _ (c.take_all.ensures k) there),
     )
 
 pub returns-clause-told : goal.returns-clause-told

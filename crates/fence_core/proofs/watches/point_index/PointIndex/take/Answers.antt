@@ -2,6 +2,7 @@ use Rattle.std.proofs.Common.{◌∙◌, sym, ap, arith, not, ◌&&◌}
 use Rattle.std.proofs.lemmas.Bool.{false≢true}
 use Rattle.fence_core.specs.PointIndex.{holds, is_same}
 use Rattle.fence_core.proofs.PointIndex.{found-holds, holds-take, and-right, AreWaiting-less, taken-counted, taken-some}
+use Rattle.fence_core.proofs.Above.{AreAbove-less}
 use Rattle.fence_core.proofs.watches.point_index.PointIndex.take.Goals as goal
 
 pub lower-requires : goal.lower-requires
@@ -16,6 +17,8 @@ invariant_of-self c = (
       let was = c.self.invariant.1 r in
       let now = c.lower.ensures r in
       omega arith,
+  AreAbove-less c.self.inside.points.keys c.remove.new.self.keys c.self.inside.floor c.self.invariant.2 (λ k there.
+      and-right (not (is_same c.args.point k)) (holds c.self.inside.points.keys k) (holds c.remove.new.self.keys k) (holds-take c.self.inside.points.keys c.remove.new.self.keys c.args.point k (c.remove.ensures.updates.0 k)) there),
 )
 
 pub returns-then-remove-clause-taken : goal.returns-then-remove-clause-taken

@@ -1,12 +1,11 @@
-use Rattle.std.proofs.Common.{◌≡◌, ◌∙◌, refl, sym, ap, nat_eq, ◌&&◌, arith}
+use Rattle.std.proofs.Common.{◌∙◌, refl, sym, ap, nat_eq, ◌&&◌, arith}
 use Rattle.std.proofs.lemmas.Option.{none-some}
-use Rattle.point_core.specs.declared.context.TheConstants.{CONTEXTS}
 use Rattle.fence_core.specs.PointIndex.{is_due}
 use Rattle.point_core.specs.Reach.{value_at}
 use Rattle.std.proofs.lemmas.Bool.{and_from, eq-eqb}
 use Rattle.fence_core.specs.Counts.{left}
 use Rattle.fence_core.specs.Told.{at, IsTold}
-use Rattle.fence_core.proofs.Counted.{number_reached_to, number-there, reached_to-none, reached_to-all, next-room, next-all, next-sum, next-told}
+use Rattle.fence_core.proofs.Counted.{number-there, reached_to-none, reached_to-all, not_due-zero, next-room, next-all, next-sum, next-told}
 use Rattle.fence_core.proofs.Fired.{IsTold-all}
 use Rattle.fence_core.proofs.watches.point_index.firing.tell_reached.Goals as goal
 
@@ -43,9 +42,8 @@ returns-clause-all c = λ k due there.
     let ks = c.args.points.now.keys in
     IsTold-all c.args.reach.now c.args.pending.now.entries c.loop-index.fired.entries r c.loop-index.invariant.1 (λ w is fired.
     let count = (c.requires.by_count r w is).0 fired in
-    let all = reached_to-all c.args.reach.now r ks c.requires.waiting in
-    let end : c.loop-index.index ≡ CONTEXTS = omega arith in
-    let last = ap (λ n. number_reached_to n c.args.reach.now r ks) end in
+    let all = reached_to-all c.args.reach.now r c.loop-index.index ks (λ w there past.
+    not_due-zero w.ctx (value_at c.args.floor.now w.ctx) (value_at c.args.reach.now w.ctx) w (c.used-index-end.ensures.past w.ctx (omega arith)) (c.requires.above w there)) in
     let sum = c.loop-index.invariant.2 r in
     let began = c.requires.started k due there in
     let some = number-there (λ x. nat_eq x.registration r && is_due x.ctx (value_at c.args.reach.now x.ctx) x) ks k there (and_from (nat_eq k.registration r) (is_due k.ctx (value_at c.args.reach.now k.ctx) k) (eq-eqb k.registration r refl) due) in

@@ -3,7 +3,7 @@ use Rattle.point_core.specs.Reach.{value_at}
 use Rattle.fence_core.specs.PointIndex.{number_of, number_due}
 use Rattle.fence_core.specs.Counts.{held, left}
 use Rattle.fence_core.specs.Told.{IsTold, AreSomeTold}
-use Rattle.fence_core.proofs.watches.point_index.firing.tell_due.Given as goal
+use Rattle.fence_core.proofs.watches.point_index.firing.tell_points.Given as goal
 
 abbrev pub invariant-loop-due : goal.invariant-loop-due
 invariant-loop-due l =

@@ -1,0 +1,96 @@
+-- Points that are waited for are above the floor.
+use Rattle.std.proofs.Common.{◌≡◌, ◌≢◌, ◌↔◌, ℕ, ◌-◌, ◌<◌, ◌≤◌, ◌||◌, ◌&&◌, Bool, true, false, nat_eq, nat_le, min, refl, sym, ap, ◌∙◌, List, length, arith, inl, inr}
+use Rattle.std.specs.Prelude.{IsTrue}
+use Rattle.std.proofs.lemmas.Bool.{and_parts, cases_Bool, eqb-true, eq-eqb, false≢true, le-leb, leb-true, leb-false}
+use Rattle.point_core.specs.declared.context.TheConstants.{CONTEXTS}
+use Rattle.point_core.specs.declared.entry.Point.{Point}
+use Rattle.point_core.specs.Reach.{value_at, with_value}
+use Rattle.point_core.proofs.Values.{value_at-with_value_same, value_at-with_value_other}
+use Rattle.fence_core.specs.declared.watches.point_index.WaitingPoint.{WaitingPoint}
+use Rattle.fence_core.specs.PointIndex.{waiting, is_same, holds, is_due, AreWaiting, AreAbove}
+use Rattle.fence_core.proofs.PointIndex.{is_same-is}
+use Rattle.fence_core.proofs.Indexed.{or_cases}
+
+-- a context where the reach is not above the floor
+pub not-below : (floor reach : ℕ) (b : Bool) → (IsTrue b ↔ (floor < reach)) → b ≡ false → reach ≤ floor
+not-below floor reach b told is = elim (cases_Bool (nat_le reach floor)) [
+  | inl low ↦ leb-true reach floor low
+  | inr high ↦ absurd (false≢true (sym is ∙ told.1 (leb-false reach floor high)))
+]
+
+pub not_due : (ctx value : ℕ) (k : WaitingPoint) → value < k.value → is_due ctx value k ≡ false
+not_due ctx value k past = elim (cases_Bool (is_due ctx value k)) [
+  | inl due ↦ let low = leb-true k.value value (and_parts (nat_eq k.ctx ctx) (nat_le k.value value) due).1 in absurd (omega arith)
+  | inr other ↦ other
+]
+
+pub past-not_due : (value : ℕ) (k : WaitingPoint) → is_due k.ctx value k ≡ false → value < k.value
+past-not_due value k none = elim (cases_Bool (nat_le k.value value)) [
+  | inl low ↦ absurd (false≢true (sym none ∙ ap (λ b. b && nat_le k.value value) (eq-eqb k.ctx k.ctx refl) ∙ low))
+  | inr high ↦ leb-false k.value value high
+]
+
+-- what is not due at a value is not due at a lower one
+pub not_due-lower : (low high : ℕ) (k : WaitingPoint) (ctx : ℕ) → low ≤ high → is_due ctx high k ≡ false → is_due ctx low k ≡ false
+not_due-lower low high k ctx up none = elim (cases_Bool (is_due ctx low k)) [
+  | inl due ↦
+      let parts = and_parts (nat_eq k.ctx ctx) (nat_le k.value low) due in
+      let at = leb-true k.value low parts.1 in
+      absurd (false≢true (sym none ∙ ap (λ b. b && nat_le k.value high) parts.0 ∙ le-leb k.value high (omega arith)))
+  | inr other ↦ other
+]
+
+pub AreAbove-less : (ks fewer : List WaitingPoint) (floor : List ℕ) → AreAbove ks floor → ((k : WaitingPoint) → holds fewer k ≡ true → holds ks k ≡ true) → AreAbove fewer floor
+AreAbove-less ks fewer floor h less = λ k there. h k (less k there)
+
+-- another value for one context
+pub AreAbove-with : (ks : List WaitingPoint) (floor changed : List ℕ) (ctx value : ℕ) → changed ≡ with_value floor ctx value → length floor ≡ CONTEXTS → 1 ≤ ctx → ctx ≤ CONTEXTS → AreWaiting ks
+    → ((k : WaitingPoint) → holds ks k ≡ true → k.ctx ≢ ctx → is_due k.ctx (value_at floor k.ctx) k ≡ false) → ((k : WaitingPoint) → holds ks k ≡ true → k.ctx ≡ ctx → value < k.value) → AreAbove ks changed
+AreAbove-with ks floor changed ctx value is full low high contexts others own = λ k there. elim (cases_Bool (nat_eq k.ctx ctx)) [
+  | inl same ↦
+      let its = eqb-true k.ctx ctx same in
+      let new : value_at changed k.ctx ≡ value = ap (value_at changed) its ∙ ap (λ f. value_at f ctx) is ∙ value_at-with_value_same floor ctx value low (omega arith) in
+      ap (λ v. is_due k.ctx v k) new ∙ not_due k.ctx value k (own k there its)
+  | inr other ↦
+      let apart : k.ctx ≢ ctx = λ e. false≢true (sym other ∙ eq-eqb k.ctx ctx e) in
+      ap (λ v. is_due k.ctx v k) (ap (λ f. value_at f k.ctx) is ∙ value_at-with_value_other floor ctx k.ctx value low (contexts.contexts k there).0 apart) ∙ others k there apart
+]
+
+-- the floor lowered
+pub AreAbove-lowered : (ks : List WaitingPoint) (floor lower : List ℕ) (ctx value : ℕ) → lower ≡ with_value floor ctx (min (value_at floor ctx) value) → length floor ≡ CONTEXTS → 1 ≤ ctx → ctx ≤ CONTEXTS → AreWaiting ks → AreAbove ks floor → AreAbove ks lower
+AreAbove-lowered ks floor lower ctx value is full low high contexts h =
+    AreAbove-with ks floor lower ctx (min (value_at floor ctx) value) is full low high contexts (λ k there apart. h k there)
+    (λ k there its. let past = past-not_due (value_at floor k.ctx) k (h k there) in let at = ap (value_at floor) its in omega arith)
+
+-- a point put in, and the floor lowered below it
+pub AreAbove-put : (old new : List WaitingPoint) (floor lower : List ℕ) (p : Point) (registration : ℕ) → lower ≡ with_value floor p.ctx (min (value_at floor p.ctx) (p.value - 1)) → length floor ≡ CONTEXTS → 1 ≤ p.ctx → p.ctx ≤ CONTEXTS → 1 ≤ p.value → AreWaiting new → AreAbove old floor
+    → ((k : WaitingPoint) → holds new k ≡ (is_same (waiting p registration) k || holds old k)) → AreAbove new lower
+AreAbove-put old new floor lower p registration is full low high some contexts h put =
+    AreAbove-with new floor lower p.ctx (min (value_at floor p.ctx) (p.value - 1)) is full low high contexts
+    (λ k there apart. elim (or_cases (is_same (waiting p registration) k) (holds old k) (sym (put k) ∙ there)) [
+      | inl same ↦ absurd (apart (sym ((is_same-is (waiting p registration) k same).0)))
+      | inr before ↦ h k before
+    ])
+    (λ k there its. elim (or_cases (is_same (waiting p registration) k) (holds old k) (sym (put k) ∙ there)) [
+      | inl same ↦ let value = (is_same-is (waiting p registration) k same).1 in omega arith
+      | inr before ↦ let past = past-not_due (value_at floor k.ctx) k (h k before) in let at = ap (value_at floor) its in omega arith
+    ])
+
+-- the floor of a context set to a value below its first point
+pub AreAbove-first : (ks : List WaitingPoint) (floor higher : List ℕ) (ctx first most : ℕ) → higher ≡ with_value floor ctx (first - 1) → length floor ≡ CONTEXTS → 1 ≤ ctx → ctx ≤ CONTEXTS → 1 ≤ first → first ≤ most → AreWaiting ks → AreAbove ks floor
+    → ((k : WaitingPoint) → is_due ctx most k ≡ true → holds ks k ≡ true → first ≤ k.value) → AreAbove ks higher
+AreAbove-first ks floor higher ctx first most is full low high some within contexts h least =
+    AreAbove-with ks floor higher ctx (first - 1) is full low high contexts (λ k there apart. h k there)
+    (λ k there its. elim (cases_Bool (is_due ctx most k)) [
+      | inl due ↦ let above = least k due there in omega arith
+      | inr other ↦ let past = past-not_due most k (ap (λ c. is_due c most k) its ∙ other) in omega arith
+    ])
+
+-- and to the greatest where it has none
+pub AreAbove-empty : (ks : List WaitingPoint) (floor higher : List ℕ) (ctx most : ℕ) → higher ≡ with_value floor ctx most → length floor ≡ CONTEXTS → 1 ≤ ctx → ctx ≤ CONTEXTS → AreWaiting ks → AreAbove ks floor → ((k : WaitingPoint) → is_due ctx most k ≡ true → holds ks k ≡ false) → AreAbove ks higher
+AreAbove-empty ks floor higher ctx most is full low high contexts h none =
+    AreAbove-with ks floor higher ctx most is full low high contexts (λ k there apart. h k there)
+    (λ k there its. elim (cases_Bool (is_due ctx most k)) [
+      | inl due ↦ absurd (false≢true (sym (none k due) ∙ there))
+      | inr other ↦ past-not_due most k (ap (λ c. is_due c most k) its ∙ other)
+    ])

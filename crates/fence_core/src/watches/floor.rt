@@ -1,0 +1,69 @@
+// What waiting points are above.
+ghost use Rattle.std.specs.Prelude.{◌≡◌, ◌^◌, ◌+◌, ◌-◌, ◌<◌, ◌≤◌, ◌↔◌, IsTrue, min, replicate};
+ghost use Rattle.point_core.specs.Reach.{value_at, with_value, IsAtLeast};
+
+use point_core::{CONTEXTS, Context, Point, Reach};
+use std::marker::Model;
+
+/// For each context a value that each point of it that is waited for is above. A rise that stays at or below these values
+/// comes to no such point.
+#[derive(Drop)]
+pub(super) struct Floor {
+    values: [u64; CONTEXTS],
+}
+
+impl Model for Floor {
+    ghost use Rattle.std.specs.Prelude.{List, ℕ};
+
+    ghost Value = { List ℕ };
+
+    ghost view = { λ f. f.values };
+}
+
+impl Floor {
+    /// The floor where no point is waited for.
+    pub(super) fn highest() -> Floor
+        ensures { result ≡ replicate CONTEXTS (2 ^ 64 - 1) }
+    {
+        Floor {
+            values: [u64::MAX; CONTEXTS],
+        }
+    }
+
+    /// Whether the reach is above it at the context of a place, from 0.
+    pub(super) fn is_below(&self, reach: &Reach, index: usize) -> bool
+        requires within { index < CONTEXTS }
+        ensures { IsTrue result ↔ (value_at self.now (index + 1) < value_at reach.now (index + 1)) }
+    {
+        self.values[index] < reach.at(index)
+    }
+
+    /// Whether the reach is above it nowhere.
+    pub(super) fn at_least(&self, reach: &Reach) -> bool
+        ensures { IsTrue result ↔ IsAtLeast self.now reach.now }
+    {
+        for index in 0..reach.used() {
+            if self.is_below(reach, index) {
+                return false;
+            }
+        }
+        true
+    }
+
+    /// Lowers a context's value below the point.
+    pub(super) fn lower(&mut self, point: &Point)
+        requires above { 1 ≤ point.now.value }
+        ensures lower { self.new ≡ with_value self.old point.now.ctx
+            (min (value_at self.old point.now.ctx) (point.now.value - 1)) }
+    {
+        let index = point.ctx.index();
+        self.values[index] = self.values[index].min(point.value - 1);
+    }
+
+    /// Sets a context's value.
+    pub(super) fn set(&mut self, ctx: Context, value: u64)
+        ensures { self.new ≡ with_value self.old ctx value }
+    {
+        self.values[ctx.index()] = value;
+    }
+}
