@@ -1,5 +1,5 @@
 -- The watches that a desk keeps, and those of the world.
-use Rattle.std.proofs.Common.{◌≡◌, ℕ, ◌+◌, Bool, true, false, not, ◌&&◌, ◌||◌, if◌then◌else◌, refl, sym, ap, ◌∙◌, List, [], ◌∷◌, length, nat_le, nat_lt, Option, None, Some, option_map, unwrap_or, is_some, Result, Ok, Err, IsOk}
+use Rattle.std.proofs.Common.{◌≡◌, ℕ, ◌+◌, max, arith, Bool, true, false, not, ◌&&◌, ◌||◌, if◌then◌else◌, refl, sym, ap, ◌∙◌, List, [], ◌∷◌, length, nat_le, nat_lt, Option, None, Some, option_map, unwrap_or, is_some, Result, Ok, Err, IsOk}
 use Rattle.std.specs.Prelude.{MatchOption, option_copied}
 use denote.Bor.{Bor}
 use Rattle.fence_core.specs.declared.fence.Fence.{Fence}
@@ -177,9 +177,10 @@ module _ (d : DeskState) (f : List ℕ) (cookie : ℕ) (reach : List ℕ) (r : R
       ∙ ap signalled_cause (sym found.2)
 
 -- the values after an increment, as the desk works them out beforehand
-pub raised_reach-is : (ts : List Timeline) (name : List ℕ) (n ctx : ℕ) (reach later : List ℕ) → reach ≡ reach_of ts → ctx ≡ context_of ts name → AreTimelines ts → has_timeline ts name ≡ true → later ≡ with_value reach ctx (value_at reach ctx + n) → later ≡ reach_of (raised ts name n)
-raised_reach-is ts name n ctx reach later at is kept has value =
-    value ∙ ap (λ r. with_value r ctx (value_at r ctx + n)) at
+pub raised_reach-is : (ts : List Timeline) (name : List ℕ) (n ctx value : ℕ) (reach later : List ℕ) → reach ≡ reach_of ts → ctx ≡ context_of ts name → AreTimelines ts → has_timeline ts name ≡ true → value ≡ value_at reach ctx + n → later ≡ with_value reach ctx (max (value_at reach ctx) value) → later ≡ reach_of (raised ts name n)
+raised_reach-is ts name n ctx value reach later at is kept has sum raise =
+    let greater : max (value_at reach ctx) value ≡ value_at reach ctx + n = omega arith in
+    raise ∙ ap (with_value reach ctx) greater ∙ ap (λ r. with_value r ctx (value_at r ctx + n)) at
     ∙ ap (λ c. with_value (reach_of ts) c (value_at (reach_of ts) c + n)) is
     ∙ sym (reach_of-raised ts name n kept has)
 

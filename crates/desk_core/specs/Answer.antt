@@ -64,7 +64,8 @@ causes w (command.Merge f a b) = cause (not (has_file w.files a && has_file w.fi
 causes w (command.Close f) = cause (not (has_file w.files f)) NoEntry ∷ []
 causes w (command.Wait f) = cause (not (has_file w.files f)) NoEntry ∷ cause (not (is_signalled w f)) TimedOut ∷ []
 causes w (command.Info f) = cause (not (has_file w.files f)) NoEntry ∷ []
-causes w (command.Buffer b) = cause (has_made_buffer w.buffers b) Exists ∷ cause (nat_le BUFFERS (length w.buffers)) (Limit Buffers) ∷ []
+causes w (command.Buffer b) =
+    cause (has_made_buffer w.buffers b) Exists ∷ cause (nat_le BUFFERS (length w.buffers)) (Limit Buffers) ∷ []
 causes w (command.Add b t p u) = cause (not (has_made_buffer w.buffers b && has_timeline w.timelines t)) NoEntry ∷ []
 causes w (command.Import b f flags) =
     cause (not (has_made_buffer w.buffers b && has_file w.files f)) NoEntry ∷ cause (not (is_sync_flags flags)) Flags ∷ []
@@ -113,7 +114,8 @@ or_stub (r ∷ rs) = r ∷ rs
 
 abbrev pub info_of : World → List ℕ → Option MadeFile → Info
 info_of w name None = record { name = name; status = Signalled; fences = [] }
-info_of w name (Some f) = record { name = name; status = file_status w f; fences = or_stub (map (fence_row w.timelines) (listed_points f)) }
+info_of w name (Some f) =
+    record { name = name; status = file_status w f; fences = or_stub (map (fence_row w.timelines) (listed_points f)) }
 
 -- the row of a pending top, with the name of its timeline
 abbrev pub show_row : List Timeline → TopRow → ShowRow
@@ -157,7 +159,8 @@ told w (command.Buffer b) = answer.Done
 told w (command.Add b t p u) = answer.Done
 told w (command.Import b f flags) = answer.Done
 told w (command.Export f b flags) = answer.Done
-told w (command.Test b u) = answer.Value (number_if (all_reached (reach_of w.timelines) (usage_number u) (buffer_put_set w.buffers b)))
+told w (command.Test b u) =
+    answer.Value (number_if (all_reached (reach_of w.timelines) (usage_number u) (buffer_put_set w.buffers b)))
 told w (command.Trim b) = answer.Done
 told w (command.Watch f cookie) = answer.Done
 told w (command.Unwatch cookie) = answer.Value (number_if (has_made_watch w.watches cookie))
