@@ -4,5 +4,5 @@ use Rattle.report_core.specs.declared.columns.Subject.TheVariants.{Named, Number
 
 -- the text of a row's second column: a name, or a letter and a number
 abbrev pub subject_text : Subject → List ℕ
-subject_text (Named name) = name
+subject_text (Named name) = name.now
 subject_text (Numbered letter number) = letter ∷ decimal number

@@ -13,8 +13,8 @@ use point_core::{Name, Refusal};
 
 /// What a row is about: a thing with a name, or one of a numbered kind, as the client `c1`.
 #[derive(Clone, Copy)]
-pub(crate) enum Subject {
-    Named(Name),
+pub(crate) enum Subject<'a> {
+    Named(&'a Name),
     Numbered(u8, u64),
 }
 
@@ -25,11 +25,11 @@ pub(crate) enum Subject {
 pub(crate) fn push_columns(
     out: &mut Vec<u8>,
     kind: Kind,
-    subject: Subject,
+    subject: Subject<'_>,
     number: u64,
     last: u8,
 ) -> Result<(), Refusal>
-    ensures ok { OnOk result (out.new.items ≡ out.old.items ++ (columns kind (subject_text subject) number ++ last ∷ [])) }
+    ensures ok { OnOk result (out.new.items ≡ out.old.items ++ (columns kind (subject_text subject.entry) number ++ last ∷ [])) }
     ensures err { OnErr result ((result ≡ Err Memory) × (out.new.items ≡ out.old.items)) }
 {
     let mut row = [b' '; ROW_BYTES];
@@ -43,10 +43,10 @@ pub(crate) fn push_columns(
 
 /// Puts the subject where the second column begins.
 #[inline(always)]
-fn put_subject(row: &mut [u8; ROW_BYTES], subject: Subject)
-    ensures text { row.new ≡ take KIND_BYTES row.old ++ subject_text subject
-        ++ drop (KIND_BYTES + length (subject_text subject)) row.old }
-    ensures len { length (subject_text subject) ≤ SUBJECT_WIDTH }
+fn put_subject(row: &mut [u8; ROW_BYTES], subject: Subject<'_>)
+    ensures text { row.new ≡ take KIND_BYTES row.old ++ subject_text subject.entry
+        ++ drop (KIND_BYTES + length (subject_text subject.entry)) row.old }
+    ensures len { length (subject_text subject.entry) ≤ SUBJECT_WIDTH }
 {
     match subject {
         Subject::Named(name) => put_at(row, KIND_BYTES, name.as_bytes()),

@@ -14,7 +14,7 @@ mod tests;
 
 pub use kind::Kind;
 pub use line::{TEXT_LINE_BYTES, TextLine};
-pub use report::{report_text, show_text};
+pub use report::{buffer_text, report_text, show_text, timelines_text};
 pub use rows::{
     COUNT_WIDTH, FILE_ROW_BYTES, KIND_WIDTH, NUMBER_WIDTH, ROW_BYTES, SUBJECT_WIDTH, file_row, row,
 };

@@ -32,13 +32,16 @@ pub fn report_text(report: &Report, out: &mut Vec<u8>) -> Result<(), Refusal>
     ensures ok { OnOk result (out.new.items ≡ out.old.items ++ report_text report.now) }
     ensures err { OnErr result ((result ≡ Err Memory) × StartsWith out.new.items out.old.items) }
 {
-    push_timelines(out, report.timelines.as_slice())?;
+    timelines_text(report.timelines.as_slice(), out)?;
     push_files(out, report.files.as_slice())?;
     push_buffers(out, report.buffers.as_slice())?;
     Ok(())
 }
 
-fn push_timelines(out: &mut Vec<u8>, timelines: &[(Name, u64)]) -> Result<(), Refusal>
+/// Writes a row for each timeline with its value behind `out`.
+///
+/// Refused as Memory alone. `out` then begins with what it was.
+pub fn timelines_text(timelines: &[(Name, u64)], out: &mut Vec<u8>) -> Result<(), Refusal>
     ensures ok { OnOk result (out.new.items ≡ out.old.items ++ flat_map timeline_text timelines.now) }
     ensures err { OnErr result ((result ≡ Err Memory) × StartsWith out.new.items out.old.items) }
 {
@@ -63,12 +66,15 @@ fn push_buffers(out: &mut Vec<u8>, buffers: &[BufferRows]) -> Result<(), Refusal
     ensures err { OnErr result ((result ≡ Err Memory) × StartsWith out.new.items out.old.items) }
 {
     for buffer in buffers {
-        push_buffer(out, buffer)?;
+        buffer_text(buffer, out)?;
     }
     Ok(())
 }
 
-fn push_buffer(out: &mut Vec<u8>, buffer: &BufferRows) -> Result<(), Refusal>
+/// Writes what a report tells of a buffer behind `out`: a row with the number of its rows, and these.
+///
+/// Refused as Memory alone. `out` then begins with what it was.
+pub fn buffer_text(buffer: &BufferRows, out: &mut Vec<u8>) -> Result<(), Refusal>
     ensures ok { OnOk result (out.new.items ≡ out.old.items ++ buffer_text buffer.now) }
     ensures err { OnErr result ((result ≡ Err Memory) × StartsWith out.new.items out.old.items) }
 {

@@ -54,7 +54,7 @@ pub fn row(kind: Kind, name: &Name, number: u64, out: &mut Vec<u8>) -> Result<()
     ensures err { OnErr result ((result ≡ Err Memory) × StartsWith out.new.items out.old.items) }
 {
     prove!(name.as_bytes().len() <= NAME_BYTES);
-    push_row(out, kind, Subject::Named(*name), number)?;
+    push_row(out, kind, Subject::Named(name), number)?;
     Ok(())
 }
 
@@ -80,7 +80,7 @@ fn push_file_row(out: &mut Vec<u8>, file: &FileRow) -> Result<(), Refusal>
     let status = u64::from(file.status.number());
     let mut count = TextLine::new();
     put_number(&mut count, file.count, COUNT_WIDTH);
-    push_columns(out, Kind::File, Subject::Named(file.name), status, b' ')?;
+    push_columns(out, Kind::File, Subject::Named(&file.name), status, b' ')?;
     count.push_to(out)
 }
 
@@ -88,10 +88,10 @@ fn push_file_row(out: &mut Vec<u8>, file: &FileRow) -> Result<(), Refusal>
 pub(crate) fn push_row(
     out: &mut Vec<u8>,
     kind: Kind,
-    subject: Subject,
+    subject: Subject<'_>,
     number: u64,
 ) -> Result<(), Refusal>
-    ensures ok { OnOk result (out.new.items ≡ out.old.items ++ row_text kind (subject_text subject) number) }
+    ensures ok { OnOk result (out.new.items ≡ out.old.items ++ row_text kind (subject_text subject.entry) number) }
     ensures err { OnErr result ((result ≡ Err Memory) × StartsWith out.new.items out.old.items) }
 {
     push_columns(out, kind, subject, number, b'\n')

@@ -73,7 +73,7 @@ fn push_tops(out: &mut Vec<u8>, rows: &[TopRow]) -> Result<(), Refusal>
     Ok(())
 }
 
-fn client(number: u64) -> Subject
+fn client(number: u64) -> Subject<'static>
     ensures { result ≡ Subject.Numbered 99 number }
 {
     Subject::Numbered(b'c', number)

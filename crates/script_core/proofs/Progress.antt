@@ -98,6 +98,28 @@ Progress-front lines done rest desk out totals old new new' p e f = record {
   };
 }
 
+-- one more line was answered, and of what waited and its text a front was written
+pub Progress-unwritten : (done : List Line) (desk : DeskState) (out : List ℕ) (totals : Totals) (old new new' : Option (List ℕ)) (l : Line) (a : Answer) → Progress done desk out totals old new
+    → ((history : List Command) → HasHistory desk history → IsLineAnswer history l.body a)
+    → AppendsFront new new' (out ++ text_of l.number a) → WritesFront (done ++ l ∷ []) old new'
+Progress-unwritten done desk out totals old new new' l a p is f = record {
+  first = done ++ l ∷ [];
+  rest = [];
+  given = p.given ++ a ∷ [];
+  whole = sym (append-nil (done ++ l ∷ []));
+  each = AreLineAnswers-push [] done p.given l a p.each (is (history_along [] done p.given) p.stands);
+  written = record {
+    front = p.front ++ f.front;
+    rest = f.rest;
+    whole = texts_of-push [] done p.given l a p.each
+        ∙ ap (λ text. text ++ text_of l.number a) p.texts
+        ∙ append_assoc p.front out (text_of l.number a)
+        ∙ ap (λ text. p.front ++ text) f.whole
+        ∙ sym (append_assoc p.front f.front f.rest);
+    appended = Appends-trans old new new' p.front f.front p.appended f.appended;
+  };
+}
+
 -- all was written, and flushed
 pub Progress-flushed : (done : List Line) (desk : DeskState) (out : List ℕ) (totals : Totals) (old new new' : Option (List ℕ)) → Progress done desk out totals old new
     → out ≡ [] → Keeps new new' → AnswersLines done totals old new'

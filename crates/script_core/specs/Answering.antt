@@ -45,7 +45,8 @@ pub record AnswersLines (lines : List Line) (totals : Totals) (old new : Option 
   pub counts : Counts totals given
 
 -- bytes of a script were read that end so, and their lines are answered
-pub record HasAnsweredBytes (before after : Option (List ℕ)) (end : Ending) (s : AnswersState) (old new : Option (List ℕ)) : Type 0 where
+pub record HasAnsweredBytes (before after : Option (List ℕ)) (end : Ending) (s : AnswersState)
+    (old new : Option (List ℕ)) : Type 0 where
   pub bytes : List ℕ
   pub read : WasRead before after bytes end
   pub answered : HasAnswered (lines_until end (take SCRIPT_BYTES bytes)) s old new

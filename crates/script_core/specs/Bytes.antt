@@ -28,3 +28,9 @@ pub record AppendsFront (old new : Option (List ℕ)) (bytes : List ℕ) : Type 
   pub rest : List ℕ
   pub whole : bytes ≡ front ++ rest
   pub appended : Appends old new front
+
+-- the bytes went behind those that waited to be written: a front of all of them was written, and the others wait
+pub record PassesOn (waiting left bytes : List ℕ) (old new : Option (List ℕ)) : Type 0 where
+  pub written : List ℕ
+  pub whole : waiting ++ bytes ≡ written ++ left
+  pub appended : Appends old new written

@@ -9,9 +9,9 @@ ghost use Rattle.script_core.specs.Script.{answered};
 ghost use Rattle.script_core.specs.Output.{IsLineAnswer, history_after_line, WritesFront};
 
 use crate::line::Body;
-use crate::text::print;
+use crate::passing::pass_answer;
 use crate::totals::Totals;
-use crate::writing::{write_many, write_out};
+use crate::writing::write_out;
 use desk_core::{Answer, Desk};
 use point_core::Refusal;
 use std::alloc::Global;
@@ -96,10 +96,9 @@ impl Answers {
         ensures refusals { IfErr result (λ refusal. (refusal ≡ WriteFault) ⊎ (refusal ≡ Memory)) }
     {
         let answer = answer_line(&mut self.desk, body);
-        print(number, &answer, &mut self.out)?;
+        pass_answer(number, &answer, &mut self.out, writer)?;
         self.totals = self.totals.with(&answer);
         drop(answer);
-        write_many(writer, &mut self.out)?;
         Ok(())
     }
 

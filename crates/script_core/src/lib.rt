@@ -9,6 +9,7 @@ mod cutter;
 pub mod laws;
 mod line;
 mod number;
+mod passing;
 mod script;
 mod script_lines;
 mod table;

@@ -3,6 +3,8 @@ ghost use Rattle.std.specs.Prelude.{◌≡◌, ◌+◌, ◌≤◌, ◌∷◌, �
 ghost use Rattle.std.specs.List.{flat_map};
 ghost use Rattle.std.specs.Io.{StartsWith};
 ghost use Rattle.point_core.specs.declared.refusal.Refusal.TheVariants.{Memory};
+ghost use Rattle.desk_core.specs.Tables.{row_count};
+ghost use Rattle.report_core.specs.Tables.{timeline_text};
 ghost use Rattle.script_core.specs.Text.{line_text, fired_text, raised_text, fence_text, info_line, info_text, show_text};
 ghost use Rattle.script_core.specs.Text.{report_text, refusal_text, details, value_line, driver_of, text_of};
 ghost use Rattle.script_core.specs.Behind.{behind_text};
@@ -11,7 +13,7 @@ ghost use Rattle.script_core.specs.declared.text.TheConstants.{DRIVER_BYTES};
 use desk_core::{Answer, FenceRow, Info, Maker, Report, ShowRow};
 use itoa::Buffer;
 use point_core::Refusal;
-use report_core::{NUMBER_WIDTH, TEXT_LINE_BYTES, TextLine};
+use report_core::{NUMBER_WIDTH, TEXT_LINE_BYTES, TextLine, timelines_text};
 
 /// The most bytes of a driver's name, those of `sw_sync`.
 const DRIVER_BYTES: usize = 7;
@@ -158,6 +160,20 @@ fn push_report(report: &Report, out: &mut Vec<u8>) -> Result<(), Refusal>
 {
     push_count(report.row_count(), out)?;
     report_core::report_text(report, out)?;
+    Ok(())
+}
+
+/// Writes the number of a report's rows, and those of its timelines, behind `out`.
+///
+/// Refused as Memory alone. `out` then begins with what it was.
+#[inline(never)]
+pub(crate) fn push_timelines(report: &Report, out: &mut Vec<u8>) -> Result<(), Refusal>
+    ensures ok { OnOk result (out.new.items
+        ≡ out.old.items ++ (value_line (row_count report.now) ++ flat_map timeline_text report.now.timelines)) }
+    ensures err { OnErr result ((result ≡ Err Memory) × StartsWith out.new.items out.old.items) }
+{
+    push_count(report.row_count(), out)?;
+    timelines_text(report.timelines.as_slice(), out)?;
     Ok(())
 }
 

@@ -3,7 +3,7 @@ use Rattle.std.specs.List.{flat_map}
 use Rattle.std.proofs.lemmas.Result.{err_from_is_err_and}
 use Rattle.report_core.specs.Tables.{timeline_text}
 use Rattle.report_core.proofs.Fronts.{StartsWith-trans}
-use Rattle.report_core.proofs.report.push_timelines.Goals as goal
+use Rattle.report_core.proofs.report.timelines_text.Goals as goal
 
 pub returns-in_err-row-clause-err : goal.returns-in_err-row-clause-err
 returns-in_err-row-clause-err c =

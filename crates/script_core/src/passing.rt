@@ -1,0 +1,128 @@
+// The text of an answer on its way to a writer.
+ghost use Rattle.std.specs.Prelude.{◌≡◌, ◌⊎◌, ◌++◌, OnOk, OnErr, IfErr};
+ghost use Rattle.std.specs.List.{flat_map};
+ghost use Rattle.point_core.specs.declared.refusal.Refusal.TheVariants.{Write as WriteFault, Memory};
+ghost use Rattle.report_core.specs.Row.{file_row_text};
+ghost use Rattle.report_core.specs.Tables.{buffer_text};
+ghost use Rattle.script_core.specs.Bytes.{AppendsFront, PassesOn};
+ghost use Rattle.script_core.specs.Text.{report_text, text_of};
+
+use crate::text::{print, push_timelines};
+use crate::writing::write_many;
+use desk_core::{Answer, BufferRows, FileRow, Report};
+use point_core::Refusal;
+use report_core::{buffer_text, file_row};
+use std::io::Write;
+
+/// Puts the text of the answer of the line of that number behind `out`, and writes what waits there where it is much. The
+/// text of a report waits row by row of its files and buffer by buffer, and is never held as a whole.
+///
+/// Refused as Write where a write failed or took no byte, and as Memory where a growth was refused: then a front of what
+/// waited and of the text is written.
+pub(crate) fn pass_answer<W: Write>(
+    line: u32,
+    answer: &Answer,
+    out: &mut Vec<u8>,
+    writer: &mut W,
+) -> Result<(), Refusal>
+    ensures ok { OnOk result (PassesOn out.old.items out.new.items (text_of line answer.now)
+        (W.contents writer.old) (W.contents writer.new)) }
+    ensures err { OnErr result (AppendsFront (W.contents writer.old) (W.contents writer.new)
+        (out.old.items ++ text_of line answer.now)) }
+    ensures refusals { IfErr result (λ refusal. (refusal ≡ WriteFault) ⊎ (refusal ≡ Memory)) }
+{
+    match answer {
+        Answer::Report(report) => pass_report(report, out, writer),
+        _ => pass_whole(line, answer, out, writer),
+    }
+}
+
+#[inline(always)]
+fn pass_whole<W: Write>(
+    line: u32,
+    answer: &Answer,
+    out: &mut Vec<u8>,
+    writer: &mut W,
+) -> Result<(), Refusal>
+    ensures ok { OnOk result (PassesOn out.old.items out.new.items (text_of line answer.now)
+        (W.contents writer.old) (W.contents writer.new)) }
+    ensures err { OnErr result (AppendsFront (W.contents writer.old) (W.contents writer.new)
+        (out.old.items ++ text_of line answer.now)) }
+    ensures refusals { IfErr result (λ refusal. (refusal ≡ WriteFault) ⊎ (refusal ≡ Memory)) }
+{
+    print(line, answer, out)?;
+    write_many(writer, out)?;
+    Ok(())
+}
+
+#[inline(never)]
+fn pass_report<W: Write>(report: &Report, out: &mut Vec<u8>, writer: &mut W) -> Result<(), Refusal>
+    ensures ok { OnOk result (PassesOn out.old.items out.new.items (report_text report.now)
+        (W.contents writer.old) (W.contents writer.new)) }
+    ensures err { OnErr result (AppendsFront (W.contents writer.old) (W.contents writer.new)
+        (out.old.items ++ report_text report.now)) }
+    ensures refusals { IfErr result (λ refusal. (refusal ≡ WriteFault) ⊎ (refusal ≡ Memory)) }
+{
+    push_timelines(report, out)?;
+    pass_files(report.files.as_slice(), out, writer)?;
+    pass_buffers(report.buffers.as_slice(), out, writer)?;
+    Ok(())
+}
+
+fn pass_files<W: Write>(files: &[FileRow], out: &mut Vec<u8>, writer: &mut W) -> Result<(), Refusal>
+    ensures ok { OnOk result (PassesOn out.old.items out.new.items (flat_map file_row_text files.now)
+        (W.contents writer.old) (W.contents writer.new)) }
+    ensures err { OnErr result (AppendsFront (W.contents writer.old) (W.contents writer.new)
+        (out.old.items ++ flat_map file_row_text files.now)) }
+    ensures refusals { IfErr result (λ refusal. (refusal ≡ WriteFault) ⊎ (refusal ≡ Memory)) }
+{
+    for file in files {
+        pass_file(file, out, writer)?;
+    }
+    Ok(())
+}
+
+fn pass_file<W: Write>(file: &FileRow, out: &mut Vec<u8>, writer: &mut W) -> Result<(), Refusal>
+    ensures ok { OnOk result (PassesOn out.old.items out.new.items (file_row_text file.now)
+        (W.contents writer.old) (W.contents writer.new)) }
+    ensures err { OnErr result (AppendsFront (W.contents writer.old) (W.contents writer.new)
+        (out.old.items ++ file_row_text file.now)) }
+    ensures refusals { IfErr result (λ refusal. (refusal ≡ WriteFault) ⊎ (refusal ≡ Memory)) }
+{
+    file_row(file, out)?;
+    write_many(writer, out)?;
+    Ok(())
+}
+
+fn pass_buffers<W: Write>(
+    buffers: &[BufferRows],
+    out: &mut Vec<u8>,
+    writer: &mut W,
+) -> Result<(), Refusal>
+    ensures ok { OnOk result (PassesOn out.old.items out.new.items (flat_map buffer_text buffers.now)
+        (W.contents writer.old) (W.contents writer.new)) }
+    ensures err { OnErr result (AppendsFront (W.contents writer.old) (W.contents writer.new)
+        (out.old.items ++ flat_map buffer_text buffers.now)) }
+    ensures refusals { IfErr result (λ refusal. (refusal ≡ WriteFault) ⊎ (refusal ≡ Memory)) }
+{
+    for buffer in buffers {
+        pass_buffer(buffer, out, writer)?;
+    }
+    Ok(())
+}
+
+fn pass_buffer<W: Write>(
+    buffer: &BufferRows,
+    out: &mut Vec<u8>,
+    writer: &mut W,
+) -> Result<(), Refusal>
+    ensures ok { OnOk result (PassesOn out.old.items out.new.items (buffer_text buffer.now)
+        (W.contents writer.old) (W.contents writer.new)) }
+    ensures err { OnErr result (AppendsFront (W.contents writer.old) (W.contents writer.new)
+        (out.old.items ++ buffer_text buffer.now)) }
+    ensures refusals { IfErr result (λ refusal. (refusal ≡ WriteFault) ⊎ (refusal ≡ Memory)) }
+{
+    buffer_text(buffer, out)?;
+    write_many(writer, out)?;
+    Ok(())
+}
