@@ -14,7 +14,7 @@ use std::marker::Model;
 /// No file is ever put forward, and none is put out, so the order of use is that of making.
 #[derive(Drop)]
 pub(crate) struct ByMaking {
-    newest_first: LruCache<Name, Box<SyncFile>>,
+    newest_first: LruCache<Name, SyncFile>,
 }
 
 impl Model for ByMaking {
@@ -24,9 +24,9 @@ impl Model for ByMaking {
 
     ghost Value = { List File };
 
-    ghost view = { λ m. files_behind (λ b. b.value) m.newest_first.entries };
+    ghost view = { λ m. files_behind (λ f. f) m.newest_first.entries };
 
-    ghost invariant = { λ m. IsKept (λ b. b.value) m.newest_first };
+    ghost invariant = { λ m. IsKept (λ f. f) m.newest_first };
 }
 
 impl ByMaking {
@@ -44,10 +44,7 @@ impl ByMaking {
     pub(crate) fn get(&self, name: &Name) -> Option<&SyncFile>
         ensures found { option_copied result ≡ file_at self.now name.now }
     {
-        match self.newest_first.peek(name) {
-            Some(file) => Some(&**file),
-            None => None,
-        }
+        self.newest_first.peek(name)
     }
 
     /// How many files there are.
@@ -75,9 +72,9 @@ impl ByMaking {
     /// Puts a new file last.
     ///
     /// Refuses as `Memory` alone; nothing has changed then.
-    pub(crate) fn insert(&mut self, file: Box<SyncFile>) -> Result<(), Refusal>
-        requires free { cause_to_refuse self.old file.value.name ≡ None }
-        ensures last { OnOk result (self.new ≡ self.old ++ file.value ∷ []) }
+    pub(crate) fn insert(&mut self, file: SyncFile) -> Result<(), Refusal>
+        requires free { cause_to_refuse self.old file.name ≡ None }
+        ensures last { OnOk result (self.new ≡ self.old ++ file ∷ []) }
         ensures unchanged { OnErr result (self.new ≡ self.old) }
         ensures memory { IfErr result (λ e. e ≡ Memory) }
     {

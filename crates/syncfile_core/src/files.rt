@@ -131,7 +131,7 @@ impl Files {
     {
         self.free(&name)?;
         let file = SyncFile::plain(self.alloc, name, point)?;
-        self.insert(file.boxed(self.alloc)?)
+        self.insert(file)
     }
 
     /// Merges two files, which both stay: the latest pending point of each context of either, above a floor that is the
@@ -189,7 +189,7 @@ impl Files {
             points,
             floor: Floor::of(self.alloc, &floor)?,
         };
-        self.insert(file.boxed(self.alloc)?)
+        self.insert(file)
     }
 
     /// Closes a file. The others keep their order.
@@ -229,9 +229,9 @@ impl Files {
     }
 
     // Puts a new file last.
-    fn insert(&mut self, file: Box<SyncFile>) -> Result<(), Refusal>
-        requires free { cause_to_refuse self.old file.value.name ≡ None }
-        ensures last { OnOk result (self.new ≡ self.old ++ file.value ∷ []) }
+    fn insert(&mut self, file: SyncFile) -> Result<(), Refusal>
+        requires free { cause_to_refuse self.old file.name ≡ None }
+        ensures last { OnOk result (self.new ≡ self.old ++ file ∷ []) }
         ensures unchanged { OnErr result (self.new ≡ self.old) }
         ensures memory { IfErr result (λ e. e ≡ Memory) }
     {

@@ -20,20 +20,19 @@ pub(crate) fn of_two(
     left: &SyncFile,
     right: &SyncFile,
     reach: &Reach,
-) -> Result<Box<SyncFile>, Refusal>
-    ensures file { IfOk result (λ f. f.value ≡ merged_file name (left.now ∷ right.now ∷ []) reach.now) }
+) -> Result<SyncFile, Refusal>
+    ensures file { IfOk result (λ f. f ≡ merged_file name (left.now ∷ right.now ∷ []) reach.now) }
     ensures union { IfOk result (λ f. StandsForUnion (left.now ∷ right.now ∷ [])
         (merged_file name (left.now ∷ right.now ∷ []) reach.now)) }
     ensures memory { IfErr result (λ e. e ≡ Memory) }
 {
     let (ps, qs) = (left.points.as_slice(), right.points.as_slice());
     let points = point_core::merged(alloc, ps, qs, reach)?;
-    let file = SyncFile {
+    Ok(SyncFile {
         name,
         points: Items::of(points),
         floor: floor_of_two(alloc, left, right, reach)?,
-    };
-    file.boxed(alloc)
+    })
 }
 
 /// The greatest value of each context, among the reach and the floors of both files.
@@ -91,27 +90,21 @@ impl Gathered {
     /// The file of the points that are above the reach.
     ///
     /// Refuses as `Memory` alone.
-    pub(crate) fn file(
-        &self,
-        alloc: Global,
-        name: Name,
-        reach: &Reach,
-    ) -> Result<Box<SyncFile>, Refusal>
+    pub(crate) fn file(&self, alloc: Global, name: Name, reach: &Reach) -> Result<SyncFile, Refusal>
         requires gathered { IsGatheredAbove self.now.latest self.now.floor reach.now }
         ensures file { (inputs : List File) →
             IsGathered self.now.latest self.now.floor reach.now inputs →
-            IfOk result (λ f. f.value ≡ merged_file name inputs reach.now) }
+            IfOk result (λ f. f ≡ merged_file name inputs reach.now) }
         ensures union { (inputs : List File) →
             IsGathered self.now.latest self.now.floor reach.now inputs →
-            IfOk result (λ f. StandsForUnion inputs f.value) }
+            IfOk result (λ f. StandsForUnion inputs f) }
         ensures memory { IfErr result (λ e. e ≡ Memory) }
     {
         let points = self.latest.points_expected(alloc, reach, self.count)?;
-        let file = SyncFile {
+        Ok(SyncFile {
             name,
             points: Items::of(points),
             floor: Floor::of(alloc, &self.floor)?,
-        };
-        file.boxed(alloc)
+        })
     }
 }

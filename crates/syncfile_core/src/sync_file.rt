@@ -43,17 +43,4 @@ impl SyncFile {
             floor: Floor::zero(alloc),
         })
     }
-
-    /// The file, where its bytes stay while files are made and closed.
-    ///
-    /// Refuses as `Memory` alone.
-    pub(crate) fn boxed(self, alloc: Global) -> Result<Box<SyncFile>, Refusal>
-        ensures file { IfOk result (λ f. f.value ≡ self) }
-        ensures memory { IfErr result (λ e. e ≡ Memory) }
-    {
-        match Box::new(alloc, self) {
-            Ok(file) => Ok(file),
-            Err(_) => Err(Refusal::Memory),
-        }
-    }
 }
