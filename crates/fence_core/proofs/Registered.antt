@@ -15,7 +15,7 @@ use Rattle.fence_core.specs.Watch.{Watch, is_for, cookies_of, ArePending}
 use Rattle.point_core.specs.declared.entry.Point.{Point}
 use Rattle.fence_core.specs.Fence.{members_of, fence_of}
 use Rattle.fence_core.specs.Told.{at}
-use Rattle.fence_core.specs.Registered.{registration_of, AreRegistered}
+use Rattle.fence_core.specs.Registered.{registration_of, registered, AreRegistered}
 use Rattle.fence_core.proofs.Pending.{ArePending-none, ArePending-filter, ArePending-push, filter-other, apart-any}
 use Rattle.fence_core.proofs.PointIndex.{is_eq-nat_cmp, less-nat}
 
@@ -100,7 +100,7 @@ module _ (cookie r : ℕ) where
         ∙ sym (ap (λ b. cond (not b) (e.1 ∷ filter (λ w. not (is_for cookie w)) (values_of es)) (filter (λ w. not (is_for cookie w)) (values_of es))) past)
   ]
 
-  pub registration_of-remove : (es : List (ℕ × Watch)) (q : ℕ) → IsStrictlySortedBy nat_cmp (keys_of es) → IsDistinct nat_eq (cookies_of (values_of es)) → registration_of cookie es ≡ Some r → registration_of q (remove_entry (is_at (nat_cmp r)) es) ≡ cond (is_at (nat_cmp cookie) q) None (registration_of q es)
+  pub registration_of-remove : (es : List (ℕ × Watch)) (q : ℕ) → IsStrictlySortedBy nat_cmp (keys_of es) → IsDistinct nat_eq (cookies_of (values_of es)) → registration_of cookie es ≡ Some r → registration_of q (remove_entry (is_at (nat_cmp r)) es) ≡ cond (nat_eq cookie q) None (registration_of q es)
   unfolding IsStrictlySortedBy IsDistinct
   registration_of-remove [] q ordered distinct is = absurd (none-some r is)
   registration_of-remove (e ∷ es) q ordered distinct is = elim (cases_Bool (is_for cookie e.1)) [
@@ -108,12 +108,12 @@ module _ (cookie r : ℕ) where
         let same = same_Some e.0 r (sym (ap (λ b. cond b (Some e.0) (registration_of cookie es)) here) ∙ is) in
         let none = registration_of-none cookie es (apart-any cookie (values_of es) (subst (λ k. AllByRecursion (λ y. nat_eq k y ≡ false) (cookies_of (values_of es))) (eqb-true e.1.cookie cookie here) distinct.0)) in
         ap (λ b. registration_of q (cond b es (e ∷ remove_entry (is_at (nat_cmp r)) es))) (is_at-true r e.0 (sym same))
-        ∙ elim (cases_Bool (is_at (nat_cmp cookie) q)) [
+        ∙ elim (cases_Bool (nat_eq cookie q)) [
           | inl asked ↦
-              ap (λ c. registration_of c es) (sym (is_at-is cookie q asked)) ∙ none
+              ap (λ c. registration_of c es) (sym (eqb-true cookie q asked)) ∙ none
               ∙ sym (ap (λ b. cond b None (registration_of q (e ∷ es))) asked)
           | inr other ↦
-              let not_it : is_for q e.1 ≡ false = let cookie_is = eqb-true e.1.cookie cookie here in ap (λ c. nat_eq c q) cookie_is ∙ sym (is_eq-nat_cmp cookie q) ∙ other in
+              let not_it : is_for q e.1 ≡ false = let cookie_is = eqb-true e.1.cookie cookie here in ap (λ c. nat_eq c q) cookie_is ∙ other in
               sym (ap (λ b. cond b (Some e.0) (registration_of q es)) not_it)
               ∙ sym (ap (λ b. cond b None (registration_of q (e ∷ es))) other)
         ]
@@ -123,10 +123,10 @@ module _ (cookie r : ℕ) where
         let rest = registration_of-remove es q ordered.1 distinct.1 later in
         ap (λ b. registration_of q (cond b es (e ∷ remove_entry (is_at (nat_cmp r)) es))) apart_is
         ∙ ap (λ o. cond (is_for q e.1) (Some e.0) o) rest
-        ∙ elim (cases_Bool (is_at (nat_cmp cookie) q)) [
+        ∙ elim (cases_Bool (nat_eq cookie q)) [
           | inl asked ↦
-              let not_it : is_for q e.1 ≡ false = ap (λ c. nat_eq e.1.cookie c) (sym (is_at-is cookie q asked)) ∙ past in
-              ap (λ b. cond b (Some e.0) (cond (is_at (nat_cmp cookie) q) None (registration_of q es))) not_it
+              let not_it : is_for q e.1 ≡ false = ap (λ c. nat_eq e.1.cookie c) (sym (eqb-true cookie q asked)) ∙ past in
+              ap (λ b. cond b (Some e.0) (cond (nat_eq cookie q) None (registration_of q es))) not_it
               ∙ ap (λ b. cond b None (registration_of q es)) asked
               ∙ sym (ap (λ b. cond b None (registration_of q (e ∷ es))) asked)
           | inr other ↦
@@ -143,14 +143,14 @@ AllByRecursion-remove P test (e ∷ es) all = by (test e.0) (AllByRecursion-remo
     by true rest = all.1
     by false rest = (all.0, rest)
 
-pub AreRegistered-remove : (es left : List (ℕ × Watch)) (registrations fewer : List (ℕ × ℕ)) (made cookie r : ℕ) → AreRegistered es registrations made → at registrations cookie ≡ Some r → left ≡ remove_entry (is_at (nat_cmp r)) es → IsStrictlySortedBy nat_cmp (keys_of left) → ((q : ℕ) → at fewer q ≡ cond (is_at (nat_cmp cookie) q) None (at registrations q)) → AreRegistered left fewer made
+pub AreRegistered-remove : (es left : List (ℕ × Watch)) (registrations fewer : List (ℕ × ℕ)) (made cookie r : ℕ) → AreRegistered es registrations made → registered registrations cookie ≡ Some r → left ≡ remove_entry (is_at (nat_cmp r)) es → IsStrictlySortedBy nat_cmp (keys_of left) → ((q : ℕ) → registered fewer q ≡ cond (nat_eq cookie q) None (registered registrations q)) → AreRegistered left fewer made
 AreRegistered-remove es left registrations fewer made cookie r h found is ordered out =
     let found_is = sym (h.by_cookie cookie) ∙ found in
     record {
       pending = subst ArePending (sym (ap values_of is ∙ values_of-remove cookie r es h.ordered h.pending.distinct found_is)) (ArePending-filter (λ w. not (is_for cookie w)) h.pending);
       ordered = ordered;
       before = subst (λ xs. AllByRecursion (λ n. n < made) (keys_of xs)) (sym is) (AllByRecursion-remove (λ n. n < made) (is_at (nat_cmp r)) es h.before);
-      by_cookie = λ q. out q ∙ ap (λ o. cond (is_at (nat_cmp cookie) q) None o) (h.by_cookie q) ∙ sym (registration_of-remove cookie r es q h.ordered h.pending.distinct found_is) ∙ ap (registration_of q) (sym is);
+      by_cookie = λ q. out q ∙ ap (λ o. cond (nat_eq cookie q) None o) (h.by_cookie q) ∙ sym (registration_of-remove cookie r es q h.ordered h.pending.distinct found_is) ∙ ap (registration_of q) (sym is);
     }
 
 -- one more, of the greatest registration
@@ -163,15 +163,15 @@ insert_entry-last (e ∷ es) made w low =
     ap (λ o. match_ordering o ((made, w) ∷ e ∷ es) ((e.0, w) ∷ es) (e ∷ insert_entry nat_cmp es made w)) (greater made e.0 low.0)
     ∙ ap (λ xs. e ∷ xs) (insert_entry-last es made w low.1)
 
-registration_of-push : (es : List (ℕ × Watch)) (r : ℕ) (w : Watch) (q : ℕ) → list_any (is_for w.cookie) (values_of es) ≡ false → registration_of q (es ++ (r, w) ∷ []) ≡ cond (is_at (nat_cmp w.cookie) q) (Some r) (registration_of q es)
-registration_of-push [] r w q none = ap (λ b. cond b (Some r) None) (sym (is_eq-nat_cmp w.cookie q))
+registration_of-push : (es : List (ℕ × Watch)) (r : ℕ) (w : Watch) (q : ℕ) → list_any (is_for w.cookie) (values_of es) ≡ false → registration_of q (es ++ (r, w) ∷ []) ≡ cond (nat_eq w.cookie q) (Some r) (registration_of q es)
+registration_of-push [] r w q none = refl
 registration_of-push (e ∷ es) r w q none =
     let parts = or_none (is_for w.cookie e.1) (list_any (is_for w.cookie) (values_of es)) none in
     ap (λ o. cond (is_for q e.1) (Some e.0) o) (registration_of-push es r w q parts.1)
-    ∙ elim (cases_Bool (is_at (nat_cmp w.cookie) q)) [
+    ∙ elim (cases_Bool (nat_eq w.cookie q)) [
       | inl asked ↦
-          let not_it : is_for q e.1 ≡ false = ap (λ c. nat_eq e.1.cookie c) (sym (is_at-is w.cookie q asked)) ∙ parts.0 in
-          ap (λ b. cond b (Some e.0) (cond (is_at (nat_cmp w.cookie) q) (Some r) (registration_of q es))) not_it
+          let not_it : is_for q e.1 ≡ false = ap (λ c. nat_eq e.1.cookie c) (sym (eqb-true w.cookie q asked)) ∙ parts.0 in
+          ap (λ b. cond b (Some e.0) (cond (nat_eq w.cookie q) (Some r) (registration_of q es))) not_it
           ∙ ap (λ b. cond b (Some r) (registration_of q es)) asked
           ∙ sym (ap (λ b. cond b (Some r) (registration_of q (e ∷ es))) asked)
       | inr other ↦
@@ -187,14 +187,14 @@ AllByRecursion-push : (es : List (ℕ × Watch)) (made : ℕ) (w : Watch) → Al
 AllByRecursion-push [] made w low = (omega arith, tt)
 AllByRecursion-push (e ∷ es) made w low = (let first = low.0 in omega arith, AllByRecursion-push es made w low.1)
 
-pub AreRegistered-push : (es more : List (ℕ × Watch)) (registrations grown : List (ℕ × ℕ)) (made : ℕ) (w : Watch) → AreRegistered es registrations made → list_any (is_for w.cookie) (values_of es) ≡ false → length (values_of es) < WATCHES → more ≡ insert_entry nat_cmp es made w → IsStrictlySortedBy nat_cmp (keys_of more) → ((q : ℕ) → at grown q ≡ cond (is_at (nat_cmp w.cookie) q) (Some made) (at registrations q)) → AreRegistered more grown (made + 1)
+pub AreRegistered-push : (es more : List (ℕ × Watch)) (registrations grown : List (ℕ × ℕ)) (made : ℕ) (w : Watch) → AreRegistered es registrations made → list_any (is_for w.cookie) (values_of es) ≡ false → length (values_of es) < WATCHES → more ≡ insert_entry nat_cmp es made w → IsStrictlySortedBy nat_cmp (keys_of more) → ((q : ℕ) → registered grown q ≡ cond (nat_eq w.cookie q) (Some made) (registered registrations q)) → AreRegistered more grown (made + 1)
 AreRegistered-push es more registrations grown made w h new low is ordered put =
     let last = is ∙ insert_entry-last es made w h.before in
     record {
       pending = subst ArePending (sym (ap values_of last ∙ map-append (λ (e : ℕ × Watch). e.1) es ((made, w) ∷ []))) (ArePending-push w.cookie w.points h.pending new low);
       ordered = ordered;
       before = subst (λ xs. AllByRecursion (λ n. n < made + 1) (keys_of xs)) (sym last) (AllByRecursion-push es made w h.before);
-      by_cookie = λ q. put q ∙ ap (λ o. cond (is_at (nat_cmp w.cookie) q) (Some made) o) (h.by_cookie q) ∙ sym (registration_of-push es made w q new) ∙ ap (registration_of q) (sym last);
+      by_cookie = λ q. put q ∙ ap (λ o. cond (nat_eq w.cookie q) (Some made) o) (h.by_cookie q) ∙ sym (registration_of-push es made w q new) ∙ ap (registration_of q) (sym last);
     }
 
 -- none, and what comes to the same
@@ -205,16 +205,16 @@ none_registered made = record { pending = ArePending-none; ordered = tt; before 
 pub AreRegistered-none : (es : List (ℕ × Watch)) (registrations : List (ℕ × ℕ)) (made : ℕ) → es ≡ [] → registrations ≡ [] → AreRegistered es registrations made
 AreRegistered-none es registrations made is also = subst (λ xs. AreRegistered xs registrations made) (sym is) (subst (λ xs. AreRegistered [] xs made) (sym also) (none_registered made))
 
-pub AreRegistered-same : (es : List (ℕ × Watch)) (registrations other : List (ℕ × ℕ)) (made : ℕ) → AreRegistered es registrations made → ((q : ℕ) → at other q ≡ at registrations q) → AreRegistered es other made
+pub AreRegistered-same : (es : List (ℕ × Watch)) (registrations other : List (ℕ × ℕ)) (made : ℕ) → AreRegistered es registrations made → ((q : ℕ) → registered other q ≡ registered registrations q) → AreRegistered es other made
 AreRegistered-same es registrations other made h same = record { pending = h.pending; ordered = h.ordered; before = h.before; by_cookie = λ q. same q ∙ h.by_cookie q }
 
 -- a registration put in and taken out again
-pub at-undo : (es : List (ℕ × Watch)) (registrations grown back : List (ℕ × ℕ)) (made cookie : ℕ) → AreRegistered es registrations made → list_any (is_for cookie) (values_of es) ≡ false → ((q : ℕ) → at grown q ≡ cond (is_at (nat_cmp cookie) q) (Some made) (at registrations q)) → ((q : ℕ) → at back q ≡ cond (is_at (nat_cmp cookie) q) None (at grown q)) → (q : ℕ) → at back q ≡ at registrations q
-at-undo es registrations grown back made cookie h new put out q = elim (cases_Bool (is_at (nat_cmp cookie) q)) [
+pub registered-undo : (es : List (ℕ × Watch)) (registrations grown back : List (ℕ × ℕ)) (made cookie : ℕ) → AreRegistered es registrations made → list_any (is_for cookie) (values_of es) ≡ false → ((q : ℕ) → registered grown q ≡ cond (nat_eq cookie q) (Some made) (registered registrations q)) → ((q : ℕ) → registered back q ≡ cond (nat_eq cookie q) None (registered grown q)) → (q : ℕ) → registered back q ≡ registered registrations q
+registered-undo es registrations grown back made cookie h new put out q = elim (cases_Bool (nat_eq cookie q)) [
   | inl here ↦
-      out q ∙ ap (λ b. cond b None (at grown q)) here
-      ∙ sym (h.by_cookie q ∙ ap (λ c. registration_of c es) (sym (is_at-is cookie q here)) ∙ registration_of-none cookie es new)
-  | inr other ↦ out q ∙ ap (λ b. cond b None (at grown q)) other ∙ put q ∙ ap (λ b. cond b (Some made) (at registrations q)) other
+      out q ∙ ap (λ b. cond b None (registered grown q)) here
+      ∙ sym (h.by_cookie q ∙ ap (λ c. registration_of c es) (sym (eqb-true cookie q here)) ∙ registration_of-none cookie es new)
+  | inr other ↦ out q ∙ ap (λ b. cond b None (registered grown q)) other ∙ put q ∙ ap (λ b. cond b (Some made) (registered registrations q)) other
 ]
 
 -- where no watch passes the test, none that is found does

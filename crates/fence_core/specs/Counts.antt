@@ -1,5 +1,6 @@
 -- How many points of each watch the index holds.
-use Rattle.std.specs.Prelude.{◌≡◌, ℕ, true, ◌↔◌, Option, None, Some, List}
+use Rattle.std.specs.Prelude.{◌≡◌, ℕ, nat_eq, true, ◌↔◌, Option, None, Some, List}
+use Rattle.std.specs.Map.{lookup}
 use Rattle.fence_core.specs.PointIndex.{number_of, number_reached}
 use Rattle.fence_core.specs.Told.{at}
 use Rattle.fence_core.specs.Watch.{Watch}
@@ -16,13 +17,17 @@ abbrev pub left_of : Option Count → ℕ
 left_of None = 0
 left_of (Some c) = c.left
 
+-- what is counted of the watch
+abbrev pub count_at : Counts → ℕ → Option Count
+count_at cs r = lookup (nat_eq r) cs.by_registration.entries
+
 -- how many points of the watch are counted
 abbrev pub held : Counts → ℕ → ℕ
-held cs r = held_of (at cs.by_registration.entries r)
+held cs r = held_of (count_at cs r)
 
 -- how many of them a rise has not come to yet
 abbrev pub left : Counts → ℕ → ℕ
-left cs r = left_of (at cs.by_registration.entries r)
+left cs r = left_of (count_at cs r)
 
 -- the count of each watch is the number of its points
 abbrev pub AreCounted : List WaitingPoint → Counts → Type 0

@@ -1,8 +1,8 @@
 -- What watches keep: the pending ones by registration, the registrations by cookie, and the points that are waited for.
-use Rattle.std.specs.Prelude.{◌≡◌, ℕ, ◌<◌, true, if◌then◌else◌, List, [], ◌∷◌, Option, None, Some}
+use Rattle.std.specs.Prelude.{◌≡◌, ℕ, ◌<◌, nat_eq, true, if◌then◌else◌, List, [], ◌∷◌, Option, None, Some}
 use Rattle.std.specs.List.{AllByRecursion}
 use Rattle.std.specs.List.Sorted.{IsStrictlySortedBy}
-use Rattle.std.specs.Map.{keys_of, values_of}
+use Rattle.std.specs.Map.{keys_of, values_of, lookup}
 use Rattle.std.specs.Ordering.{nat_cmp}
 use Rattle.fence_core.specs.Watch.{Watch, is_for, ArePending}
 use Rattle.fence_core.specs.Told.{at}
@@ -13,6 +13,10 @@ use Rattle.fence_core.specs.declared.watches.point_index.WaitingPoint.{WaitingPo
 abbrev pub registration_of : ℕ → List (ℕ × Watch) → Option ℕ
 registration_of cookie [] = None
 registration_of cookie (e ∷ es) = if is_for cookie e.1 then Some e.0 else registration_of cookie es
+
+-- the registration that is kept for that cookie
+abbrev pub registered : List (ℕ × ℕ) → ℕ → Option ℕ
+registered registrations cookie = lookup (nat_eq cookie) registrations
 
 -- the index holds points of pending watches alone, at least one of each, and every one that is above the reach
 pub record IsIndexed (es : List (ℕ × Watch)) (index : List WaitingPoint) (reach : List ℕ) : Type 0 where
@@ -27,4 +31,4 @@ pub record AreRegistered (es : List (ℕ × Watch)) (registrations : List (ℕ �
   pub pending : ArePending (values_of es)
   pub ordered : IsStrictlySortedBy nat_cmp (keys_of es)
   pub before : AllByRecursion (λ r. r < made) (keys_of es)
-  pub by_cookie : (cookie : ℕ) → at registrations cookie ≡ registration_of cookie es
+  pub by_cookie : (cookie : ℕ) → registered registrations cookie ≡ registration_of cookie es

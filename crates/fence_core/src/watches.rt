@@ -18,7 +18,7 @@ use self::point_index::PointIndex;
 use crate::fence::Fence;
 use point_core::{LimitKind, Reach, Refusal};
 use std::alloc::Global;
-use std::collections::BTreeMap;
+use std::collections::{BTreeMap, HashMap};
 use std::marker::Model;
 
 /// How many watches can be pending at a time.
@@ -49,7 +49,7 @@ impl Model for PendingWatch {
 pub struct Watches {
     alloc: Global,
     pending: BTreeMap<u64, PendingWatch>,
-    registrations: BTreeMap<u64, u64>,
+    registrations: HashMap<u64, u64>,
     index: PointIndex,
     made: u64,
     reach: Reach,
@@ -83,7 +83,7 @@ impl Watches {
         Watches {
             alloc,
             pending: BTreeMap::new(alloc),
-            registrations: BTreeMap::new(alloc),
+            registrations: HashMap::new(alloc),
             index: PointIndex::new(alloc),
             made,
             reach: Reach::zero(),

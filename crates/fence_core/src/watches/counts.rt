@@ -5,7 +5,7 @@ ghost use Rattle.fence_core.specs.Counts.{held, left};
 
 use point_core::Refusal;
 use std::alloc::Global;
-use std::collections::BTreeMap;
+use std::collections::HashMap;
 
 /// How many points of a watch are held, and how many of them a rise has not come to yet.
 #[derive(Clone, Copy, Debug)]
@@ -17,7 +17,7 @@ struct Count {
 /// The counts of the watches that have points in the index, by registration.
 #[derive(Drop)]
 pub(super) struct Counts {
-    by_registration: BTreeMap<u64, Count>,
+    by_registration: HashMap<u64, Count>,
 }
 
 impl Counts {
@@ -26,7 +26,7 @@ impl Counts {
         ensures { (r : ℕ) → held result r ≡ 0 }
     {
         Counts {
-            by_registration: BTreeMap::new(alloc),
+            by_registration: HashMap::new(alloc),
         }
     }
 

@@ -8,10 +8,9 @@ use Rattle.fence_core.specs.Fence.{members_of, are_reached}
 use Rattle.fence_core.specs.Watch.{Watch, Registry, is_for, watch_of, registry_of}
 use Rattle.fence_core.specs.Watches.{with_watch}
 use Rattle.fence_core.specs.PointIndex.{is_of, holds, above}
-use Rattle.fence_core.specs.Registered.{AreRegistered, IsIndexed}
-use Rattle.fence_core.specs.Told.{at}
+use Rattle.fence_core.specs.Registered.{registered, AreRegistered, IsIndexed}
 use Rattle.fence_core.proofs.Causes.{cause-by_Ok, new-by_cause, room-by_cause}
-use Rattle.fence_core.proofs.Registered.{AreRegistered-push, AreRegistered-same, at-undo, insert_entry-last, members_of-fence_of}
+use Rattle.fence_core.proofs.Registered.{AreRegistered-push, AreRegistered-same, registered-undo, insert_entry-last, members_of-fence_of}
 use Rattle.fence_core.proofs.Indexed.{IsIndexed-push, IsIndexed-same, holds-undo}
 use Rattle.fence_core.proofs.watches.Watches.add.Goals as goal
 
@@ -24,7 +23,7 @@ invariant_of-self c = (
 
 pub invariant_of-self-in_default-insert : goal.invariant_of-self-in_default-insert
 invariant_of-self-in_default-insert c = (
-  AreRegistered-same c.self.inside.pending.entries c.self.inside.registrations.entries c.insert.new.self.entries c.self.inside.made c.self.invariant.0 (λ q. ap (λ xs. at xs q) c.in_default-insert.ensures.err),
+  AreRegistered-same c.self.inside.pending.entries c.self.inside.registrations.entries c.insert.new.self.entries c.self.inside.made c.self.invariant.0 (λ q. ap (λ xs. registered xs q) c.in_default-insert.ensures.err),
   IsIndexed-same c.self.inside.pending.entries c.self.inside.index c.take_all-in_default-insert.new.self c.self.inside.reach c.self.invariant.1
       (holds-undo c.self.inside.pending.entries c.self.inside.index c.put_above.new.self c.take_all-in_default-insert.new.self c.self.inside.reach c.self.inside.made c.members-members.result.now c.self.invariant.1 c.self.invariant.0.before c.put_above.ensures.others c.take_all-in_default-insert.ensures),
 )
@@ -36,7 +35,7 @@ invariant_of-self-in_default-insert-2 c =
     let back = sym c.in_default-insert-2.ensures.err in (
       subst (λ es. AreRegistered es c.remove.new.self.entries c.self.inside.made) back
           (AreRegistered-same c.self.inside.pending.entries c.self.inside.registrations.entries c.remove.new.self.entries c.self.inside.made c.self.invariant.0
-          (at-undo c.self.inside.pending.entries c.self.inside.registrations.entries c.insert.new.self.entries c.remove.new.self.entries c.self.inside.made c.args.cookie c.self.invariant.0 new c.in-Ok.ensures.updates.0 c.remove.ensures.updates.0)),
+          (registered-undo c.self.inside.pending.entries c.self.inside.registrations.entries c.insert.new.self.entries c.remove.new.self.entries c.self.inside.made c.args.cookie c.self.invariant.0 new c.in-Ok.ensures.updates.0 c.remove.ensures.updates.0)),
       subst (λ es. IsIndexed es c.take_all-in_default-insert-2.new.self c.self.inside.reach) back
           (IsIndexed-same c.self.inside.pending.entries c.self.inside.index c.take_all-in_default-insert-2.new.self c.self.inside.reach c.self.invariant.1
           (holds-undo c.self.inside.pending.entries c.self.inside.index c.put_above.new.self c.take_all-in_default-insert-2.new.self c.self.inside.reach c.self.inside.made c.members-members.result.now c.self.invariant.1 c.self.invariant.0.before c.put_above.ensures.others c.take_all-in_default-insert-2.ensures)),
