@@ -1,12 +1,12 @@
 -- A desk's files and buffers stay of timelines that were made.
-use Rattle.std.proofs.Common.{◌≡◌, ℕ, ◌≤◌, sym, ap, subst, List, [], ◌∷◌, ◌++◌, length, not, arith, inl, inr, length-append}
+use Rattle.std.proofs.Common.{◌≡◌, ℕ, ◌≤◌, refl, sym, ap, ◌∙◌, subst, List, [], ◌∷◌, ◌++◌, length, not, arith, inl, inr, length-append}
 use Rattle.std.proofs.lemmas.List.Elements.{All-nil, All-cons, All-push, All-weaker, All-filter, All-map}
 use Rattle.point_core.specs.declared.entry.Point.{Point}
 use Rattle.point_core.specs.declared.entry.Entry.{Entry}
 use Rattle.point_core.specs.declared.entry.Usage.{Usage}
 use Rattle.point_core.specs.Agreement.{AgreesAbove, as_entry, as_entries, point_of, listing}
 use Rattle.point_core.specs.Reach.{IsAtLeast}
-use Rattle.point_core.proofs.Values.{IsAtLeast-refl, IsAtLeast-trans}
+use Rattle.point_core.proofs.Values.{IsAtLeast-refl}
 use Rattle.resv_core.specs.Resv.{empty, entry_of}
 use Rattle.dmabuf_core.specs.Buffers.{Buffer, OnlyChanges, entries_of}
 use Rattle.dmabuf_core.specs.Flags.{imported, import_usage, with_usage}
@@ -26,7 +26,7 @@ use Rattle.point_core.proofs.Agreement.{AgreesAbove-sym}
 
 -- timelines
 
-pub inside-later : {d : DeskState} (later : List Timeline) (watches : Registry) → length d.timelines ≤ length later → IsAtLeast (reach_of later) (reach_of d.timelines) → IsAtLeast (reach_of later) watches.reach → IsOfItsTimelines d → IsOfItsTimelines (record { timelines = later; files = d.files; buffers = d.buffers; watches = watches })
+pub inside-later : {d : DeskState} (later : List Timeline) (watches : Registry) → length d.timelines ≤ length later → IsAtLeast (reach_of later) (reach_of d.timelines) → watches.reach ≡ reach_of later → IsOfItsTimelines d → IsOfItsTimelines (record { timelines = later; files = d.files; buffers = d.buffers; watches = watches })
 inside-later {d} later watches more rises known h = record {
   files = All-weaker (λ (f : File). AreMade (length d.timelines) f.points) (λ (f : File). AreMade (length later) f.points)
       (λ f made. All-weaker (λ (p : Point). p.ctx ≤ length d.timelines) (λ (p : Point). p.ctx ≤ length later) (λ p within. omega arith) f.points made) d.files h.files;
@@ -36,13 +36,13 @@ inside-later {d} later watches more rises known h = record {
 
 pub inside-raised : {d : DeskState} (later : List Timeline) (name : List ℕ) (n : ℕ) (watches : Registry) (reach : List ℕ) → later ≡ raised d.timelines name n → reach ≡ reach_of (raised d.timelines name n) → watches ≡ after_rise_to d.watches reach → IsOfItsTimelines d → IsOfItsTimelines (record { timelines = later; files = d.files; buffers = d.buffers; watches = watches })
 inside-raised {d} later name n watches reach is at left h =
-    rw (is, left, at) (inside-later (raised d.timelines name n) (after_rise_to d.watches (reach_of (raised d.timelines name n))) (omega (arith, length-raised d.timelines name n)) (IsAtLeast-raised d.timelines name n) (IsAtLeast-refl (reach_of (raised d.timelines name n))) h)
+    rw (is, left, at) (inside-later (raised d.timelines name n) (after_rise_to d.watches (reach_of (raised d.timelines name n))) (omega (arith, length-raised d.timelines name n)) (IsAtLeast-raised d.timelines name n) refl h)
 
 pub inside-timeline : {d : DeskState} (later : List Timeline) (name : List ℕ) → later ≡ d.timelines ++ new_timeline name ∷ [] → reach_of later ≡ reach_of d.timelines → IsOfItsTimelines d → IsOfItsTimelines (record { timelines = later; files = d.files; buffers = d.buffers; watches = d.watches })
 inside-timeline {d} later name is same h =
     let P : List ℕ → Type 0 = λ reach. IsAtLeast reach (reach_of d.timelines) in
     let rises = subst P (sym same) (IsAtLeast-refl (reach_of d.timelines)) in
-    inside-later later d.watches (omega (arith, ap length is, length-append {A = Timeline})) rises (IsAtLeast-trans rises h.watches) h
+    inside-later later d.watches (omega (arith, ap length is, length-append {A = Timeline})) rises (h.watches ∙ sym same) h
 
 -- files
 
@@ -124,7 +124,7 @@ pub inside-watch : {d : DeskState} (watches : Registry) (cookie : ℕ) (points :
 inside-watch {d} watches cookie points reach at last h = record {
   files = h.files;
   buffers = h.buffers;
-  watches = rw (last, at) (IsAtLeast-refl (reach_of d.timelines));
+  watches = rw (last, at) refl;
 }
 
 pub inside-unwatch : {d : DeskState} (watches : Registry) (cookie : ℕ) → watches ≡ without_watch d.watches cookie → IsOfItsTimelines d → IsOfItsTimelines (record { timelines = d.timelines; files = d.files; buffers = d.buffers; watches = watches })

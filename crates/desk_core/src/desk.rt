@@ -119,9 +119,7 @@ impl Desk {
         let ctx = self.timelines.context(name).ok_or(Refusal::NoEntry)?;
         let reach = self.timelines.as_reach();
         let value = reach.get(ctx).checked_add(n).ok_or(Refusal::Overflow)?;
-        let mut raised = *reach;
-        raised.raise_to(Point { ctx, value });
-        let fired = self.watches.after_rise(&raised)?;
+        let fired = self.watches.after_inc(Point { ctx, value })?;
         let value = self.timelines.inc(name, n).unwrap();
         Ok(Answer::Raised(value, Items::of(fired)))
     }

@@ -1,15 +1,16 @@
 -- Points that are waited for are above the floor.
-use Rattle.std.proofs.Common.{◌≡◌, ◌≢◌, ◌↔◌, ℕ, ◌-◌, ◌<◌, ◌≤◌, ◌||◌, ◌&&◌, Bool, true, false, nat_eq, nat_le, min, refl, sym, ap, ◌∙◌, List, length, arith, inl, inr}
+use Rattle.std.proofs.Common.{◌≡◌, ◌≢◌, ◌↔◌, ℕ, ◌-◌, ◌<◌, ◌≤◌, ◌||◌, ◌&&◌, Bool, true, false, nat_eq, nat_le, min, max, refl, sym, ap, ◌∙◌, subst, List, [], length, arith, inl, inr}
 use Rattle.std.specs.Prelude.{IsTrue}
 use Rattle.std.proofs.lemmas.Bool.{and_parts, cases_Bool, eqb-true, eq-eqb, false≢true, le-leb, leb-true, leb-false}
 use Rattle.point_core.specs.declared.context.TheConstants.{CONTEXTS}
 use Rattle.point_core.specs.declared.entry.Point.{Point}
-use Rattle.point_core.specs.Reach.{value_at, with_value}
-use Rattle.point_core.proofs.Values.{value_at-with_value_same, value_at-with_value_other}
+use Rattle.point_core.specs.Reach.{value_at, with_value, IsAtLeast}
+use Rattle.point_core.proofs.Values.{value_at-with_value_same, value_at-with_value_other, IsAtLeast-with_value}
 use Rattle.fence_core.specs.declared.watches.point_index.WaitingPoint.{WaitingPoint}
-use Rattle.fence_core.specs.PointIndex.{waiting, is_same, holds, is_due, AreWaiting, AreAbove}
+use Rattle.fence_core.specs.PointIndex.{waiting, is_same, holds, is_of, above, is_due, AreWaiting, AreAbove}
+use Rattle.fence_core.specs.Watches.{reaching}
 use Rattle.fence_core.proofs.PointIndex.{is_same-is}
-use Rattle.fence_core.proofs.Indexed.{or_cases}
+use Rattle.fence_core.proofs.Indexed.{or_cases, above-not_due}
 
 -- a context where the reach is not above the floor
 pub not-below : (floor reach : ℕ) (b : Bool) → (IsTrue b ↔ (floor < reach)) → b ≡ false → reach ≤ floor
@@ -94,3 +95,25 @@ AreAbove-empty ks floor higher ctx most is full low high contexts h none =
       | inl due ↦ absurd (false≢true (sym (none k due) ∙ there))
       | inr other ↦ past-not_due most k (ap (λ c. is_due c most k) its ∙ other)
     ])
+
+-- a reach with one more point reached is at least the reach
+pub IsAtLeast-reaching : (reach higher : List ℕ) (p : Point) → higher ≡ reaching reach p → IsAtLeast higher reach
+IsAtLeast-reaching reach higher p is = subst (λ r. IsAtLeast r reach) (sym is) (IsAtLeast-with_value reach p.ctx (max (value_at reach p.ctx) p.value) (omega arith))
+
+-- points put in above a reach, beside those that were above an earlier one that is as high
+pub AreAbove-put_above : (old new : List WaitingPoint) (ps : List Point) (registration : ℕ) (before after : List ℕ) → AreAbove old before → IsAtLeast before after
+    → ((k : WaitingPoint) → holds new k ≡ (is_of (above after ps) registration k || holds old k)) → AreAbove new after
+AreAbove-put_above old new ps registration before after h high put = λ k there. elim (or_cases (is_of (above after ps) registration k) (holds old k) (sym (put k) ∙ there)) [
+  | inl added ↦ above-not_due after ps registration k added
+  | inr kept ↦ not_due-lower (value_at after k.ctx) (value_at before k.ctx) k k.ctx (high.values k.ctx) (h k kept)
+]
+
+-- none is left that is due
+pub AreAbove-none_due : (ks : List WaitingPoint) (reach : List ℕ) → ((k : WaitingPoint) → is_due k.ctx (value_at reach k.ctx) k ≡ true → holds ks k ≡ false) → AreAbove ks reach
+AreAbove-none_due ks reach none = λ k there. elim (cases_Bool (is_due k.ctx (value_at reach k.ctx) k)) [
+  | inl due ↦ absurd (false≢true (sym (none k due) ∙ there))
+  | inr other ↦ other
+]
+
+pub AreAbove-nothing : (ks : List WaitingPoint) (reach : List ℕ) → ks ≡ [] → AreAbove ks reach
+AreAbove-nothing ks reach is = λ k there. absurd (false≢true (sym (ap (λ xs. holds xs k) is) ∙ there))

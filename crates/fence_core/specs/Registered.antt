@@ -1,12 +1,12 @@
 -- What watches keep: the pending ones by registration, the registrations by cookie, and the points that are waited for.
-use Rattle.std.specs.Prelude.{◌≡◌, ℕ, ◌<◌, nat_eq, true, if◌then◌else◌, List, [], ◌∷◌, Option, None, Some}
+use Rattle.std.specs.Prelude.{◌≡◌, ℕ, ◌<◌, nat_eq, Bool, true, if◌then◌else◌, List, [], ◌∷◌, Option, None, Some}
 use Rattle.std.specs.List.{AllByRecursion}
 use Rattle.std.specs.List.Sorted.{IsStrictlySortedBy}
 use Rattle.std.specs.Map.{keys_of, values_of, lookup}
 use Rattle.std.specs.Ordering.{nat_cmp}
 use Rattle.fence_core.specs.Watch.{Watch, is_for, ArePending}
 use Rattle.fence_core.specs.Told.{at}
-use Rattle.fence_core.specs.PointIndex.{holds, is_of, above}
+use Rattle.fence_core.specs.PointIndex.{holds, is_of, above, AreAbove}
 use Rattle.fence_core.specs.declared.watches.point_index.WaitingPoint.{WaitingPoint}
 
 -- the registration of the pending watch of that cookie
@@ -32,3 +32,7 @@ pub record AreRegistered (es : List (ℕ × Watch)) (registrations : List (ℕ �
   pub ordered : IsStrictlySortedBy nat_cmp (keys_of es)
   pub before : AllByRecursion (λ r. r < made) (keys_of es)
   pub by_cookie : (cookie : ℕ) → registered registrations cookie ≡ registration_of cookie es
+
+-- where it is told so, each point of the index is above the reach
+abbrev pub IsSettled : Bool → List WaitingPoint → List ℕ → Type 0
+IsSettled is_settled index reach = is_settled ≡ true → AreAbove index reach

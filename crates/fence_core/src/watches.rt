@@ -1,5 +1,5 @@
 // Callbacks that wait for fences.
-ghost use Rattle.std.specs.Prelude.{◌≡◌, [], Ok, Err, IfOk, IfErr, OnOk, OnErr, IsOk, MatchOption, false, replicate};
+ghost use Rattle.std.specs.Prelude.{◌≡◌, ◌↔◌, [], Ok, Err, IfOk, IfErr, OnOk, OnErr, IsOk, MatchOption, IsTrue, false, replicate};
 ghost use Rattle.point_core.specs.declared.context.TheConstants.{CONTEXTS};
 ghost use Rattle.std.specs.List.{list_any};
 ghost use Rattle.std.specs.Map.{values_of};
@@ -8,7 +8,7 @@ ghost use Rattle.point_core.specs.Reach.{IsAtLeast};
 ghost use Rattle.point_core.specs.Refusal.{IsRefusedFor};
 ghost use Rattle.fence_core.specs.Fence.{members_of};
 ghost use Rattle.fence_core.specs.Watch.{registry_of, ArePending};
-ghost use Rattle.fence_core.specs.Watches.{no_watches, has_watch, cause_to_refuse, cause_to_refuse_watch, with_watch, without_watch, without_watches, fires, fired_by, after_rise_to};
+ghost use Rattle.fence_core.specs.Watches.{no_watches, has_watch, cause_to_refuse, cause_to_refuse_watch, with_watch, without_watch, without_watches, fires, fired_by, after_rise_to, reaching};
 
 mod counts;
 mod floor;
@@ -16,7 +16,7 @@ mod point_index;
 
 use self::point_index::PointIndex;
 use crate::fence::Fence;
-use point_core::{LimitKind, Reach, Refusal};
+use point_core::{LimitKind, Point, Reach, Refusal};
 use std::alloc::Global;
 use std::collections::{BTreeMap, HashMap};
 use std::marker::Model;
@@ -53,19 +53,22 @@ pub struct Watches {
     index: PointIndex,
     made: u64,
     reach: Reach,
+    // Whether each point of the index is known to be above the reach.
+    is_settled: bool,
 }
 
 impl Model for Watches {
     ghost use Rattle.std.specs.Map.{values_of};
     ghost use Rattle.fence_core.specs.Watch.{Registry, registry_of};
-    ghost use Rattle.fence_core.specs.Registered.{AreRegistered, IsIndexed};
+    ghost use Rattle.fence_core.specs.Registered.{AreRegistered, IsIndexed, IsSettled};
 
     ghost Value = { Registry };
 
     ghost view = { λ ws. registry_of (values_of ws.pending.entries) ws.made ws.reach };
 
     ghost invariant = { λ ws. AreRegistered ws.pending.entries ws.registrations.entries ws.made ×
-        IsIndexed ws.pending.entries ws.index ws.reach };
+        IsIndexed ws.pending.entries ws.index ws.reach ×
+        IsSettled ws.is_settled ws.index ws.reach };
 }
 
 impl Watches {
@@ -87,6 +90,7 @@ impl Watches {
             index: PointIndex::new(alloc),
             made,
             reach: Reach::zero(),
+            is_settled: true,
         }
     }
 
@@ -121,6 +125,7 @@ impl Watches {
             self.index.take_all(members, registration);
             return Err(Refusal::Memory);
         };
+        self.is_settled = stays_settled(self.is_settled, &self.reach, reach);
         self.reach = *reach;
         self.made += 1;
         Ok(())
@@ -176,12 +181,34 @@ impl Watches {
     {
         if self.index.is_above(reach) {
             self.reach = *reach;
+            self.is_settled = true;
             return Ok(Vec::new(self.alloc));
         }
         let cookies = self.fired(reach)?;
         self.remove_all(cookies.as_slice());
         self.rise_to(reach);
         Ok(cookies)
+    }
+
+    /// As `after_rise` to the last reach that was handed in, with the point reached. Where no watch waits for a point of its
+    /// context at or below it, nothing else is looked at.
+    ///
+    /// Refuses as `Memory` alone, and only where a watch fires; then none has fired, and nothing has changed.
+    pub fn after_inc(&mut self, point: Point) -> Result<Vec<u64>, Refusal>
+        ensures fired { IfOk result (λ cookies. cookies.items ≡ fired_by self.old (reaching self.old.reach point)) }
+        ensures left { OnOk result (self.new ≡ after_rise_to self.old (reaching self.old.reach point)) }
+        ensures memory { IfErr result (λ e. e ≡ Memory) }
+        ensures none_fires { fired_by self.old (reaching self.old.reach point) ≡ [] → IsOk result }
+        ensures unchanged { OnErr result (self.new ≡ self.old) }
+        ensures pending { ArePending self.old.pending }
+    {
+        if self.is_settled && self.index.is_above_point(&point) {
+            self.reach.raise_to(point);
+            return Ok(Vec::new(self.alloc));
+        }
+        let mut reach = self.reach;
+        reach.raise_to(point);
+        self.after_rise(&reach)
     }
 
     /// The cookies of the watches all of whose points are signalled at this reach, by registration.
@@ -214,7 +241,15 @@ impl Watches {
     {
         self.index.take_reached(reach);
         self.reach = *reach;
+        self.is_settled = true;
     }
+}
+
+/// Whether what was above the one reach is above the other, which is at least that.
+fn stays_settled(is_settled: bool, before: &Reach, after: &Reach) -> bool
+    ensures { IsTrue result ↔ (IsTrue is_settled × IsAtLeast before.now after.now) }
+{
+    is_settled && before.at_least(after)
 }
 
 /// The cookies, by registration.

@@ -1,5 +1,6 @@
 // What waiting points are above.
 ghost use Rattle.std.specs.Prelude.{◌≡◌, ◌^◌, ◌+◌, ◌-◌, ◌<◌, ◌≤◌, ◌↔◌, IsTrue, min, replicate};
+ghost use Rattle.point_core.specs.declared.context.TheConstants.{CONTEXTS};
 ghost use Rattle.point_core.specs.Reach.{value_at, with_value, IsAtLeast};
 
 use point_core::{CONTEXTS, Context, Point, Reach};
@@ -48,6 +49,15 @@ impl Floor {
             }
         }
         true
+    }
+
+    /// Whether its value of the point's context is at or above the point.
+    pub(super) fn reaches(&self, point: &Point) -> bool
+        ensures value { IsTrue result ↔ (point.now.value ≤ value_at self.now point.now.ctx) }
+        ensures context { (1 ≤ point.now.ctx) × (point.now.ctx ≤ CONTEXTS) }
+    {
+        let index = point.ctx.index();
+        point.value <= self.values[index]
     }
 
     /// Lowers a context's value below the point.

@@ -89,6 +89,10 @@ impl Model for PointIndex {
 }
 
 impl PointIndex {
+    ghost use Rattle.std.specs.Prelude.{List};
+    ghost use Rattle.fence_core.specs.PointIndex.{AreAbove};
+    ghost use Rattle.fence_core.specs.Watches.{reaching};
+
     /// No points. It takes no memory.
     pub(super) fn new(alloc: Global) -> PointIndex
         ensures { result ≡ [] }
@@ -135,6 +139,15 @@ impl PointIndex {
             is_due k.ctx (value_at reach.now k.ctx) k ≡ false }
     {
         self.floor.at_least(reach)
+    }
+
+    /// Whether the floor shows that no point of the point's context is at or below it. What is above a reach is then above it with
+    /// the point reached too.
+    pub(super) fn is_above_point(&self, point: &Point) -> bool
+        ensures { result ≡ true → (reach : List ℕ) → length reach ≡ CONTEXTS → AreAbove self.now reach →
+            AreAbove self.now (reaching reach point.now) }
+    {
+        self.floor.reaches(point)
     }
 
     /// Takes out the points that are at or below the reach. Only the contexts where it is above the floor are looked at.

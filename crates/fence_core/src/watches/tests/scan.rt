@@ -102,7 +102,32 @@ fn rise_both(
     let Ok(fired) = watches.after_rise(&risen) else {
         return Ok(());
     };
-    let mut told = fired.as_slice();
+    compare(rt, fired.as_slice(), plain, first, second)
+}
+
+/// Brings the first context of both to that value by an increment, and compares what fires.
+fn inc_both(
+    rt: &impl Abort,
+    watches: &mut Watches,
+    plain: &mut Plain,
+    first: u64,
+) -> Result<(), Fail> {
+    let Ok(fired) = watches.after_inc(point(1, first)?) else {
+        return Ok(());
+    };
+    let second = plain.second;
+    compare(rt, fired.as_slice(), plain, first, second)
+}
+
+/// Brings the list to those values, and compares what fires in it with what has fired.
+fn compare(
+    rt: &impl Abort,
+    fired: &[u64],
+    plain: &mut Plain,
+    first: u64,
+    second: u64,
+) -> Result<(), Fail> {
+    let mut told = fired;
     for watch in &plain.pending {
         if watch.is_reached(first, second) {
             let Some((cookie, rest)) = told.split_first() else {
@@ -147,7 +172,8 @@ fn step(
     let cookie = next(seed) % 40;
     match next(seed) % 8 {
         0 => unregister(rt, watches, plain, cookie),
-        1 | 2 => rise_both(rt, watches, plain, first, second)?,
+        1 => rise_both(rt, watches, plain, first, second)?,
+        2 => inc_both(rt, watches, plain, first)?,
         _ => {
             let watch = Waiting {
                 cookie,

@@ -1,4 +1,7 @@
-use Rattle.std.proofs.Common.{refl, ap, ◌+◌, ◌∙◌}
+use Rattle.std.proofs.Common.{refl, sym, ap, ◌+◌, ◌∙◌}
+use Rattle.point_core.specs.Agreement.{point_of}
+use Rattle.point_core.specs.Reach.{value_at}
+use Rattle.fence_core.specs.Watches.{reaching}
 use Rattle.desk_core.proofs.Doing.{IsDone-inc}
 use Rattle.desk_core.proofs.Inside.{inside-raised}
 use Rattle.desk_core.proofs.Watching.{raised_reach-is, sure-raised}
@@ -8,26 +11,26 @@ pub returns-in_err-fired-clause-sure : goal.returns-in_err-fired-clause-sure
 returns-in_err-fired-clause-sure c =
     let some = c.in_ok-ctx.ensures.ok_part in
     let has = (rw some at c.context.ensures.found).0 refl in
-    let sum = (rw c.in_ok-value.ensures.ok_part at c.checked_add.ensures).1 ∙ ap (λ v. v + c.args.n) c.get.ensures.value in
-    let at = raised_reach-is c.self.inside.timelines c.args.name.now c.args.n c.in_ok-ctx.ctx c.in_ok-value.value c.as_reach-reach.result.now c.raise_to.new.self c.as_reach-reach.ensures.value (rw some at c.context.ensures.value) c.as_reach-reach.ensures.timelines has sum c.raise_to.ensures.value in
-    rw (← c.self.view_is) (λ none. absurd (sure-raised (record { timelines = c.self.inside.timelines; files = c.self.inside.files; buffers = c.self.inside.buffers; watches = c.self.inside.watches }) c.args.name.now c.args.n c.raise_to.new.self c.after_rise.result _ at none c.after_rise.ensures.none_fires c.in_err-fired.was))
+    let sum = (rw c.in_ok-value.ensures.ok_part at c.checked_add.ensures).1 ∙ ap (λ v. v + c.args.n) (c.get.ensures.value ∙ ap (λ reach. value_at reach c.in_ok-ctx.ctx) (c.as_reach-reach.ensures.value ∙ sym c.self.invariant.watches)) in
+    let at = raised_reach-is c.self.inside.timelines c.args.name.now c.args.n c.in_ok-ctx.ctx c.in_ok-value.value c.self.inside.watches.reach (reaching c.self.inside.watches.reach (point_of c.in_ok-ctx.ctx c.in_ok-value.value)) c.self.invariant.watches (rw some at c.context.ensures.value) c.as_reach-reach.ensures.timelines has sum refl in
+    rw (← c.self.view_is) (λ none. absurd (sure-raised (record { timelines = c.self.inside.timelines; files = c.self.inside.files; buffers = c.self.inside.buffers; watches = c.self.inside.watches }) c.args.name.now c.args.n (reaching c.self.inside.watches.reach (point_of c.in_ok-ctx.ctx c.in_ok-value.value)) c.after_inc.result _ at none c.after_inc.ensures.none_fires c.in_err-fired.was))
 
 pub invariant_of-self-2 : goal.invariant_of-self-2
 invariant_of-self-2 c =
     let some = c.in_ok-ctx.ensures.ok_part in
     let has = (rw some at c.context.ensures.found).0 refl in
-    let sum = (rw c.in_ok-value.ensures.ok_part at c.checked_add.ensures).1 ∙ ap (λ v. v + c.args.n) c.get.ensures.value in
-    let at = raised_reach-is c.self.inside.timelines c.args.name.now c.args.n c.in_ok-ctx.ctx c.in_ok-value.value c.as_reach-reach.result.now c.raise_to.new.self c.as_reach-reach.ensures.value (rw some at c.context.ensures.value) c.as_reach-reach.ensures.timelines has sum c.raise_to.ensures.value in
+    let sum = (rw c.in_ok-value.ensures.ok_part at c.checked_add.ensures).1 ∙ ap (λ v. v + c.args.n) (c.get.ensures.value ∙ ap (λ reach. value_at reach c.in_ok-ctx.ctx) (c.as_reach-reach.ensures.value ∙ sym c.self.invariant.watches)) in
+    let at = raised_reach-is c.self.inside.timelines c.args.name.now c.args.n c.in_ok-ctx.ctx c.in_ok-value.value c.self.inside.watches.reach (reaching c.self.inside.watches.reach (point_of c.in_ok-ctx.ctx c.in_ok-value.value)) c.self.invariant.watches (rw some at c.context.ensures.value) c.as_reach-reach.ensures.timelines has sum refl in
     let risen = rw (c.unwrap-value.ensures) at c.inc.ensures.raised in
-    inside-raised c.inc.new.self c.args.name.now c.args.n c.after_rise.new.self c.raise_to.new.self risen at c.in_ok-fired.ensures.left c.self.invariant
+    inside-raised c.inc.new.self c.args.name.now c.args.n c.after_inc.new.self (reaching c.self.inside.watches.reach (point_of c.in_ok-ctx.ctx c.in_ok-value.value)) risen at c.in_ok-fired.ensures.left c.self.invariant
 
 pub returns-clause-done : goal.returns-clause-done
 returns-clause-done c =
     let some = c.in_ok-ctx.ensures.ok_part in
     let has = (rw some at c.context.ensures.found).0 refl in
-    let sum = (rw c.in_ok-value.ensures.ok_part at c.checked_add.ensures).1 ∙ ap (λ v. v + c.args.n) c.get.ensures.value in
-    let at = raised_reach-is c.self.inside.timelines c.args.name.now c.args.n c.in_ok-ctx.ctx c.in_ok-value.value c.as_reach-reach.result.now c.raise_to.new.self c.as_reach-reach.ensures.value (rw some at c.context.ensures.value) c.as_reach-reach.ensures.timelines has sum c.raise_to.ensures.value in
+    let sum = (rw c.in_ok-value.ensures.ok_part at c.checked_add.ensures).1 ∙ ap (λ v. v + c.args.n) (c.get.ensures.value ∙ ap (λ reach. value_at reach c.in_ok-ctx.ctx) (c.as_reach-reach.ensures.value ∙ sym c.self.invariant.watches)) in
+    let at = raised_reach-is c.self.inside.timelines c.args.name.now c.args.n c.in_ok-ctx.ctx c.in_ok-value.value c.self.inside.watches.reach (reaching c.self.inside.watches.reach (point_of c.in_ok-ctx.ctx c.in_ok-value.value)) c.self.invariant.watches (rw some at c.context.ensures.value) c.as_reach-reach.ensures.timelines has sum refl in
     let risen = rw (c.unwrap-value.ensures) at c.inc.ensures.raised in
     let value = rw (c.unwrap-value.ensures) at c.inc.ensures.value in
     rw (← c.self.view_is)
-    (IsDone-inc _ c.args.name.now c.args.n c.inc.new.self c.unwrap-value.result c.raise_to.new.self c.of.result c.after_rise.new.self risen value at (c.of.ensures ∙ c.in_ok-fired.ensures.fired) c.in_ok-fired.ensures.left)
+    (IsDone-inc _ c.args.name.now c.args.n c.inc.new.self c.unwrap-value.result (reaching c.self.inside.watches.reach (point_of c.in_ok-ctx.ctx c.in_ok-value.value)) c.of.result c.after_inc.new.self risen value at (c.of.ensures ∙ c.in_ok-fired.ensures.fired) c.in_ok-fired.ensures.left)

@@ -9,6 +9,7 @@ use Rattle.fence_core.specs.Watch.{Watch, Registry, is_for, watch_of, registry_o
 use Rattle.fence_core.specs.Watches.{with_watch}
 use Rattle.fence_core.specs.PointIndex.{is_of, holds, above}
 use Rattle.fence_core.specs.Registered.{registered, AreRegistered, IsIndexed}
+use Rattle.fence_core.proofs.Above.{AreAbove-less, AreAbove-put_above}
 use Rattle.fence_core.proofs.Causes.{cause-by_Ok, new-by_cause, room-by_cause}
 use Rattle.fence_core.proofs.Registered.{AreRegistered-push, AreRegistered-same, registered-undo, insert_entry-last, members_of-fence_of}
 use Rattle.fence_core.proofs.Indexed.{IsIndexed-push, IsIndexed-same, holds-undo}
@@ -19,6 +20,8 @@ invariant_of-self c = (
   c.self.invariant.0,
   IsIndexed-same c.self.inside.pending.entries c.self.inside.index c.take_all.new.self c.self.inside.reach c.self.invariant.1
       (holds-undo c.self.inside.pending.entries c.self.inside.index c.put_above.new.self c.take_all.new.self c.self.inside.reach c.self.inside.made c.members-members.result.now c.self.invariant.1 c.self.invariant.0.before c.put_above.ensures.others c.take_all.ensures),
+  λ settled. AreAbove-less c.self.inside.index c.take_all.new.self c.self.inside.reach (c.self.invariant.2 settled)
+      (λ k there. sym ((holds-undo c.self.inside.pending.entries c.self.inside.index c.put_above.new.self c.take_all.new.self c.self.inside.reach c.self.inside.made c.members-members.result.now c.self.invariant.1 c.self.invariant.0.before c.put_above.ensures.others c.take_all.ensures) k) ∙ there),
 )
 
 pub invariant_of-self-in_default-insert : goal.invariant_of-self-in_default-insert
@@ -26,6 +29,8 @@ invariant_of-self-in_default-insert c = (
   AreRegistered-same c.self.inside.pending.entries c.self.inside.registrations.entries c.insert.new.self.entries c.self.inside.made c.self.invariant.0 (λ q. ap (λ xs. registered xs q) c.in_default-insert.ensures.err),
   IsIndexed-same c.self.inside.pending.entries c.self.inside.index c.take_all-in_default-insert.new.self c.self.inside.reach c.self.invariant.1
       (holds-undo c.self.inside.pending.entries c.self.inside.index c.put_above.new.self c.take_all-in_default-insert.new.self c.self.inside.reach c.self.inside.made c.members-members.result.now c.self.invariant.1 c.self.invariant.0.before c.put_above.ensures.others c.take_all-in_default-insert.ensures),
+  λ settled. AreAbove-less c.self.inside.index c.take_all-in_default-insert.new.self c.self.inside.reach (c.self.invariant.2 settled)
+      (λ k there. sym ((holds-undo c.self.inside.pending.entries c.self.inside.index c.put_above.new.self c.take_all-in_default-insert.new.self c.self.inside.reach c.self.inside.made c.members-members.result.now c.self.invariant.1 c.self.invariant.0.before c.put_above.ensures.others c.take_all-in_default-insert.ensures) k) ∙ there),
 )
 
 pub invariant_of-self-in_default-insert-2 : goal.invariant_of-self-in_default-insert-2
@@ -39,6 +44,8 @@ invariant_of-self-in_default-insert-2 c =
       subst (λ es. IsIndexed es c.take_all-in_default-insert-2.new.self c.self.inside.reach) back
           (IsIndexed-same c.self.inside.pending.entries c.self.inside.index c.take_all-in_default-insert-2.new.self c.self.inside.reach c.self.invariant.1
           (holds-undo c.self.inside.pending.entries c.self.inside.index c.put_above.new.self c.take_all-in_default-insert-2.new.self c.self.inside.reach c.self.inside.made c.members-members.result.now c.self.invariant.1 c.self.invariant.0.before c.put_above.ensures.others c.take_all-in_default-insert-2.ensures)),
+      λ settled. AreAbove-less c.self.inside.index c.take_all-in_default-insert-2.new.self c.self.inside.reach (c.self.invariant.2 settled)
+          (λ k there. sym ((holds-undo c.self.inside.pending.entries c.self.inside.index c.put_above.new.self c.take_all-in_default-insert-2.new.self c.self.inside.reach c.self.inside.made c.members-members.result.now c.self.invariant.1 c.self.invariant.0.before c.put_above.ensures.others c.take_all-in_default-insert-2.ensures) k) ∙ there),
     )
 
 pub invariant_of-self-2 : goal.invariant_of-self-2
@@ -54,6 +61,9 @@ invariant_of-self-2 c =
       AreRegistered-push c.self.inside.pending.entries c.insert-2.new.self.entries c.self.inside.registrations.entries c.insert.new.self.entries c.self.inside.made w c.self.invariant.0 new room c.in-Ok-insert.ensures.entries c.in-Ok-insert.ensures.ordered c.in-Ok.ensures.updates.0,
       IsIndexed-push c.self.inside.pending.entries c.insert-2.new.self.entries c.self.inside.index c.put_above.new.self c.args.reach.now c.self.inside.reach c.self.inside.made w c.self.invariant.1 c.self.invariant.0.before high unreached c.in-Ok-insert.ensures.updates.0
           (λ k. c.in_default.ensures.put k ∙ ap (λ ps. is_of (above c.args.reach.now ps) c.self.inside.made k || holds c.self.inside.index k) (sym its)),
+      λ settled.
+          let both = c.stays_settled-self-inside.ensures.0 settled in
+          AreAbove-put_above c.self.inside.index c.put_above.new.self c.members-members.result.now c.self.inside.made c.self.inside.reach c.args.reach.now (c.self.invariant.2 both.0) both.1 c.in_default.ensures.put,
     )
 
 pub returns-clause-last : goal.returns-clause-last

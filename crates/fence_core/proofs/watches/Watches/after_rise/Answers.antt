@@ -35,6 +35,7 @@ invariant_of-self c =
           (subst (λ (r : Registry). IsAtLeast c.args.reach.now r.reach) (sym c.self.view_is) c.requires.rises)
           (λ r w is. at-none (fires c.args.reach.now) es r w (none-fires c.args.reach.now (values_of es) none) is)
           (λ k there. there) (λ k apart. refl),
+      λ settled. c.is_above.ensures c.if-is_above.true,
     )
 
 pub returns-then-is_above-clause-fired : goal.returns-then-is_above-clause-fired
