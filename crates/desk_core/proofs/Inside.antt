@@ -1,5 +1,5 @@
 -- A desk's files and buffers stay of timelines that were made.
-use Rattle.std.proofs.Common.{◌≡◌, ℕ, ◌≤◌, refl, sym, ap, ◌∙◌, subst, List, [], ◌∷◌, ◌++◌, length, not, arith, inl, inr, length-append}
+use Rattle.std.proofs.Common.{◌≡◌, ℕ, ◌≤◌, refl, sym, ap, ◌∙◌, subst, List, [], ◌∷◌, ◌++◌, length, not, arith, inl, inr, length-append, Result, Ok}
 use Rattle.std.proofs.lemmas.List.Elements.{All-nil, All-cons, All-push, All-weaker, All-filter, All-map}
 use Rattle.point_core.specs.declared.entry.Point.{Point}
 use Rattle.point_core.specs.declared.entry.Entry.{Entry}
@@ -15,7 +15,7 @@ use Rattle.syncfile_core.specs.SyncFile.{File, file_of, plain_file}
 use Rattle.syncfile_core.specs.Files.{is_named, without_file}
 use Rattle.syncfile_core.specs.Merge.{merge_of}
 use Rattle.fence_core.specs.Watch.{Registry}
-use Rattle.fence_core.specs.Watches.{after_rise_to, with_watch, without_watch}
+use Rattle.fence_core.specs.Watches.{no_watches, after_rise_to, with_watch, without_watch}
 use Rattle.desk_core.specs.Desk.{DeskState}
 use Rattle.desk_core.specs.Keeping.{AreMade, HasNoneBehind, IsOfItsTimelines}
 use Rattle.desk_core.proofs.Behind.{HasNoneBehind-AgreesAbove, HasNoneBehind-append, HasNoneBehind-made, HasNoneBehind-later, AreMade-behind}
@@ -23,6 +23,17 @@ use Rattle.desk_core.proofs.Buffers.{same_or_other, entries_of-new, entries_in}
 use Rattle.desk_core.proofs.Doing.{HaveTimelines-merge}
 use Rattle.desk_core.proofs.Sound.{IsAtLeast-raised, length-raised}
 use Rattle.point_core.proofs.Agreement.{AgreesAbove-sym}
+
+pub same-Ok : {A E : Type 0} (result : Result A E) (x y : A) → result ≡ Ok x → result ≡ Ok y → x ≡ y
+same-Ok result x y is also = cc
+
+pub inside-new : (timelines : List Timeline) (files : List File) (buffers : List Buffer) (watches : Registry) → timelines ≡ [] → files ≡ [] → buffers ≡ [] → watches ≡ no_watches → IsOfItsTimelines (record { timelines = timelines; files = files; buffers = buffers; watches = watches })
+inside-new timelines files buffers watches no_timelines no_files no_buffers none =
+    rw (no_timelines, no_files, no_buffers, none) (record {
+      files = All-nil (λ (f : File). AreMade 0 f.points);
+      buffers = λ name. record { tops = λ usage ctx past. refl };
+      watches = refl;
+    })
 
 -- timelines
 

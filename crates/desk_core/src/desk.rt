@@ -120,7 +120,7 @@ impl Desk {
         let reach = self.timelines.as_reach();
         let value = reach.get(ctx).checked_add(n).ok_or(Refusal::Overflow)?;
         let fired = self.watches.after_inc(Point { ctx, value })?;
-        let value = self.timelines.inc(name, n).unwrap();
+        self.timelines.raise_to(Point { ctx, value });
         Ok(Answer::Raised(value, Items::of(fired)))
     }
 

@@ -4,11 +4,10 @@ use Rattle.std.specs.Prelude.{IsTrue}
 use Rattle.std.proofs.lemmas.Bool.{and_parts, cases_Bool, eqb-true, eq-eqb, false≢true, le-leb, leb-true, leb-false}
 use Rattle.point_core.specs.declared.context.TheConstants.{CONTEXTS}
 use Rattle.point_core.specs.declared.entry.Point.{Point}
-use Rattle.point_core.specs.Reach.{value_at, with_value, IsAtLeast}
+use Rattle.point_core.specs.Reach.{value_at, with_value, reaching, IsAtLeast}
 use Rattle.point_core.proofs.Values.{value_at-with_value_same, value_at-with_value_other, IsAtLeast-with_value}
 use Rattle.fence_core.specs.declared.watches.point_index.WaitingPoint.{WaitingPoint}
 use Rattle.fence_core.specs.PointIndex.{waiting, is_same, holds, is_of, above, is_due, AreWaiting, AreAbove}
-use Rattle.fence_core.specs.Watches.{reaching}
 use Rattle.fence_core.proofs.PointIndex.{is_same-is}
 use Rattle.fence_core.proofs.Indexed.{or_cases, above-not_due}
 

@@ -1,9 +1,8 @@
 -- Watches: which may be registered, and which fire at a rise.
-use Rattle.std.specs.Prelude.{ℕ, ◌+◌, max, Bool, not, ◌&&◌, nat_eq, nat_lt, if◌then◌else◌, List, [], ◌∷◌, ◌++◌, length, filter, replicate, Option, None, Some}
+use Rattle.std.specs.Prelude.{ℕ, ◌+◌, Bool, not, ◌&&◌, nat_eq, nat_lt, if◌then◌else◌, List, [], ◌∷◌, ◌++◌, length, filter, replicate, Option, None, Some}
 use Rattle.std.specs.List.{list_any}
 use Rattle.point_core.specs.declared.context.TheConstants.{CONTEXTS}
 use Rattle.point_core.specs.declared.entry.Point.{Point}
-use Rattle.point_core.specs.Reach.{value_at, with_value}
 use Rattle.point_core.specs.declared.refusal.Refusal.{Refusal}
 use Rattle.point_core.specs.declared.refusal.Refusal.TheVariants.{Exists, Limit, Signalled}
 use Rattle.point_core.specs.declared.refusal.LimitKind.TheVariants.{Watches as WatchesKind}
@@ -29,10 +28,6 @@ without_watch ws cookie = registry_of (filter (λ w. not (is_for cookie w)) ws.p
 -- all but those of the cookies
 abbrev pub without_watches : Registry → List ℕ → Registry
 without_watches ws cookies = registry_of (filter (λ (w : Watch). not (list_any (nat_eq w.cookie) cookies)) ws.pending) ws.made ws.reach
-
--- the reach, with the point reached
-abbrev pub reaching : List ℕ → Point → List ℕ
-reaching reach p = with_value reach p.ctx (max (value_at reach p.ctx) p.value)
 
 -- all of its points are reached
 abbrev pub fires : List ℕ → Watch → Bool

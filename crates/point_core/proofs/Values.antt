@@ -1,5 +1,5 @@
 -- Tables by context, and the greater value of each context.
-use Rattle.std.proofs.Common.{◌≡◌, ◌≢◌, ℕ, ◌+◌, ◌-◌, ◌<◌, ◌≤◌, max, refl, ap, ◌∙◌, List, [], ◌∷◌, length, get_or, set, replicate, arith, get_or-set_same, get_or-set_other, zero, suc, le_trans, inl, inr}
+use Rattle.std.proofs.Common.{sym, ◌≡◌, ◌≢◌, ℕ, ◌+◌, ◌-◌, ◌<◌, ◌≤◌, max, refl, ap, ◌∙◌, List, [], ◌∷◌, length, get_or, set, replicate, arith, get_or-set_same, get_or-set_other, zero, suc, le_trans, inl, inr}
 use Rattle.std.proofs.lemmas.Bool.{cases_lt}
 use Rattle.std.specs.List.{zip}
 use Rattle.std.proofs.lemmas.List.{get_or_past, get_or-replicate, length-map, length-replicate}
@@ -78,6 +78,10 @@ IsAtLeast-later_values_left reach other e = record { values = λ ctx. let is = v
 
 pub IsAtLeast-later_values_right : (reach other : List ℕ) → length reach ≡ length other → IsAtLeast (later_values reach other) other
 IsAtLeast-later_values_right reach other e = record { values = λ ctx. let is = value_at-later_values reach other ctx e in omega arith }
+
+-- a reach that is at least the other is the greater of both
+pub later_values-at_least : (reach other : List ℕ) → length reach ≡ length other → IsAtLeast reach other → later_values reach other ≡ reach
+later_values-at_least reach other e h = sym (later_values-is reach other reach e refl (λ k low. let at = IsAtLeast-at h k in omega arith))
 
 -- and no reach below it is at least both
 pub IsAtLeast-later_values : {reach other higher : List ℕ} → length reach ≡ length other → IsAtLeast higher reach → IsAtLeast higher other → IsAtLeast higher (later_values reach other)

@@ -11,6 +11,10 @@ value_at reach ctx = slice_index reach (ctx - 1)
 abbrev pub with_value : List ℕ → ℕ → ℕ → List ℕ
 with_value reach ctx value = slice_set reach (ctx - 1) value
 
+-- the reach, with the point reached
+abbrev pub reaching : List ℕ → Point → List ℕ
+reaching reach p = with_value reach p.ctx (max (value_at reach p.ctx) p.value)
+
 -- the greater value of each context
 abbrev pub later_values : List ℕ → List ℕ → List ℕ
 later_values reach other = map (λ (both : ℕ × ℕ). max both.0 both.1) (zip reach other)

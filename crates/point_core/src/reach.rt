@@ -1,5 +1,5 @@
 // The value of each timeline.
-ghost use Rattle.std.specs.Prelude.{◌≡◌, ℕ, ◌+◌, ◌^◌, ◌<◌, ◌≤◌, ◌↔◌, length, max, slice_index, IsTrue, IsSome, IfSome};
+ghost use Rattle.std.specs.Prelude.{◌≡◌, ℕ, ◌+◌, ◌^◌, ◌<◌, ◌≤◌, ◌↔◌, length, slice_index, IsTrue, IsSome, IfSome};
 ghost use Rattle.point_core.specs.declared.context.TheConstants.{CONTEXTS};
 ghost use Rattle.point_core.specs.Reach.{value_at};
 
@@ -31,7 +31,7 @@ impl Model for Reach {
 
 impl Reach {
     ghost use Rattle.std.specs.Prelude.{replicate, slice_set, ◌-◌};
-    ghost use Rattle.point_core.specs.Reach.{with_value, later_values, IsAtLeast};
+    ghost use Rattle.point_core.specs.Reach.{with_value, reaching, later_values, IsAtLeast};
 
     /// Every value is 0.
     pub fn zero() -> Reach
@@ -73,7 +73,7 @@ impl Reach {
 
     /// Raises the context's value to the point, where it is not there yet.
     pub fn raise_to(&mut self, point: Point)
-        ensures value { self.new ≡ with_value self.old point.ctx (max (value_at self.old point.ctx) point.value) }
+        ensures value { self.new ≡ reaching self.old point }
         ensures full { length self.old ≡ CONTEXTS }
         ensures context { (1 ≤ point.ctx) × (point.ctx ≤ CONTEXTS) }
     {
@@ -131,7 +131,8 @@ impl Reach {
 
     /// Whether no value is below the floor's.
     pub fn at_least_floor(&self, floor: &Floor) -> bool
-        ensures { IsTrue result ↔ IsAtLeast self.now floor.now }
+        ensures least { IsTrue result ↔ IsAtLeast self.now floor.now }
+        ensures full { (length self.now ≡ CONTEXTS) × (length floor.now ≡ CONTEXTS) }
     {
         self.values.at_least(floor.in_use())
     }

@@ -1,13 +1,15 @@
 -- The place of the timeline of a name.
-use Rattle.std.proofs.Common.{◌≡◌, ℕ, ◌+◌, ◌-◌, ◌<◌, suc, Bool, true, false, cond, ◌||◌, refl, sym, ap, subst, ◌∙◌, List, [], ◌∷◌, length, get_or, replicate, Option, None, Some, arith, true≢false}
+use Rattle.std.proofs.Common.{◌≡◌, ℕ, ◌+◌, ◌-◌, ◌<◌, suc, Bool, true, false, cond, ◌||◌, refl, sym, ap, subst, ◌∙◌, List, [], ◌∷◌, length, get_or, replicate, Option, None, Some, arith, true≢false, zero}
 use Rattle.std.specs.Prelude.{option_map, unwrap_or}
-use Rattle.std.specs.List.{position_from}
-use Rattle.std.specs.Cmp.Lexicographic.{same_text}
+use Rattle.std.specs.List.{position_from, AllByRecursion}
+use Rattle.std.specs.Cmp.Lexicographic.{same_text, nat_list_eq_equiv}
 use Rattle.std.proofs.Math.ListN.{get_or-append}
 use Rattle.std.proofs.lemmas.List.{length-map}
 use Rattle.std.proofs.lemmas.Option.{none-some, same_Some}
+use Rattle.std.proofs.lemmas.Map.Keys.{IsDistinct-head, IsDistinct-tail}
 use Rattle.point_core.specs.declared.context.TheConstants.{CONTEXTS}
-use Rattle.timeline_core.specs.Timeline.{Timeline, timeline_of, is_named, values_of, has_timeline, timeline_at, context_of, reach_of, value_of}
+use Rattle.point_core.specs.Named.{same_name, HasDistinctNames}
+use Rattle.timeline_core.specs.Timeline.{Timeline, timeline_of, is_named, names_of, values_of, has_timeline, timeline_at, context_of, reach_of, value_of}
 use Rattle.timeline_core.proofs.Lookups.{position_from-more}
 
 -- the first timeline of that name stands at the place
@@ -67,3 +69,32 @@ pub timeline_at-value_of : (ts : List Timeline) (name : List ℕ) → has_timeli
 timeline_at-value_of ts name has =
     let k = place_from-has_timeline ts name 0 has in
     timeline_at-place ts name k.0 k.1 ∙ ap (λ v. Some (timeline_of name v)) (sym (value_of-place ts name k.0 k.1))
+
+-- a name that is apart from all
+apart-place : (ts : List Timeline) (name other : List ℕ) (k : ℕ) → IsPlace ts name k → AllByRecursion (λ m. same_name other m ≡ false) (names_of ts) → same_name other name ≡ false
+apart-place ts name other k place =
+    at_place name (λ us j. AllByRecursion (λ m. same_name other m ≡ false) (names_of us) → same_name other name ≡ false)
+    (λ t us is apart. subst (λ m. same_name other m ≡ false) (same_text t.name name (sym is)) apart.0)
+    (λ t us j isnt after rest apart. rest apart.1)
+    ts k place
+
+-- where no name comes twice, each timeline stands at the place of its name
+pub place-of : (ts : List Timeline) (k : ℕ) → k < length ts → HasDistinctNames (λ (t : Timeline). t.name) ts → (name : List ℕ) × IsPlace ts name k
+place-of [] k low distinct = absurd (omega (arith, low))
+place-of (t ∷ ts) zero low distinct = (t.name, ap (λ b. cond b (Some 0) (position_from (is_named t.name) 1 ts)) (nat_list_eq_equiv.refl t.name))
+place-of (t ∷ ts) (suc k) low distinct =
+    let rest = place-of ts k (omega (arith, low)) (IsDistinct-tail same_name t.name (names_of ts) distinct) in
+    let apart = apart-place ts rest.0 t.name k rest.1 (IsDistinct-head same_name t.name (names_of ts) distinct) in (
+      rest.0,
+      ap (λ b. cond b (Some 0) (position_from (is_named rest.0) 1 ts)) apart
+          ∙ position_from-more (is_named rest.0) 0 ts
+          ∙ ap (option_map (λ j. j + 1)) rest.1
+          ∙ ap Some (omega arith),
+    )
+
+pub has_timeline-place : (ts : List Timeline) (name : List ℕ) (k : ℕ) → IsPlace ts name k → has_timeline ts name ≡ true
+has_timeline-place ts name k place =
+    at_place name (λ us j. has_timeline us name ≡ true)
+    (λ t us is. rw is refl)
+    (λ t us j isnt after rest. rw isnt rest)
+    ts k place

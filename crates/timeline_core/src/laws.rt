@@ -1,10 +1,10 @@
-// What holds of all timelines, whatever was called on them: each law is the contract of a function with an empty body.
+// What holds of all timelines that `create` and `inc` leave: each law is the contract of a function with an empty body.
 ghost use Rattle.std.specs.Prelude.{◌≡◌, ℕ, List, [], ◌++◌, IsTrue, IsPermutation};
 ghost use Rattle.timeline_core.specs.Timeline.{Timeline, has_timeline, value_of};
 ghost use Rattle.timeline_core.specs.Run.{AreSums, Increment, IsRun, Step, all_increments, incremented, last_timelines};
 
-/// After any calls, accepted or refused, each value is the sum of the accepted increments of its timeline. So two runs
-/// with the same accepted increments, in whatever order, give a name the same value.
+/// After any calls of `create` and `inc`, accepted or refused, each value is the sum of the accepted increments of its timeline.
+/// So two runs with the same accepted increments, in whatever order, give a name the same value.
 pub fn a_value_is_the_sum_of_the_accepted_increments()
     ensures kept { (steps : List Step) →
         IsRun [] steps → AreSums (last_timelines [] steps) (all_increments steps) }

@@ -1,5 +1,5 @@
 // The timelines of a service, by name and by context.
-ghost use Rattle.std.specs.Prelude.{◌≡◌, ◌+◌, ◌<◌, ◌≤◌, ◌^◌, ◌↔◌, [], ◌∷◌, ◌++◌, true, false, length, map, is_ok, IsTrue, IsSome, IsOk, IfSome, IfOk, IfErr, OnOk, OnErr};
+ghost use Rattle.std.specs.Prelude.{◌≡◌, List, ℕ, ◌+◌, ◌<◌, ◌≤◌, ◌^◌, ◌↔◌, [], ◌∷◌, ◌++◌, true, false, length, map, is_ok, IsTrue, IsSome, IsOk, IfSome, IfOk, IfErr, OnOk, OnErr};
 ghost use Rattle.point_core.specs.declared.context.TheConstants.{CONTEXTS};
 
 use indexmap::IndexSet;
@@ -30,9 +30,9 @@ impl Model for Timelines {
 
 impl Timelines {
     ghost use Rattle.timeline_core.specs.Timeline.{timeline_of, new_timeline, has_timeline, timeline_at, context_of};
-    ghost use Rattle.timeline_core.specs.Timeline.{name_at, reach_of, value_of, raised, rows_of, AreTimelines};
+    ghost use Rattle.timeline_core.specs.Timeline.{name_at, names_of, reach_of, value_of, raised, rows_of, AreTimelines};
     ghost use Rattle.timeline_core.specs.Run.{Leaves, Create, Inc};
-    ghost use Rattle.point_core.specs.Reach.{with_value, value_at, IsAtLeast};
+    ghost use Rattle.point_core.specs.Reach.{with_value, value_at, reaching, IsAtLeast};
 
     /// No timelines. It takes no memory yet, so it is never refused.
     pub fn new(alloc: Global) -> Result<Timelines, Refusal>
@@ -95,6 +95,20 @@ impl Timelines {
         let value = self.reach.get(ctx).checked_add(n).ok_or(Refusal::Overflow)?;
         self.reach.raise_to(Point { ctx, value });
         Ok(value)
+    }
+
+    /// Raises the value of the timeline of that context to the point, where it is not there yet: what `inc` does, once the name
+    /// was looked up and the sum is known.
+    ///
+    /// Takes no memory.
+    pub fn raise_to(&mut self, point: Point)
+        requires made { point.ctx ≤ length self.old }
+        ensures reach { reach_of self.new ≡ reaching (reach_of self.old) point }
+        ensures names { names_of self.new ≡ names_of self.old }
+        ensures raised { (name : List ℕ) (n : ℕ) → IsTrue (has_timeline self.old name) → context_of self.old name ≡ point.ctx →
+            value_of self.old name + n ≡ point.value → self.new ≡ raised self.old name n }
+    {
+        self.reach.raise_to(point);
     }
 
     /// The value of that timeline.

@@ -91,7 +91,7 @@ impl Model for PointIndex {
 impl PointIndex {
     ghost use Rattle.std.specs.Prelude.{List};
     ghost use Rattle.fence_core.specs.PointIndex.{AreAbove};
-    ghost use Rattle.fence_core.specs.Watches.{reaching};
+    ghost use Rattle.point_core.specs.Reach.{reaching};
 
     /// No points. It takes no memory.
     pub(super) fn new(alloc: Global) -> PointIndex

@@ -1,7 +1,8 @@
 use Rattle.std.proofs.Common.{◌∙◌, ap, sym, subst, refl}
 use Rattle.std.specs.Map.{values_of}
+use Rattle.point_core.specs.Reach.{reaching}
 use Rattle.fence_core.specs.Watch.{Registry, registry_of}
-use Rattle.fence_core.specs.Watches.{fires, fired_by, after_rise_to, reaching}
+use Rattle.fence_core.specs.Watches.{fires, fired_by, after_rise_to}
 use Rattle.fence_core.specs.PointIndex.{AreAbove}
 use Rattle.fence_core.proofs.Above.{IsAtLeast-reaching}
 use Rattle.fence_core.proofs.Registered.{at-none}
