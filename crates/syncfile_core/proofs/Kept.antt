@@ -12,6 +12,7 @@ use Rattle.point_core.proofs.Named.{named-things_in, is_some-named, length-thing
 use Rattle.syncfile_core.proofs.Reversed.{map-reverse, named-reverse, without_named-reverse, HasDistinctNames-reverse}
 use Rattle.std.specs.List.{AllByRecursion}
 use Rattle.std.specs.Option.{option_map_or}
+use Rattle.std.proofs.lemmas.Iterator.Adapters.{option_map_id}
 use Rattle.std.proofs.lemmas.Map.Keys.{IsDistinct-cons, IsDistinct-head, IsDistinct-tail}
 use Rattle.syncfile_core.specs.declared.files.TheConstants.{FILES}
 use Rattle.syncfile_core.specs.SyncFile.{File}
@@ -68,62 +69,61 @@ module _ {X : Type 0} (test : List ℕ → Bool) where
       let rest = IsDistinct-tail same_name e.0 (keys_of es) distinct in
       distinct_by (test e.0) e es (remove_entry test es) rest (IsDistinct-cons same_name e.0 (keys_of (remove_entry test es)) (apart-remove_entry e.0 es apart) (distinct-remove_entry es rest))
 
-module _ {X : Type 0} (file : X → File) where
-  module _ (m : LruCache (List ℕ) X) (kept : IsKept file m) where
-    distinct-things_in : HaveDistinctNames file_name (things_in file m.entries)
-    distinct-things_in = subst (IsDistinct same_name) kept.keyed kept.distinct
+module _ (m : LruCache (List ℕ) File) (kept : IsKept m) where
+  distinct-things_in : HaveDistinctNames file_name (things_in (λ f. f) m.entries)
+  distinct-things_in = subst (IsDistinct same_name) kept.keyed kept.distinct
 
-    -- of the list that such entries are seen as
-    pub HasDistinctNames-behind : HasDistinctNames (files_behind file m.entries)
-    HasDistinctNames-behind = HasDistinctNames-reverse file_name (things_in file m.entries) distinct-things_in
+  -- of the list that such entries are seen as
+  pub HasDistinctNames-behind : HasDistinctNames (files_behind m.entries)
+  HasDistinctNames-behind = HasDistinctNames-reverse file_name (things_in (λ f. f) m.entries) distinct-things_in
 
-    pub names_of-behind : names_of (files_behind file m.entries) ≡ reverse (keys_of m.entries)
-    names_of-behind = map-reverse file_name (things_in file m.entries) ∙ ap reverse (sym kept.keyed)
+  pub names_of-behind : names_of (files_behind m.entries) ≡ reverse (keys_of m.entries)
+  names_of-behind = map-reverse file_name (things_in (λ f. f) m.entries) ∙ ap reverse (sym kept.keyed)
 
-    pub file_at-behind : (name : List ℕ) → file_at (files_behind file m.entries) name ≡ option_map file (lookup (same_name name) m.entries)
-    file_at-behind name = named-reverse file_name (things_in file m.entries) name distinct-things_in ∙ named-things_in file_name file name m.entries kept.keyed
+  pub file_at-behind : (name : List ℕ) → file_at (files_behind m.entries) name ≡ lookup (same_name name) m.entries
+  file_at-behind name = named-reverse file_name (things_in (λ f. f) m.entries) name distinct-things_in ∙ named-things_in file_name (λ f. f) name m.entries kept.keyed ∙ option_map_id (lookup (same_name name) m.entries)
 
-    pub has_file-behind : (name : List ℕ) → has_file (files_behind file m.entries) name ≡ is_some (lookup (same_name name) m.entries)
-    has_file-behind name = sym (is_some-named file_name (files_behind file m.entries) name) ∙ ap is_some (file_at-behind name) ∙ is_some-option_map file (lookup (same_name name) m.entries)
+  pub has_file-behind : (name : List ℕ) → has_file (files_behind m.entries) name ≡ is_some (lookup (same_name name) m.entries)
+  has_file-behind name = sym (is_some-named file_name (files_behind m.entries) name) ∙ ap is_some (file_at-behind name)
 
-    -- a file that is taken out moves no other
-    pub files_behind-remove_entry : (name : List ℕ) → files_behind file (remove_entry (same_name name) m.entries) ≡ without_file (files_behind file m.entries) name
-    files_behind-remove_entry name = ap reverse (things_in-remove_entry file_name file name m.entries kept.keyed kept.distinct) ∙ without_named-reverse file_name (things_in file m.entries) name
+  -- a file that is taken out moves no other
+  pub files_behind-remove_entry : (name : List ℕ) → files_behind (remove_entry (same_name name) m.entries) ≡ without_file (files_behind m.entries) name
+  files_behind-remove_entry name = ap reverse (things_in-remove_entry file_name (λ f. f) name m.entries kept.keyed kept.distinct) ∙ without_named-reverse file_name (things_in (λ f. f) m.entries) name
 
-    pub IsKept-remove_entry : (name : List ℕ) → IsKept file (lru_cache (remove_entry (same_name name) m.entries) m.cap)
-    IsKept-remove_entry name = record {
-      keyed = IsKeyed-remove_entry file_name file (same_name name) m.entries kept.keyed;
-      distinct = distinct-remove_entry (same_name name) m.entries kept.distinct;
-      within = omega (arith, kept.within, length-remove_entry (same_name name) m.entries);
-      room = kept.room;
-    }
+  pub IsKept-remove_entry : (name : List ℕ) → IsKept (lru_cache (remove_entry (same_name name) m.entries) m.cap)
+  IsKept-remove_entry name = record {
+    keyed = IsKeyed-remove_entry file_name (λ f. f) (same_name name) m.entries kept.keyed;
+    distinct = distinct-remove_entry (same_name name) m.entries kept.distinct;
+    within = omega (arith, kept.within, length-remove_entry (same_name name) m.entries);
+    room = kept.room;
+  }
 
-  pub length-behind : (es : List (List ℕ × X)) → length (files_behind file es) ≡ length es
-  length-behind es = length-reverse (things_in file es) ∙ length-things_in file_name file es
+pub length-behind : (es : List (List ℕ × File)) → length (files_behind es) ≡ length es
+length-behind es = length-reverse (things_in (λ f. f) es) ∙ length-things_in file_name (λ f. f) es
 
-  module _ (m : LruCache (List ℕ) X) (kept : IsKept file m) (x : X) (none : cause_to_refuse (files_behind file m.entries) (file x).name ≡ None) where
-    absent : lookup (same_name (file x).name) m.entries ≡ None
-    absent = is_none (lookup (same_name (file x).name) m.entries) (sym (has_file-behind m kept (file x).name) ∙ new-by_cause (files_behind file m.entries) (file x).name none)
+module _ (m : LruCache (List ℕ) File) (kept : IsKept m) (x : File) (none : cause_to_refuse (files_behind m.entries) x.name ≡ None) where
+  absent : lookup (same_name x.name) m.entries ≡ None
+  absent = is_none (lookup (same_name x.name) m.entries) (sym (has_file-behind m kept x.name) ∙ new-by_cause (files_behind m.entries) x.name none)
 
-    low : length m.entries < FILES
-    low = omega (arith, length-behind m.entries, room-by_cause (files_behind file m.entries) (file x).name none)
+  low : length m.entries < FILES
+  low = omega (arith, length-behind m.entries, room-by_cause (files_behind m.entries) x.name none)
 
-    -- a new file goes first, and puts none out
-    put-new : put_entries same_name m (file x).name x ≡ ((file x).name, x) ∷ m.entries
-    put-new =
-        ap (λ o. option_map_or (λ (e : List ℕ × X). (e.0, x) ∷ remove_entry (same_name (file x).name) m.entries) o (((file x).name, x) ∷ take (m.cap - 1) m.entries)) (lookup_entry-None (same_name (file x).name) m.entries absent)
-        ∙ ap (λ es. ((file x).name, x) ∷ es) (take_all (m.cap - 1) m.entries (omega (arith, low, kept.room)))
+  -- a new file goes first, and puts none out
+  put-new : put_entries same_name m x.name x ≡ (x.name, x) ∷ m.entries
+  put-new =
+      ap (λ o. option_map_or (λ (e : List ℕ × File). (e.0, x) ∷ remove_entry (same_name x.name) m.entries) o ((x.name, x) ∷ take (m.cap - 1) m.entries)) (lookup_entry-None (same_name x.name) m.entries absent)
+      ∙ ap (λ es. (x.name, x) ∷ es) (take_all (m.cap - 1) m.entries (omega (arith, low, kept.room)))
 
-    pub files_behind-put_entries : files_behind file (put_entries same_name m (file x).name x) ≡ files_behind file m.entries ++ file x ∷ []
-    files_behind-put_entries = ap (files_behind file) put-new ∙ reverse-append (file x ∷ []) (things_in file m.entries)
+  pub files_behind-put_entries : files_behind (put_entries same_name m x.name x) ≡ files_behind m.entries ++ x ∷ []
+  files_behind-put_entries = ap files_behind put-new ∙ reverse-append (x ∷ []) (things_in (λ f. f) m.entries)
 
-    pub IsKept-put_entries : IsKept file (lru_cache (put_entries same_name m (file x).name x) m.cap)
-    IsKept-put_entries = subst (λ es. IsKept file (lru_cache es m.cap)) (sym put-new) (record {
-      keyed = ap (λ keys. (file x).name ∷ keys) kept.keyed;
-      distinct = IsDistinct-cons same_name (file x).name (keys_of m.entries) (apart-by_lookup (same_name (file x).name) m.entries absent) kept.distinct;
-      within = omega (arith, low);
-      room = kept.room;
-    })
+  pub IsKept-put_entries : IsKept (lru_cache (put_entries same_name m x.name x) m.cap)
+  IsKept-put_entries = subst (λ es. IsKept (lru_cache es m.cap)) (sym put-new) (record {
+    keyed = ap (λ keys. x.name ∷ keys) kept.keyed;
+    distinct = IsDistinct-cons same_name x.name (keys_of m.entries) (apart-by_lookup (same_name x.name) m.entries absent) kept.distinct;
+    within = omega (arith, low);
+    room = kept.room;
+  })
 
 pub has_file-copied : (fs : List File) (name : List ℕ) (found : Option (Bor File)) → option_copied found ≡ file_at fs name → is_some found ≡ has_file fs name
 has_file-copied fs name found is = sym (is_some-option_map (λ b. b.now) found) ∙ ap is_some is ∙ is_some-named file_name fs name

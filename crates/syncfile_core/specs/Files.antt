@@ -37,12 +37,12 @@ abbrev pub cause_to_refuse : List File → List ℕ → Option Refusal
 cause_to_refuse fs name = if has_file fs name then Some Exists else if nat_lt (length fs) FILES then None else Some (Limit FilesKind)
 
 -- the files behind entries that stand the newest first, by the order of making
-abbrev pub files_behind : {X : Type 0} → (X → File) → List (List ℕ × X) → List File
-files_behind file es = reverse (things_in file es)
+abbrev pub files_behind : List (List ℕ × File) → List File
+files_behind es = reverse (things_in (λ f. f) es)
 
 -- each file is kept under its own name, no name comes twice, and the files are not more than there can be, so none is put out for another
-pub record IsKept {X : Type 0} (file : X → File) (m : LruCache (List ℕ) X) : Type 0 where
-  pub keyed : IsKeyed file_name file m.entries
+pub record IsKept (m : LruCache (List ℕ) File) : Type 0 where
+  pub keyed : IsKeyed file_name (λ f. f) m.entries
   pub distinct : IsDistinct same_name (keys_of m.entries)
   pub within : length m.entries ≤ FILES
   pub room : FILES < m.cap

@@ -24,9 +24,9 @@ impl Model for ByMaking {
 
     ghost Value = { List File };
 
-    ghost view = { λ m. files_behind (λ f. f) m.newest_first.entries };
+    ghost view = { λ m. files_behind m.newest_first.entries };
 
-    ghost invariant = { λ m. IsKept (λ f. f) m.newest_first };
+    ghost invariant = { λ m. IsKept m.newest_first };
 }
 
 impl ByMaking {

@@ -48,6 +48,9 @@ fn floor_of_two(
     ensures floors { (length left.now.floor ≡ length reach.now) × (length right.now.floor ≡ length reach.now) }
     ensures memory { IfErr result (λ e. e ≡ Memory) }
 {
+    if reach.at_least_floor(&left.floor) && reach.at_least_floor(&right.floor) {
+        return Floor::of(alloc, reach);
+    }
     let mut floor = *reach;
     floor.join_floor(&left.floor);
     floor.join_floor(&right.floor);

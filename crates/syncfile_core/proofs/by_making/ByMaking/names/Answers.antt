@@ -6,7 +6,7 @@ use Rattle.syncfile_core.proofs.Kept.{names_of-behind, HasDistinctNames-behind}
 use Rattle.syncfile_core.proofs.by_making.ByMaking.names.Goals as goal
 
 pub returns-in_err-names-clause-distinct : goal.returns-in_err-names-clause-distinct
-returns-in_err-names-clause-distinct c = subst HasDistinctNames c.self.view_is (HasDistinctNames-behind (λ f. f) c.self.inside.newest_first c.self.invariant)
+returns-in_err-names-clause-distinct c = subst HasDistinctNames c.self.view_is (HasDistinctNames-behind c.self.inside.newest_first c.self.invariant)
 
 pub loop-name-init : goal.loop-name-init
 loop-name-init c =
@@ -40,8 +40,8 @@ returns-clause-names c =
     let all = ap (λ rev. rev.iter) c.into_iter-name-iterator.ensures.into_iter_gives ∙ c.rev-name-items.ensures.source ∙ c.iter.ensures.rest in
     read
     ∙ ap (λ es. reverse (keys_of es)) all
-    ∙ sym (names_of-behind (λ f. f) c.self.inside.newest_first c.self.invariant)
+    ∙ sym (names_of-behind c.self.inside.newest_first c.self.invariant)
     ∙ ap names_of c.self.view_is
 
 pub returns-clause-distinct : goal.returns-clause-distinct
-returns-clause-distinct c = subst HasDistinctNames c.self.view_is (HasDistinctNames-behind (λ f. f) c.self.inside.newest_first c.self.invariant)
+returns-clause-distinct c = subst HasDistinctNames c.self.view_is (HasDistinctNames-behind c.self.inside.newest_first c.self.invariant)

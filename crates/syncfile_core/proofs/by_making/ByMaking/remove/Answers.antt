@@ -6,11 +6,11 @@ use Rattle.syncfile_core.proofs.by_making.ByMaking.remove.Goals as goal
 use Rattle.syncfile_core.proofs.by_making.ByMaking.remove.Goals.{in-Some, in-None}
 
 pub invariant_of-self : goal.invariant_of-self
-invariant_of-self c = subst (IsKept (λ f. f)) (sym c.pop.ensures.entries) (IsKept-remove_entry (λ f. f) c.self.inside.newest_first c.self.invariant c.args.name.now)
+invariant_of-self c = subst IsKept (sym c.pop.ensures.entries) (IsKept-remove_entry c.self.inside.newest_first c.self.invariant c.args.name.now)
 
 pub returns-clause-known : goal.returns-clause-known
 returns-clause-known c =
-    let found = ap (λ fs. has_file fs c.args.name.now) (sym c.self.view_is) ∙ has_file-behind (λ f. f) c.self.inside.newest_first c.self.invariant c.args.name.now in
+    let found = ap (λ fs. has_file fs c.args.name.now) (sym c.self.view_is) ∙ has_file-behind c.self.inside.newest_first c.self.invariant c.args.name.now in
     elim c.match-pop.branch [
       | in-Some w ↦ MatchBool-true _ _ _ (found ∙ ap is_some (sym w.in-Some.ensures.value)) (rw w.result-is refl)
       | in-None w ↦ MatchBool-false _ _ _ (found ∙ ap is_some (sym w.in-None.ensures.value)) w.result-is
@@ -18,6 +18,6 @@ returns-clause-known c =
 
 pub returns-clause-without : goal.returns-clause-without
 returns-clause-without c =
-    ap (λ m. files_behind (λ f. f) m.entries) c.pop.ensures.entries
-    ∙ files_behind-remove_entry (λ f. f) c.self.inside.newest_first c.self.invariant c.args.name.now
+    ap (λ m. files_behind m.entries) c.pop.ensures.entries
+    ∙ files_behind-remove_entry c.self.inside.newest_first c.self.invariant c.args.name.now
     ∙ ap (λ fs. without_file fs c.args.name.now) c.self.view_is
