@@ -273,14 +273,24 @@ cases_context n ctx = elim (cases_lt n ctx) [
   ]
 ]
 
-pub HasContexts-IsCompacted : {tops : Tops} {reach : List ℕ} {n : ℕ} {kept : List Entry} → n ≡ CONTEXTS → IsCompacted tops reach n kept → HasContexts kept
-HasContexts-IsCompacted {tops} {reach} {n} {kept} is h = All-weaker (λ (e : Entry). (1 ≤ e.point.ctx) × (e.point.ctx ≤ n)) (λ (e : Entry). (1 ≤ e.point.ctx) × (e.point.ctx ≤ CONTEXTS)) (λ e has. (has.0, omega (arith, has.1))) kept h.contexts
+pub HasContexts-IsCompacted : {tops : Tops} {reach : List ℕ} {n : ℕ} {kept : List Entry} → n ≤ CONTEXTS → IsCompacted tops reach n kept → HasContexts kept
+HasContexts-IsCompacted {tops} {reach} {n} {kept} within h = All-weaker (λ (e : Entry). (1 ≤ e.point.ctx) × (e.point.ctx ≤ n)) (λ (e : Entry). (1 ≤ e.point.ctx) × (e.point.ctx ≤ CONTEXTS)) (λ e has. (has.0, omega (arith, has.1))) kept h.contexts
 
--- of all contexts, what is kept agrees with the entries
-pub AgreesAbove-IsCompacted : {tops : Tops} {reach : List ℕ} {es : List Entry} → AreTops tops reach es → HasContexts es → {n : ℕ} {kept : List Entry} → n ≡ CONTEXTS → IsCompacted tops reach n kept → AgreesAbove reach es kept
-AgreesAbove-IsCompacted {tops} {reach} {es} tell within {n} {kept} is h = AgreesAbove-from_raised (λ usage ctx. elim (cases_context n ctx) [
-  | inl has ↦ sym (AreTops-at tell usage ctx has.0 (omega (arith, has.1))) ∙ sym (h.values usage ctx has.0 has.1)
-  | inr outside ↦
-      let out : 1 ≤ ctx → ctx ≤ CONTEXTS → ⊥ = λ low high. outside low (omega arith) in
-      ap (raised_to (value_at reach ctx)) (top-outside es usage ctx within out ∙ sym (top-outside kept usage ctx (HasContexts-IsCompacted is h) out))
+-- where the weakest usage has nothing, no other one has
+table_at-unused : (tops : Tops) (reach : List ℕ) (usage ctx : ℕ) → IsRising tops reach ctx → value_at tops.bookkeep ctx ≡ 0 → (value_at (table_at tops usage) ctx ≡ 0) × (value_at reach ctx ≡ 0)
+table_at-unused tops reach zero ctx h none = (omega (arith, h.write, h.read, h.bookkeep), omega (arith, h.kernel, h.write, h.read, h.bookkeep))
+table_at-unused tops reach (suc zero) ctx h none = (omega (arith, h.read, h.bookkeep), omega (arith, h.kernel, h.write, h.read, h.bookkeep))
+table_at-unused tops reach (suc (suc zero)) ctx h none = (omega (arith, h.bookkeep), omega (arith, h.kernel, h.write, h.read, h.bookkeep))
+table_at-unused tops reach (suc (suc (suc usage))) ctx h none = (none, omega (arith, h.kernel, h.write, h.read, h.bookkeep))
+
+-- of all contexts that are in use, what is kept agrees with the entries
+pub AgreesAbove-IsCompacted : {tops : Tops} {reach : List ℕ} {es : List Entry} → AreTops tops reach es → HasContexts es → {n : ℕ} {kept : List Entry} → n ≤ CONTEXTS → ((ctx : ℕ) → n < ctx → value_at tops.bookkeep ctx ≡ 0) → IsCompacted tops reach n kept → AgreesAbove reach es kept
+AgreesAbove-IsCompacted {tops} {reach} {es} tell within {n} {kept} few past h = AgreesAbove-from_raised (λ usage ctx. elim (cases_context CONTEXTS ctx) [
+  | inl has ↦ sym (AreTops-at tell usage ctx has.0 has.1) ∙ elim (cases_lt n ctx) [
+    | inl unused ↦
+        let none = table_at-unused tops reach usage ctx (AreTops-IsRising tell ctx has.0 has.1) (past ctx unused) in
+        none.0 ∙ sym none.1 ∙ sym (raised_to-top-later (value_at reach ctx) n ctx usage kept unused h.contexts)
+    | inr used ↦ sym (h.values usage ctx has.0 used)
+  ]
+  | inr outside ↦ ap (raised_to (value_at reach ctx)) (top-outside es usage ctx within outside ∙ sym (top-outside kept usage ctx (HasContexts-IsCompacted few h) outside))
 ])

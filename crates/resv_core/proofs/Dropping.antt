@@ -16,7 +16,7 @@ use Rattle.point_core.proofs.Agreement.{AppliesAt-from_true, AgreesAbove-from_ra
 use Rattle.resv_core.specs.Resv.{entries_as, entry_of, gives_way_to_any}
 use Rattle.resv_core.proofs.Compaction.{raised_to-top-stronger}
 
-put_if-needless : (b : Bool) (p value : ℕ) → (b ≡ true → p ≤ value) → put_if b p value ≡ value
+pub put_if-needless : (b : Bool) (p value : ℕ) → (b ≡ true → p ≤ value) → put_if b p value ≡ value
 put_if-needless true p value low = let is = low refl in omega arith
 put_if-needless false p value low = refl
 

@@ -6,3 +6,4 @@ pub mod Replacing
 pub mod RoundActs
 pub mod Rows
 pub mod Runs
+pub mod Weaker

@@ -8,6 +8,7 @@ mod laws;
 mod plan;
 mod resv;
 mod shared_table;
+mod table_rows;
 mod tops;
 
 pub use laws::{

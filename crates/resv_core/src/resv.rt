@@ -1,15 +1,16 @@
 // The reservation of a buffer.
-ghost use Rattle.std.specs.Prelude.{◌≡◌, ◌+◌, ◌-◌, ◌<◌, ◌≤◌, ◌↔◌, ◌++◌, [], Ok, if◌then◌else◌, length, vec_len, IfErr, IfOk, IsTrue, OnErr, OnOk};
+ghost use Rattle.std.specs.Prelude.{◌≡◌, ◌+◌, ◌-◌, ◌<◌, ◌≤◌, ◌↔◌, ◌++◌, ◌||◌, [], Ok, if◌then◌else◌, length, vec_len, IfErr, IfOk, IsTrue, OnErr, OnOk};
 ghost use Rattle.std.specs.List.{list_any};
 ghost use Rattle.std.specs.Vec.{vec_capacity};
 ghost use Rattle.point_core.specs.declared.context.TheConstants.{CONTEXTS};
-ghost use Rattle.point_core.specs.Agreement.{AgreesAbove, IsReached, listing};
+ghost use Rattle.point_core.specs.Agreement.{covers, AgreesAbove, IsReached, listing};
 ghost use Rattle.point_core.specs.Usage.{usage_number};
 ghost use Rattle.resv_core.specs.declared.resv.TheConstants.{PLACES};
 ghost use Rattle.resv_core.specs.Resv.{IsTable, IsTrimmed, empty, entries_as, entry_of, gives_way, rows_of};
 ghost use Rattle.resv_core.specs.Run.{Leaves, Reserve, Add, AddAll, Trim};
 
 use crate::adding::{SCANNED, add_all};
+use crate::table_rows::rows_of;
 use crate::tops::{Tops, USAGES, compact, latest_of};
 use point_core::{CONTEXTS, Entry, Point, Reach, Refusal, TopRow, Usage, covers, is_signalled};
 use std::alloc::Global;
@@ -147,8 +148,9 @@ impl Resv {
         }
     }
 
-    /// Adds a fence, so `reserve` first. In a table of few entries it does as `add`. In a larger one it takes a free place
-    /// without a look at the others, and what it covers stays until the table is trimmed. Takes no memory.
+    /// Adds a fence, so `reserve` first. In a table of few entries it takes no place where one of them covers the fence, and
+    /// else replaces as `add` does. In a larger one it takes a free place without a look at the others, and what it covers
+    /// stays until the table is trimmed. Takes no memory.
     pub fn put(&mut self, point: Point, usage: Usage, reach: &Reach)
         requires room { 1 ≤ self.old.room }
         ensures table { IsTable self.new }
@@ -156,10 +158,19 @@ impl Resv {
         ensures falls { self.old.room ≤ self.new.room + 1 }
         ensures places { length self.new.entries + self.new.room ≡ length self.old.entries + self.old.room }
     {
-        if self.entries.len() < SCANNED {
-            self.add(point, usage, reach);
-        } else {
-            self.entries.push_reserved(Entry { point, usage });
+        let new = Entry { point, usage };
+        if self.entries.len() >= SCANNED {
+            self.entries.push_reserved(new);
+            return;
+        }
+        match self
+            .entries
+            .iter()
+            .position(|old| is_met_by(&new, old, reach))
+        {
+            Some(index) if covers(self.entries[index], new) => {}
+            Some(index) => self.entries[index] = new,
+            None => self.entries.push_reserved(new),
         }
     }
 
@@ -196,7 +207,7 @@ impl Resv {
         ensures rows { IfOk result (λ rows. rows.items ≡ rows_of self.now.entries reach.now) }
         ensures memory { IfErr result (λ e. e ≡ Refusal.Memory) }
     {
-        Tops::of(self.entries.as_slice(), reach).rows(self.alloc, reach)
+        rows_of(self.alloc, self.entries.as_slice(), reach)
     }
 
     /// Whether every entry of the usage or a stronger one is signalled, as Linux's `dma_resv_test_signaled`. Takes no
@@ -215,6 +226,13 @@ impl Resv {
     {
         Tops::of(self.entries.as_slice(), reach).is_same(&Tops::of(entries, reach))
     }
+}
+
+/// Whether the new entry needs no place beside the old one: the old one covers it, or may be replaced by it.
+fn is_met_by(new: &Entry, old: &Entry, reach: &Reach) -> bool
+    ensures { result ≡ (covers old.now new.now || gives_way reach.now new.now old.now) }
+{
+    covers(*old, *new) || gives_way(new, old, reach)
 }
 
 /// Whether the old entry may be replaced by the new one: it is signalled, or the new one covers it.

@@ -106,20 +106,42 @@ fn three_hundred_and_twenty_places(rt: HostRuntime) -> Result<(), Fail> {
     Ok(())
 }
 
-// In a large table what a new entry covers stays until the table is trimmed; in a small one it is replaced.
+// A small table takes no place for what an entry of it covers, and a later point replaces that entry.
 #[test]
-fn hundred_falling_puts_and_two_later_ones(rt: HostRuntime) -> Result<(), Fail> {
+fn hundred_falling_puts_and_a_later_one(rt: HostRuntime) -> Result<(), Fail> {
     let none = reach_of(&[])?;
     let mut resv = Resv::new(rt.alloc())?;
     for value in (1..=100).rev() {
         reserve_and_put(&mut resv, point(1, value)?, Usage::Bookkeep, &none)?;
     }
-    reserve_and_put(&mut resv, point(1, 101)?, Usage::Bookkeep, &none)?;
-    assert_eq!(rt; resv.room(), 219);
-    resv.trim(&none);
+    assert_eq!(rt; resv.room(), PLACES - 1);
     reserve_and_put(&mut resv, point(1, 200)?, Usage::Bookkeep, &none)?;
-    assert_eq!(rt; resv.room(), 319);
+    assert_eq!(rt; resv.room(), PLACES - 1);
     let rows = [row(Usage::Bookkeep, 1, 200)?];
+    assert_eq!(rt; resv.table(&none)?.as_slice(), rows.as_slice());
+    Ok(())
+}
+
+// A large table takes a place for each put, whatever covers what, until it is trimmed.
+#[test]
+fn puts_into_a_large_table(rt: HostRuntime) -> Result<(), Fail> {
+    let none = reach_of(&[])?;
+    let mut resv = Resv::new(rt.alloc())?;
+    let mut rows = Vec::new(rt.alloc());
+    for index in 0..CONTEXTS {
+        let ctx = Context::at(index);
+        reserve_and_put(&mut resv, Point { ctx, value: 9 }, Usage::Bookkeep, &none)?;
+        rows.push(TopRow {
+            usage: Usage::Bookkeep,
+            ctx,
+            point: 9,
+        })?;
+    }
+    reserve_and_put(&mut resv, point(1, 8)?, Usage::Bookkeep, &none)?;
+    reserve_and_put(&mut resv, point(2, 9)?, Usage::Bookkeep, &none)?;
+    assert_eq!(rt; resv.room(), PLACES - CONTEXTS - 2);
+    resv.trim(&none);
+    assert_eq!(rt; resv.room(), PLACES - CONTEXTS);
     assert_eq!(rt; resv.table(&none)?.as_slice(), rows.as_slice());
     Ok(())
 }

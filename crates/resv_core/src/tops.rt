@@ -5,6 +5,7 @@ ghost use Rattle.point_core.specs.declared.entry.Entry.{Entry};
 ghost use Rattle.point_core.specs.declared.context.TheConstants.{CONTEXTS};
 ghost use Rattle.point_core.specs.Agreement.{AgreesAbove, HasContexts, point_of};
 ghost use Rattle.point_core.specs.Latest.{IsLatest, points_above};
+ghost use Rattle.point_core.specs.Reach.{value_at};
 ghost use Rattle.point_core.specs.Usage.{usage_number};
 ghost use Rattle.resv_core.specs.declared.tops.TheConstants.{USAGES};
 ghost use Rattle.resv_core.specs.Resv.{IsTrimmed, row_of, rows_of};
@@ -50,6 +51,14 @@ impl Tops {
             tops.put(entry);
         }
         tops
+    }
+
+    /// How many contexts there are up to the last that has a point or a value: the weakest usage has those of all.
+    fn used(&self) -> usize
+        ensures within { result ≤ CONTEXTS }
+        ensures past { (ctx : ℕ) → result < ctx → value_at self.now.bookkeep ctx ≡ 0 }
+    {
+        self.bookkeep.used()
     }
 
     /// Whether both have the same points.
@@ -115,7 +124,7 @@ pub(crate) fn latest_of(entries: &[Entry], usage: Usage, reach: &Reach) -> Lates
 }
 
 /// Puts an entry into the table of a usage, where it is of that usage or a stronger one.
-fn put_at(latest: &mut LatestPoints, usage: Usage, entry: &Entry)
+pub(crate) fn put_at(latest: &mut LatestPoints, usage: Usage, entry: &Entry)
     ensures latest { (reach : List ℕ) (es : List Entry) →
         IsLatest latest.old reach es (usage_number usage) →
         IsLatest latest.new reach (es ++ entry.now ∷ []) (usage_number usage) }
@@ -137,7 +146,7 @@ pub(crate) fn compact(entries: &mut Vec<Entry>, reach: &Reach)
 {
     let tops = Tops::of(entries.as_slice(), reach);
     entries.clear();
-    for index in 0..CONTEXTS {
+    for index in 0..tops.used() {
         keep(entries, Context::at(index), &tops, reach);
     }
 }
@@ -173,7 +182,7 @@ fn keep_above(entries: &mut Vec<Entry>, stronger: u64, ctx: Context, value: u64,
 }
 
 /// Appends a row for each point of the table of latest points that is above the reach, by rising context.
-fn push_rows(rows: &mut Vec<TopRow>, usage: Usage, latest: &LatestPoints, reach: &Reach)
+pub(crate) fn push_rows(rows: &mut Vec<TopRow>, usage: Usage, latest: &LatestPoints, reach: &Reach)
     requires places { vec_len rows.old + CONTEXTS ≤ vec_capacity rows.old }
     ensures rows { rows.new.items ≡ rows.old.items ++ map (row_of usage) (points_above latest.now reach.now) }
     ensures few { vec_len rows.new ≤ vec_len rows.old + CONTEXTS }

@@ -11,7 +11,7 @@ loop-index-init c = record {
 
 pub loop-index-preserved : goal.loop-index-preserved
 loop-index-preserved c = record {
-  kept = rw c.keep.ensures.items (IsCompacted-more c.of-tops.ensures.tops c.loop-index.invariant.kept c.at.result c.at.ensures c.loop-index-test.true);
+  kept = rw c.keep.ensures.items (IsCompacted-more c.of-tops.ensures.tops c.loop-index.invariant.kept c.at.result c.at.ensures (omega (arith, c.loop-index-test.true, c.used-index-end.ensures.within)));
   few = omega arith;
   places = omega arith;
 }
@@ -20,4 +20,4 @@ pub returns-clause-agrees : goal.returns-clause-agrees
 returns-clause-agrees c =
     let tell = rw c.as_slice.ensures.value at c.of-tops.ensures.tops in
     let within = rw c.as_slice.ensures.value at c.of-tops.ensures.contexts in
-    AgreesAbove-IsCompacted tell within (omega arith) c.loop-index.invariant.kept
+    AgreesAbove-IsCompacted tell within (omega arith) (λ ctx past. c.used-index-end.ensures.past ctx (omega arith)) c.loop-index.invariant.kept

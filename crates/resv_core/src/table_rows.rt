@@ -1,0 +1,44 @@
+// The rows of a table's entries.
+ghost use Rattle.std.specs.Prelude.{◌≡◌, ℕ, ◌≤◌, List, IfErr, IfOk};
+ghost use Rattle.point_core.specs.Latest.{IsLatest};
+ghost use Rattle.point_core.specs.Usage.{usage_number};
+ghost use Rattle.resv_core.specs.Resv.{rows_of};
+
+use crate::tops::{USAGES, latest_of, push_rows, put_at};
+use point_core::{CONTEXTS, Entry, LatestPoints, Reach, Refusal, TopRow, Usage};
+use std::alloc::Global;
+
+/// The pending top of each context at each usage: from the strongest usage to the weakest, and by rising context. One table of
+/// latest points serves all usages, since a weaker one has what the stronger ones have.
+///
+/// Refuses as `Memory` alone.
+pub(crate) fn rows_of(
+    alloc: Global,
+    entries: &[Entry],
+    reach: &Reach,
+) -> Result<Vec<TopRow>, Refusal>
+    ensures rows { IfOk result (λ rows. rows.items ≡ rows_of entries.now reach.now) }
+    ensures memory { IfErr result (λ e. e ≡ Refusal.Memory) }
+{
+    let mut rows = Vec::with_capacity(alloc, USAGES * CONTEXTS)?;
+    let mut latest = latest_of(entries, Usage::Kernel, reach);
+    push_rows(&mut rows, Usage::Kernel, &latest, reach);
+    put_weaker(&mut latest, Usage::Write, entries);
+    push_rows(&mut rows, Usage::Write, &latest, reach);
+    put_weaker(&mut latest, Usage::Read, entries);
+    push_rows(&mut rows, Usage::Read, &latest, reach);
+    put_weaker(&mut latest, Usage::Bookkeep, entries);
+    push_rows(&mut rows, Usage::Bookkeep, &latest, reach);
+    Ok(rows)
+}
+
+/// Makes the latest points of the entries at a stronger usage those at this one.
+fn put_weaker(latest: &mut LatestPoints, usage: Usage, entries: &[Entry])
+    ensures latest { (reach : List ℕ) (stronger : ℕ) → stronger ≤ usage_number usage →
+        IsLatest latest.old reach entries.now stronger →
+        IsLatest latest.new reach entries.now (usage_number usage) }
+{
+    for entry in entries {
+        put_at(latest, usage, entry);
+    }
+}
