@@ -1,5 +1,5 @@
 -- A desk's files and buffers stay of timelines that were made.
-use Rattle.std.proofs.Common.{◌≡◌, ℕ, ◌≤◌, refl, sym, ap, ◌∙◌, subst, List, [], ◌∷◌, ◌++◌, length, not, arith, inl, inr, length-append, Result, Ok}
+use Rattle.std.proofs.Common.{◌≡◌, ℕ, ◌≤◌, refl, sym, ap, ◌∙◌, subst, List, [], ◌∷◌, ◌++◌, length, not, arith, inl, inr, length-append}
 use Rattle.std.proofs.lemmas.List.Elements.{All-nil, All-cons, All-push, All-weaker, All-filter, All-map}
 use Rattle.point_core.specs.declared.entry.Point.{Point}
 use Rattle.point_core.specs.declared.entry.Entry.{Entry}
@@ -23,9 +23,6 @@ use Rattle.desk_core.proofs.Buffers.{same_or_other, entries_of-new, entries_in}
 use Rattle.desk_core.proofs.Doing.{HaveTimelines-merge}
 use Rattle.desk_core.proofs.Sound.{IsAtLeast-raised, length-raised}
 use Rattle.point_core.proofs.Agreement.{AgreesAbove-sym}
-
-pub same-Ok : {A E : Type 0} (result : Result A E) (x y : A) → result ≡ Ok x → result ≡ Ok y → x ≡ y
-same-Ok result x y is also = cc
 
 pub inside-new : (timelines : List Timeline) (files : List File) (buffers : List Buffer) (watches : Registry) → timelines ≡ [] → files ≡ [] → buffers ≡ [] → watches ≡ no_watches → IsOfItsTimelines (record { timelines = timelines; files = files; buffers = buffers; watches = watches })
 inside-new timelines files buffers watches no_timelines no_files no_buffers none =

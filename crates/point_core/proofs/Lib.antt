@@ -7,6 +7,7 @@ pub mod Merges
 pub mod Named
 pub mod Names
 pub mod Reached
+pub mod Results
 mod Rows
 pub mod TwoLists
 pub mod Used

@@ -35,7 +35,8 @@ pub(crate) fn of_two(
     })
 }
 
-/// The greatest value of each context, among the reach and the floors of both files.
+/// The greatest value of each context, among the reach and the floors of both files: the reach, where no floor is above
+/// it.
 ///
 /// Refuses as `Memory` alone.
 fn floor_of_two(

@@ -3,8 +3,8 @@ ghost use Rattle.std.specs.Prelude.{◌≡◌, ℕ, List, [], ◌++◌, IsTrue, 
 ghost use Rattle.timeline_core.specs.Timeline.{Timeline, has_timeline, value_of};
 ghost use Rattle.timeline_core.specs.Run.{AreSums, Increment, IsRun, Step, all_increments, incremented, last_timelines};
 
-/// After any calls of `create` and `inc`, accepted or refused, each value is the sum of the accepted increments of its timeline.
-/// So two runs with the same accepted increments, in whatever order, give a name the same value.
+/// After any calls of `create` and `inc`, accepted or refused, each value is the sum of the accepted increments of its
+/// timeline. So two runs with the same accepted increments, in whatever order, give a name the same value.
 pub fn a_value_is_the_sum_of_the_accepted_increments()
     ensures kept { (steps : List Step) →
         IsRun [] steps → AreSums (last_timelines [] steps) (all_increments steps) }

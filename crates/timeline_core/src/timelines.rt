@@ -97,15 +97,16 @@ impl Timelines {
         Ok(value)
     }
 
-    /// Raises the value of the timeline of that context to the point, where it is not there yet: what `inc` does, once the name
-    /// was looked up and the sum is known.
+    /// Raises the value of the timeline of that context to the point, where it is not there yet: what `inc` does, once the
+    /// name was looked up and the sum is known.
     ///
     /// Takes no memory.
     pub fn raise_to(&mut self, point: Point)
         requires made { point.ctx ≤ length self.old }
         ensures reach { reach_of self.new ≡ reaching (reach_of self.old) point }
         ensures names { names_of self.new ≡ names_of self.old }
-        ensures raised { (name : List ℕ) (n : ℕ) → IsTrue (has_timeline self.old name) → context_of self.old name ≡ point.ctx →
+        ensures raised { (name : List ℕ) (n : ℕ) →
+            IsTrue (has_timeline self.old name) → context_of self.old name ≡ point.ctx →
             value_of self.old name + n ≡ point.value → self.new ≡ raised self.old name n }
     {
         self.reach.raise_to(point);

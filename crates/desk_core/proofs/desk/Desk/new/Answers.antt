@@ -1,4 +1,5 @@
-use Rattle.desk_core.proofs.Inside.{inside-new, same-Ok}
+use Rattle.point_core.proofs.Results.{same-Ok}
+use Rattle.desk_core.proofs.Inside.{inside-new}
 use Rattle.desk_core.proofs.desk.Desk.new.Goals as goal
 
 pub invariant_of-result : goal.invariant_of-result
