@@ -2,7 +2,7 @@
 use Rattle.std.proofs.Common.{◌≡◌, ℕ, ◌+◌, ◌-◌, ◌<◌, ◌≤◌, zero, suc, refl, sym, ap, subst, ◌∙◌, List, [], ◌∷◌, ◌++◌, length, get_or, take, max, Option, None, Some, arith, nat_lt, if◌then◌else◌, inl, inr, append-nil}
 use Rattle.std.specs.Prelude.{option_map}
 use Rattle.std.specs.List.{filter_map, cons_option, range_with_len}
-use Rattle.std.proofs.lemmas.List.{map_more}
+use Rattle.std.proofs.lemmas.List.{map_more, length-append}
 use Rattle.std.proofs.lemmas.Bool.{lt-ltb, le-ltb, cases_lt}
 use Rattle.std.proofs.lemmas.List.Elements.{All-nil, All-push}
 use Rattle.point_core.specs.declared.context.TheConstants.{CONTEXTS}
@@ -89,6 +89,18 @@ skip_above latest reach points n ctx before is reached =
     ∙ sym (append-nil _)
     ∙ ap (λ b. filter_map (point_above latest reach) (range_with_len 1 n) ++ cons_option (if b then Some (point_of ctx (value_at latest ctx)) else None) []) (sym (le-ltb _ _ reached))
     ∙ sym (above_one_more latest reach n ctx is)
+
+-- a point of the next context is one more
+pub count_above : (latest reach : List ℕ) (n ctx : ℕ) → ctx ≡ n + 1 → value_at reach ctx < value_at latest ctx → length (filter_map (point_above latest reach) (range_with_len 1 n)) + 1 ≡ length (filter_map (point_above latest reach) (range_with_len 1 (n + 1)))
+count_above latest reach n ctx is above =
+    let before = filter_map (point_above latest reach) (range_with_len 1 n) in
+    sym (length-append before (point_of ctx (value_at latest ctx) ∷ []))
+    ∙ ap length (push_above latest reach before n ctx refl is above)
+
+-- and one that is reached is not
+pub count_skipped : (latest reach : List ℕ) (n ctx : ℕ) → ctx ≡ n + 1 → value_at latest ctx ≤ value_at reach ctx → length (filter_map (point_above latest reach) (range_with_len 1 n)) ≡ length (filter_map (point_above latest reach) (range_with_len 1 (n + 1)))
+count_skipped latest reach n ctx is reached =
+    ap length (skip_above latest reach (filter_map (point_above latest reach) (range_with_len 1 n)) n ctx refl is reached)
 
 skip_unused : (latest reach : List ℕ) (n more : ℕ) → ((ctx : ℕ) → n < ctx → value_at latest ctx ≡ 0) → filter_map (point_above latest reach) (range_with_len 1 n) ≡ filter_map (point_above latest reach) (range_with_len 1 (more + n))
 skip_unused latest reach n zero past = ap (λ k. filter_map (point_above latest reach) (range_with_len 1 k)) (omega arith)

@@ -7,7 +7,7 @@ ghost use Rattle.point_core.specs.Latest.{IsLatest, points_above};
 ghost use Rattle.point_core.specs.Reach.{value_at, with_value};
 ghost use Rattle.point_core.specs.Usage.{usage_number};
 
-use crate::context::{CONTEXTS, Context};
+use crate::context::Context;
 use crate::context_values::ContextValues;
 use crate::entry::Point;
 use crate::reach::Reach;
@@ -86,14 +86,14 @@ impl LatestPoints {
         }
     }
 
-    /// The latest points that are above the reach, by rising context.
+    /// The latest points that are above the reach, by rising context, in memory for these alone.
     ///
     /// Refuses as `Memory` alone.
     pub fn points(&self, alloc: Global, reach: &Reach) -> Result<Vec<Point>, Refusal>
         ensures points { IfOk result (λ ps. ps.items ≡ points_above self.now reach.now) }
         ensures memory { IfErr result (λ e. e ≡ Refusal.Memory) }
     {
-        self.points_expected(alloc, reach, CONTEXTS)
+        self.points_expected(alloc, reach, self.number_above(reach))
     }
 
     /// The same, in memory that begins with room for so many points. There may be more.
@@ -117,5 +117,19 @@ impl LatestPoints {
             }
         }
         Ok(points)
+    }
+
+    /// How many of the latest points are above the reach.
+    fn number_above(&self, reach: &Reach) -> usize
+        ensures { result ≡ length (points_above self.now reach.now) }
+    {
+        let mut number = 0;
+        for place in 0..self.used() {
+            let ctx = Context::at(place);
+            if self.get(ctx) > reach.get(ctx) {
+                number += 1;
+            }
+        }
+        number
     }
 }

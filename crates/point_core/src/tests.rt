@@ -392,6 +392,11 @@ fn latest_points(rt: HostRuntime) -> Result<(), Fail> {
     }
     let points = latest.points(rt.alloc(), &reach)?;
     assert_eq!(rt; points.as_slice(), [point(2, 2)?, point(3, 7)?].as_slice());
+    assert_eq!(rt;
+        points.capacity(),
+        points.len(),
+        "memory for the points alone"
+    );
     Ok(())
 }
 
