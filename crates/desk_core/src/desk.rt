@@ -101,6 +101,10 @@ impl Desk {
         }
     }
 
+    // A function pays at its start for the locals of all that is inlined into it. So the commands with many of them, and the rare
+    // ones, have functions of their own.
+
+    #[inline(never)]
     fn timeline(&mut self, name: Name) -> Result<Answer, Refusal>
         ensures refused { IsRefusedFor (cause_of self.old (Command.Timeline name)) result }
         ensures done { IfOk result (λ given. IsDone self.old (Command.Timeline name) given self.new) }
@@ -173,6 +177,7 @@ impl Desk {
         }
     }
 
+    #[inline(never)]
     fn info(&self, name: Name) -> Result<Answer, Refusal>
         ensures refused { IsRefusedFor (cause_of self.now (Command.Info name)) result }
         ensures done { IfOk result (λ given. IsDone self.now (Command.Info name) given self.now) }
@@ -182,6 +187,7 @@ impl Desk {
         Ok(Answer::Info(info))
     }
 
+    #[inline(never)]
     fn buffer(&mut self, name: Name) -> Result<Answer, Refusal>
         ensures refused { IsRefusedFor (cause_of self.old (Command.Buffer name)) result }
         ensures done { IfOk result (λ given. IsDone self.old (Command.Buffer name) given self.new) }
@@ -209,6 +215,7 @@ impl Desk {
         Ok(Answer::Done)
     }
 
+    #[inline(never)]
     fn import(&mut self, name: &Name, file: &Name, flags: u32) -> Result<Answer, Refusal>
         ensures refused { IsRefusedFor (cause_of self.old (Command.Import name.now file.now flags)) result }
         ensures done { IfOk result (λ given. IsDone self.old (Command.Import name.now file.now flags) given self.new) }
@@ -220,6 +227,7 @@ impl Desk {
         Ok(Answer::Done)
     }
 
+    #[inline(never)]
     fn export(&mut self, name: Name, buffer: &Name, flags: u32) -> Result<Answer, Refusal>
         ensures refused { IsRefusedFor (cause_of self.old (Command.Export name buffer.now flags)) result }
         ensures done { IfOk result (λ given. IsDone self.old (Command.Export name buffer.now flags) given self.new) }
@@ -245,6 +253,7 @@ impl Desk {
         Ok(Answer::Value(u64::from(signalled)))
     }
 
+    #[inline(never)]
     fn trim(&mut self, name: &Name) -> Result<Answer, Refusal>
         ensures refused { IsRefusedFor (cause_of self.old (Command.Trim name.now)) result }
         ensures sure { IfErr result (λ e. e ≢ Refusal.Memory) }
@@ -256,6 +265,7 @@ impl Desk {
         Ok(Answer::Done)
     }
 
+    #[inline(never)]
     fn watch(&mut self, name: &Name, cookie: u64) -> Result<Answer, Refusal>
         ensures refused { IsRefusedFor (cause_of self.old (Command.Watch name.now cookie)) result }
         ensures done { IfOk result (λ given. IsDone self.old (Command.Watch name.now cookie) given self.new) }
@@ -281,6 +291,7 @@ impl Desk {
         Answer::Value(u64::from(self.watches.remove(cookie)))
     }
 
+    #[inline(never)]
     fn show(&self, name: &Name) -> Result<Answer, Refusal>
         ensures refused { IsRefusedFor (cause_of self.now (Command.Show name.now)) result }
         ensures done { IfOk result (λ given. IsDone self.now (Command.Show name.now) given self.now) }
@@ -290,6 +301,7 @@ impl Desk {
         Ok(Answer::Show(Items::of(rows)))
     }
 
+    #[inline(never)]
     fn report(&self) -> Result<Answer, Refusal>
         ensures refused { IsRefusedFor (cause_of self.now Command.Report) result }
         ensures done { IfOk result (λ given. IsDone self.now Command.Report given self.now) }

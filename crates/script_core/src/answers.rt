@@ -96,9 +96,8 @@ impl Answers {
         ensures refusals { IfErr result (λ refusal. (refusal ≡ WriteFault) ⊎ (refusal ≡ Memory)) }
     {
         let answer = answer_line(&mut self.desk, body);
-        pass_answer(number, &answer, &mut self.out, writer)?;
         self.totals = self.totals.with(&answer);
-        drop(answer);
+        pass_answer(number, answer, &mut self.out, writer)?;
         Ok(())
     }
 

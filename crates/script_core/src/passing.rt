@@ -7,7 +7,7 @@ ghost use Rattle.report_core.specs.Tables.{buffer_text};
 ghost use Rattle.script_core.specs.Bytes.{AppendsFront, PassesOn};
 ghost use Rattle.script_core.specs.Text.{report_text, text_of};
 
-use crate::text::{print, push_timelines};
+use crate::text::{push_owned, push_timelines};
 use crate::writing::write_many;
 use desk_core::{Answer, BufferRows, FileRow, Report};
 use point_core::Refusal;
@@ -19,38 +19,39 @@ use std::io::Write;
 ///
 /// Refused as Write where a write failed or took no byte, and as Memory where a growth was refused: then a front of what
 /// waited and of the text is written.
+#[inline(always)]
 pub(crate) fn pass_answer<W: Write>(
     line: u32,
-    answer: &Answer,
+    answer: Answer,
     out: &mut Vec<u8>,
     writer: &mut W,
 ) -> Result<(), Refusal>
-    ensures ok { OnOk result (PassesOn out.old.items out.new.items (text_of line answer.now)
+    ensures ok { OnOk result (PassesOn out.old.items out.new.items (text_of line answer)
         (W.contents writer.old) (W.contents writer.new)) }
     ensures err { OnErr result (AppendsFront (W.contents writer.old) (W.contents writer.new)
-        (out.old.items ++ text_of line answer.now)) }
+        (out.old.items ++ text_of line answer)) }
     ensures refusals { IfErr result (λ refusal. (refusal ≡ WriteFault) ⊎ (refusal ≡ Memory)) }
 {
     match answer {
-        Answer::Report(report) => pass_report(report, out, writer),
-        _ => pass_whole(line, answer, out, writer),
+        Answer::Report(report) => pass_report(&report, out, writer),
+        answer => pass_whole(line, answer, out, writer),
     }
 }
 
 #[inline(always)]
 fn pass_whole<W: Write>(
     line: u32,
-    answer: &Answer,
+    answer: Answer,
     out: &mut Vec<u8>,
     writer: &mut W,
 ) -> Result<(), Refusal>
-    ensures ok { OnOk result (PassesOn out.old.items out.new.items (text_of line answer.now)
+    ensures ok { OnOk result (PassesOn out.old.items out.new.items (text_of line answer)
         (W.contents writer.old) (W.contents writer.new)) }
     ensures err { OnErr result (AppendsFront (W.contents writer.old) (W.contents writer.new)
-        (out.old.items ++ text_of line answer.now)) }
+        (out.old.items ++ text_of line answer)) }
     ensures refusals { IfErr result (λ refusal. (refusal ≡ WriteFault) ⊎ (refusal ≡ Memory)) }
 {
-    print(line, answer, out)?;
+    push_owned(line, answer, out)?;
     write_many(writer, out)?;
     Ok(())
 }

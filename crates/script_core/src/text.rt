@@ -48,6 +48,25 @@ fn push_answer(line: u32, answer: &Answer, out: &mut Vec<u8>) -> Result<(), Refu
     }
 }
 
+/// The same of an answer that is given away, which need not lie in memory as a whole then.
+///
+/// Refused as Memory alone. `out` then begins with what it was.
+#[inline(always)]
+pub(crate) fn push_owned(line: u32, answer: Answer, out: &mut Vec<u8>) -> Result<(), Refusal>
+    ensures ok { OnOk result (out.new.items ≡ out.old.items ++ text_of line answer) }
+    ensures err { OnErr result ((result ≡ Err Memory) × StartsWith out.new.items out.old.items) }
+{
+    match answer {
+        Answer::Done => push_done(out),
+        Answer::Value(value) => push_value(value, out),
+        Answer::Raised(value, fired) => push_raised(value, fired.as_slice(), out),
+        Answer::Info(info) => push_info(&info, out),
+        Answer::Show(rows) => push_show(rows.as_slice(), out),
+        Answer::Report(report) => push_report(&report, out),
+        Answer::Refused(refusal) => push_refusal(line, refusal, out),
+    }
+}
+
 fn push_done(out: &mut Vec<u8>) -> Result<(), Refusal>
     ensures ok { OnOk result (out.new.items ≡ out.old.items ++ line_text (codes "ok" ∷ [])) }
     ensures err { OnErr result ((result ≡ Err Memory) × StartsWith out.new.items out.old.items) }
