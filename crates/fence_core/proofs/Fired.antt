@@ -22,7 +22,9 @@ use Rattle.fence_core.proofs.Registered.{is_at-true, is_at-is}
 use Rattle.fence_core.proofs.Indexed.{fires-due}
 use Rattle.fence_core.specs.Watch.{Watch, is_for, cookies_of}
 use Rattle.fence_core.specs.Watches.{fires}
-use Rattle.fence_core.specs.Told.{at, cookie_if_fires, with_cookie, IsTold, AreSomeTold, Fires}
+use Rattle.fence_core.specs.Told.{at, cookie_if_fires, with_cookie, IsTold, AreSomeTold, Fires, told_of}
+use Rattle.fence_core.specs.declared.watches.point_index.alone.Fired.{Fired}
+use Rattle.fence_core.specs.declared.watches.point_index.alone.Fired.TheVariants.{Nothing, One, Several}
 
 -- the cookies of the watches that fire, by registration
 told : List ℕ → List (ℕ × Watch) → List (ℕ × ℕ)
@@ -154,6 +156,16 @@ values-fired reach kept es index fired ordered h rising some all =
     values-IsTold reach es fired ordered rising (λ r. IsTold-all reach es fired r some (λ w found fired_it.
     let k = fires-due es index reach kept r w h found fired_it in
     subst (IsTold es reach fired) k.1 (all k.0 k.3 k.2)))
+
+ordered-told_of : (f : Fired) → IsStrictlySortedBy nat_cmp (keys_of (told_of f))
+unfolding IsStrictlySortedBy
+ordered-told_of Nothing = tt
+ordered-told_of (One registration cookie) = (tt, tt)
+ordered-told_of Several = tt
+
+-- the same where one watch is told at most
+pub values-told_of : (reach kept : List ℕ) (es : List (ℕ × Watch)) (index : List WaitingPoint) (f : Fired) → IsStrictlySortedBy nat_cmp (keys_of es) → IsIndexed es index kept → AreSomeTold es reach (told_of f) → ((k : WaitingPoint) → is_due k.ctx (value_at reach k.ctx) k ≡ true → holds index k ≡ true → IsTold es reach (told_of f) k.registration) → values_of (told_of f) ≡ cookies_of (filter (fires reach) (values_of es))
+values-told_of reach kept es index f ordered h some all = values-fired reach kept es index (told_of f) ordered h (ordered-told_of f) some all
 
 -- where no point is due, no watch fires
 pub none-due : (reach kept : List ℕ) (es : List (ℕ × Watch)) (index : List WaitingPoint) → IsStrictlySortedBy nat_cmp (keys_of es) → IsIndexed es index kept → ((k : WaitingPoint) → holds index k ≡ true → is_due k.ctx (value_at reach k.ctx) k ≡ false) → cookies_of (filter (fires reach) (values_of es)) ≡ []

@@ -4,7 +4,7 @@ use Rattle.std.specs.declared.cmp.Ordering.{Ordering}
 use Rattle.std.specs.declared.cmp.Ordering.TheVariants.{Less, Equal, Greater}
 use Rattle.std.specs.Ordering.{is_eq, is_lt, is_gt, is_le, nat_cmp, ordering_then, match_ordering}
 use Rattle.std.specs.List.{list_any}
-use Rattle.std.specs.Prelude.{IfSome, slice_get}
+use Rattle.std.specs.Prelude.{IfSome, IfNone, slice_get, Option, None, Some}
 use Rattle.std.proofs.lemmas.Bool.{and_parts, and_from, leb-true, le-leb, eqb-true, eq-eqb, cases_Bool, false≢true}
 use Rattle.std.proofs.lemmas.Bool.Decides.{nat_tests}
 use Rattle.std.proofs.lemmas.Cmp.{ranked}
@@ -199,31 +199,65 @@ is_of-above_take reach (p ∷ ps) (suc i) registration k none =
     by true head rest = rest
     by false head rest = ap (λ b. b || is_of (above reach (take i ps)) registration k) head ∙ rest
 
--- the first point of a range, and a range of none
-pub due-first : (ctx value most : ℕ) (low high : WaitingPoint) (r rest : List WaitingPoint) (x : WaitingPoint) (ks : List WaitingPoint) → low ≡ record { ctx = ctx; value = 0; registration = 0 } → high ≡ record { ctx = ctx; value = value; registration = most } → r ≡ x ∷ rest → All (λ k. ((is_gt (order low k) ≡ false) × (is_gt (order k high) ≡ false)) × (list_any (λ y. is_eq (order k y)) ks ≡ true)) r → (is_due ctx value x ≡ true) × (holds ks x ≡ true)
-due-first ctx value most low high r rest x ks low_is high_is is all =
-    let P : WaitingPoint → Type 0 = λ k. ((is_gt (order low k) ≡ false) × (is_gt (order k high) ≡ false)) × (list_any (λ y. is_eq (order k y)) ks ≡ true) in
-    let h = All-head P x rest (subst (All P) is all) in (
-      due-between ctx value most x (subst (λ w. is_gt (order w x) ≡ false) low_is h.0.0) (subst (λ w. is_gt (order x w) ≡ false) high_is h.0.1),
-      sym (found-holds x ks) ∙ h.1,
-    )
+order-ctx : (a b : WaitingPoint) → is_gt (order a b) ≡ false → a.ctx ≤ b.ctx
+order-ctx a b first = elim (gt-then _ _ first) [
+  | inl less ↦ let below = less-nat a.ctx b.ctx less in omega arith
+  | inr equal ↦ let is = equal-nat a.ctx b.ctx equal.0 in omega arith
+]
 
-pub due-least : (ctx value most : ℕ) (low high : WaitingPoint) (r rest : List WaitingPoint) (x : WaitingPoint) (ks : List WaitingPoint) → low ≡ record { ctx = ctx; value = 0; registration = 0 } → high ≡ record { ctx = ctx; value = value; registration = most } → r ≡ x ∷ rest → is_due ctx value x ≡ true
-    → ((q : WaitingPoint) → (is_gt (order low q) ≡ false) × (is_gt (order q high) ≡ false) → list_any (λ y. is_eq (order q y)) ks ≡ true → IfSome (slice_get r 0) (λ k. is_gt (order k q) ≡ false)) → (k : WaitingPoint) → is_due ctx value k ≡ true → k.registration ≤ most → holds ks k ≡ true → x.value ≤ k.value
-due-least ctx value most low high r rest x ks low_is high_is is its least k due last there =
-    let between = between-due ctx value most k due last in
-    let head = least k (subst (λ w. is_gt (order w k) ≡ false) (sym low_is) between.0, subst (λ w. is_gt (order k w) ≡ false) (sym high_is) between.1) (found-holds k ks ∙ there) in
-    let first : is_gt (order x k) ≡ false = subst (λ xs. IfSome (slice_get xs 0) (λ y. is_gt (order y k) ≡ false)) is head in
+-- it is none of the points before those of a context
+abbrev IsFrom : WaitingPoint → WaitingPoint → Type 0
+IsFrom low k = (is_gt (order low k) ≡ false) × Unit {0}
+
+due-from_first : (ctx value : ℕ) (low k : WaitingPoint) → low ≡ record { ctx = ctx; value = 0; registration = 0 } → is_due ctx value k ≡ true → is_gt (order low k) ≡ false
+due-from_first ctx value low k low_is due = subst (λ w. is_gt (order w k) ≡ false) (sym low_is) (between-due ctx value k.registration k due (omega arith)).0
+
+pub if_some-then : {P Q : WaitingPoint → Type 0} (o : Option WaitingPoint) → IfSome o P → ((k : WaitingPoint) → P k → Q k) → IfSome o Q
+if_some-then None h f = tt
+if_some-then (Some k) h f = f k h
+
+pub if_none-then : {A B : Type 0} (o : Option WaitingPoint) → IfNone o A → (A → B) → IfNone o B
+if_none-then None h f = f h
+if_none-then (Some k) h f = tt
+
+-- the first point from there on, and none
+pub first-there : (low : WaitingPoint) (r rest : List WaitingPoint) (x : WaitingPoint) (ks : List WaitingPoint) → r ≡ x ∷ rest → All (λ k. IsFrom low k × (list_any (λ y. is_eq (order k y)) ks ≡ true)) r → (is_gt (order low x) ≡ false) × (holds ks x ≡ true)
+first-there low r rest x ks is all =
+    let P : WaitingPoint → Type 0 = λ k. IsFrom low k × (list_any (λ y. is_eq (order k y)) ks ≡ true) in
+    let h = All-head P x rest (subst (All P) is all) in
+    (h.0.0, sym (found-holds x ks) ∙ h.1)
+
+first-before : (ctx value : ℕ) (low : WaitingPoint) (r rest : List WaitingPoint) (x : WaitingPoint) (ks : List WaitingPoint) → low ≡ record { ctx = ctx; value = 0; registration = 0 } → r ≡ x ∷ rest → ((q : WaitingPoint) → IsFrom low q → list_any (λ y. is_eq (order q y)) ks ≡ true → IfSome (slice_get r 0) (λ k. is_gt (order k q) ≡ false)) → (k : WaitingPoint) → is_due ctx value k ≡ true → holds ks k ≡ true → is_gt (order x k) ≡ false
+first-before ctx value low r rest x ks low_is is least k due there =
+    subst (λ xs. IfSome (slice_get xs 0) (λ y. is_gt (order y k) ≡ false)) is (least k (due-from_first ctx value low k low_is due, tt) (found-holds k ks ∙ there))
+
+pub first-least : (ctx value : ℕ) (low : WaitingPoint) (r rest : List WaitingPoint) (x : WaitingPoint) (ks : List WaitingPoint) → low ≡ record { ctx = ctx; value = 0; registration = 0 } → r ≡ x ∷ rest → is_due ctx value x ≡ true → ((q : WaitingPoint) → IsFrom low q → list_any (λ y. is_eq (order q y)) ks ≡ true → IfSome (slice_get r 0) (λ k. is_gt (order k q) ≡ false)) → (k : WaitingPoint) → is_due ctx value k ≡ true → holds ks k ≡ true → x.value ≤ k.value
+first-least ctx value low r rest x ks low_is is its least k due there =
     let same = eqb-true x.ctx ctx (and_parts (nat_eq x.ctx ctx) (nat_le x.value value) its).0 in
     let also = eqb-true k.ctx ctx (and_parts (nat_eq k.ctx ctx) (nat_le k.value value) due).0 in
-    order-value x k first (same ∙ sym also)
+    order-value x k (first-before ctx value low r rest x ks low_is is least k due there) (same ∙ sym also)
 
-pub due-none : (ctx value most : ℕ) (low high : WaitingPoint) (ks : List WaitingPoint) → low ≡ record { ctx = ctx; value = 0; registration = 0 } → high ≡ record { ctx = ctx; value = value; registration = most } → ((q : WaitingPoint) → (is_gt (order low q) ≡ false) × (is_gt (order q high) ≡ false) → list_any (λ y. is_eq (order q y)) ks ≡ false) → (k : WaitingPoint) → is_due ctx value k ≡ true → k.registration ≤ most → holds ks k ≡ false
-due-none ctx value most low high ks low_is high_is none k due last =
-    let between = between-due ctx value most k due last in
-    sym (found-holds k ks) ∙ none k (subst (λ w. is_gt (order w k) ≡ false) (sym low_is) between.0, subst (λ w. is_gt (order k w) ≡ false) (sym high_is) between.1)
+-- where the first is not due, none is
+pub first-past : (ctx value : ℕ) (low : WaitingPoint) (r rest : List WaitingPoint) (x : WaitingPoint) (ks : List WaitingPoint) → low ≡ record { ctx = ctx; value = 0; registration = 0 } → r ≡ x ∷ rest → is_due ctx value x ≡ false → is_gt (order low x) ≡ false → ((q : WaitingPoint) → IsFrom low q → list_any (λ y. is_eq (order q y)) ks ≡ true → IfSome (slice_get r 0) (λ k. is_gt (order k q) ≡ false)) → (k : WaitingPoint) → is_due ctx value k ≡ true → holds ks k ≡ false
+first-past ctx value low r rest x ks low_is is past above least k due = elim (cases_Bool (holds ks k)) [
+  | inl there ↦
+      let parts = and_parts (nat_eq k.ctx ctx) (nat_le k.value value) due in
+      let its = eqb-true k.ctx ctx parts.0 in
+      let most = leb-true k.value value parts.1 in
+      let first = first-before ctx value low r rest x ks low_is is least k due there in
+      let up = order-ctx x k first in
+      let down = order-ctx low x above in
+      let start : low.ctx ≡ ctx = ap (λ (w : WaitingPoint). w.ctx) low_is in
+      let same : x.ctx ≡ ctx = omega arith in
+      let least_value = order-value x k first (same ∙ sym its) in
+      absurd (false≢true (sym past ∙ due-from ctx value x same (omega arith)))
+  | inr none ↦ none
+]
 
--- a loop that takes out the first that is due
+pub first-none : (ctx value : ℕ) (low : WaitingPoint) (ks : List WaitingPoint) → low ≡ record { ctx = ctx; value = 0; registration = 0 } → ((q : WaitingPoint) → IsFrom low q → list_any (λ y. is_eq (order q y)) ks ≡ false) → (k : WaitingPoint) → is_due ctx value k ≡ true → holds ks k ≡ false
+first-none ctx value low ks low_is none k due = sym (found-holds k ks) ∙ none k (due-from_first ctx value low k low_is due, tt)
+
+-- two that are the same have the same parts
 pub is_same-is : (a b : WaitingPoint) → is_same a b ≡ true → (a.ctx ≡ b.ctx) × (a.value ≡ b.value) × (a.registration ≡ b.registration)
 is_same-is a b h =
     let first = and_parts (nat_eq a.ctx b.ctx) (nat_eq a.value b.value && nat_eq a.registration b.registration) h in
@@ -236,15 +270,6 @@ is_due-same ctx value a b h = let is = is_same-is a b h in ap (λ n. nat_eq n ct
 pub shorter : (n m : ℕ) (b : Bool) → n + (if b then 1 else 0) ≡ m → b ≡ true → n < m
 shorter n m true len is = omega arith
 shorter n m false len is = absurd (cc)
-
-pub take_due-step : (ctx value : ℕ) (old mid new : List WaitingPoint) (first k : WaitingPoint) → is_due ctx value first ≡ true → holds new k ≡ (not (is_same first k) && holds mid k) → (holds mid k ≡ true → holds old k ≡ true) × (is_due ctx value k ≡ false → holds mid k ≡ holds old k) → (holds new k ≡ true → holds old k ≡ true) × (is_due ctx value k ≡ false → holds new k ≡ holds old k)
-take_due-step ctx value old mid new first k due step before = (
-  λ there. before.0 ((and_parts (not (is_same first k)) (holds mid k) (sym step ∙ there)).1),
-  λ other. elim (cases_Bool (is_same first k)) [
-    | inl same ↦ absurd (false≢true (sym other ∙ sym (is_due-same ctx value first k same) ∙ due))
-    | inr apart ↦ step ∙ ap (λ b. not b && holds mid k) apart ∙ before.1 other
-  ],
-)
 
 -- what is due is in the range
 not_lt-then : (o p : Ordering) → is_lt o ≡ false → is_lt p ≡ false → is_lt (ordering_then o p) ≡ false

@@ -1,10 +1,12 @@
 -- The watches that a rise fires, by registration.
-use Rattle.std.specs.Prelude.{◌≡◌, ℕ, true, if◌then◌else◌, List, Option, None, Some}
+use Rattle.std.specs.Prelude.{◌≡◌, ℕ, Bool, true, false, if◌then◌else◌, List, [], ◌∷◌, Option, None, Some}
 use Rattle.std.specs.Map.{lookup}
 use Rattle.std.specs.BTreeMap.{is_at}
 use Rattle.std.specs.Ordering.{nat_cmp}
 use Rattle.fence_core.specs.Watch.{Watch}
 use Rattle.fence_core.specs.Watches.{fires}
+use Rattle.fence_core.specs.declared.watches.point_index.alone.Fired.{Fired}
+use Rattle.fence_core.specs.declared.watches.point_index.alone.Fired.TheVariants.{Nothing, One, Several}
 
 -- what stands at the number
 abbrev pub at : {X : Type 0} → List (ℕ × X) → ℕ → Option X
@@ -34,3 +36,14 @@ pub record Fires (es : List (ℕ × Watch)) (reach : List ℕ) : Type 0 where
   pub watch : Watch
   pub pending : at es registration ≡ Some watch
   pub fires : fires reach watch ≡ true
+
+-- the watch that is told where there is at most one, with its cookie
+abbrev pub told_of : Fired → List (ℕ × ℕ)
+told_of Nothing = []
+told_of (One registration cookie) = (registration, cookie) ∷ []
+told_of Several = []
+
+abbrev pub is_one_at_most : Fired → Bool
+is_one_at_most Nothing = true
+is_one_at_most (One registration cookie) = true
+is_one_at_most Several = false

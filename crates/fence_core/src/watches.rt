@@ -1,5 +1,5 @@
 // Callbacks that wait for fences.
-ghost use Rattle.std.specs.Prelude.{◌≡◌, ◌↔◌, [], Ok, Err, IfOk, IfErr, OnOk, OnErr, IsOk, MatchOption, IsTrue, false, replicate};
+ghost use Rattle.std.specs.Prelude.{◌≡◌, ◌↔◌, ◌≤◌, [], ◌∷◌, Ok, Err, IfOk, IfErr, OnOk, OnErr, IsOk, MatchOption, IsTrue, false, replicate};
 ghost use Rattle.point_core.specs.declared.context.TheConstants.{CONTEXTS};
 ghost use Rattle.std.specs.List.{list_any};
 ghost use Rattle.std.specs.Map.{values_of};
@@ -14,7 +14,7 @@ mod counts;
 mod floor;
 mod point_index;
 
-use self::point_index::PointIndex;
+use self::point_index::{Fired, PointIndex};
 use crate::fence::Fence;
 use point_core::{LimitKind, Point, Reach, Refusal};
 use std::alloc::Global;
@@ -206,9 +206,25 @@ impl Watches {
             self.reach.raise_to(point);
             return Ok(Vec::new(self.alloc));
         }
+        self.after_rise_of(&point)
+    }
+
+    /// As `after_inc`, where a watch may wait for a point of its context at or below it.
+    fn after_rise_of(&mut self, point: &Point) -> Result<Vec<u64>, Refusal>
+        ensures fired { IfOk result (λ cookies. cookies.items ≡ fired_by self.old (reaching self.old.reach point.now)) }
+        ensures left { OnOk result (self.new ≡ after_rise_to self.old (reaching self.old.reach point.now)) }
+        ensures memory { IfErr result (λ e. e ≡ Memory) }
+        ensures none_fires { fired_by self.old (reaching self.old.reach point.now) ≡ [] → IsOk result }
+        ensures unchanged { OnErr result (self.new ≡ self.old) }
+        ensures pending { ArePending self.old.pending }
+    {
+        let Point { ctx, value } = *point;
         let mut reach = self.reach;
-        reach.raise_to(point);
-        self.after_rise(&reach)
+        reach.raise_to(Point { ctx, value });
+        let cookies = self.fired_alone(point, &reach)?;
+        self.remove_all(cookies.as_slice());
+        self.rise_alone(point, &reach);
+        Ok(cookies)
     }
 
     /// The cookies of the watches all of whose points are signalled at this reach, by registration.
@@ -222,6 +238,26 @@ impl Watches {
     {
         let fired = self.index.fired(self.alloc, &self.pending, reach)?;
         listed(self.alloc, &fired)
+    }
+
+    /// The same, where the reach is the last one with the point reached.
+    fn fired_alone(&mut self, point: &Point, reach: &Reach) -> Result<Vec<u64>, Refusal>
+        requires alone { reach.now ≡ reaching self.old.reach point.now }
+        requires context { 1 ≤ point.now.ctx }
+        ensures same { self.new ≡ self.old }
+        ensures fired { IfOk result (λ cookies. cookies.items ≡ fired_by self.old reach.now) }
+        ensures memory { IfErr result (λ e. e ≡ Memory) }
+        ensures none_fires { fired_by self.old reach.now ≡ [] → IsOk result }
+        ensures pending { ArePending self.old.pending }
+    {
+        if !self.is_settled {
+            return self.fired(reach);
+        }
+        match self.index.fired_alone(&self.pending, point.ctx, reach) {
+            Fired::Nothing => Ok(Vec::new(self.alloc)),
+            Fired::One(_, cookie) => one_listed(self.alloc, cookie),
+            Fired::Several => self.fired(reach),
+        }
     }
 
     /// Takes out the watches of these cookies.
@@ -243,6 +279,21 @@ impl Watches {
         self.reach = *reach;
         self.is_settled = true;
     }
+
+    /// The same, where the reach is the last one with the point reached.
+    fn rise_alone(&mut self, point: &Point, reach: &Reach)
+        requires alone { reach.now ≡ reaching self.old.reach point.now }
+        requires context { 1 ≤ point.now.ctx }
+        requires none_fires { list_any (fires reach.now) self.old.pending ≡ false }
+        ensures { self.new ≡ registry_of self.old.pending self.old.made reach.now }
+    {
+        if !self.is_settled {
+            self.rise_to(reach);
+            return;
+        }
+        self.index.take_due(point.ctx, reach.get(point.ctx));
+        self.reach = *reach;
+    }
 }
 
 /// Whether what was above the one reach is above the other, which is at least that.
@@ -250,6 +301,16 @@ fn stays_settled(is_settled: bool, before: &Reach, after: &Reach) -> bool
     ensures { IsTrue result ↔ (IsTrue is_settled × IsAtLeast before.now after.now) }
 {
     is_settled && before.at_least(after)
+}
+
+/// The cookie of the one watch that fires.
+fn one_listed(alloc: Global, cookie: u64) -> Result<Vec<u64>, Refusal>
+    ensures listed { IfOk result (λ cookies. cookies.items ≡ cookie ∷ []) }
+    ensures memory { IfErr result (λ e. e ≡ Memory) }
+{
+    let mut cookies = Vec::new(alloc);
+    cookies.push(cookie).map_err(|_| Refusal::Memory)?;
+    Ok(cookies)
 }
 
 /// The cookies, by registration.

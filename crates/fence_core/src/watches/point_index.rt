@@ -7,13 +7,16 @@ ghost use Rattle.std.specs.List.Sorted.{IsStrictlySortedBy};
 ghost use Rattle.point_core.specs.declared.refusal.Refusal.TheVariants.{Memory};
 ghost use Rattle.fence_core.specs.declared.watches.point_index.WaitingPoint.{WaitingPoint as Waiting};
 ghost use Rattle.fence_core.specs.PointIndex.{waiting, is_same, holds, is_of, above, is_due, AreWaiting};
-ghost use Rattle.fence_core.specs.Told.{IsTold, AreSomeTold, Fires};
+ghost use Rattle.fence_core.specs.Told.{IsTold, AreSomeTold, Fires, told_of, is_one_at_most};
 ghost use Rattle.fence_core.specs.Counts.{AreCounted, FireByCount};
 ghost use Rattle.point_core.specs.Reach.{value_at};
 ghost use Rattle.point_core.specs.declared.context.TheConstants.{CONTEXTS};
 
+mod alone;
 mod firing;
 
+pub(super) use self::alone::Fired;
+use self::alone::fired_alone;
 use self::firing::{start_reached, tell_reached};
 use super::PendingWatch;
 use super::counts::Counts;
@@ -63,6 +66,17 @@ impl WaitingPoint {
             value,
             registration: u64::MAX,
         }
+    }
+
+    /// Itself, where it is of that context, at or below the value.
+    fn if_due(&self, ctx: Context, value: u64) -> Option<WaitingPoint>
+        ensures due { IfSome result (λ k. (k ≡ self.now) × (is_due ctx value self.now ≡ true)) }
+        ensures past { IfNone result (is_due ctx value self.now ≡ false) }
+    {
+        if self.ctx.number() != ctx.number() || self.value > value {
+            return None;
+        }
+        Some(*self)
     }
 }
 
@@ -171,26 +185,34 @@ impl PointIndex {
 
     /// Takes out the points of the context at or below the value.
     #[inline(never)]
-    fn take_due(&mut self, ctx: Context, value: u64)
+    pub(super) fn take_due(&mut self, ctx: Context, value: u64)
+        ensures waiting { AreWaiting self.old }
         ensures less { (k : Waiting) → holds self.new k ≡ true → holds self.old k ≡ true }
         ensures others { (k : Waiting) → is_due ctx value k ≡ false → holds self.new k ≡ holds self.old k }
         ensures none_left { (k : Waiting) → is_due ctx value k ≡ true → holds self.new k ≡ false }
     {
-        while let Some(first) = self.first_due(ctx, value) {
-            self.take(first);
-        }
-        self.raise_floor(ctx);
+        let _points = &self.points;
+        while self.take_first(ctx, value) {}
     }
 
-    /// Raises the floor of a context to just below its first point.
-    fn raise_floor(&mut self, ctx: Context)
-        ensures same { self.new ≡ self.old }
+    /// Takes the first point of the context out where it is at or below the value, and else raises the floor to just below
+    /// it. Tells whether it took one out.
+    fn take_first(&mut self, ctx: Context, value: u64) -> bool
+        ensures less { (k : Waiting) → holds self.new k ≡ true → holds self.old k ≡ true }
+        ensures others { (k : Waiting) → is_due ctx value k ≡ false → holds self.new k ≡ holds self.old k }
+        ensures fewer { result ≡ true → length self.new < length self.old }
+        ensures none_left { result ≡ false → (k : Waiting) → is_due ctx value k ≡ true → holds self.new k ≡ false }
     {
-        let value = match self.first_due(ctx, u64::MAX) {
-            Some(first) => first.value - 1,
-            None => u64::MAX,
+        let Some(first) = self.first_due(ctx, u64::MAX) else {
+            self.floor.set(ctx, u64::MAX);
+            return false;
         };
-        self.floor.set(ctx, value);
+        if first.value > value {
+            self.floor.set(ctx, first.value - 1);
+            return false;
+        }
+        self.take(first);
+        true
     }
 
     /// Takes a point out, and counts it.
@@ -222,9 +244,8 @@ impl PointIndex {
             first.value ≤ k.value) }
         ensures none { IfNone result ((k : Waiting) → is_due ctx value k ≡ true → holds self.now k ≡ false) }
     {
-        let (first, last) = (WaitingPoint::first(ctx), WaitingPoint::last(ctx, value));
-        match self.points.range(first..=last).next() {
-            Some(first) => Some(*first),
+        match self.points.range(WaitingPoint::first(ctx)..).next() {
+            Some(first) => first.if_due(ctx, value),
             None => None,
         }
     }
@@ -254,6 +275,21 @@ impl PointIndex {
         tell_reached(points, &mut self.counts, pending, floor, reach, &mut fired)?;
         let _count = fired.len();
         Ok(fired)
+    }
+
+    /// Of the watches that have a point of the context at or below its value, those that fire at the reach.
+    pub(super) fn fired_alone(
+        &self,
+        pending: &BTreeMap<u64, PendingWatch>,
+        ctx: Context,
+        reach: &Reach,
+    ) -> Fired
+        ensures waiting { AreWaiting self.now }
+        ensures some_fired { AreSomeTold pending.now.entries reach.now (told_of result) }
+        ensures told { is_one_at_most result ≡ true → (k : Waiting) → is_due ctx (value_at reach.now ctx) k ≡ true →
+            holds self.now k ≡ true → IsTold pending.now.entries reach.now (told_of result) k.registration }
+    {
+        fired_alone(&self.points, pending, ctx, reach)
     }
 }
 

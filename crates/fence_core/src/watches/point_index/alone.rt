@@ -1,0 +1,70 @@
+// Which watch fires where one context alone has risen.
+ghost use Rattle.std.specs.Prelude.{◌≡◌, ℕ, true};
+ghost use Rattle.point_core.specs.Reach.{value_at};
+ghost use Rattle.fence_core.specs.declared.watches.point_index.WaitingPoint.{WaitingPoint as Waiting};
+ghost use Rattle.fence_core.specs.PointIndex.{holds, is_due, AreWaiting};
+ghost use Rattle.fence_core.specs.Told.{IsTold, AreSomeTold, told_of, is_one_at_most};
+
+use super::WaitingPoint;
+use crate::watches::PendingWatch;
+use point_core::{Context, Reach};
+use std::collections::{BTreeMap, BTreeSet};
+
+/// The watches that fire: none, one of that registration and cookie, or maybe more than one.
+#[derive(Clone, Copy, Debug)]
+pub(in crate::watches) enum Fired {
+    Nothing,
+    One(u64, u64),
+    Several,
+}
+
+/// Of the watches that have a point of the context at or below its value, those that fire.
+#[inline(never)]
+pub(super) fn fired_alone(
+    points: &BTreeSet<WaitingPoint>,
+    pending: &BTreeMap<u64, PendingWatch>,
+    ctx: Context,
+    reach: &Reach,
+) -> Fired
+    requires waiting { AreWaiting points.now.keys }
+    ensures some_fired { AreSomeTold pending.now.entries reach.now (told_of result) }
+    ensures told { is_one_at_most result ≡ true → (k : Waiting) → is_due ctx (value_at reach.now ctx) k ≡ true →
+        holds points.now.keys k ≡ true → IsTold pending.now.entries reach.now (told_of result) k.registration }
+{
+    let value = reach.get(ctx);
+    let (first, last) = (WaitingPoint::first(ctx), WaitingPoint::last(ctx, value));
+    let mut fired = Fired::Nothing;
+    for due in points.range(first..=last) {
+        fired = with_watch(fired, due.registration, pending, reach);
+    }
+    fired
+}
+
+/// The same with one more watch, where it fires.
+fn with_watch(
+    fired: Fired,
+    registration: u64,
+    pending: &BTreeMap<u64, PendingWatch>,
+    reach: &Reach,
+) -> Fired
+    requires some_fired { AreSomeTold pending.now.entries reach.now (told_of fired) }
+    ensures some_fired { AreSomeTold pending.now.entries reach.now (told_of result) }
+    ensures before { is_one_at_most result ≡ true → is_one_at_most fired ≡ true }
+    ensures still { is_one_at_most result ≡ true → (r : ℕ) → IsTold pending.now.entries reach.now (told_of fired) r →
+        IsTold pending.now.entries reach.now (told_of result) r }
+    ensures told { is_one_at_most result ≡ true → IsTold pending.now.entries reach.now (told_of result) registration }
+{
+    if let Fired::Several = fired {
+        return fired;
+    }
+    let Some(watch) = pending.get(&registration) else {
+        return fired;
+    };
+    if !watch.fence.is_signalled(reach) {
+        return fired;
+    }
+    match fired {
+        Fired::Nothing => Fired::One(registration, watch.cookie),
+        Fired::One(_, _) | Fired::Several => Fired::Several,
+    }
+}
