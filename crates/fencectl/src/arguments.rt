@@ -11,8 +11,8 @@ use std::alloc::{AllocError, Global};
 const ABOUT: &str =
     "Runs a script of GPU fence commands and prints their answers, or runs clients on threads";
 
-/// The version, and the kit whose prover and compiler made the program.
-const VERSION: &str = "0.1.0 (proved with rattle-kit-13b logic dac8208d650f15bf)";
+/// The version, and the logic in which the program is proved: kits of one logic prove the same.
+const VERSION: &str = "0.1.0 (proved in Rattle's logic dac8208d650f15bf)";
 
 const HELP: &str = "\
 A script is read from standard input or from FILE, one command a line; a line that begins with # is a note.
