@@ -61,6 +61,7 @@ impl Desk {
     /// The answer of one command: the first refusal whose cause holds, else what the command tells. `Memory` comes
     /// last, where a growth was really refused; `value`, `close`, `wait`, `test`, `trim` and `unwatch` never answer it,
     /// and `inc` only where it fires a watch. A refused command changes nothing, and fires none.
+    #[inline(always)]
     pub fn step(&mut self, command: Command) -> Answer
         ensures answer { Answers self.old command result }
         ensures stands { (history : List Command) →
@@ -73,30 +74,31 @@ impl Desk {
         }
     }
 
+    #[inline(always)]
     fn outcome(&mut self, command: Command) -> Result<Answer, Refusal>
         ensures refused { IsRefusedFor (cause_of self.old command) result }
         ensures sure { takes_memory (fires_kept self.old) command ≡ false → IfErr result (λ e. e ≢ Refusal.Memory) }
         ensures done { IfOk result (λ given. IsDone self.old command given self.new) }
         ensures unchanged { OnErr result (self.new ≡ self.old) }
     {
-        match command {
-            Command::Timeline(name) => self.timeline(name),
-            Command::Inc(name, n) => self.inc(&name, n),
-            Command::Value(name) => self.value(&name),
-            Command::Fence(name, timeline, value) => self.fence(name, &timeline, value),
-            Command::Merge(name, first, second) => self.merge(name, &first, &second),
-            Command::Close(name) => self.close(&name),
-            Command::Wait(name) => self.wait(&name),
-            Command::Info(name) => self.info(name),
-            Command::Buffer(name) => self.buffer(name),
-            Command::Add(name, timeline, value, usage) => self.add(&name, &timeline, value, usage),
-            Command::Import(name, file, flags) => self.import(&name, &file, flags),
-            Command::Export(name, buffer, flags) => self.export(name, &buffer, flags),
-            Command::Test(name, usage) => self.test(&name, usage),
-            Command::Trim(name) => self.trim(&name),
-            Command::Watch(name, cookie) => self.watch(&name, cookie),
-            Command::Unwatch(cookie) => Ok(self.unwatch(cookie)),
-            Command::Show(name) => self.show(&name),
+        match &command {
+            Command::Timeline(name) => self.timeline(*name),
+            Command::Inc(name, n) => self.inc(name, *n),
+            Command::Value(name) => self.value(name),
+            Command::Fence(name, timeline, value) => self.fence(*name, timeline, *value),
+            Command::Merge(name, first, second) => self.merge(*name, first, second),
+            Command::Close(name) => self.close(name),
+            Command::Wait(name) => self.wait(name),
+            Command::Info(name) => self.info(*name),
+            Command::Buffer(name) => self.buffer(*name),
+            Command::Add(name, timeline, value, usage) => self.add(name, timeline, *value, *usage),
+            Command::Import(name, file, flags) => self.import(name, file, *flags),
+            Command::Export(name, buffer, flags) => self.export(*name, buffer, *flags),
+            Command::Test(name, usage) => self.test(name, *usage),
+            Command::Trim(name) => self.trim(name),
+            Command::Watch(name, cookie) => self.watch(name, *cookie),
+            Command::Unwatch(cookie) => Ok(self.unwatch(*cookie)),
+            Command::Show(name) => self.show(name),
             Command::Report => self.report(),
         }
     }

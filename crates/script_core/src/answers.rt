@@ -139,6 +139,7 @@ impl Answers {
 
 /// The answer of a line, which may be a refusal: that of its command, or the refusal that the line is. It changes the desk as
 /// `Desk::step` does.
+#[inline(always)]
 pub fn answer_line(desk: &mut Desk, body: Body) -> Answer
     ensures answer { (history : List Command) → HasHistory desk.old history
         → IsLineAnswer history body result }
