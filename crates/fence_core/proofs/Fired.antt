@@ -4,9 +4,8 @@ use Rattle.std.specs.List.{list_any, IsDistinct, AllByRecursion}
 use Rattle.std.specs.List.Sorted.{IsStrictlySortedBy}
 use Rattle.std.specs.Map.{keys_of, values_of}
 use Rattle.std.specs.BTreeMap.{is_at}
-use Rattle.std.specs.Ordering.{nat_cmp, is_eq, ordering_reverse}
-use Rattle.std.specs.declared.cmp.Ordering.{Ordering}
-use Rattle.std.specs.declared.cmp.Ordering.TheVariants.{Less, Equal, Greater}
+use Rattle.std.specs.Ordering.{nat_cmp}
+use Rattle.std.specs.declared.cmp.Ordering.TheVariants.{Less}
 use Rattle.std.specs.Cmp.{nat_eq_equiv}
 use Rattle.std.proofs.lemmas.Bool.{cases_Bool, eqb-true, false≢true}
 use Rattle.std.proofs.lemmas.Cmp.{nat_cmp_total, eq_by_cmp_equiv}
@@ -17,8 +16,7 @@ use Rattle.point_core.specs.Reach.{value_at}
 use Rattle.fence_core.specs.declared.watches.point_index.WaitingPoint.{WaitingPoint}
 use Rattle.fence_core.specs.PointIndex.{holds, is_due}
 use Rattle.fence_core.specs.Registered.{IsIndexed}
-use Rattle.fence_core.proofs.PointIndex.{equal-nat}
-use Rattle.fence_core.proofs.Registered.{is_at-true, is_at-is}
+use Rattle.fence_core.proofs.InOrder.{same_lists}
 use Rattle.fence_core.proofs.Indexed.{fires-due}
 use Rattle.fence_core.specs.Watch.{Watch, is_for, cookies_of}
 use Rattle.fence_core.specs.Watches.{fires}
@@ -85,49 +83,6 @@ values-told reach (e ∷ es) = by (fires reach e.1) (values-told reach es)
     by : (b : Bool) → values_of (told reach es) ≡ cookies_of (filter (fires reach) (values_of es)) → values_of (map (λ (e : ℕ × Watch). (e.0, e.1.cookie)) (cond b (e ∷ filter (λ e. fires reach e.1) es) (filter (λ e. fires reach e.1) es))) ≡ cookies_of (cond b (e.1 ∷ filter (fires reach) (values_of es)) (filter (fires reach) (values_of es)))
     by true rest = ap (λ cs. e.1.cookie ∷ cs) rest
     by false rest = rest
-
--- two lists by rising numbers in which the same is found are the same
-at-below : (es : List (ℕ × ℕ)) (r : ℕ) → AllByRecursion (λ y. nat_cmp r y ≡ Less) (keys_of es) → at es r ≡ None
-at-below [] r low = refl
-at-below (e ∷ es) r low = ap (λ o. cond (is_eq o) (Some e.1) (at es r)) low.0 ∙ at-below es r low.1
-
-All-less : (a b : ℕ) (ks : List ℕ) → nat_cmp a b ≡ Less → AllByRecursion (λ y. nat_cmp b y ≡ Less) ks → AllByRecursion (λ y. nat_cmp a y ≡ Less) ks
-All-less a b [] less all = all
-All-less a b (k ∷ ks) less all = (nat_cmp_total.trans a b k less all.0, All-less a b ks less all.1)
-
-at-head : (e : ℕ × ℕ) (es : List (ℕ × ℕ)) → at (e ∷ es) e.0 ≡ Some e.1
-at-head e es = ap (λ b. cond b (Some e.1) (at es e.0)) (is_at-true e.0 e.0 refl)
-
-same_lists : (xs ys : List (ℕ × ℕ)) → IsStrictlySortedBy nat_cmp (keys_of xs) → IsStrictlySortedBy nat_cmp (keys_of ys) → ((r : ℕ) → at xs r ≡ at ys r) → xs ≡ ys
-unfolding IsStrictlySortedBy
-same_lists [] [] g h same = refl
-same_lists [] (y ∷ ys) g h same = absurd (none-some y.1 (same y.0 ∙ at-head y ys))
-same_lists (x ∷ xs) [] g h same = absurd (none-some x.1 (sym (same x.0) ∙ at-head x xs))
-same_lists (x ∷ xs) (y ∷ ys) g h same = by (nat_cmp x.0 y.0) refl (same_lists xs ys g.1 h.1)
-  where
-    later : x.0 ≡ y.0 → (r : ℕ) → at xs r ≡ at ys r
-    later is r = elim (cases_Bool (is_at (nat_cmp r) x.0)) [
-      | inl here ↦
-          let at_x = is_at-is r x.0 here in
-          at-below xs r (subst (λ n. AllByRecursion (λ y. nat_cmp n y ≡ Less) (keys_of xs)) (sym at_x) g.0)
-          ∙ sym (at-below ys r (subst (λ n. AllByRecursion (λ y. nat_cmp n y ≡ Less) (keys_of ys)) (sym (at_x ∙ is)) h.0))
-      | inr past ↦
-          sym (ap (λ b. cond b (Some x.1) (at xs r)) past) ∙ same r
-          ∙ ap (λ b. cond b (Some y.1) (at ys r)) (sym (ap (λ n. is_at (nat_cmp r) n) is) ∙ past)
-    ]
-
-    less_from : (b a : ℕ) → nat_cmp a b ≡ Greater → nat_cmp b a ≡ Less
-    less_from b a greater = nat_cmp_total.antisymm b a ∙ ap ordering_reverse greater
-
-    by : (o : Ordering) → nat_cmp x.0 y.0 ≡ o → (((r : ℕ) → at xs r ≡ at ys r) → xs ≡ ys) → x ∷ xs ≡ y ∷ ys
-    by Less less rest = absurd (none-some x.1 (sym (at-below (y ∷ ys) x.0 (less, All-less x.0 y.0 (keys_of ys) less h.0)) ∙ sym (same x.0) ∙ at-head x xs))
-    by Equal equal rest =
-        let is = equal-nat x.0 y.0 equal in
-        let value = same_Some x.1 y.1 (sym (at-head x xs) ∙ same x.0 ∙ ap (at (y ∷ ys)) is ∙ at-head y ys) in
-        ap (λ n. (n, x.1) ∷ xs) is ∙ ap (λ v. (y.0, v) ∷ xs) value ∙ ap (λ zs. y ∷ zs) (rest (later is))
-    by Greater greater rest =
-        let less = less_from y.0 x.0 greater in
-        absurd (none-some y.1 (sym (at-below (x ∷ xs) y.0 (less, All-less y.0 x.0 (keys_of xs) less g.0)) ∙ same y.0 ∙ at-head y ys))
 
 -- where each registration was told, the cookies stand by registration
 values-IsTold : (reach : List ℕ) (es : List (ℕ × Watch)) (fired : List (ℕ × ℕ)) → IsStrictlySortedBy nat_cmp (keys_of es) → IsStrictlySortedBy nat_cmp (keys_of fired) → ((r : ℕ) → IsTold es reach fired r) → values_of fired ≡ cookies_of (filter (fires reach) (values_of es))

@@ -6,6 +6,7 @@ pub mod Pending
 pub mod PointIndex
 pub mod Registered
 pub mod Indexed
+pub mod InOrder
 pub mod Fired
 pub mod Signalling
 pub mod Counted

@@ -1,6 +1,7 @@
 pub mod Callbacks
 pub mod Counts
 pub mod Fence
+pub mod Pending
 pub mod PointIndex
 pub mod Registered
 pub mod Run

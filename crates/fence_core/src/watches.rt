@@ -12,8 +12,10 @@ ghost use Rattle.fence_core.specs.Watches.{no_watches, has_watch, cause_to_refus
 
 mod counts;
 mod floor;
+mod pending;
 mod point_index;
 
+use self::pending::{PendingWatch, PendingWatches};
 use self::point_index::{Fired, PointIndex};
 use crate::fence::Fence;
 use point_core::{LimitKind, Point, Reach, Refusal};
@@ -27,28 +29,12 @@ pub const WATCHES: usize = 4096;
 /// How many watches can ever be registered.
 pub const WATCHES_EVER: u64 = u64::MAX;
 
-/// A registered callback, as Linux's `struct dma_fence_cb`: the cookie that it is known by, and its fence.
-#[derive(Drop)]
-struct PendingWatch {
-    cookie: u64,
-    fence: Fence,
-}
-
-impl Model for PendingWatch {
-    ghost use Rattle.fence_core.specs.Fence.{members_of};
-    ghost use Rattle.fence_core.specs.Watch.{Watch, watch_of};
-
-    ghost Value = { Watch };
-
-    ghost view = { λ w. watch_of w.cookie (members_of w.fence) };
-}
-
 /// Callbacks on fences, by registration. Each fires once, at the first rise after which all of its points are
 /// signalled.
 #[derive(Drop)]
 pub struct Watches {
     alloc: Global,
-    pending: BTreeMap<u64, PendingWatch>,
+    pending: PendingWatches,
     registrations: HashMap<u64, u64>,
     index: PointIndex,
     made: u64,
@@ -85,7 +71,7 @@ impl Watches {
     {
         Watches {
             alloc,
-            pending: BTreeMap::new(alloc),
+            pending: PendingWatches::new(alloc),
             registrations: HashMap::new(alloc),
             index: PointIndex::new(alloc),
             made,
@@ -120,7 +106,7 @@ impl Watches {
             return Err(Refusal::Memory);
         };
         let watch = PendingWatch { cookie, fence };
-        let Ok(_watch) = self.pending.insert(registration, watch) else {
+        let Ok(_done) = self.pending.insert(registration, watch) else {
             self.registrations.remove(&cookie);
             self.index.take_all(members, registration);
             return Err(Refusal::Memory);

@@ -18,9 +18,9 @@ mod firing;
 pub(super) use self::alone::Fired;
 use self::alone::fired_alone;
 use self::firing::{start_reached, tell_reached};
-use super::PendingWatch;
 use super::counts::Counts;
 use super::floor::Floor;
+use super::pending::PendingWatches;
 use point_core::{Context, Point, Reach, Refusal, is_signalled};
 use std::alloc::Global;
 use std::collections::{BTreeMap, BTreeSet};
@@ -255,7 +255,7 @@ impl PointIndex {
     pub(super) fn fired(
         &mut self,
         alloc: Global,
-        pending: &BTreeMap<u64, PendingWatch>,
+        pending: &PendingWatches,
         reach: &Reach,
     ) -> Result<BTreeMap<u64, u64>, Refusal>
         requires by_count { FireByCount pending.now.entries self.old reach.now }
@@ -278,12 +278,7 @@ impl PointIndex {
     }
 
     /// Of the watches that have a point of the context at or below its value, those that fire at the reach.
-    pub(super) fn fired_alone(
-        &self,
-        pending: &BTreeMap<u64, PendingWatch>,
-        ctx: Context,
-        reach: &Reach,
-    ) -> Fired
+    pub(super) fn fired_alone(&self, pending: &PendingWatches, ctx: Context, reach: &Reach) -> Fired
         ensures waiting { AreWaiting self.now }
         ensures some_fired { AreSomeTold pending.now.entries reach.now (told_of result) }
         ensures told { is_one_at_most result ≡ true → (k : Waiting) → is_due ctx (value_at reach.now ctx) k ≡ true →

@@ -6,9 +6,9 @@ ghost use Rattle.fence_core.specs.PointIndex.{holds, is_due, AreWaiting};
 ghost use Rattle.fence_core.specs.Told.{IsTold, AreSomeTold, told_of, is_one_at_most};
 
 use super::WaitingPoint;
-use crate::watches::PendingWatch;
+use crate::watches::pending::PendingWatches;
 use point_core::{Context, Reach};
-use std::collections::{BTreeMap, BTreeSet};
+use std::collections::BTreeSet;
 
 /// The watches that fire: none, one of that registration and cookie, or maybe more than one.
 #[derive(Clone, Copy, Debug)]
@@ -22,7 +22,7 @@ pub(in crate::watches) enum Fired {
 #[inline(never)]
 pub(super) fn fired_alone(
     points: &BTreeSet<WaitingPoint>,
-    pending: &BTreeMap<u64, PendingWatch>,
+    pending: &PendingWatches,
     ctx: Context,
     reach: &Reach,
 ) -> Fired
@@ -41,12 +41,7 @@ pub(super) fn fired_alone(
 }
 
 /// The same with one more watch, where it fires.
-fn with_watch(
-    fired: Fired,
-    registration: u64,
-    pending: &BTreeMap<u64, PendingWatch>,
-    reach: &Reach,
-) -> Fired
+fn with_watch(fired: Fired, registration: u64, pending: &PendingWatches, reach: &Reach) -> Fired
     requires some_fired { AreSomeTold pending.now.entries reach.now (told_of fired) }
     ensures some_fired { AreSomeTold pending.now.entries reach.now (told_of result) }
     ensures before { is_one_at_most result ≡ true → is_one_at_most fired ≡ true }

@@ -11,9 +11,9 @@ ghost use Rattle.fence_core.specs.Watch.{Watch};
 ghost use Rattle.fence_core.specs.Watches.{fires};
 
 use super::WaitingPoint;
-use crate::watches::PendingWatch;
 use crate::watches::counts::Counts;
 use crate::watches::floor::Floor;
+use crate::watches::pending::PendingWatches;
 use point_core::{Context, Reach, Refusal};
 use std::collections::{BTreeMap, BTreeSet};
 
@@ -67,7 +67,7 @@ fn start_due(points: &BTreeSet<WaitingPoint>, counts: &mut Counts, ctx: Context,
 pub(super) fn tell_reached(
     points: &BTreeSet<WaitingPoint>,
     counts: &mut Counts,
-    pending: &BTreeMap<u64, PendingWatch>,
+    pending: &PendingWatches,
     floor: &Floor,
     reach: &Reach,
     fired: &mut BTreeMap<u64, u64>,
@@ -98,7 +98,7 @@ fn tell_due(
     points: &BTreeSet<WaitingPoint>,
     counts: &mut Counts,
     ctx: Context,
-    pending: &BTreeMap<u64, PendingWatch>,
+    pending: &PendingWatches,
     floor: &Floor,
     reach: &Reach,
     fired: &mut BTreeMap<u64, u64>,
@@ -134,7 +134,7 @@ fn tell_points(
     points: &BTreeSet<WaitingPoint>,
     counts: &mut Counts,
     ctx: Context,
-    pending: &BTreeMap<u64, PendingWatch>,
+    pending: &PendingWatches,
     reach: &Reach,
     fired: &mut BTreeMap<u64, u64>,
 ) -> Result<(), Refusal>
@@ -167,7 +167,7 @@ fn tell_points(
 fn pass(
     registration: u64,
     counts: &mut Counts,
-    pending: &BTreeMap<u64, PendingWatch>,
+    pending: &PendingWatches,
     fired: &mut BTreeMap<u64, u64>,
 ) -> Result<(), Refusal>
     requires some { 1 ≤ left counts.old registration }

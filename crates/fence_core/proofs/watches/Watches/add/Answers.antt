@@ -59,7 +59,7 @@ invariant_of-self-2 c =
     let unreached = ap (are_reached c.args.reach.now) (its ∙ c.members-members.ensures.value) ∙ sym c.is_signalled.ensures ∙ c.if-is_signalled.false in
     let high = subst (λ (r : Registry). IsAtLeast c.args.reach.now r.reach) (sym c.self.view_is) c.requires.rises in (
       AreRegistered-push c.self.inside.pending.entries c.insert-2.new.self.entries c.self.inside.registrations.entries c.insert.new.self.entries c.self.inside.made w c.self.invariant.0 new room c.in-Ok-insert.ensures.entries c.in-Ok-insert.ensures.ordered c.in-Ok.ensures.updates.0,
-      IsIndexed-push c.self.inside.pending.entries c.insert-2.new.self.entries c.self.inside.index c.put_above.new.self c.args.reach.now c.self.inside.reach c.self.inside.made w c.self.invariant.1 c.self.invariant.0.before high unreached c.in-Ok-insert.ensures.updates.0
+      IsIndexed-push c.self.inside.pending.entries c.insert-2.new.self.entries c.self.inside.index c.put_above.new.self c.args.reach.now c.self.inside.reach c.self.inside.made w c.self.invariant.1 c.self.invariant.0.before high unreached c.in-Ok-insert.ensures.updates
           (λ k. c.in_default.ensures.put k ∙ ap (λ ps. is_of (above c.args.reach.now ps) c.self.inside.made k || holds c.self.inside.index k) (sym its)),
       λ settled.
           let both = c.stays_settled-self-inside.ensures.0 settled in

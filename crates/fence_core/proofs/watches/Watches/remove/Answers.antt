@@ -43,7 +43,7 @@ pub invariant_of-self-2 : goal.invariant_of-self-2
 invariant_of-self-2 c =
     let its = c.members.ensures.value ∙ ap (λ (w : Watch). w.points) c.watch.view_is in (
       AreRegistered-remove c.self.inside.pending.entries c.remove-2.new.self.entries c.self.inside.registrations.entries c.remove.new.self.entries c.self.inside.made c.args.cookie c.in-Some.registration c.self.invariant.0 (sym c.in-Some.ensures.value) c.in-Some-remove.ensures.entries c.in-Some-remove.ensures.ordered c.in-Some.ensures.updates.0,
-      IsIndexed-remove c.self.inside.pending.entries c.remove-2.new.self.entries c.self.inside.index c.take_all.new.self c.self.inside.reach c.in-Some.registration c.in-Some-remove.watch c.self.invariant.1 (sym c.in-Some-remove.ensures.value) c.in-Some-remove.ensures.updates.0
+      IsIndexed-remove c.self.inside.pending.entries c.remove-2.new.self.entries c.self.inside.index c.take_all.new.self c.self.inside.reach c.in-Some.registration c.in-Some-remove.watch c.self.invariant.1 (sym c.in-Some-remove.ensures.value) c.in-Some-remove.ensures.updates
           (λ k. c.take_all.ensures k ∙ ap (λ ps. not (is_of ps c.in-Some.registration k) && holds c.self.inside.index k) its),
       λ settled. AreAbove-less c.self.inside.index c.take_all.new.self c.self.inside.reach (c.self.invariant.2 settled)
           (λ k there. (and_parts (not (is_of c.members.result.now c.in-Some.registration k)) (holds c.self.inside.index k) (sym (c.take_all.ensures k) ∙ there)).1),
