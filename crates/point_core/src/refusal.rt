@@ -3,26 +3,19 @@ ghost use Rattle.std.specs.Prelude.{◌≡◌};
 ghost use Rattle.point_core.specs.Refusal.{refusal_number, refusal_name, limit_word};
 
 use std::alloc::AllocError;
+use std::fmt;
 use thiserror::Error;
 
 /// Which limit was met.
-#[derive(Clone, Copy, Debug, PartialEq, Eq, Hash, Error)]
+#[derive(Clone, Copy, Debug, PartialEq, Eq, Hash)]
 pub enum LimitKind {
-    #[error("timelines")]
     Timelines,
-    #[error("buffers")]
     Buffers,
-    #[error("files")]
     Files,
-    #[error("watches")]
     Watches,
-    #[error("flags")]
     Flags,
-    #[error("clients")]
     Clients,
-    #[error("plan")]
     Plan,
-    #[error("script")]
     Script,
 }
 
@@ -75,6 +68,12 @@ impl From<AllocError> for Refusal {
 
     fn from(_error: AllocError) -> Self {
         Refusal::Memory
+    }
+}
+
+impl fmt::Display for LimitKind {
+    fn fmt<W: fmt::Write>(&self, f: &mut fmt::Formatter<W>) -> fmt::Result {
+        f.write_str(self.word())
     }
 }
 
