@@ -1,9 +1,9 @@
 // One command in, one answer out.
 ghost use Rattle.std.specs.Prelude.{◌≡◌, ◌≢◌, false, List, [], IsOk, IfOk, IfErr, OnErr};
-ghost use Rattle.desk_core.specs.declared.command.Command.{Command};
+ghost use Rattle.command_core.specs.declared.command.Command.{Command};
 
 use crate::answer::Answer;
-use crate::command::Command;
+use command_core::Command;
 use crate::{info, report};
 use dmabuf_core::{Buffers, SyncFlags};
 use fence_core::{Fence, Watches};

@@ -5,7 +5,7 @@ ghost use Rattle.desk_core.specs.Desk.{HasHistory};
 ghost use Rattle.desk_core.specs.Headline.{TellsSums, TellsWhatWasPut, TellsWhatIsInBuffers, TellsWhatFires};
 
 use crate::answer::Answer;
-use crate::command::Command;
+use command_core::Command;
 use crate::desk::Desk;
 use point_core::Refusal;
 use std::alloc::Global;

@@ -1,7 +1,7 @@
 -- What the first word of a line says of the words behind it.
 use Rattle.std.specs.Prelude.{ℕ, if◌then◌else◌, List, Option, None, Some, option_map}
-use Rattle.desk_core.specs.declared.command.Command.{Command}
-use Rattle.desk_core.specs.declared.command.Command.TheVariants as command
+use Rattle.command_core.specs.declared.command.Command.{Command}
+use Rattle.command_core.specs.declared.command.Command.TheVariants as command
 use Rattle.script_core.specs.declared.table.Kind.{Kind}
 use Rattle.script_core.specs.declared.table.Kind.TheVariants.{Timeline, Inc, Value, Fence, Merge, Close, Wait, Info, Buffer, Add, Import, Export, Test, Trim, Watch, Unwatch, Show, Report}
 use Rattle.script_core.specs.Table.{one_name, one_number, name_and_number, two_names_and_number, three_names, two_names_number_and_usage, two_names_and_flags, name_and_usage}

@@ -2,7 +2,7 @@
 use Rattle.std.specs.Prelude.{ℕ, nat_lt, nat_eq, Bool, if◌then◌else◌, List, [], ◌∷◌, length, Option, None, Some, codes}
 use Rattle.std.specs.List.{starts_with}
 use Rattle.point_core.specs.declared.refusal.Refusal.TheVariants.{Syntax, LongLine}
-use Rattle.desk_core.specs.declared.command.Command.{Command}
+use Rattle.command_core.specs.declared.command.Command.{Command}
 use Rattle.script_core.specs.declared.line.TheConstants.{LINE_BYTES}
 use Rattle.script_core.specs.declared.line.Body.{Body}
 use Rattle.script_core.specs.declared.line.Body.TheVariants.{Cmd, Bad}

@@ -3,7 +3,7 @@ use Rattle.std.specs.Prelude.{◌≡◌, ◌≢◌, ◌≤◌, ℕ, List, [], �
 use Rattle.std.specs.List.{AllByRecursion}
 use Rattle.std.specs.Io.KnownBytes.{Appends, Consumes}
 use Rattle.point_core.specs.declared.refusal.Refusal.TheVariants.{Memory}
-use Rattle.desk_core.specs.declared.command.Command.{Command}
+use Rattle.command_core.specs.declared.command.Command.{Command}
 use Rattle.desk_core.specs.declared.answer.Answer.{Answer}
 use Rattle.desk_core.specs.declared.answer.Answer.TheVariants as answer
 use Rattle.desk_core.specs.Answer.{answer_to, is_refused}

@@ -6,8 +6,8 @@ use Rattle.std.specs.Str.{bytes_eq}
 use Rattle.point_core.specs.declared.name.TheConstants.{NAME_BYTES}
 use Rattle.point_core.specs.Name.{is_name_byte}
 use Rattle.point_core.specs.declared.entry.Usage.{Usage}
-use Rattle.desk_core.specs.declared.command.Command.{Command}
-use Rattle.desk_core.specs.declared.command.Command.TheVariants.{Timeline, Inc, Value, Fence, Merge, Close, Wait, Info, Buffer, Add, Import, Export, Test, Trim, Watch, Unwatch, Show, Report}
+use Rattle.command_core.specs.declared.command.Command.{Command}
+use Rattle.command_core.specs.declared.command.Command.TheVariants.{Timeline, Inc, Value, Fence, Merge, Close, Wait, Info, Buffer, Add, Import, Export, Test, Trim, Watch, Unwatch, Show, Report}
 use Rattle.script_core.specs.Number.{number_of}
 use Rattle.script_core.specs.Usages.{usage_of, flags_of}
 use Rattle.script_core.specs.Words.{are_none, one_of, two_of, three_of, four_of}

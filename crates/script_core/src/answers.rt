@@ -2,7 +2,7 @@
 ghost use Rattle.std.specs.Prelude.{◌≡◌, ◌+◌, ◌<◌, ◌≤◌, ◌⊎◌, ◌++◌, ◌∷◌, [], List, ℕ, Option, IfOk, OnOk, OnErr, IfErr};
 ghost use Rattle.std.specs.Io.KnownBytes.{Keeps};
 ghost use Rattle.point_core.specs.declared.refusal.Refusal.TheVariants.{Write as WriteFault, Memory};
-ghost use Rattle.desk_core.specs.declared.command.Command.{Command};
+ghost use Rattle.command_core.specs.declared.command.Command.{Command};
 ghost use Rattle.desk_core.specs.Desk.{HasHistory};
 ghost use Rattle.script_core.specs.declared.line.Line.{Line as LineModel};
 ghost use Rattle.script_core.specs.Script.{answered};

@@ -3,7 +3,7 @@
 use point_core::{Name, Usage};
 
 /// A command, with the words of its line in a script. Timelines, files and buffers have name spaces of their own.
-#[derive(Clone, Copy, Debug, PartialEq, Eq, Hash)]
+#[derive(Clone, Copy, Debug, PartialEq, Eq)]
 pub enum Command {
     /// `timeline T`: makes a timeline at 0, as libsync's `sw_sync_timeline_create`.
     Timeline(Name),
