@@ -3,15 +3,13 @@ ghost use Rattle.std.specs.Prelude.{◌≡◌, ◌+◌, ◌⊎◌, List, ℕ, []
 ghost use Rattle.std.specs.Io.KnownBytes.{Consumes};
 ghost use Rattle.point_core.specs.declared.refusal.Refusal.TheVariants.{Read as ReadFault, Write as WriteFault, Memory};
 ghost use Rattle.script_core.specs.Answering.{HasAnswered, HasAnsweredBytes};
-ghost use Rattle.script_core.specs.Bytes.{ConsumesAtMost};
-ghost use Rattle.script_core.specs.Output.{WritesFront, IsInput, AnswersScript, AnswersEndedLines};
-ghost use Rattle.script_core.specs.Script.{script_of};
+ghost use Rattle.line_core.specs.Reading.{ConsumesAtMost, IsInput};
+ghost use Rattle.script_core.specs.Output.{WritesFront, AnswersScript, AnswersEndedLines};
+ghost use Rattle.line_core.specs.Script.{script_of};
 
 use crate::answers::Answers;
-use crate::line::body_of;
-use crate::script::{Ending, SCRIPT_BYTES, last_body};
-use crate::script_lines::ScriptLines;
 use crate::totals::Totals;
+use line_core::{Ending, SCRIPT_BYTES, ScriptLines, body_of, last_body};
 use point_core::Refusal;
 use std::alloc::Global;
 use std::io::{Read, Write};

@@ -1,8 +1,9 @@
 use Rattle.std.proofs.Common.{take, refl}
 use Rattle.std.proofs.lemmas.Result.{err_from_is_err_and}
-use Rattle.script_core.specs.declared.script.TheConstants.{SCRIPT_BYTES}
-use Rattle.script_core.specs.Script.{lines_until, script_of}
-use Rattle.script_core.proofs.Inputs.{some_input, front_written, all_written, ended_written, reads_front, WritesFront-all}
+use Rattle.line_core.specs.declared.script.TheConstants.{SCRIPT_BYTES}
+use Rattle.line_core.specs.Script.{lines_until, script_of}
+use Rattle.line_core.proofs.Inputs.{some_input, reads_front}
+use Rattle.script_core.proofs.Inputs.{front_written, all_written, ended_written, WritesFront-all}
 use Rattle.script_core.proofs.Progress.{WritesFront-none}
 use Rattle.script_core.proofs.answering.engine.Goals as goal
 
