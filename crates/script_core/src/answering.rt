@@ -50,7 +50,29 @@ pub fn engine<R: Read, W: Write>(
         (refusal ≡ ReadFault) ⊎ (refusal ≡ WriteFault) ⊎ (refusal ≡ Memory)) }
 {
     let mut answers = Answers::new(alloc)?;
-    let ending = answer_lines(reader, &mut answers, writer)?;
+    answer_script(reader, &mut answers, writer)
+}
+
+fn answer_script<R: Read, W: Write>(
+    reader: &mut R,
+    answers: &mut Answers,
+    writer: &mut W,
+) -> Result<Totals, Refusal>
+    requires fresh { HasAnswered [] answers.old (W.contents writer.old) (W.contents writer.old) }
+    ensures ok { IfOk result (λ totals. (script : List ℕ) × IsInput (R.remaining reader.old) script
+        × AnswersScript script totals (W.contents writer.old) (W.contents writer.new)) }
+    ensures reads { IfOk result (λ _. IfSome (R.remaining reader.old) (λ input.
+        Consumes (R.remaining reader.old) (R.remaining reader.new) (take (SCRIPT_BYTES + 1) input))) }
+    ensures within { ConsumesAtMost (SCRIPT_BYTES + 1) (R.remaining reader.old) (R.remaining reader.new) }
+    ensures read { result ≡ Err ReadFault
+        → AnswersEndedLines (R.remaining reader.old) (R.remaining reader.new)
+        (W.contents writer.old) (W.contents writer.new) }
+    ensures err { OnErr result ((script : List ℕ) × IsInput (R.remaining reader.old) script
+        × WritesFront (script_of script) (W.contents writer.old) (W.contents writer.new)) }
+    ensures refusals { IfErr result (λ refusal.
+        (refusal ≡ ReadFault) ⊎ (refusal ≡ WriteFault) ⊎ (refusal ≡ Memory)) }
+{
+    let ending = answer_lines(reader, answers, writer)?;
     let totals = answers.finish(writer)?;
     match ending {
         Ending::Failed => Err(Refusal::Read),
