@@ -1,8 +1,8 @@
 -- What the example's display finds, by the commands before it.
 use Rattle.std.proofs.Common.{◌≡◌, ◌↔◌, ℕ, true, false, List, [], ◌∷◌, ◌++◌, codes, refl}
 use Rattle.point_core.specs.declared.entry.Usage.TheVariants.{Write}
-use Rattle.desk_core.specs.declared.command.Command.{Command}
-use Rattle.desk_core.specs.declared.command.Command.TheVariants as command
+use Rattle.command_core.specs.declared.command.Command.{Command}
+use Rattle.command_core.specs.declared.command.Command.TheVariants as command
 use Rattle.desk_core.specs.Answer.{is_signalled}
 use Rattle.desk_core.specs.History.{world_of}
 use Rattle.caller.specs.declared.frame.Frame.{Frame}

@@ -1,6 +1,6 @@
 // One frame of a compositor, on a desk: all of the service on one thread.
 ghost use Rattle.std.specs.Prelude.{◌≡◌, ◌↔◌, List, [], ◌∷◌, ◌++◌, true, IfOk, OnOk};
-ghost use Rattle.desk_core.specs.declared.command.Command.{Command};
+ghost use Rattle.command_core.specs.declared.command.Command.{Command};
 ghost use Rattle.desk_core.specs.Answer.{is_signalled};
 ghost use Rattle.desk_core.specs.Desk.{HasHistory};
 ghost use Rattle.desk_core.specs.History.{world_of};

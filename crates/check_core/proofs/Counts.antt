@@ -3,8 +3,8 @@ use Rattle.std.proofs.Common.{◌≡◌, ◌↔◌, ℕ, ◌+◌, Bool, true, fa
 use Rattle.std.specs.Str.{bytes_eq}
 use Rattle.std.proofs.lemmas.Slice.Eq.{bytes_eq-Decides}
 use Rattle.desk_core.specs.declared.answer.Answer.{Answer}
-use Rattle.script_core.specs.declared.line.Line.{Line}
-use Rattle.script_core.specs.Script.{script_of}
+use Rattle.line_core.specs.declared.line.Line.{Line}
+use Rattle.line_core.specs.Script.{script_of}
 use Rattle.script_core.specs.Text.{text_of}
 use Rattle.check_core.specs.Expected.{expected_of, output_of_lines, IsAsExpected, differs}
 use Rattle.check_core.specs.Tally.{one_if}

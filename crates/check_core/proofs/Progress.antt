@@ -6,23 +6,24 @@ use Rattle.std.proofs.lemmas.List.{take_all, length_push}
 use Rattle.point_core.specs.declared.refusal.Refusal.TheVariants.{LongLine}
 use Rattle.desk_core.specs.declared.answer.Answer.{Answer}
 use Rattle.desk_core.specs.Desk.{HasHistory}
-use Rattle.script_core.specs.declared.line.Body.{Body}
-use Rattle.script_core.specs.declared.line.Body.TheVariants.{Bad}
-use Rattle.script_core.specs.declared.line.Line.{Line}
-use Rattle.script_core.specs.declared.line.TheConstants.{LINE_BYTES}
-use Rattle.script_core.specs.declared.script.Ending.{Ending}
-use Rattle.script_core.specs.declared.script.Ending.TheVariants as ending
-use Rattle.script_core.specs.declared.script.TheConstants.{SCRIPT_BYTES}
+use Rattle.line_core.specs.declared.line.Body.{Body}
+use Rattle.line_core.specs.declared.line.Body.TheVariants.{Bad}
+use Rattle.line_core.specs.declared.line.Line.{Line}
+use Rattle.line_core.specs.declared.line.TheConstants.{LINE_BYTES}
+use Rattle.line_core.specs.declared.script.Ending.{Ending}
+use Rattle.line_core.specs.declared.script.Ending.TheVariants as ending
+use Rattle.line_core.specs.declared.script.TheConstants.{SCRIPT_BYTES}
 use Rattle.script_core.specs.Answering.{history_along}
-use Rattle.script_core.specs.Cutting.{cut}
-use Rattle.script_core.specs.Line.{body_from, body_of}
-use Rattle.script_core.specs.Output.{AreLineAnswers, IsInput}
-use Rattle.script_core.specs.Script.{lines_of, lines_until, ending_of, script_of}
-use Rattle.script_core.specs.ScriptLines.{LinesState, HasEnded}
+use Rattle.line_core.specs.Cutting.{cut}
+use Rattle.line_core.specs.Line.{body_from, body_of}
+use Rattle.line_core.specs.Reading.{IsInput}
+use Rattle.script_core.specs.Output.{AreLineAnswers}
+use Rattle.line_core.specs.Script.{lines_of, lines_until, ending_of, script_of}
+use Rattle.line_core.specs.ScriptLines.{LinesState, HasEnded}
 use Rattle.script_core.specs.Text.{text_of}
-use Rattle.script_core.specs.Words.{words_of}
-use Rattle.script_core.proofs.AnsweredLines.{body_of-cut, ended_lines, line-answered, last-answered}
-use Rattle.script_core.proofs.Inputs.{input_from}
+use Rattle.line_core.specs.Words.{words_of}
+use Rattle.line_core.proofs.EndedLines.{body_of-cut, ended_lines, line-answered, last-answered}
+use Rattle.line_core.proofs.Inputs.{input_from}
 use Rattle.script_core.proofs.Progress.{AreLineAnswers-push, history_along-push, length-answers}
 use Rattle.check_core.specs.declared.checker.Checker.{Checker}
 use Rattle.check_core.specs.declared.tally.Tally.{Tally}

@@ -5,7 +5,7 @@ use Rattle.std.proofs.lemmas.List.{append_cancel_left}
 use Rattle.std.proofs.lemmas.Option.{cond_some}
 use Rattle.std.proofs.lemmas.Bool.Decides.{nat_tests}
 use Rattle.std.proofs.Math.ListN.{drop_of_length-le}
-use Rattle.script_core.specs.Words.{is_space}
+use Rattle.line_core.specs.Words.{is_space}
 use Rattle.check_core.specs.Expected.{drop_spaces, ended}
 
 abbrev start : List ℕ → ℕ

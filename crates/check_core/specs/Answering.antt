@@ -1,9 +1,9 @@
 -- The answer of a line, and its text.
 use Rattle.std.specs.Prelude.{◌≡◌, ℕ, List}
-use Rattle.desk_core.specs.declared.command.Command.{Command}
+use Rattle.command_core.specs.declared.command.Command.{Command}
 use Rattle.desk_core.specs.declared.answer.Answer.{Answer}
 use Rattle.desk_core.specs.Desk.{DeskState, HasHistory}
-use Rattle.script_core.specs.declared.line.Body.{Body}
+use Rattle.line_core.specs.declared.line.Body.{Body}
 use Rattle.script_core.specs.Output.{IsLineAnswer, history_after_line}
 use Rattle.script_core.specs.Text.{text_of}
 

@@ -3,14 +3,14 @@ use Rattle.std.specs.Prelude.{◌≡◌, ◌↔◌, ℕ, ◌+◌, ◌<◌, List,
 use Rattle.std.specs.Io.KnownBytes.{Consumes}
 use Rattle.desk_core.specs.declared.answer.Answer.{Answer}
 use Rattle.desk_core.specs.Desk.{HasHistory}
-use Rattle.script_core.specs.declared.line.Body.{Body}
-use Rattle.script_core.specs.declared.line.Line.{Line}
-use Rattle.script_core.specs.declared.script.Ending.{Ending}
-use Rattle.script_core.specs.declared.script.Ending.TheVariants as ending
-use Rattle.script_core.specs.declared.script.TheConstants.{SCRIPT_BYTES}
-use Rattle.script_core.specs.Bytes.{WasRead}
+use Rattle.line_core.specs.declared.line.Body.{Body}
+use Rattle.line_core.specs.declared.line.Line.{Line}
+use Rattle.line_core.specs.declared.script.Ending.{Ending}
+use Rattle.line_core.specs.declared.script.Ending.TheVariants as ending
+use Rattle.line_core.specs.declared.script.TheConstants.{SCRIPT_BYTES}
+use Rattle.line_core.specs.Reading.{WasRead}
 use Rattle.script_core.specs.Output.{AreLineAnswers}
-use Rattle.script_core.specs.Script.{script_of}
+use Rattle.line_core.specs.Script.{script_of}
 use Rattle.script_core.specs.Text.{text_of}
 use Rattle.check_core.specs.declared.checker.Checker.{Checker}
 use Rattle.check_core.specs.declared.stage.Stage.TheVariants.{Unasked}

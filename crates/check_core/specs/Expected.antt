@@ -3,9 +3,9 @@ use Rattle.std.specs.Prelude.{◌≡◌, ℕ, nat_eq, Bool, true, false, not, if
 use Rattle.std.specs.List.{starts_with, flat_map}
 use Rattle.std.specs.Option.{option_to_list}
 use Rattle.std.specs.Str.{bytes_eq}
-use Rattle.script_core.specs.Line.{body_of}
-use Rattle.script_core.specs.Script.{lines_of}
-use Rattle.script_core.specs.Words.{is_space}
+use Rattle.line_core.specs.Line.{body_of}
+use Rattle.line_core.specs.Script.{lines_of}
+use Rattle.line_core.specs.Words.{is_space}
 
 abbrev pub drop_spaces : List ℕ → List ℕ
 drop_spaces [] = []

@@ -1,8 +1,8 @@
 // What a check keeps from line to line.
 ghost use Rattle.std.specs.Prelude.{◌≡◌, ◌+◌, ◌<◌, ◌≤◌, ◌⊎◌, ◌∷◌, [], length, option_to_list, IfOk, OnOk, IfErr};
 ghost use Rattle.point_core.specs.declared.refusal.Refusal.TheVariants.{Write as WriteFault, Memory};
-ghost use Rattle.script_core.specs.declared.script.Ending.TheVariants.{Whole};
-ghost use Rattle.script_core.specs.Line.{body_of};
+ghost use Rattle.line_core.specs.declared.script.Ending.TheVariants.{Whole};
+ghost use Rattle.line_core.specs.Line.{body_of};
 ghost use Rattle.check_core.specs.Expected.{expected_text};
 ghost use Rattle.check_core.specs.Stage.{place_of};
 ghost use Rattle.check_core.specs.Answering.{AnswersInto};
@@ -14,8 +14,9 @@ use crate::stage::Stage;
 use crate::tally::Tally;
 use crate::telling::tell_difference;
 use desk_core::Desk;
+use line_core::{Body, Ending, body_of};
 use point_core::Refusal;
-use script_core::{Body, Ending, answer_line, body_of, print};
+use script_core::{answer_line, print};
 use std::alloc::Global;
 use std::io::Write;
 

@@ -2,16 +2,15 @@
 ghost use Rattle.std.specs.Prelude.{◌≡◌, ◌+◌, ◌⊎◌, List, ℕ, Err, IfOk, IfErr};
 ghost use Rattle.point_core.specs.declared.refusal.Refusal.TheVariants.{Limit, Read as ReadFault, Write as WriteFault, Memory};
 ghost use Rattle.point_core.specs.declared.refusal.LimitKind.TheVariants.{Script};
-ghost use Rattle.script_core.specs.declared.script.TheConstants.{SCRIPT_BYTES};
-ghost use Rattle.script_core.specs.Bytes.{ConsumesAtMost};
-ghost use Rattle.script_core.specs.Output.{IsInput};
+ghost use Rattle.line_core.specs.declared.script.TheConstants.{SCRIPT_BYTES};
+ghost use Rattle.line_core.specs.Reading.{ConsumesAtMost, IsInput};
 ghost use Rattle.check_core.specs.Check.{ChecksScript, IsTooLong, IsFresh, HasCheckedBytes};
 
 use crate::checker::Checker;
 use crate::tally::Tally;
 use crate::telling::tell_tally;
+use line_core::{Ending, SCRIPT_BYTES, ScriptLines};
 use point_core::{LimitKind, Refusal};
-use script_core::{Ending, SCRIPT_BYTES, ScriptLines};
 use std::alloc::Global;
 use std::io::{Read, Write};
 

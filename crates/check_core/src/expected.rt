@@ -1,6 +1,6 @@
 // What the notes of a script expect of its answers.
 ghost use Rattle.std.specs.Prelude.{◌≡◌, option_map, position, not};
-ghost use Rattle.script_core.specs.Words.{is_space};
+ghost use Rattle.line_core.specs.Words.{is_space};
 ghost use Rattle.check_core.specs.Expected.{expected_text, drop_spaces};
 
 use crate::front::strip_front;

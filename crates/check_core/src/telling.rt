@@ -4,8 +4,8 @@ ghost use Rattle.point_core.specs.declared.refusal.Refusal.TheVariants.{Write as
 
 use crate::finding::Difference;
 use crate::tally::Tally;
+use line_core::first_line;
 use point_core::Refusal;
-use script_core::first_line;
 use std::io::Write;
 
 /// Writes the line's number and bytes, and the first line of its answer that differs. Bytes other than printable ASCII are

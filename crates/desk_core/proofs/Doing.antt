@@ -8,7 +8,7 @@ use Rattle.point_core.specs.Status.{status_if}
 use Rattle.point_core.specs.Agreement.{as_entry, as_entries, point_of, listing, pending, top, all_reached, AgreesAbove, IsReached}
 use Rattle.point_core.specs.Reach.{value_at}
 use Rattle.point_core.proofs.Agreement.{listing-All, top-Some, AgreesAbove-same}
-use Rattle.desk_core.specs.declared.command.Command.TheVariants as command
+use Rattle.command_core.specs.declared.command.Command.TheVariants as command
 use Rattle.desk_core.specs.declared.answer.Answer.TheVariants as answer
 use Rattle.desk_core.specs.declared.answer.Info.{Info}
 use Rattle.desk_core.specs.declared.answer.FenceRow.{FenceRow}

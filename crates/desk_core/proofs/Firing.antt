@@ -7,8 +7,8 @@ use Rattle.std.proofs.lemmas.List.Filters.{sum_by-filter_both}
 use Rattle.point_core.specs.Agreement.{IsReached}
 use Rattle.point_core.proofs.Reached.{all_reached-IsReached}
 use Rattle.timeline_core.specs.Timeline.{has_timeline, value_of}
-use Rattle.desk_core.specs.declared.command.Command.{Command}
-use Rattle.desk_core.specs.declared.command.Command.TheVariants as command
+use Rattle.command_core.specs.declared.command.Command.{Command}
+use Rattle.command_core.specs.declared.command.Command.TheVariants as command
 use Rattle.desk_core.specs.World.{World, MadeWatch, empty_world, put_set, after, is_due, raised_reach, fired_watches, left_watches, watch_made}
 use Rattle.std.proofs.Common.{◌^◌}
 use Rattle.timeline_core.specs.Timeline.{reach_of}

@@ -3,8 +3,8 @@ use Rattle.std.specs.Prelude.{◌≡◌, refl, List, [], ◌∷◌, if◌then◌
 use Rattle.point_core.specs.declared.refusal.Refusal.TheVariants.{NoEntry, Exists, Overflow, TimedOut}
 use Rattle.point_core.specs.declared.status.Status.TheVariants.{Active, Signalled}
 use Rattle.point_core.specs.Agreement.{contexts}
-use Rattle.desk_core.specs.declared.command.Command.{Command}
-use Rattle.desk_core.specs.declared.command.Command.TheVariants as command
+use Rattle.command_core.specs.declared.command.Command.{Command}
+use Rattle.command_core.specs.declared.command.Command.TheVariants as command
 use Rattle.desk_core.specs.declared.answer.Answer.{Answer}
 use Rattle.desk_core.specs.declared.answer.Answer.TheVariants as answer
 use Rattle.desk_core.specs.declared.answer.Maker.TheVariants.{SwSync}

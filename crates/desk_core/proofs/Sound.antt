@@ -16,8 +16,8 @@ use Rattle.timeline_core.specs.Timeline.{Timeline, new_timeline, has_timeline, c
 use Rattle.timeline_core.proofs.Places.{place_from-has_timeline, place-within, context_of-place}
 use Rattle.timeline_core.proofs.Storing.{reach_of-new}
 use Rattle.desk_core.specs.declared.answer.Answer.{Answer}
-use Rattle.desk_core.specs.declared.command.Command.{Command}
-use Rattle.desk_core.specs.declared.command.Command.TheVariants as command
+use Rattle.command_core.specs.declared.command.Command.{Command}
+use Rattle.command_core.specs.declared.command.Command.TheVariants as command
 use Rattle.desk_core.specs.World.{World, MadeFile, MadeBuffer, put_set, has_made_buffer, buffer_put_set, buffer_of, with_put, after, empty_world}
 use Rattle.point_core.specs.Named.{same_name}
 use Rattle.resv_core.specs.Resv.{entry_of}

@@ -8,8 +8,8 @@ use Rattle.point_core.specs.declared.refusal.Refusal.TheVariants.{NoEntry, Exist
 use Rattle.point_core.specs.declared.refusal.LimitKind.TheVariants.{Timelines, Buffers, Files}
 use Rattle.point_core.specs.Agreement.{point_of, as_entries, listing, all_reached, AgreesAbove}
 use Rattle.syncfile_core.specs.declared.files.TheConstants.{FILES}
-use Rattle.desk_core.specs.declared.command.Command.{Command}
-use Rattle.desk_core.specs.declared.command.Command.TheVariants as command
+use Rattle.command_core.specs.declared.command.Command.{Command}
+use Rattle.command_core.specs.declared.command.Command.TheVariants as command
 use Rattle.timeline_core.specs.Timeline.{new_timeline, has_timeline, context_of, reach_of, value_of, raised}
 use Rattle.syncfile_core.specs.SyncFile.{File, plain_file, file_of}
 use Rattle.syncfile_core.specs.Files.{has_file as has_sync_file, without_file, cause_to_refuse}

@@ -14,7 +14,7 @@ use Rattle.timeline_core.specs.Timeline.{reach_of, rows_of as timeline_rows}
 use Rattle.syncfile_core.specs.SyncFile.{File}
 use Rattle.resv_core.proofs.Runs.{rows_of-AgreesAbove}
 use Rattle.dmabuf_core.specs.Buffers.{names_of, entries_of}
-use Rattle.desk_core.specs.declared.command.Command.TheVariants as command
+use Rattle.command_core.specs.declared.command.Command.TheVariants as command
 use Rattle.desk_core.specs.declared.answer.Answer.TheVariants as answer
 use Rattle.desk_core.specs.declared.answer.ShowRow.{ShowRow}
 use Rattle.desk_core.specs.declared.answer.FileRow.{FileRow}

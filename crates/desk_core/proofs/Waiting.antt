@@ -12,7 +12,7 @@ use Rattle.timeline_core.specs.Timeline.{reach_of}
 use Rattle.syncfile_core.specs.SyncFile.{File}
 use Rattle.syncfile_core.specs.Status.{is_reached, status_of}
 use Rattle.syncfile_core.specs.Files.{is_named, has_file as has_sync_file, file_at as sync_file_at, without_file, IsRefusedFor}
-use Rattle.desk_core.specs.declared.command.Command.TheVariants as command
+use Rattle.command_core.specs.declared.command.Command.TheVariants as command
 use Rattle.desk_core.specs.Desk.{DeskState}
 use Rattle.desk_core.specs.Keeping.{cause_of}
 use Rattle.desk_core.proofs.Finding.{has_sync_file-found}

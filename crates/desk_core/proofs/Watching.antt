@@ -30,7 +30,7 @@ use Rattle.desk_core.specs.World.{World, MadeWatch, has_made_watch, raised_reach
 use Rattle.desk_core.specs.Answer.{is_signalled, is_full}
 use Rattle.desk_core.specs.Desk.{DeskState, AreWatchesOf, Holds}
 use Rattle.desk_core.specs.Keeping.{points_at, Keeps, cause_of, fires_kept}
-use Rattle.desk_core.specs.declared.command.Command.TheVariants as command
+use Rattle.command_core.specs.declared.command.Command.TheVariants as command
 use Rattle.desk_core.proofs.Finding.{has_sync_file-found}
 use Rattle.desk_core.proofs.Signalling.{all_reached-keeps}
 use Rattle.desk_core.proofs.Sound.{IsAtLeast-raised}

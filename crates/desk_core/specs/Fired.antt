@@ -1,7 +1,7 @@
 -- The watches that fire along a history.
 use Rattle.std.specs.Prelude.{◌≡◌, ◌≢◌, ℕ, false, ⊤, List, [], ◌∷◌, ◌++◌, map}
-use Rattle.desk_core.specs.declared.command.Command.{Command}
-use Rattle.desk_core.specs.declared.command.Command.TheVariants as command
+use Rattle.command_core.specs.declared.command.Command.{Command}
+use Rattle.command_core.specs.declared.command.Command.TheVariants as command
 use Rattle.desk_core.specs.World.{World, MadeWatch, empty_world, after, is_due, raised_reach, fired_watches}
 use Rattle.desk_core.specs.History.{world_of}
 

@@ -25,8 +25,8 @@ use Rattle.desk_core.specs.Tables.{Tables}
 use Rattle.point_core.specs.declared.listing.TopRow.{TopRow}
 use Rattle.desk_core.specs.declared.answer.Answer.{Answer}
 use Rattle.desk_core.specs.declared.answer.Answer.TheVariants as answer
-use Rattle.desk_core.specs.declared.command.Command.{Command}
-use Rattle.desk_core.specs.declared.command.Command.TheVariants as command
+use Rattle.command_core.specs.declared.command.Command.{Command}
+use Rattle.command_core.specs.declared.command.Command.TheVariants as command
 use Rattle.desk_core.specs.World.{World, after}
 use Rattle.desk_core.specs.Answer.{told, is_refused, fence_row, or_stub, show_rows, fence_count}
 use Rattle.desk_core.specs.Desk.{DeskState, Holds}

@@ -6,8 +6,8 @@ use Rattle.point_core.specs.Agreement.{as_entry, point_of, all_reached}
 use Rattle.point_core.specs.Named.{is_named, has_named, named, without_named}
 use Rattle.resv_core.specs.Resv.{entry_of}
 use Rattle.dmabuf_core.specs.Flags.{exported, imported}
-use Rattle.desk_core.specs.declared.command.Command.{Command}
-use Rattle.desk_core.specs.declared.command.Command.TheVariants as command
+use Rattle.command_core.specs.declared.command.Command.{Command}
+use Rattle.command_core.specs.declared.command.Command.TheVariants as command
 use Rattle.timeline_core.specs.Timeline.{Timeline, new_timeline, context_of, reach_of, raised}
 
 -- a sync file, with all that was put into it. A file made of one point lists it whether or not it is signalled

@@ -35,7 +35,7 @@ pub struct Info {
 }
 
 /// A fence of a file. Its timeline's name and its driver's stay the same once it is signalled.
-#[derive(Clone, Copy, Debug, PartialEq, Eq, Hash)]
+#[derive(Clone, Copy, Debug, PartialEq, Eq)]
 pub struct FenceRow {
     pub timeline: Name,
     pub driver: Maker,
@@ -44,7 +44,7 @@ pub struct FenceRow {
 }
 
 /// The driver that made a fence.
-#[derive(Clone, Copy, Debug, PartialEq, Eq, Hash)]
+#[derive(Clone, Copy, Debug, PartialEq, Eq)]
 pub enum Maker {
     /// A timeline of the service, as the kernel's sw_sync.
     SwSync,
@@ -101,7 +101,7 @@ fn rows_beside(buffer: &BufferRows) -> u128
 }
 
 /// A sync file: how many fences file information shows of it, and whether they are signalled.
-#[derive(Clone, Copy, Debug, PartialEq, Eq, Hash)]
+#[derive(Clone, Copy, Debug, PartialEq, Eq)]
 pub struct FileRow {
     pub name: Name,
     pub status: Status,
@@ -117,7 +117,7 @@ pub struct BufferRows {
 }
 
 /// The latest pending point of a timeline at a usage or a stronger one.
-#[derive(Clone, Copy, Debug, PartialEq, Eq, Hash)]
+#[derive(Clone, Copy, Debug, PartialEq, Eq)]
 pub struct ShowRow {
     pub usage: Usage,
     pub timeline: Name,

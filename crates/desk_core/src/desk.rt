@@ -1,10 +1,10 @@
 // One command in, one answer out.
 ghost use Rattle.std.specs.Prelude.{◌≡◌, ◌≢◌, false, List, [], IsOk, IfOk, IfErr, OnErr};
-ghost use Rattle.desk_core.specs.declared.command.Command.{Command};
+ghost use Rattle.command_core.specs.declared.command.Command.{Command};
 
 use crate::answer::Answer;
-use crate::command::Command;
 use crate::{info, report};
+use command_core::Command;
 use dmabuf_core::{Buffers, SyncFlags};
 use fence_core::{Fence, Watches};
 use point_core::{Items, Name, Point, Refusal, Usage};

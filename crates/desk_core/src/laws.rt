@@ -1,7 +1,7 @@
 // What holds of every history, and of every desk that stands for one: each law is the contract of a function with an
 // empty body.
 ghost use Rattle.std.specs.Prelude.{◌≡◌, ℕ, ◌≤◌, nat_eq, count_by, List, [], ◌∷◌, ◌++◌, Contains};
-ghost use Rattle.desk_core.specs.declared.command.Command.{Command};
+ghost use Rattle.command_core.specs.declared.command.Command.{Command};
 ghost use Rattle.timeline_core.specs.Run.{AreSums};
 ghost use Rattle.desk_core.specs.History.{world_of, IsHistory, increments_in};
 ghost use Rattle.desk_core.specs.Sound.{IsSound};

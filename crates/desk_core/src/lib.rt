@@ -5,7 +5,6 @@
 #![tactic(auto)]
 
 mod answer;
-mod command;
 mod desk;
 mod info;
 pub mod laws;
@@ -13,7 +12,7 @@ mod report;
 mod runs;
 
 pub use answer::{Answer, BufferRows, FenceRow, FileRow, Info, Maker, Report, ShowRow};
-pub use command::Command;
+pub use command_core::Command;
 pub use desk::Desk;
 pub use runs::run;
 

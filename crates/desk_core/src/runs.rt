@@ -5,8 +5,8 @@ ghost use Rattle.desk_core.specs.Desk.{HasHistory};
 ghost use Rattle.desk_core.specs.Headline.{TellsSums, TellsWhatWasPut, TellsWhatIsInBuffers, TellsWhatFires};
 
 use crate::answer::Answer;
-use crate::command::Command;
 use crate::desk::Desk;
+use command_core::Command;
 use point_core::Refusal;
 use std::alloc::Global;
 

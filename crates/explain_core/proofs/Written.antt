@@ -1,6 +1,6 @@
 -- What was written where lines were answered.
 use Rattle.std.proofs.Common.{ℕ, List, [], Option, sym, append-nil}
-use Rattle.script_core.specs.declared.line.Line.{Line}
+use Rattle.line_core.specs.declared.line.Line.{Line}
 use Rattle.script_core.specs.Answering.{AnswersState, HasAnswered}
 use Rattle.script_core.specs.Output.{WritesFront}
 use Rattle.script_core.proofs.Progress.{Progress-front, AppendsFront-none}

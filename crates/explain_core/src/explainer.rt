@@ -3,16 +3,17 @@ ghost use Rattle.std.specs.Prelude.{◌≡◌, ◌+◌, ◌<◌, ◌≤◌, ◌�
 ghost use Rattle.point_core.specs.declared.refusal.Refusal.TheVariants.{Write as WriteFault, Memory};
 ghost use Rattle.script_core.specs.Answering.{HasAnswered};
 ghost use Rattle.script_core.specs.Output.{WritesFront};
-ghost use Rattle.script_core.specs.Script.{answered};
-ghost use Rattle.script_core.specs.declared.line.Line.{Line};
+ghost use Rattle.line_core.specs.Script.{answered};
+ghost use Rattle.line_core.specs.declared.line.Line.{Line};
 
 use crate::book::Book;
 use crate::look::{Look, Place};
 use crate::refused::explain_command;
 use crate::syntax::{explain_long_line, explain_long_script, explain_syntax};
 use desk_core::{Answer, Desk};
+use line_core::{Body, RawLine};
 use point_core::{LimitKind, Refusal};
-use script_core::{Answers, Body, RawLine, answer_line};
+use script_core::{Answers, answer_line};
 use std::alloc::Global;
 use std::io::Write;
 

@@ -3,15 +3,16 @@ ghost use Rattle.std.specs.Prelude.{◌≡◌, ◌+◌, ◌⊎◌, [], take, Err
 ghost use Rattle.std.specs.Io.KnownBytes.{Consumes};
 ghost use Rattle.point_core.specs.declared.refusal.Refusal.TheVariants.{Read as ReadFault, Write as WriteFault, Memory};
 ghost use Rattle.script_core.specs.Answering.{HasAnswered, HasAnsweredBytes};
-ghost use Rattle.script_core.specs.Bytes.{ConsumesAtMost};
-ghost use Rattle.script_core.specs.Output.{IsInput, WritesFront, AnswersScript, AnswersEndedLines};
-ghost use Rattle.script_core.specs.Script.{script_of};
-ghost use Rattle.script_core.specs.declared.script.TheConstants.{SCRIPT_BYTES};
+ghost use Rattle.line_core.specs.Reading.{ConsumesAtMost, IsInput};
+ghost use Rattle.script_core.specs.Output.{WritesFront, AnswersScript, AnswersEndedLines};
+ghost use Rattle.line_core.specs.Script.{script_of};
+ghost use Rattle.line_core.specs.declared.script.TheConstants.{SCRIPT_BYTES};
 
 use crate::explainer::Explainer;
 use crate::look::Look;
+use line_core::{Ending, ScriptLines, body_of, last_body};
 use point_core::Refusal;
-use script_core::{Ending, ScriptLines, Totals, body_of, last_body};
+use script_core::Totals;
 use std::alloc::Global;
 use std::io::{Read, Write};
 

@@ -1,16 +1,16 @@
 -- Lines that are answered one after another.
 use Rattle.std.specs.Prelude.{◌≡◌, ℕ, List, [], ◌∷◌, ◌++◌, take, Option}
 use Rattle.std.specs.Io.KnownBytes.{Appends}
-use Rattle.desk_core.specs.declared.command.Command.{Command}
+use Rattle.command_core.specs.declared.command.Command.{Command}
 use Rattle.desk_core.specs.declared.answer.Answer.{Answer}
 use Rattle.desk_core.specs.Desk.{DeskState, HasHistory}
-use Rattle.script_core.specs.declared.line.Line.{Line}
-use Rattle.script_core.specs.declared.script.Ending.{Ending}
-use Rattle.script_core.specs.declared.script.TheConstants.{SCRIPT_BYTES}
+use Rattle.line_core.specs.declared.line.Line.{Line}
+use Rattle.line_core.specs.declared.script.Ending.{Ending}
+use Rattle.line_core.specs.declared.script.TheConstants.{SCRIPT_BYTES}
 use Rattle.script_core.specs.declared.totals.Totals.{Totals}
-use Rattle.script_core.specs.Bytes.{WasRead}
+use Rattle.line_core.specs.Reading.{WasRead}
 use Rattle.script_core.specs.Output.{history_after_line, AreLineAnswers, texts_of, WritesAnswers, Counts}
-use Rattle.script_core.specs.Script.{lines_until}
+use Rattle.line_core.specs.Script.{lines_until}
 
 -- the history after lines that were answered so
 abbrev pub history_along : List Command → List Line → List Answer → List Command

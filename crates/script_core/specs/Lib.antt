@@ -1,15 +1,7 @@
 pub mod Answering
 pub mod Behind
 pub mod Bytes
-pub mod Cutting
-pub mod Kind
-pub mod Line
-pub mod Lines
-pub mod Number
 pub mod Output
-pub mod Script
-pub mod ScriptLines
-pub mod Table
 pub mod Text
-pub mod Usages
-pub mod Words
+pub use Rattle.line_core.specs.Reading
+pub use Rattle.line_core.specs.Script

@@ -1,21 +1,21 @@
 -- What is written for a script.
-use Rattle.std.specs.Prelude.{◌≡◌, ◌≢◌, ◌≤◌, ℕ, List, [], ◌∷◌, ◌++◌, length, Option, count_by, IfSome}
+use Rattle.std.specs.Prelude.{◌≡◌, ◌≢◌, ◌≤◌, ℕ, List, [], ◌∷◌, ◌++◌, length, Option, count_by}
 use Rattle.std.specs.List.{AllByRecursion}
 use Rattle.std.specs.Io.KnownBytes.{Appends, Consumes}
 use Rattle.point_core.specs.declared.refusal.Refusal.TheVariants.{Memory}
-use Rattle.desk_core.specs.declared.command.Command.{Command}
+use Rattle.command_core.specs.declared.command.Command.{Command}
 use Rattle.desk_core.specs.declared.answer.Answer.{Answer}
 use Rattle.desk_core.specs.declared.answer.Answer.TheVariants as answer
 use Rattle.desk_core.specs.Answer.{answer_to, is_refused}
 use Rattle.desk_core.specs.History.{world_of, IsAnswer, history_after}
 use Rattle.script_core.specs.declared.totals.Totals.{Totals}
-use Rattle.script_core.specs.declared.line.Body.{Body}
-use Rattle.script_core.specs.declared.line.Body.TheVariants.{Cmd, Bad}
-use Rattle.script_core.specs.declared.line.Line.{Line}
+use Rattle.line_core.specs.declared.line.Body.{Body}
+use Rattle.line_core.specs.declared.line.Body.TheVariants.{Cmd, Bad}
+use Rattle.line_core.specs.declared.line.Line.{Line}
 use Rattle.script_core.specs.Bytes.{AppendsFront}
-use Rattle.script_core.specs.declared.script.Ending.TheVariants as ending
-use Rattle.script_core.specs.declared.script.TheConstants.{SCRIPT_BYTES}
-use Rattle.script_core.specs.Script.{script_of, lines_until}
+use Rattle.line_core.specs.declared.script.Ending.TheVariants as ending
+use Rattle.line_core.specs.declared.script.TheConstants.{SCRIPT_BYTES}
+use Rattle.line_core.specs.Script.{script_of, lines_until}
 use Rattle.script_core.specs.Text.{text_of}
 
 -- the one answer of a line
@@ -72,10 +72,6 @@ pub record WritesFront (lines : List Line) (old new : Option (List ℕ)) : Type 
   pub whole : lines ≡ first ++ rest
   pub each : AreLineAnswers [] first given
   pub written : AppendsFront old new (texts_of first given)
-
--- the script is what the reader had, where that is known
-abbrev pub IsInput : Option (List ℕ) → List ℕ → Type 0
-IsInput known script = IfSome known (λ input. script ≡ input)
 
 -- how many answers there were, and how many of them refusals
 pub record Counts (totals : Totals) (given : List Answer) : Type 0 where

@@ -3,15 +3,13 @@ ghost use Rattle.std.specs.Prelude.{◌≡◌, ◌+◌, ◌⊎◌, List, ℕ, []
 ghost use Rattle.std.specs.Io.KnownBytes.{Consumes};
 ghost use Rattle.point_core.specs.declared.refusal.Refusal.TheVariants.{Read as ReadFault, Write as WriteFault, Memory};
 ghost use Rattle.script_core.specs.Answering.{HasAnswered, HasAnsweredBytes};
-ghost use Rattle.script_core.specs.Bytes.{ConsumesAtMost};
-ghost use Rattle.script_core.specs.Output.{WritesFront, IsInput, AnswersScript, AnswersEndedLines};
-ghost use Rattle.script_core.specs.Script.{script_of};
+ghost use Rattle.line_core.specs.Reading.{ConsumesAtMost, IsInput};
+ghost use Rattle.script_core.specs.Output.{WritesFront, AnswersScript, AnswersEndedLines};
+ghost use Rattle.line_core.specs.Script.{script_of};
 
 use crate::answers::Answers;
-use crate::line::body_of;
-use crate::script::{Ending, SCRIPT_BYTES, last_body};
-use crate::script_lines::ScriptLines;
 use crate::totals::Totals;
+use line_core::{Ending, SCRIPT_BYTES, ScriptLines, body_of, last_body};
 use point_core::Refusal;
 use std::alloc::Global;
 use std::io::{Read, Write};
@@ -52,7 +50,29 @@ pub fn engine<R: Read, W: Write>(
         (refusal ≡ ReadFault) ⊎ (refusal ≡ WriteFault) ⊎ (refusal ≡ Memory)) }
 {
     let mut answers = Answers::new(alloc)?;
-    let ending = answer_lines(reader, &mut answers, writer)?;
+    answer_script(reader, &mut answers, writer)
+}
+
+fn answer_script<R: Read, W: Write>(
+    reader: &mut R,
+    answers: &mut Answers,
+    writer: &mut W,
+) -> Result<Totals, Refusal>
+    requires fresh { HasAnswered [] answers.old (W.contents writer.old) (W.contents writer.old) }
+    ensures ok { IfOk result (λ totals. (script : List ℕ) × IsInput (R.remaining reader.old) script
+        × AnswersScript script totals (W.contents writer.old) (W.contents writer.new)) }
+    ensures reads { IfOk result (λ _. IfSome (R.remaining reader.old) (λ input.
+        Consumes (R.remaining reader.old) (R.remaining reader.new) (take (SCRIPT_BYTES + 1) input))) }
+    ensures within { ConsumesAtMost (SCRIPT_BYTES + 1) (R.remaining reader.old) (R.remaining reader.new) }
+    ensures read { result ≡ Err ReadFault
+        → AnswersEndedLines (R.remaining reader.old) (R.remaining reader.new)
+        (W.contents writer.old) (W.contents writer.new) }
+    ensures err { OnErr result ((script : List ℕ) × IsInput (R.remaining reader.old) script
+        × WritesFront (script_of script) (W.contents writer.old) (W.contents writer.new)) }
+    ensures refusals { IfErr result (λ refusal.
+        (refusal ≡ ReadFault) ⊎ (refusal ≡ WriteFault) ⊎ (refusal ≡ Memory)) }
+{
+    let ending = answer_lines(reader, answers, writer)?;
     let totals = answers.finish(writer)?;
     match ending {
         Ending::Failed => Err(Refusal::Read),

@@ -2,17 +2,17 @@
 ghost use Rattle.std.specs.Prelude.{◌≡◌, ◌+◌, ◌<◌, ◌≤◌, ◌⊎◌, ◌++◌, ◌∷◌, [], List, ℕ, Option, IfOk, OnOk, OnErr, IfErr};
 ghost use Rattle.std.specs.Io.KnownBytes.{Keeps};
 ghost use Rattle.point_core.specs.declared.refusal.Refusal.TheVariants.{Write as WriteFault, Memory};
-ghost use Rattle.desk_core.specs.declared.command.Command.{Command};
+ghost use Rattle.command_core.specs.declared.command.Command.{Command};
 ghost use Rattle.desk_core.specs.Desk.{HasHistory};
-ghost use Rattle.script_core.specs.declared.line.Line.{Line as LineModel};
-ghost use Rattle.script_core.specs.Script.{answered};
+ghost use Rattle.line_core.specs.declared.line.Line.{Line as LineModel};
+ghost use Rattle.line_core.specs.Script.{answered};
 ghost use Rattle.script_core.specs.Output.{IsLineAnswer, history_after_line, WritesFront};
 
-use crate::line::Body;
 use crate::passing::pass_answer;
 use crate::totals::Totals;
 use crate::writing::write_out;
 use desk_core::{Answer, Desk};
+use line_core::Body;
 use point_core::Refusal;
 use std::alloc::Global;
 use std::io::Write;

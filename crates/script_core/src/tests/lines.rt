@@ -1,6 +1,7 @@
 // Lines byte by byte, lines from a reader, and the moment at which a line is answered.
 use super::{BOTH_ORDERS, push_copies, sink_of, source_of};
-use crate::{Line, LineCutter, SCRIPT_BYTES, ScriptLines, engine};
+use crate::{Line, LineCutter, SCRIPT_BYTES, engine};
+use line_core::ScriptLines;
 use point_core::Refusal;
 use std::process::Abort;
 use std::test::Fail;

@@ -1,7 +1,7 @@
 -- Each exit is told by the lines that were given, and by how far they are checked.
 use Rattle.std.proofs.Common.{[], ◌∷◌, ◌++◌, refl, sym, subst, ◌∙◌}
 use Rattle.check_core.specs.Tally.{IsBelow}
-use Rattle.script_core.proofs.AnsweredLines.{ended-within}
+use Rattle.line_core.proofs.EndedLines.{ended-within}
 use Rattle.check_core.proofs.Progress.{HasChecked-none, HasChecked-line, Checked-last}
 use Rattle.check_core.proofs.checking.check_lines.Goals as goal
 

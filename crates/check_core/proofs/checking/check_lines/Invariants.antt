@@ -1,5 +1,5 @@
 use Rattle.std.proofs.Common.{ℕ, List}
-use Rattle.script_core.specs.ScriptLines.{HasGiven, turns_to_come}
+use Rattle.line_core.specs.ScriptLines.{HasGiven, turns_to_come}
 use Rattle.check_core.proofs.Progress.{HasChecked}
 use Rattle.check_core.proofs.checking.check_lines.Given as goal
 

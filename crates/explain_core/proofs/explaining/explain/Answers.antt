@@ -1,7 +1,7 @@
 -- Where nothing could be kept, nothing was read and written.
 use Rattle.std.proofs.lemmas.Result.{err_from_is_err_and}
-use Rattle.script_core.specs.Script.{script_of}
-use Rattle.script_core.proofs.Inputs.{some_input}
+use Rattle.line_core.specs.Script.{script_of}
+use Rattle.line_core.proofs.Inputs.{some_input}
 use Rattle.script_core.proofs.Progress.{WritesFront-none}
 use Rattle.explain_core.proofs.explaining.explain.Goals as goal
 

@@ -1,12 +1,12 @@
 -- Each exit is told by the lines that were given, and by how far their answers have come.
 use Rattle.std.proofs.Common.{[], ◌∷◌, ◌++◌, take, length-append, refl, ap, subst, ◌∙◌, arith}
 use Rattle.std.proofs.lemmas.Result.{err_from_is_err_and}
-use Rattle.script_core.specs.declared.script.TheConstants.{SCRIPT_BYTES}
+use Rattle.line_core.specs.declared.script.TheConstants.{SCRIPT_BYTES}
 use Rattle.script_core.specs.Answering.{HasAnswered}
 use Rattle.script_core.specs.Output.{WritesFront}
-use Rattle.script_core.specs.Script.{lines_until}
-use Rattle.script_core.proofs.AnsweredLines.{ended_lines, line-answered, last-answered, given-front, ended-within}
-use Rattle.script_core.proofs.Inputs.{front_written}
+use Rattle.line_core.specs.Script.{lines_until}
+use Rattle.line_core.proofs.EndedLines.{ended_lines, line-answered, last-answered, ended-within}
+use Rattle.script_core.proofs.Inputs.{given-front, front_written}
 use Rattle.explain_core.proofs.explaining.explain_lines.Goals as goal
 
 pub explain-requires : goal.explain-requires

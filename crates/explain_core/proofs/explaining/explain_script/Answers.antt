@@ -1,8 +1,9 @@
 use Rattle.std.proofs.Common.{take, refl}
 use Rattle.std.proofs.lemmas.Result.{err_from_is_err_and}
-use Rattle.script_core.specs.declared.script.TheConstants.{SCRIPT_BYTES}
-use Rattle.script_core.specs.Script.{lines_until}
-use Rattle.script_core.proofs.Inputs.{front_written, all_written, ended_written, reads_front, WritesFront-all}
+use Rattle.line_core.specs.declared.script.TheConstants.{SCRIPT_BYTES}
+use Rattle.line_core.specs.Script.{lines_until}
+use Rattle.line_core.proofs.Inputs.{reads_front}
+use Rattle.script_core.proofs.Inputs.{front_written, all_written, ended_written, WritesFront-all}
 use Rattle.explain_core.proofs.explaining.explain_script.Goals as goal
 
 pub returns-in_err-totals-clause-err : goal.returns-in_err-totals-clause-err

@@ -1,7 +1,7 @@
 use Rattle.std.proofs.Common.{ℕ, ◌≤◌, List, length}
 use Rattle.script_core.specs.Answering.{HasAnswered}
-use Rattle.script_core.specs.ScriptLines.{HasGiven, turns_to_come}
-use Rattle.script_core.proofs.AnsweredLines.{ended_lines}
+use Rattle.line_core.specs.ScriptLines.{HasGiven, turns_to_come}
+use Rattle.line_core.proofs.EndedLines.{ended_lines}
 use Rattle.script_core.proofs.answering.answer_lines.Given as goal
 
 abbrev pub invariant-loop-lines : goal.invariant-loop-lines

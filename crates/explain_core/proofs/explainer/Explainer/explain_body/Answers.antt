@@ -2,7 +2,7 @@
 use Rattle.std.proofs.Common.{[], ◌++◌, Some, sym, subst}
 use Rattle.std.proofs.lemmas.Result.{err_from_is_err_and}
 use Rattle.script_core.specs.Answering.{HasAnswered}
-use Rattle.script_core.specs.Script.{answered}
+use Rattle.line_core.specs.Script.{answered}
 use Rattle.explain_core.proofs.Written.{answered-front}
 use Rattle.explain_core.proofs.explainer.Explainer.explain_body.Goals as goal
 

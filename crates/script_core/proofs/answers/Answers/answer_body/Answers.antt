@@ -1,6 +1,6 @@
 use Rattle.std.proofs.Common.{[], ◌∷◌, ◌++◌, refl, sym, subst, append-nil}
 use Rattle.std.proofs.lemmas.Result.{err_from_is_err_and}
-use Rattle.script_core.specs.declared.line.Line.{Line}
+use Rattle.line_core.specs.declared.line.Line.{Line}
 use Rattle.script_core.specs.Answering.{HasAnswered}
 use Rattle.script_core.proofs.Progress.{Progress-line, Progress-write, Progress-unwritten}
 use Rattle.script_core.proofs.answers.Answers.answer_body.Goals as goal

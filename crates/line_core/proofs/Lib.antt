@@ -1,0 +1,10 @@
+pub mod Blocks
+pub mod Cutting
+pub mod EndedLines
+pub mod FirstByte
+pub mod Fronts
+pub mod GivenLines
+pub mod Inputs
+pub mod LineLemmas
+pub mod Numbers
+pub mod Runs

@@ -1,0 +1,34 @@
+-- A line of a script that is being cut out of its bytes.
+use Rattle.std.specs.Prelude.{ℕ, ◌+◌, if◌then◌else◌, List, [], ◌∷◌, ◌++◌, take, Option, None, option_map}
+use Rattle.line_core.specs.declared.cutter.TheConstants.{HELD_BYTES}
+use Rattle.line_core.specs.declared.line.Line.{Line}
+use Rattle.line_core.specs.Line.{body_of}
+use Rattle.line_core.specs.Script.{is_line_feed}
+
+-- the bytes that are held of a line: of one that is too long only so many that it still is
+abbrev pub cut : List ℕ → List ℕ
+cut line = take HELD_BYTES line
+
+-- a line by its number, with those of its bytes that are held
+pub record OpenLine : Type 0 where
+  pub number : ℕ
+  pub bytes : List ℕ
+
+-- the line, where it has an answer
+abbrev pub line_of : OpenLine → Option Line
+line_of l = option_map (λ body. record { number = l.number; body = body }) (body_of l.bytes)
+
+-- the line behind it
+abbrev pub next_line : OpenLine → OpenLine
+next_line l = record { number = l.number + 1; bytes = [] }
+
+-- with more bytes
+abbrev pub with_bytes : OpenLine → List ℕ → OpenLine
+with_bytes l bytes = record { number = l.number; bytes = cut (l.bytes ++ bytes) }
+
+-- what one byte more gives, and what is held then
+abbrev pub line_at : OpenLine → ℕ → Option Line
+line_at l byte = if is_line_feed byte then line_of l else None
+
+abbrev pub line_after : OpenLine → ℕ → OpenLine
+line_after l byte = if is_line_feed byte then next_line l else with_bytes l (byte ∷ [])

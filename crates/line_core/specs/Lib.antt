@@ -1,0 +1,11 @@
+pub mod Cutting
+pub mod Kind
+pub mod Line
+pub mod Lines
+pub mod Number
+pub mod Reading
+pub mod Script
+pub mod ScriptLines
+pub mod Table
+pub mod Usages
+pub mod Words

@@ -1,0 +1,118 @@
+// A script's lines, byte by byte.
+ghost use Rattle.std.specs.Prelude.{◌≡◌, ◌+◌, ◌^◌, ◌<◌, ◌≤◌, ◌==◌, [], length};
+
+use crate::line::{LINE_BYTES, Line, body_of};
+use std::marker::Model;
+
+/// So many bytes are held of a line: as many as a line may have, and one that tells that it has more.
+pub(crate) const HELD_BYTES: usize = LINE_BYTES + 1;
+
+/// Cuts a script into its lines, byte by byte. It holds the number of its line, from 1, and the line's bytes so far, or that
+/// they are more than `LINE_BYTES`.
+///
+/// Takes no memory.
+#[derive(Debug, Drop)]
+pub struct LineCutter {
+    number: u32,
+    length: usize,
+    held: [u8; HELD_BYTES],
+}
+
+impl Model for LineCutter {
+    ghost use Rattle.std.specs.Prelude.{◌≤◌, take};
+    ghost use Rattle.line_core.specs.declared.cutter.TheConstants.{HELD_BYTES};
+    ghost use Rattle.line_core.specs.Cutting.{OpenLine};
+
+    ghost Value = { OpenLine };
+
+    ghost view = { λ c. record { number = c.number; bytes = take c.length c.held } };
+
+    ghost invariant = { λ c. c.length ≤ HELD_BYTES };
+}
+
+impl LineCutter {
+    ghost use Rattle.line_core.specs.declared.script.TheConstants.{SCRIPT_BYTES};
+    ghost use Rattle.line_core.specs.Cutting.{line_of, line_at, line_after, next_line, with_bytes};
+
+    /// At the first line, without bytes.
+    pub fn new() -> LineCutter
+        ensures number { result.number ≡ 1 }
+        ensures bytes { result.bytes ≡ [] }
+    {
+        LineCutter {
+            number: 1,
+            length: 0,
+            held: [0; HELD_BYTES],
+        }
+    }
+
+    /// The number of its line.
+    pub fn number(&self) -> u32
+        ensures number { result ≡ self.now.number }
+    {
+        self.number
+    }
+
+    /// Takes one byte of the script. A line feed gives the line that was held, or none where it has no answer, and the next
+    /// line is held then, without bytes. Any other byte is one more of the line, and gives none.
+    pub fn feed(&mut self, byte: u8) -> Option<Line>
+        requires few { self.old.number ≤ SCRIPT_BYTES }
+        ensures line { result ≡ line_at self.old byte }
+        ensures held { self.new ≡ line_after self.old byte }
+    {
+        if byte != b'\n' {
+            self.add(&[byte]);
+            return None;
+        }
+        let line = self.line();
+        self.next_line();
+        line
+    }
+
+    /// The script ends: gives the line that was held, or none where it has no answer.
+    pub fn end(self) -> Option<Line>
+        ensures line { result ≡ line_of self }
+    {
+        self.line()
+    }
+
+    fn line(&self) -> Option<Line>
+        ensures line { result ≡ line_of self.now }
+    {
+        let number = self.number;
+        let body = body_of(self.bytes())?;
+        Some(Line { number, body })
+    }
+
+    /// The bytes that are held of the line: of one that is too long the first `HELD_BYTES`.
+    pub(crate) fn bytes(&self) -> &[u8]
+        ensures bytes { result.now ≡ self.now.bytes }
+    {
+        &self.held[..self.length]
+    }
+
+    /// Whether no byte is held of the line.
+    pub(crate) fn is_empty(&self) -> bool
+        ensures empty { result ≡ (length self.now.bytes == 0) }
+    {
+        self.length == 0
+    }
+
+    /// More bytes of the line.
+    pub(crate) fn add(&mut self, bytes: &[u8])
+        ensures added { self.new ≡ with_bytes self.old bytes.now }
+    {
+        let count = (HELD_BYTES - self.length).min(bytes.len());
+        self.held[self.length..self.length + count].copy_from_slice(&bytes[..count]);
+        self.length += count;
+    }
+
+    /// Goes on to the next line.
+    pub(crate) fn next_line(&mut self)
+        requires few { self.old.number + 1 < 2 ^ 32 }
+        ensures next { self.new ≡ next_line self.old }
+    {
+        self.number += 1;
+        self.length = 0;
+    }
+}

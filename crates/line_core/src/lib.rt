@@ -1,0 +1,20 @@
+//! The lines of a script: its bytes to commands, from a slice, byte by byte, or from a reader.
+//!
+//! Lines, words, names and numbers are told as functions of the bytes (`specs/`).
+#![tactic(auto)]
+
+mod cutter;
+pub mod laws;
+mod line;
+mod number;
+mod script;
+mod script_lines;
+mod table;
+mod usages;
+mod words;
+
+pub use cutter::LineCutter;
+pub use line::{Body, LINE_BYTES, Line, body_of};
+pub use number::DIGITS;
+pub use script::{Ending, SCRIPT_BYTES, first_line, last_body, read_script};
+pub use script_lines::{RawLine, ScriptLines};

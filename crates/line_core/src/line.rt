@@ -1,0 +1,47 @@
+// One line of a script.
+ghost use Rattle.std.specs.Prelude.{◌≡◌};
+ghost use Rattle.line_core.specs.Line.{body_of};
+
+use crate::table::command;
+use crate::words::{from_word, part_word};
+use command_core::Command;
+use point_core::Refusal;
+
+/// The most bytes of a line, without its line feed.
+pub const LINE_BYTES: usize = 256;
+
+/// A line of a script that has an answer.
+#[derive(Clone, Copy, Debug)]
+pub struct Line {
+    /// Lines are numbered from 1, those without an answer too.
+    pub number: u32,
+    pub body: Body,
+}
+
+/// What a line says.
+#[derive(Clone, Copy, Debug)]
+pub enum Body {
+    /// A command.
+    Cmd(Command),
+    /// The line is refused as it stands.
+    Bad(Refusal),
+}
+
+/// What the line says, in this order: LongLine; none for a line without words or whose first word begins with `#`;
+/// Syntax where the words fit no row of the table; else the command.
+pub fn body_of(line: &[u8]) -> Option<Body>
+    ensures body { result ≡ body_of line.now }
+{
+    if line.len() > LINE_BYTES {
+        return Some(Body::Bad(Refusal::LongLine));
+    }
+    let line = from_word(line)?;
+    if line.starts_with(b"#") {
+        return None;
+    }
+    let (word, rest) = part_word(line);
+    match command(word, rest) {
+        Some(command) => Some(Body::Cmd(command)),
+        None => Some(Body::Bad(Refusal::Syntax)),
+    }
+}

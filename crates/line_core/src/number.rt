@@ -1,0 +1,23 @@
+// Numbers of a line.
+ghost use Rattle.std.specs.Prelude.{◌≡◌};
+ghost use Rattle.line_core.specs.Number.{number_of};
+
+/// The most digits of a number.
+pub const DIGITS: usize = 20;
+
+/// The number that the word spells: 1 to `DIGITS` decimal digits, leading zeros allowed, of at most 64 bits.
+pub(crate) fn number(word: &[u8]) -> Option<u64>
+    ensures value { result ≡ number_of word.now }
+{
+    if word.is_empty() || word.len() > DIGITS {
+        return None;
+    }
+    let mut value: u64 = 0;
+    for byte in word {
+        if !byte.is_ascii_digit() {
+            return None;
+        }
+        value = value.checked_mul(10)?.checked_add(u64::from(*byte - b'0'))?;
+    }
+    Some(value)
+}

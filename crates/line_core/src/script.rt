@@ -1,0 +1,157 @@
+// The lines of a script.
+ghost use Rattle.std.specs.Prelude.{◌≡◌, ◌+◌, ◌^◌, ◌<◌, ◌∷◌, ◌++◌, [], length, take, option_to_list, MatchOption, IfSome, position, IfOk, IfErr};
+ghost use Rattle.point_core.specs.declared.refusal.Refusal.TheVariants.{Memory};
+ghost use Rattle.line_core.specs.Script.{is_line_feed, lines_of, lines_until, script_of, ending_of, last_body, answered};
+
+use crate::line::{Body, Line, body_of};
+use memchr::memchr;
+use point_core::{LimitKind, Refusal};
+use std::alloc::Global;
+
+/// The most bytes of a script.
+pub const SCRIPT_BYTES: usize = 1_048_576;
+
+/// The lines of a script that have an answer, in order.
+///
+/// Of a script of more than `SCRIPT_BYTES` bytes, the lines whose line feed is among the first so many, and behind them a
+/// line that the limit cuts, as `Bad(Limit(Script))`.
+///
+/// Refused as Memory alone.
+pub fn read_script(alloc: Global, bytes: &[u8]) -> Result<Vec<Line>, Refusal>
+    ensures ok { IfOk result (λ lines. lines.items ≡ script_of bytes.now) }
+    ensures err { IfErr result (λ refusal. refusal ≡ Memory) }
+{
+    Ok(Lines::of(bytes).collect(alloc)?)
+}
+
+/// What stands behind the last line feed of some bytes.
+#[derive(Clone, Copy, Debug)]
+pub enum Ending {
+    /// The script's last line, which lacks its line feed.
+    Whole,
+    /// A line that the script's limit cuts.
+    TooLong,
+    /// A line in whose middle the reader failed.
+    Failed,
+}
+
+/// The lines of some bytes that have an answer, one after another.
+#[derive(Drop)]
+pub(crate) struct Lines<'a> {
+    rest: &'a [u8],
+    number: u32,
+    // none once the last line was looked at
+    ending: Option<Ending>,
+    ghost fits: { number + length rest.now < 2 ^ 32 },
+}
+
+impl<'a> Lines<'a> {
+    ghost use Rattle.line_core.specs.Lines.{lines_left, turns_left};
+
+    /// The lines of the first `SCRIPT_BYTES` bytes, which end so.
+    fn new(bytes: &'a [u8], ending: Ending) -> Self
+        ensures lines { lines_left result ≡ lines_until ending (take SCRIPT_BYTES bytes.now) }
+    {
+        Lines {
+            rest: &bytes[..SCRIPT_BYTES.min(bytes.len())],
+            number: 1,
+            ending: Some(ending),
+        }
+    }
+
+    /// The lines of a script.
+    fn of(bytes: &'a [u8]) -> Self
+        ensures lines { lines_left result ≡ script_of bytes.now }
+    {
+        Lines::new(bytes, ending_of(bytes))
+    }
+
+    /// Goes on by one line, and gives it where it has an answer.
+    fn take_line(&mut self, ending: Ending) -> Option<Line>
+        requires { self.old.ending ≡ Some ending }
+        ensures lines { lines_left self.old ≡ option_to_list result ++ lines_left self.new }
+        ensures shorter { turns_left self.new < turns_left self.old }
+    {
+        let number = self.number;
+        let body = self.take_body(ending)?;
+        Some(Line { number, body })
+    }
+
+    fn take_body(&mut self, ending: Ending) -> Option<Body>
+        requires { self.old.ending ≡ Some ending }
+        ensures lines { lines_left self.old ≡ answered self.old.number result (lines_left self.new) }
+        ensures shorter { turns_left self.new < turns_left self.old }
+    {
+        match first_line(self.rest) {
+            Some((line, rest)) => {
+                self.rest = rest;
+                self.number += 1;
+                body_of(line)
+            }
+            None => {
+                self.ending = None;
+                last_body(ending, self.rest)
+            }
+        }
+    }
+}
+
+fn ending_of(script: &[u8]) -> Ending
+    ensures ending { result ≡ ending_of script.now }
+{
+    if script.len() <= SCRIPT_BYTES {
+        Ending::Whole
+    } else {
+        Ending::TooLong
+    }
+}
+
+/// What stands behind a script's last line feed says, by how the script ends: a line where it was read whole, which may have no
+/// answer; the refusal of a script that is too long; nothing where a read failed.
+pub fn last_body(ending: Ending, last: &[u8]) -> Option<Body>
+    ensures body { result ≡ last_body ending last.now }
+{
+    match ending {
+        Ending::Whole => body_of(last),
+        Ending::TooLong => Some(Body::Bad(Refusal::Limit(LimitKind::Script))),
+        Ending::Failed => None,
+    }
+}
+
+/// The first line and the bytes behind its line feed, or none where no line feed is there.
+pub fn first_line(bytes: &[u8]) -> Option<(&[u8], &[u8])>
+    ensures lines { MatchOption result
+        (lines_of bytes.now ≡ bytes.now ∷ [])
+        (λ l. lines_of bytes.now ≡ l.0.now ∷ lines_of l.1.now) }
+    ensures shorter { IfSome result (λ l. length l.1.now < length bytes.now) }
+{
+    let end = first_line_feed(bytes)?;
+    Some((&bytes[..end], &bytes[end + 1..]))
+}
+
+pub(crate) fn first_line_feed(bytes: &[u8]) -> Option<usize>
+    ensures place { result ≡ position is_line_feed bytes.now }
+{
+    memchr(b'\n', bytes)
+}
+
+impl<'a> Iterator for Lines<'a> {
+    type Item = Line;
+
+    ghost use Rattle.std.specs.Iterator.{YieldsFirst, item_count};
+    ghost use Rattle.line_core.specs.Lines.{lines_left};
+
+    ghost next_gives = { YieldsFirst lines_left };
+
+    ghost remaining = { item_count lines_left };
+
+    fn next(&mut self) -> Option<Line> {
+        while let Some(ending) = self.ending {
+            let line = self.take_line(ending);
+            if line.is_some() {
+                return line;
+            }
+        }
+        None
+    }
+}

@@ -1,0 +1,45 @@
+// The words of a line that tell usages and sync flags.
+ghost use Rattle.std.specs.Prelude.{◌≡◌};
+ghost use Rattle.line_core.specs.Usages.{usage_of, flags_of};
+
+use crate::words::is;
+use point_core::Usage;
+
+/// Linux's `DMA_BUF_SYNC_READ`.
+const SYNC_READ: u32 = 1;
+/// Linux's `DMA_BUF_SYNC_WRITE`.
+const SYNC_WRITE: u32 = 2;
+/// Linux's `DMA_BUF_SYNC_RW`.
+const SYNC_READ_WRITE: u32 = SYNC_READ | SYNC_WRITE;
+
+/// The usage that the word names.
+pub(crate) fn usage(word: &[u8]) -> Option<Usage>
+    ensures usage { result ≡ usage_of word.now }
+{
+    if is(word, "kernel") {
+        Some(Usage::Kernel)
+    } else if is(word, "write") {
+        Some(Usage::Write)
+    } else if is(word, "read") {
+        Some(Usage::Read)
+    } else if is(word, "bookkeep") {
+        Some(Usage::Bookkeep)
+    } else {
+        None
+    }
+}
+
+/// The sync flags that the word names.
+pub(crate) fn flags(word: &[u8]) -> Option<u32>
+    ensures flags { result ≡ flags_of word.now }
+{
+    if is(word, "read") {
+        Some(SYNC_READ)
+    } else if is(word, "write") {
+        Some(SYNC_WRITE)
+    } else if is(word, "rw") {
+        Some(SYNC_READ_WRITE)
+    } else {
+        None
+    }
+}

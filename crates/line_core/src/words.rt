@@ -1,0 +1,93 @@
+// Words of a line: runs of bytes other than the space.
+ghost use Rattle.std.specs.Prelude.{◌≡◌, ◌∷◌, [], option_map, MatchOption, length, ◌≤◌, position, not, take, IfSome};
+ghost use Rattle.std.specs.List.{prefix_len, position_or_len};
+ghost use Rattle.std.specs.Str.{bytes_eq};
+ghost use Rattle.line_core.specs.Words.{is_space, words_of, BeginsWithWord, one_of, two_of, three_of, four_of};
+
+/// The first word, and the bytes behind it.
+pub(crate) fn first_word(bytes: &[u8]) -> Option<(&[u8], &[u8])>
+    ensures words { MatchOption result
+        (words_of bytes.now ≡ [])
+        (λ w. words_of bytes.now ≡ w.0.now ∷ words_of w.1.now) }
+{
+    let bytes = from_word(bytes)?;
+    Some(part_word(bytes))
+}
+
+/// The bytes from the first word on.
+pub(crate) fn from_word(bytes: &[u8]) -> Option<&[u8]>
+    ensures words { MatchOption result
+        (words_of bytes.now ≡ [])
+        (λ b. words_of bytes.now ≡ words_of b.now) }
+    ensures begins { IfSome result (λ b. BeginsWithWord b.now) }
+{
+    let start = first_other_than_space(bytes)?;
+    Some(&bytes[start..])
+}
+
+/// The word that the bytes begin with, and the bytes behind it.
+pub(crate) fn part_word(bytes: &[u8]) -> (&[u8], &[u8])
+    requires begins { BeginsWithWord bytes.now }
+    ensures words { words_of bytes.now ≡ result.0.now ∷ words_of result.1.now }
+    ensures first { take 1 result.0.now ≡ take 1 bytes.now }
+{
+    let end = first_space(bytes).unwrap_or(bytes.len());
+    bytes.split_at(end)
+}
+
+fn first_other_than_space(bytes: &[u8]) -> Option<usize>
+    ensures place { result ≡ position (λ b. not (is_space b)) bytes.now }
+{
+    bytes.iter().position(|byte| *byte != b' ')
+}
+
+fn first_space(bytes: &[u8]) -> Option<usize>
+    ensures place { result ≡ position is_space bytes.now }
+{
+    bytes.iter().position(|byte| *byte == b' ')
+}
+
+/// The word, where there is exactly one.
+pub(crate) fn one(bytes: &[u8]) -> Option<&[u8]>
+    ensures words { option_map (λ w. w.now) result ≡ one_of (words_of bytes.now) }
+{
+    let (word, rest) = first_word(bytes)?;
+    match first_word(rest) {
+        None => Some(word),
+        Some(_) => None,
+    }
+}
+
+/// The words, where there are exactly two.
+pub(crate) fn two(bytes: &[u8]) -> Option<(&[u8], &[u8])>
+    ensures words { option_map (λ w. (w.0.now, w.1.now)) result ≡ two_of (words_of bytes.now) }
+{
+    let (first, rest) = first_word(bytes)?;
+    let second = one(rest)?;
+    Some((first, second))
+}
+
+/// The words, where there are exactly three.
+pub(crate) fn three(bytes: &[u8]) -> Option<(&[u8], &[u8], &[u8])>
+    ensures words { option_map (λ w. (w.0.now, w.1.now, w.2.now)) result ≡ three_of (words_of bytes.now) }
+{
+    let (first, rest) = first_word(bytes)?;
+    let (second, third) = two(rest)?;
+    Some((first, second, third))
+}
+
+/// The words, where there are exactly four.
+pub(crate) fn four(bytes: &[u8]) -> Option<(&[u8], &[u8], &[u8], &[u8])>
+    ensures words { option_map (λ w. (w.0.now, w.1.now, w.2.now, w.3.now)) result ≡ four_of (words_of bytes.now) }
+{
+    let (first, rest) = first_word(bytes)?;
+    let (second, third, fourth) = three(rest)?;
+    Some((first, second, third, fourth))
+}
+
+/// Whether the word is that text.
+pub(crate) fn is(word: &[u8], text: &str) -> bool
+    ensures same { result ≡ bytes_eq word.now text.now }
+{
+    word == text.as_bytes()
+}
