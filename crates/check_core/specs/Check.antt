@@ -1,7 +1,7 @@
 -- What a check of a script finds.
 use Rattle.std.specs.Prelude.{◌≡◌, ◌↔◌, ℕ, ◌+◌, ◌<◌, List, [], ◌∷◌, ◌++◌, length, Option, None, Some, option_to_list}
 use Rattle.std.specs.Io.KnownBytes.{Consumes}
-use Rattle.desk_core.specs.declared.answer.Answer.{Answer}
+use Rattle.command_core.specs.declared.answer.Answer.{Answer}
 use Rattle.desk_core.specs.Desk.{HasHistory}
 use Rattle.line_core.specs.declared.line.Body.{Body}
 use Rattle.line_core.specs.declared.line.Line.{Line}

@@ -6,8 +6,8 @@ use Rattle.point_core.specs.declared.refusal.Refusal.TheVariants.{Memory}
 use Rattle.point_core.specs.declared.refusal.Refusal.{Refusal}
 use Rattle.command_core.specs.declared.command.Command.{Command}
 use Rattle.command_core.specs.declared.command.Command.TheVariants as command
-use Rattle.desk_core.specs.declared.answer.Answer.{Answer}
-use Rattle.desk_core.specs.declared.answer.Answer.TheVariants as answer
+use Rattle.command_core.specs.declared.answer.Answer.{Answer}
+use Rattle.command_core.specs.declared.answer.Answer.TheVariants as answer
 use Rattle.syncfile_core.specs.Files.{IsRefusedFor}
 use Rattle.desk_core.specs.World.{World, empty_world, after, fires_some}
 use Rattle.desk_core.specs.Answer.{first_of, causes, told, answer_to, refused_or, is_refused, takes_memory, OnRefused}

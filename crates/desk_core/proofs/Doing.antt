@@ -9,9 +9,9 @@ use Rattle.point_core.specs.Agreement.{as_entry, as_entries, point_of, listing, 
 use Rattle.point_core.specs.Reach.{value_at}
 use Rattle.point_core.proofs.Agreement.{listing-All, top-Some, AgreesAbove-same}
 use Rattle.command_core.specs.declared.command.Command.TheVariants as command
-use Rattle.desk_core.specs.declared.answer.Answer.TheVariants as answer
-use Rattle.desk_core.specs.declared.answer.Info.{Info}
-use Rattle.desk_core.specs.declared.answer.FenceRow.{FenceRow}
+use Rattle.command_core.specs.declared.answer.Answer.TheVariants as answer
+use Rattle.command_core.specs.declared.answer.Info.{Info}
+use Rattle.command_core.specs.declared.answer.FenceRow.{FenceRow}
 use Rattle.timeline_core.specs.Timeline.{Timeline, new_timeline, context_of, reach_of, value_of, raised}
 use Rattle.syncfile_core.specs.SyncFile.{File, plain_file, file_of}
 use Rattle.syncfile_core.specs.Files.{file_at as sync_file_at, without_file}

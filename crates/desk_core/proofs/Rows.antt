@@ -5,9 +5,9 @@ use Rattle.point_core.specs.declared.status.Status.TheVariants.{Active, Signalle
 use Rattle.point_core.specs.Agreement.{contexts}
 use Rattle.command_core.specs.declared.command.Command.{Command}
 use Rattle.command_core.specs.declared.command.Command.TheVariants as command
-use Rattle.desk_core.specs.declared.answer.Answer.{Answer}
-use Rattle.desk_core.specs.declared.answer.Answer.TheVariants as answer
-use Rattle.desk_core.specs.declared.answer.Maker.TheVariants.{SwSync}
+use Rattle.command_core.specs.declared.answer.Answer.{Answer}
+use Rattle.command_core.specs.declared.answer.Answer.TheVariants as answer
+use Rattle.command_core.specs.declared.answer.Maker.TheVariants.{SwSync}
 use Rattle.desk_core.specs.World.{World, empty_world, after}
 use Rattle.desk_core.specs.Answer.{answer_to, is_refused}
 

@@ -15,7 +15,7 @@ use Rattle.point_core.proofs.Values.{IsAtLeast-refl, IsAtLeast-trans}
 use Rattle.timeline_core.specs.Timeline.{Timeline, new_timeline, has_timeline, context_of, values_of, reach_of, raised, is_named, raised_by}
 use Rattle.timeline_core.proofs.Places.{place_from-has_timeline, place-within, context_of-place}
 use Rattle.timeline_core.proofs.Storing.{reach_of-new}
-use Rattle.desk_core.specs.declared.answer.Answer.{Answer}
+use Rattle.command_core.specs.declared.answer.Answer.{Answer}
 use Rattle.command_core.specs.declared.command.Command.{Command}
 use Rattle.command_core.specs.declared.command.Command.TheVariants as command
 use Rattle.desk_core.specs.World.{World, MadeFile, MadeBuffer, put_set, has_made_buffer, buffer_put_set, buffer_of, with_put, after, empty_world}

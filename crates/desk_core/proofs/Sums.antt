@@ -14,7 +14,7 @@ use Rattle.timeline_core.specs.Run.{Increment, incremented, AreSums}
 use Rattle.timeline_core.proofs.Lookups.{has_timeline-names_of}
 use Rattle.timeline_core.proofs.Places.{timeline_at-value_of}
 use Rattle.timeline_core.proofs.Raising.{names_of-raised}
-use Rattle.desk_core.specs.declared.answer.Answer.TheVariants as answer
+use Rattle.command_core.specs.declared.answer.Answer.TheVariants as answer
 use Rattle.command_core.specs.declared.command.Command.{Command}
 use Rattle.command_core.specs.declared.command.Command.TheVariants as command
 use Rattle.desk_core.specs.World.{World, empty_world, after, fired_watches, cookies_of}

@@ -15,11 +15,11 @@ use Rattle.syncfile_core.specs.SyncFile.{File}
 use Rattle.resv_core.proofs.Runs.{rows_of-AgreesAbove}
 use Rattle.dmabuf_core.specs.Buffers.{names_of, entries_of}
 use Rattle.command_core.specs.declared.command.Command.TheVariants as command
-use Rattle.desk_core.specs.declared.answer.Answer.TheVariants as answer
-use Rattle.desk_core.specs.declared.answer.ShowRow.{ShowRow}
-use Rattle.desk_core.specs.declared.answer.FileRow.{FileRow}
-use Rattle.desk_core.specs.declared.answer.BufferRows.{BufferRows}
-use Rattle.desk_core.specs.Tables.{Tables}
+use Rattle.command_core.specs.declared.answer.Answer.TheVariants as answer
+use Rattle.command_core.specs.declared.answer.ShowRow.{ShowRow}
+use Rattle.command_core.specs.declared.answer.FileRow.{FileRow}
+use Rattle.command_core.specs.declared.answer.BufferRows.{BufferRows}
+use Rattle.command_core.specs.Tables.{Tables}
 use Rattle.desk_core.specs.World.{World, MadeFile, MadeBuffer, buffer_put_set}
 use Rattle.desk_core.specs.Answer.{listed_points, fence_count, show_row, show_rows, file_row, buffer_rows, report_of}
 use Rattle.desk_core.specs.Desk.{DeskState}

@@ -6,11 +6,11 @@ use Rattle.point_core.specs.declared.refusal.Refusal.TheVariants.{NoEntry, Timed
 use Rattle.point_core.specs.declared.status.Status.TheVariants.{Signalled}
 use Rattle.point_core.specs.Agreement.{AgreesAbove, as_entries, IsReached, all_reached}
 use Rattle.point_core.proofs.Agreement.{AgreesAbove-trans, AgreesAbove-sym, AgreesAbove-same_entries}
-use Rattle.desk_core.specs.declared.answer.Answer.{Answer}
-use Rattle.desk_core.specs.declared.answer.Answer.TheVariants as answer
+use Rattle.command_core.specs.declared.answer.Answer.{Answer}
+use Rattle.command_core.specs.declared.answer.Answer.TheVariants as answer
 use Rattle.command_core.specs.declared.command.Command.{Command}
 use Rattle.command_core.specs.declared.command.Command.TheVariants as command
-use Rattle.desk_core.specs.declared.answer.Info.{Info}
+use Rattle.command_core.specs.declared.answer.Info.{Info}
 use Rattle.timeline_core.specs.Timeline.{reach_of}
 use Rattle.syncfile_core.specs.SyncFile.{File}
 use Rattle.syncfile_core.specs.Files.{file_at as sync_file_at}

@@ -13,15 +13,15 @@ use Rattle.point_core.specs.Reach.{value_at}
 use Rattle.point_core.specs.Agreement.{listing, all_reached}
 use Rattle.command_core.specs.declared.command.Command.{Command}
 use Rattle.command_core.specs.declared.command.Command.TheVariants as command
-use Rattle.desk_core.specs.declared.answer.Answer.{Answer}
-use Rattle.desk_core.specs.declared.answer.Answer.TheVariants as answer
-use Rattle.desk_core.specs.declared.answer.Info.{Info}
-use Rattle.desk_core.specs.declared.answer.FenceRow.{FenceRow}
-use Rattle.desk_core.specs.declared.answer.Maker.TheVariants.{SwSync, Stub}
-use Rattle.desk_core.specs.declared.answer.ShowRow.{ShowRow}
-use Rattle.desk_core.specs.declared.answer.FileRow.{FileRow}
-use Rattle.desk_core.specs.declared.answer.BufferRows.{BufferRows}
-use Rattle.desk_core.specs.Tables.{Tables}
+use Rattle.command_core.specs.declared.answer.Answer.{Answer}
+use Rattle.command_core.specs.declared.answer.Answer.TheVariants as answer
+use Rattle.command_core.specs.declared.answer.Info.{Info}
+use Rattle.command_core.specs.declared.answer.FenceRow.{FenceRow}
+use Rattle.command_core.specs.declared.answer.Maker.TheVariants.{SwSync, Stub}
+use Rattle.command_core.specs.declared.answer.ShowRow.{ShowRow}
+use Rattle.command_core.specs.declared.answer.FileRow.{FileRow}
+use Rattle.command_core.specs.declared.answer.BufferRows.{BufferRows}
+use Rattle.command_core.specs.Tables.{Tables}
 use Rattle.point_core.specs.declared.entry.Entry.{Entry}
 use Rattle.point_core.specs.declared.listing.TopRow.{TopRow}
 use Rattle.resv_core.specs.Resv.{rows_of}

@@ -8,9 +8,9 @@ use Rattle.point_core.specs.declared.status.Status.TheVariants.{Signalled}
 use Rattle.point_core.specs.Agreement.{AgreesAbove, as_entries, IsReached}
 use Rattle.command_core.specs.declared.command.Command.{Command}
 use Rattle.command_core.specs.declared.command.Command.TheVariants as command
-use Rattle.desk_core.specs.declared.answer.Info.{Info}
-use Rattle.desk_core.specs.declared.answer.Answer.{Answer}
-use Rattle.desk_core.specs.declared.answer.Answer.TheVariants as answer
+use Rattle.command_core.specs.declared.answer.Info.{Info}
+use Rattle.command_core.specs.declared.answer.Answer.{Answer}
+use Rattle.command_core.specs.declared.answer.Answer.TheVariants as answer
 use Rattle.timeline_core.specs.Timeline.{reach_of}
 use Rattle.timeline_core.specs.Run.{incremented, AreSums}
 use Rattle.syncfile_core.specs.SyncFile.{File}

@@ -4,8 +4,8 @@ use Rattle.std.specs.List.{flat_map}
 use Rattle.point_core.specs.declared.refusal.Refusal.TheVariants.{Memory}
 use Rattle.command_core.specs.declared.command.Command.{Command}
 use Rattle.command_core.specs.declared.command.Command.TheVariants as command
-use Rattle.desk_core.specs.declared.answer.Answer.{Answer}
-use Rattle.desk_core.specs.declared.answer.Answer.TheVariants as answer
+use Rattle.command_core.specs.declared.answer.Answer.{Answer}
+use Rattle.command_core.specs.declared.answer.Answer.TheVariants as answer
 use Rattle.desk_core.specs.World.{World, empty_world, after, fires_some}
 use Rattle.timeline_core.specs.Run.{Increment, increment}
 use Rattle.desk_core.specs.Answer.{answer_to, is_refused, takes_memory}

@@ -18,13 +18,13 @@ use Rattle.syncfile_core.specs.Merge.{cause_to_refuse_merge}
 use Rattle.dmabuf_core.specs.Flags.{is_sync_flags}
 use Rattle.dmabuf_core.specs.Buffers.{Buffer, entries_of, names_of, has_buffer, cause_to_refuse as cause_to_refuse_buffer, cause_without, cause_by_flags}
 use Rattle.fence_core.specs.Watches.{fires, cause_to_refuse_watch}
-use Rattle.desk_core.specs.declared.answer.Info.{Info}
-use Rattle.desk_core.specs.declared.answer.FileRow.{FileRow}
-use Rattle.desk_core.specs.declared.answer.BufferRows.{BufferRows}
-use Rattle.desk_core.specs.Tables.{Tables}
+use Rattle.command_core.specs.declared.answer.Info.{Info}
+use Rattle.command_core.specs.declared.answer.FileRow.{FileRow}
+use Rattle.command_core.specs.declared.answer.BufferRows.{BufferRows}
+use Rattle.command_core.specs.Tables.{Tables}
 use Rattle.point_core.specs.declared.listing.TopRow.{TopRow}
-use Rattle.desk_core.specs.declared.answer.Answer.{Answer}
-use Rattle.desk_core.specs.declared.answer.Answer.TheVariants as answer
+use Rattle.command_core.specs.declared.answer.Answer.{Answer}
+use Rattle.command_core.specs.declared.answer.Answer.TheVariants as answer
 use Rattle.command_core.specs.declared.command.Command.{Command}
 use Rattle.command_core.specs.declared.command.Command.TheVariants as command
 use Rattle.desk_core.specs.World.{World, after}

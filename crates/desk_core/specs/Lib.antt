@@ -5,7 +5,6 @@ pub mod Headline
 pub mod History
 pub mod Keeping
 pub mod Sound
-pub mod Tables
 pub mod World
 pub use Rattle.dmabuf_core.specs.Buffers
 pub use Rattle.dmabuf_core.specs.Flags

@@ -2,9 +2,8 @@
 ghost use Rattle.std.specs.Prelude.{◌≡◌, ◌≢◌, false, List, [], IsOk, IfOk, IfErr, OnErr};
 ghost use Rattle.command_core.specs.declared.command.Command.{Command};
 
-use crate::answer::Answer;
 use crate::{info, report};
-use command_core::Command;
+use command_core::{Answer, Command};
 use dmabuf_core::{Buffers, SyncFlags};
 use fence_core::{Fence, Watches};
 use point_core::{Items, Name, Point, Refusal, Usage};

@@ -8,7 +8,7 @@ ghost use Rattle.timeline_core.specs.Timeline.{reach_of};
 ghost use Rattle.desk_core.specs.Answer.{fence_row, stub_row, or_stub};
 ghost use Rattle.desk_core.specs.Keeping.{AreMade, info_at};
 
-use crate::answer::{FenceRow, Info, Maker};
+use command_core::{FenceRow, Info, Maker};
 use point_core::{Items, Name, Point, Reach, Refusal, Status, is_signalled};
 use std::alloc::Global;
 use timeline_core::Timelines;

@@ -4,15 +4,15 @@
 //! replaced or compacted. The desk keeps less, and its answers are those of the put sets.
 #![tactic(auto)]
 
-mod answer;
 mod desk;
 mod info;
 pub mod laws;
 mod report;
 mod runs;
 
-pub use answer::{Answer, BufferRows, FenceRow, FileRow, Info, Maker, Report, ShowRow};
-pub use command_core::Command;
+pub use command_core::{
+    Answer, BufferRows, Command, FenceRow, FileRow, Info, Maker, Report, ShowRow,
+};
 pub use desk::Desk;
 pub use runs::run;
 

@@ -6,8 +6,8 @@ ghost use Rattle.dmabuf_core.specs.Buffers.{names_of, entries_of};
 ghost use Rattle.desk_core.specs.Answer.{show_row};
 ghost use Rattle.desk_core.specs.Keeping.{AreRowsMade, HasNoneBehind, file_row_at, buffer_rows_at, report_at};
 
-use crate::answer::{BufferRows, FileRow, Report, ShowRow};
 use crate::info::common_status;
+use command_core::{BufferRows, FileRow, Report, ShowRow};
 use dmabuf_core::Buffers;
 use point_core::{Items, Name, Reach, Refusal, TopRow};
 use std::alloc::Global;

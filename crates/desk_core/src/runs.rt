@@ -4,9 +4,8 @@ ghost use Rattle.desk_core.specs.History.{history_of, AreAnswers};
 ghost use Rattle.desk_core.specs.Desk.{HasHistory};
 ghost use Rattle.desk_core.specs.Headline.{TellsSums, TellsWhatWasPut, TellsWhatIsInBuffers, TellsWhatFires};
 
-use crate::answer::Answer;
 use crate::desk::Desk;
-use command_core::Command;
+use command_core::{Answer, Command};
 use point_core::Refusal;
 use std::alloc::Global;
 

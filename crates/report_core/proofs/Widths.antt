@@ -11,7 +11,7 @@ use Rattle.report_core.specs.declared.kind.Kind.TheVariants.{Timeline, File, Buf
 use Rattle.report_core.specs.declared.rows.TheConstants.{KIND_WIDTH, SUBJECT_WIDTH, NUMBER_WIDTH, COUNT_WIDTH, ROW_BYTES, FILE_ROW_BYTES}
 use Rattle.report_core.specs.Columns.{left, column, right}
 use Rattle.report_core.specs.Kind.{kind_word}
-use Rattle.desk_core.specs.declared.answer.FileRow.{FileRow}
+use Rattle.command_core.specs.declared.answer.FileRow.{FileRow}
 use Rattle.report_core.specs.Row.{columns, row_text, file_row_text}
 
 length-left : (width : ℕ) (text : List ℕ) → length text ≤ width → length (left width text) ≡ width

@@ -4,7 +4,7 @@ use Rattle.point_core.specs.Status.{status_number}
 use Rattle.report_core.specs.declared.rows.TheConstants.{KIND_WIDTH, SUBJECT_WIDTH, NUMBER_WIDTH, COUNT_WIDTH}
 use Rattle.report_core.specs.declared.kind.Kind.{Kind}
 use Rattle.report_core.specs.declared.kind.Kind.TheVariants.{File}
-use Rattle.desk_core.specs.declared.answer.FileRow.{FileRow}
+use Rattle.command_core.specs.declared.answer.FileRow.{FileRow}
 use Rattle.report_core.specs.Columns.{column, right}
 use Rattle.report_core.specs.Kind.{kind_word}
 

@@ -2,9 +2,9 @@
 use Rattle.std.specs.Prelude.{ℕ, List, ◌++◌, length}
 use Rattle.std.specs.List.{flat_map}
 use Rattle.report_core.specs.declared.kind.Kind.TheVariants.{Timeline, Buffer, Level}
-use Rattle.desk_core.specs.declared.answer.ShowRow.{ShowRow}
-use Rattle.desk_core.specs.declared.answer.BufferRows.{BufferRows}
-use Rattle.desk_core.specs.Tables.{Tables}
+use Rattle.command_core.specs.declared.answer.ShowRow.{ShowRow}
+use Rattle.command_core.specs.declared.answer.BufferRows.{BufferRows}
+use Rattle.command_core.specs.Tables.{Tables}
 use Rattle.report_core.specs.Row.{row_text, file_row_text}
 
 abbrev pub show_row_text : ShowRow → List ℕ

@@ -8,7 +8,7 @@ ghost use Rattle.report_core.specs.Tables.{show_text, timeline_text, buffer_text
 
 use crate::kind::Kind;
 use crate::rows::{file_row, row};
-use desk_core::{BufferRows, FileRow, Report, ShowRow};
+use command_core::{BufferRows, FileRow, Report, ShowRow};
 use point_core::{Name, Refusal};
 
 /// Writes the table of one buffer behind `out`, a row each.

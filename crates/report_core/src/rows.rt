@@ -8,7 +8,7 @@ ghost use Rattle.report_core.specs.Row.{row_text, file_row_text};
 use crate::columns::{Subject, push_columns, put_number};
 use crate::kind::Kind;
 use crate::line::TextLine;
-use desk_core::FileRow;
+use command_core::FileRow;
 use point_core::{NAME_BYTES, Name, Refusal};
 
 /// The places of a row's first column: the longest words, `timeline` and `bookkeep`, fill it.

@@ -1,6 +1,6 @@
 // Rows to the byte.
 use crate::{Kind, file_row, report_text, row, settled_text, show_text};
-use desk_core::{BufferRows, FileRow, Report, ShowRow};
+use command_core::{BufferRows, FileRow, Report, ShowRow};
 use point_core::{Context, Items, Name, Status, TopRow, Usage};
 use resv_core::Settled;
 use std::alloc::Global;

@@ -6,7 +6,7 @@ use Rattle.std.specs.List.{count_by}
 use Rattle.std.specs.Io.KnownBytes.{Appends, Keeps}
 use Rattle.std.proofs.KnownBytes.{Appends-nil, Appends-trans, Appends-kept}
 use Rattle.command_core.specs.declared.command.Command.{Command}
-use Rattle.desk_core.specs.declared.answer.Answer.{Answer}
+use Rattle.command_core.specs.declared.answer.Answer.{Answer}
 use Rattle.desk_core.specs.Answer.{is_refused}
 use Rattle.desk_core.specs.Desk.{DeskState, HasHistory}
 use Rattle.line_core.specs.declared.line.Line.{Line}

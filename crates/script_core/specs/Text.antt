@@ -5,15 +5,15 @@ use Rattle.point_core.specs.Refusal as refusal
 use Rattle.point_core.specs.Status as status
 use Rattle.point_core.specs.declared.refusal.Refusal.{Refusal}
 use Rattle.point_core.specs.declared.refusal.Refusal.TheVariants.{Syntax, NoEntry, Exists, Overflow, Flags, Limit, Signalled, TimedOut, Foreign, Torn, NotAll, LongLine, Read, Write, Cancelled, Memory}
-use Rattle.desk_core.specs.declared.answer.Answer.{Answer}
-use Rattle.desk_core.specs.declared.answer.Answer.TheVariants as answer
-use Rattle.desk_core.specs.declared.answer.Info.{Info}
-use Rattle.desk_core.specs.declared.answer.FenceRow.{FenceRow}
-use Rattle.desk_core.specs.declared.answer.ShowRow.{ShowRow}
-use Rattle.desk_core.specs.Tables.{Tables, row_count}
+use Rattle.command_core.specs.declared.answer.Answer.{Answer}
+use Rattle.command_core.specs.declared.answer.Answer.TheVariants as answer
+use Rattle.command_core.specs.declared.answer.Info.{Info}
+use Rattle.command_core.specs.declared.answer.FenceRow.{FenceRow}
+use Rattle.command_core.specs.declared.answer.ShowRow.{ShowRow}
+use Rattle.command_core.specs.Tables.{Tables, row_count}
 use Rattle.report_core.specs.Tables.{show_text as rows_text, report_text as tables_text}
-use Rattle.desk_core.specs.declared.answer.Maker.{Maker}
-use Rattle.desk_core.specs.declared.answer.Maker.TheVariants.{SwSync, Stub}
+use Rattle.command_core.specs.declared.answer.Maker.{Maker}
+use Rattle.command_core.specs.declared.answer.Maker.TheVariants.{SwSync, Stub}
 
 -- a line of output: words with a space between each two, and a line feed
 abbrev pub line_text : List (List ℕ) → List ℕ

@@ -3,7 +3,7 @@ ghost use Rattle.std.specs.Prelude.{◌≡◌, ◌+◌, ◌≤◌, ◌∷◌, �
 ghost use Rattle.std.specs.List.{flat_map};
 ghost use Rattle.std.specs.Io.{StartsWith};
 ghost use Rattle.point_core.specs.declared.refusal.Refusal.TheVariants.{Memory};
-ghost use Rattle.desk_core.specs.Tables.{row_count};
+ghost use Rattle.command_core.specs.Tables.{row_count};
 ghost use Rattle.report_core.specs.Tables.{timeline_text};
 ghost use Rattle.script_core.specs.Text.{line_text, fired_text, raised_text, fence_text, info_line, info_text, show_text};
 ghost use Rattle.script_core.specs.Text.{report_text, refusal_text, details, value_line, driver_of, text_of};

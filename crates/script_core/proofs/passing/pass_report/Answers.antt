@@ -1,7 +1,7 @@
 use Rattle.std.proofs.Common.{◌≡◌, ◌++◌, List, ℕ, ap, sym, ◌∙◌, subst, append_assoc}
 use Rattle.std.specs.List.{flat_map}
 use Rattle.std.proofs.lemmas.Result.{err_from_is_err_and}
-use Rattle.desk_core.specs.Tables.{Tables, row_count}
+use Rattle.command_core.specs.Tables.{Tables, row_count}
 use Rattle.report_core.specs.Row.{file_row_text}
 use Rattle.report_core.specs.Tables.{timeline_text, buffer_text}
 use Rattle.script_core.specs.Bytes.{AppendsFront, PassesOn}

@@ -1,7 +1,7 @@
 use Rattle.std.proofs.Common.{◌≡◌, ◌+◌, ◌*◌, ◌≤◌, ◌^◌, length, take}
 use Rattle.std.specs.List.{sum_by}
-use Rattle.desk_core.specs.Tables.{rows_beside}
-use Rattle.desk_core.proofs.answer.Report.row_count.Given as goal
+use Rattle.command_core.specs.Tables.{rows_beside}
+use Rattle.command_core.proofs.answer.Report.row_count.Given as goal
 
 abbrev pub invariant-loop-buffer : goal.invariant-loop-buffer
 invariant-loop-buffer l =

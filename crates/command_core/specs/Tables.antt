@@ -1,8 +1,8 @@
 -- What a report tells.
 use Rattle.std.specs.Prelude.{ℕ, ◌+◌, List, length}
 use Rattle.std.specs.List.{sum_by}
-use Rattle.desk_core.specs.declared.answer.FileRow.{FileRow}
-use Rattle.desk_core.specs.declared.answer.BufferRows.{BufferRows}
+use Rattle.command_core.specs.declared.answer.FileRow.{FileRow}
+use Rattle.command_core.specs.declared.answer.BufferRows.{BufferRows}
 
 -- the timelines by rising context with their values, the files and the buffers in order of making
 pub record Tables : Type 0 where

@@ -1,6 +1,6 @@
 // What a command is answered.
 ghost use Rattle.std.specs.Prelude.{◌≡◌, ◌≤◌, ◌^◌};
-ghost use Rattle.desk_core.specs.Tables.{row_count, rows_beside};
+ghost use Rattle.command_core.specs.Tables.{row_count, rows_beside};
 
 use point_core::{Items, Name, Refusal, Status, Usage};
 use std::marker::Model;
@@ -66,7 +66,7 @@ pub struct Report {
 impl Model for Report {
     ghost use Rattle.std.specs.Prelude.{◌≤◌, length};
     ghost use Rattle.point_core.specs.declared.limits.TheConstants.{BUFFERS};
-    ghost use Rattle.desk_core.specs.Tables.{Tables};
+    ghost use Rattle.command_core.specs.Tables.{Tables};
 
     ghost Value = { Tables };
 
