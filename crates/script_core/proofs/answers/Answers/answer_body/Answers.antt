@@ -1,4 +1,4 @@
-use Rattle.std.proofs.Common.{[], ◌∷◌, ◌++◌, refl, sym, subst, append-nil}
+use Rattle.std.proofs.Common.{[], ◌∷◌, ◌++◌, refl, sym, subst}
 use Rattle.std.proofs.lemmas.Result.{err_from_is_err_and}
 use Rattle.line_core.specs.declared.line.Line.{Line}
 use Rattle.script_core.specs.Answering.{HasAnswered}
