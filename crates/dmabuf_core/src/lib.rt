@@ -14,6 +14,3 @@ pub use laws::{
     an_export_lists_what_was_put_in, an_import_puts_in_what_a_file_stands_for,
     buffers_keep_what_is_put_in,
 };
-
-#[cfg(test)]
-mod tests;

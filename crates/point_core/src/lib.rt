@@ -32,6 +32,3 @@ pub use name::{NAME_BYTES, Name};
 pub use reach::{Reach, is_signalled};
 pub use refusal::{LimitKind, Refusal};
 pub use status::Status;
-
-#[cfg(test)]
-mod tests;

@@ -9,8 +9,6 @@ mod line;
 mod report;
 mod rows;
 mod settled;
-#[cfg(test)]
-mod tests;
 
 pub use kind::Kind;
 pub use line::{TEXT_LINE_BYTES, TextLine};

@@ -19,6 +19,3 @@ pub use plan::{Act, Acts, Plan, ROUND_ACTS, Rounds, Settled};
 pub use resv::{PLACES, PLACES_PER_CONTEXT, Resv};
 pub use shared_table::SharedTable;
 pub use tops::Tops;
-
-#[cfg(test)]
-mod tests;

@@ -9,8 +9,6 @@ mod merge;
 mod running;
 mod status;
 mod sync_file;
-#[cfg(test)]
-mod tests;
 
 pub use files::{FILES, Files};
 pub use point_core::Status;

@@ -181,6 +181,3 @@ impl Timelines {
         Ok(rows)
     }
 }
-
-#[cfg(test)]
-mod tests;

@@ -1,7 +1,7 @@
 use Rattle.std.proofs.Common.{sym, subst, ◌∙◌}
 use Rattle.point_core.specs.Agreement.{as_entries, HasRisingContexts}
 use Rattle.point_core.proofs.Agreement.{listing-rising}
-use Rattle.point_core.proofs.tests.merge_of.Goals as goal
+use Rattle.point_tests.proofs.listings.merge_of.Goals as goal
 
 pub merged-requires : goal.merged-requires
 merged-requires c = record {

@@ -1,0 +1,101 @@
+// The table of refusals, and the words of limits.
+use point_core::{LimitKind, Refusal};
+use std::alloc::Global;
+use std::process::Abort;
+
+const REFUSALS: [(Refusal, u8, &str, &str); 16] = [
+    (Refusal::Syntax, 1, "Syntax", "the line is no command"),
+    (
+        Refusal::NoEntry,
+        2,
+        "NoEntry",
+        "there is no such name, buffer or context",
+    ),
+    (
+        Refusal::Exists,
+        3,
+        "Exists",
+        "there is such a name, cookie or driver already",
+    ),
+    (
+        Refusal::Overflow,
+        4,
+        "Overflow",
+        "an increment past the greatest value",
+    ),
+    (Refusal::Flags, 5, "Flags", "these are no sync flags"),
+    (
+        Refusal::Limit(LimitKind::Files),
+        6,
+        "Limit",
+        "the limit of files is met",
+    ),
+    (
+        Refusal::Signalled,
+        7,
+        "Signalled",
+        "it is signalled already",
+    ),
+    (Refusal::TimedOut, 8, "TimedOut", "it is still active"),
+    (
+        Refusal::Foreign,
+        9,
+        "Foreign",
+        "these words do not bear the file or point out",
+    ),
+    (
+        Refusal::Torn,
+        10,
+        "Torn",
+        "the table or value disagrees with the plans or the words",
+    ),
+    (Refusal::NotAll, 11, "NotAll", "parts of seats are missing"),
+    (Refusal::LongLine, 12, "LongLine", "the line is too long"),
+    (Refusal::Read, 13, "Read", "the reader failed"),
+    (Refusal::Write, 14, "Write", "the writer failed"),
+    (
+        Refusal::Cancelled,
+        15,
+        "Cancelled",
+        "the timeline is closed",
+    ),
+    (Refusal::Memory, 16, "Memory", "out of memory"),
+];
+
+const LIMITS: [(LimitKind, &str); 8] = [
+    (LimitKind::Timelines, "timelines"),
+    (LimitKind::Buffers, "buffers"),
+    (LimitKind::Files, "files"),
+    (LimitKind::Watches, "watches"),
+    (LimitKind::Flags, "flags"),
+    (LimitKind::Clients, "clients"),
+    (LimitKind::Plan, "plan"),
+    (LimitKind::Script, "script"),
+];
+
+fn is_written(rt: &impl Abort, alloc: Global, refusal: Refusal, text: &str) -> bool {
+    format!(in alloc; "{refusal}").expect(rt, "memory").as_str() == text
+}
+
+#[test]
+fn the_table_of_refusals(rt: HostRuntime) {
+    for (refusal, number, name, text) in REFUSALS {
+        assert!(rt;
+            refusal.number() == number && refusal.name() == name,
+            "{name}"
+        );
+        assert!(rt; is_written(&rt, rt.alloc(), refusal, text), "{text}");
+    }
+}
+
+fn is_limit_written(rt: &impl Abort, alloc: Global, kind: LimitKind, word: &str) -> bool {
+    format!(in alloc; "{kind}").expect(rt, "memory").as_str() == word
+}
+
+#[test]
+fn the_words_of_limits(rt: HostRuntime) {
+    for (kind, word) in LIMITS {
+        assert!(rt; kind.word() == word, "{word}");
+        assert!(rt; is_limit_written(&rt, rt.alloc(), kind, word), "{word}");
+    }
+}

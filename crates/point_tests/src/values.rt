@@ -1,0 +1,42 @@
+// What the tests make of plain numbers: a point is written as its context and its value.
+use point_core::{CONTEXTS, Context, Point, Reach};
+use std::alloc::Global;
+use std::process::Abort;
+
+pub(crate) const LAST_CONTEXT: u16 = CONTEXTS as u16;
+
+pub(crate) fn context(rt: &impl Abort, number: u16) -> Context {
+    Context::new(number).expect(rt, "a context")
+}
+
+pub(crate) fn point(rt: &impl Abort, number: u16, value: u64) -> Point {
+    let ctx = context(rt, number);
+    Point { ctx, value }
+}
+
+pub(crate) fn points_of(rt: &impl Abort, alloc: Global, rows: &[(u16, u64)]) -> Vec<Point> {
+    let mut points = Vec::new(alloc);
+    for (number, value) in rows {
+        points.push(point(rt, *number, *value)).expect(rt, "memory");
+    }
+    points
+}
+
+/// Whether the points are these, in this order.
+pub(crate) fn are_points(
+    rt: &impl Abort,
+    alloc: Global,
+    points: &[Point],
+    rows: &[(u16, u64)],
+) -> bool {
+    points == points_of(rt, alloc, rows).as_slice()
+}
+
+/// The reach that has just come to these points.
+pub(crate) fn reach_of(rt: &impl Abort, rows: &[(u16, u64)]) -> Reach {
+    let mut reach = Reach::zero();
+    for (number, value) in rows {
+        reach.raise_to(point(rt, *number, *value));
+    }
+    reach
+}

@@ -1,0 +1,212 @@
+// Rows of reports to the byte.
+use crate::values::{context, name};
+use desk_core::{BufferRows, FileRow, Report, ShowRow};
+use point_core::{Items, Name, Status, TopRow, Usage};
+use report_core::{Kind, file_row, report_text, row, settled_text, show_text};
+use resv_core::Settled;
+use std::alloc::Global;
+use std::process::Abort;
+
+const LONGEST_NAME: &str = "abcdefghijklmnopqrstuvwxyz_0.-9";
+
+const FULL: &str = "\
+timeline abcdefghijklmnopqrstuvwxyz_0.-9 18446744073709551615\n\
+buffer   abcdefghijklmnopqrstuvwxyz_0.-9 18446744073709551615\n\
+kernel   abcdefghijklmnopqrstuvwxyz_0.-9 18446744073709551615\n\
+write    abcdefghijklmnopqrstuvwxyz_0.-9 18446744073709551615\n\
+read     abcdefghijklmnopqrstuvwxyz_0.-9 18446744073709551615\n\
+bookkeep abcdefghijklmnopqrstuvwxyz_0.-9 18446744073709551615\n\
+file     abcdefghijklmnopqrstuvwxyz_0.-9                    1 999\n\
+";
+
+fn writes_each_kind(rt: &impl Abort, out: &mut Vec<u8>) {
+    let longest = name(rt, LONGEST_NAME);
+    for kind in [
+        Kind::Timeline,
+        Kind::Buffer,
+        Kind::Level(Usage::Kernel),
+        Kind::Level(Usage::Write),
+        Kind::Level(Usage::Read),
+        Kind::Level(Usage::Bookkeep),
+    ] {
+        row(kind, &longest, u64::MAX, out).expect(rt, "memory");
+    }
+    let file = FileRow {
+        name: longest,
+        status: Status::Signalled,
+        count: 999,
+    };
+    file_row(&file, out).expect(rt, "memory");
+}
+
+#[test]
+fn full_columns(rt: HostRuntime) {
+    let mut out = Vec::new(rt.alloc());
+    writes_each_kind(&rt, &mut out);
+    assert!(rt; out.as_slice() == FULL.as_bytes());
+}
+
+/// A row of the timeline a.
+fn shown(rt: &impl Abort, usage: Usage, point: u64) -> ShowRow {
+    ShowRow {
+        usage,
+        timeline: name(rt, "a"),
+        point,
+    }
+}
+
+const LEVELS: &str = "\
+ok 4\n\
+kernel   a                                                  5\n\
+write    a                                                  5\n\
+read     a                                                  9\n\
+bookkeep a                                                  9\n\
+bookkeep a                                                400\n\
+";
+
+fn shows_levels(rt: &impl Abort, out: &mut Vec<u8>) {
+    let rows = [
+        shown(rt, Usage::Kernel, 5),
+        shown(rt, Usage::Write, 5),
+        shown(rt, Usage::Read, 9),
+        shown(rt, Usage::Bookkeep, 9),
+        shown(rt, Usage::Bookkeep, 400),
+    ];
+    show_text(&rows, out).expect(rt, "memory");
+}
+
+// What is there already stays before the rows.
+#[test]
+fn levels(rt: HostRuntime) {
+    let mut out = Vec::from_slice(rt.alloc(), b"ok 4\n").expect(&rt, "memory");
+    shows_levels(&rt, &mut out);
+    assert!(rt; out.as_slice() == LEVELS.as_bytes());
+}
+
+fn file(rt: &impl Abort, text: &str, status: Status, count: u64) -> FileRow {
+    FileRow {
+        name: name(rt, text),
+        status,
+        count,
+    }
+}
+
+fn list<T: Copy>(rt: &impl Abort, alloc: Global, items: &[T]) -> Items<T> {
+    Items::of(Vec::from_slice(alloc, items).expect(rt, "memory"))
+}
+
+fn is_reported_as(rt: &impl Abort, alloc: Global, report: &Report, text: &str) {
+    let mut out = Vec::new(alloc);
+    report_text(report, &mut out).expect(rt, "memory");
+    assert!(rt; out.as_slice() == text.as_bytes());
+}
+
+/// The buffer B, with point 2 of the timeline a at every usage from `Write` on.
+fn buffer_b(rt: &impl Abort, alloc: Global) -> BufferRows {
+    let rows = [
+        shown(rt, Usage::Write, 2),
+        shown(rt, Usage::Read, 2),
+        shown(rt, Usage::Bookkeep, 2),
+    ];
+    BufferRows {
+        name: name(rt, "B"),
+        rows: list(rt, alloc, &rows),
+    }
+}
+
+fn report_of_import(rt: &impl Abort, alloc: Global) -> Report {
+    let buffers = Vec::from_array(alloc, [buffer_b(rt, alloc)]).expect(rt, "memory");
+    Report {
+        timelines: list(rt, alloc, &[(name(rt, "a"), 0)]),
+        files: list(rt, alloc, &[file(rt, "f", Status::Active, 1)]),
+        buffers: Items::of(buffers),
+    }
+}
+
+const IMPORT: &str = "\
+timeline a                                                  0\n\
+file     f                                                  0   1\n\
+buffer   B                                                  3\n\
+write    a                                                  2\n\
+read     a                                                  2\n\
+bookkeep a                                                  2\n\
+";
+
+#[test]
+fn an_import_is_reported(rt: HostRuntime) {
+    let report = report_of_import(&rt, rt.alloc());
+    is_reported_as(&rt, rt.alloc(), &report, IMPORT);
+}
+
+fn report_without_buffers(
+    rt: &impl Abort,
+    alloc: Global,
+    timelines: &[(Name, u64)],
+    files: &[FileRow],
+) -> Report {
+    Report {
+        timelines: list(rt, alloc, timelines),
+        files: list(rt, alloc, files),
+        buffers: Items::of(Vec::new(alloc)),
+    }
+}
+
+const REMADE: &str = "\
+timeline a                                                  0\n\
+file     g                                                  0   1\n\
+file     f                                                  1  64\n\
+";
+
+#[test]
+fn files_are_reported(rt: HostRuntime) {
+    let timelines = [(name(&rt, "a"), 0)];
+    let files = [
+        file(&rt, "g", Status::Active, 1),
+        file(&rt, "f", Status::Signalled, 64),
+    ];
+    let report = report_without_buffers(&rt, rt.alloc(), &timelines, &files);
+    is_reported_as(&rt, rt.alloc(), &report, REMADE);
+}
+
+#[test]
+fn nothing_to_report(rt: HostRuntime) {
+    let report = report_without_buffers(&rt, rt.alloc(), &[], &[]);
+    is_reported_as(&rt, rt.alloc(), &report, "");
+}
+
+fn top(rt: &impl Abort, usage: Usage, client: u16, point: u64) -> TopRow {
+    let ctx = context(rt, client);
+    TopRow { usage, ctx, point }
+}
+
+fn two_buffers(rt: &impl Abort, alloc: Global) -> Settled {
+    let first = [top(rt, Usage::Write, 1, 200), top(rt, Usage::Write, 2, 200)];
+    let second = [
+        top(rt, Usage::Read, 1, 300),
+        top(rt, Usage::Bookkeep, 2, 300),
+    ];
+    let tables = [list(rt, alloc, &first), list(rt, alloc, &second)];
+    Settled {
+        values: list(rt, alloc, &[100, 100]),
+        tables: Items::of(Vec::from_array(alloc, tables).expect(rt, "memory")),
+    }
+}
+
+const SETTLED: &str = "\
+timeline c1                                               100\n\
+timeline c2                                               100\n\
+buffer   b0                                                 2\n\
+write    c1                                               200\n\
+write    c2                                               200\n\
+buffer   b1                                                 2\n\
+read     c1                                               300\n\
+bookkeep c2                                               300\n\
+";
+
+#[test]
+fn clients_from_one_and_buffers_from_zero(rt: HostRuntime) {
+    let settled = two_buffers(&rt, rt.alloc());
+    let mut out = Vec::new(rt.alloc());
+    settled_text(&settled, &mut out).expect(&rt, "memory");
+    assert!(rt; out.as_slice() == SETTLED.as_bytes());
+}
