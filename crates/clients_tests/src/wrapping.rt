@@ -1,0 +1,236 @@
+// Tables round the one under locks: what a run does with its table.
+ghost use Rattle.std.specs.Prelude.{◌≡◌, ◌<◌, IfErr};
+ghost use Rattle.point_core.specs.declared.refusal.Refusal.TheVariants as refusal;
+
+use crate::plans::plans_of;
+use clients_core::{LockedTable, OpenGate, run_clients};
+use point_core::{Context, Entry, Items, Listing, Point, Refusal, Usage};
+use resv_core::{Act, Plan, Settled, SharedTable};
+use std::alloc::Global;
+use std::process::Abort;
+use std::sync::{Mutex, Wait};
+use std::thread::Threads;
+use words_core::{Seat, Whole, Words};
+
+/// Records each put that its table has accepted.
+#[derive(Drop)]
+struct RecordingTable {
+    table: LockedTable,
+    puts: Mutex<Vec<Entry>>,
+}
+
+impl SharedTable for RecordingTable {
+    ghost made_for = { λ recording. recording.table };
+
+    fn empty(alloc: Global, words: &Words) -> Result<RecordingTable, Refusal> {
+        Ok(RecordingTable {
+            table: LockedTable::empty(alloc, words)?,
+            puts: Mutex::new(Vec::new(alloc)),
+        })
+    }
+
+    fn put<R: Wait>(
+        &self,
+        rt: &R,
+        alloc: Global,
+        words: &Words,
+        seat: &mut Seat,
+        buffer: usize,
+        point: Point,
+        usage: Usage,
+    ) -> Result<(), Refusal> {
+        let Point { ctx, value } = point;
+        self.table.put(rt, alloc, words, seat, buffer, Point { ctx, value }, usage)?;
+        let point = Point { ctx, value };
+        record(&mut self.puts.lock(rt), Entry { point, usage })
+    }
+
+    fn export<R: Wait>(
+        &self,
+        rt: &R,
+        alloc: Global,
+        words: &Words,
+        seat: &mut Seat,
+        buffer: usize,
+        usage: Usage,
+    ) -> Result<Listing, Refusal> {
+        self.table.export(rt, alloc, words, seat, buffer, usage)
+    }
+
+    fn settle<R: Wait>(
+        &self,
+        rt: &R,
+        alloc: Global,
+        words: &Words,
+        all: &mut Whole,
+        plans: &[Plan],
+    ) -> Result<Settled, Refusal> {
+        self.table.settle(rt, alloc, words, all, plans)
+    }
+}
+
+fn record(puts: &mut Vec<Entry>, entry: Entry) -> Result<(), Refusal>
+    ensures { IfErr result (λ e. e ≡ refusal.Memory) }
+{
+    puts.reserve(1)?;
+    puts.push_reserved(entry);
+    Ok(())
+}
+
+/// Never settles.
+#[derive(Drop)]
+struct TornTable {
+    table: LockedTable,
+}
+
+impl SharedTable for TornTable {
+    ghost made_for = { λ torn. torn.table };
+
+    fn empty(alloc: Global, words: &Words) -> Result<TornTable, Refusal> {
+        Ok(TornTable {
+            table: LockedTable::empty(alloc, words)?,
+        })
+    }
+
+    fn put<R: Wait>(
+        &self,
+        rt: &R,
+        alloc: Global,
+        words: &Words,
+        seat: &mut Seat,
+        buffer: usize,
+        point: Point,
+        usage: Usage,
+    ) -> Result<(), Refusal> {
+        self.table.put(rt, alloc, words, seat, buffer, point, usage)
+    }
+
+    fn export<R: Wait>(
+        &self,
+        rt: &R,
+        alloc: Global,
+        words: &Words,
+        seat: &mut Seat,
+        buffer: usize,
+        usage: Usage,
+    ) -> Result<Listing, Refusal> {
+        self.table.export(rt, alloc, words, seat, buffer, usage)
+    }
+
+    fn settle<R: Wait>(
+        &self,
+        rt: &R,
+        alloc: Global,
+        words: &Words,
+        all: &mut Whole,
+        plans: &[Plan],
+    ) -> Result<Settled, Refusal> {
+        self.table.settle(rt, alloc, words, all, plans)?;
+        Err(Refusal::Torn)
+    }
+}
+
+/// Lists nothing.
+#[derive(Drop)]
+struct BlindTable {
+    table: LockedTable,
+}
+
+impl SharedTable for BlindTable {
+    ghost made_for = { λ blind. blind.table };
+
+    fn empty(alloc: Global, words: &Words) -> Result<BlindTable, Refusal> {
+        Ok(BlindTable {
+            table: LockedTable::empty(alloc, words)?,
+        })
+    }
+
+    fn put<R: Wait>(
+        &self,
+        rt: &R,
+        alloc: Global,
+        words: &Words,
+        seat: &mut Seat,
+        buffer: usize,
+        point: Point,
+        usage: Usage,
+    ) -> Result<(), Refusal> {
+        self.table.put(rt, alloc, words, seat, buffer, point, usage)
+    }
+
+    fn export<R: Wait>(
+        &self,
+        rt: &R,
+        alloc: Global,
+        words: &Words,
+        seat: &mut Seat,
+        buffer: usize,
+        usage: Usage,
+    ) -> Result<Listing, Refusal> {
+        let listing = self.table.export(rt, alloc, words, seat, buffer, usage)?;
+        let Listing { points: _, floor } = listing;
+        Ok(Listing {
+            points: Items::of(Vec::new(alloc)),
+            floor,
+        })
+    }
+
+    fn settle<R: Wait>(
+        &self,
+        rt: &R,
+        alloc: Global,
+        words: &Words,
+        all: &mut Whole,
+        plans: &[Plan],
+    ) -> Result<Settled, Refusal> {
+        self.table.settle(rt, alloc, words, all, plans)
+    }
+}
+
+/// A client that puts a point of its own timeline, and looks.
+fn acts_of(place: usize) -> [Act; 2]
+    requires few { place < 2 }
+{
+    let ctx = Context::at(place);
+    [Act::Put(0, Point { ctx, value: 4 }, Usage::Read), Act::Look(0, Usage::Read)]
+}
+
+/// Checks that these are the puts of two clients, in one order or the other.
+fn check_puts(rt: &impl Abort, puts: &[Entry]) {
+    assert_eq!(rt; puts.len(), 2);
+    for place in 0..2usize {
+        let ctx = Context::at(place);
+        let put = Entry {
+            point: Point { ctx, value: 4 },
+            usage: Usage::Read,
+        };
+        assert!(rt; puts.contains(&put));
+    }
+}
+
+#[test]
+fn every_put_reaches_the_table(rt: HostRuntime) {
+    let plans = plans_of(&rt, rt.alloc(), &[&acts_of(0), &acts_of(1)]);
+    let (_, table) = run_clients::<HostRuntime, RecordingTable, OpenGate>(
+        &rt,
+        rt.alloc(),
+        1,
+        plans.as_slice(),
+        &OpenGate,
+    ).expect(&rt, "a settled table");
+    let RecordingTable { table: _, puts } = table;
+    check_puts(&rt, puts.into_inner().as_slice());
+}
+
+/// Checks that one client against the table is refused as `Torn`.
+fn check_torn<R: Threads + Wait + Abort + Sync, T: SharedTable>(rt: &R, alloc: Global) {
+    let plans = plans_of(rt, alloc, &[&acts_of(0)]);
+    let refused = run_clients::<R, T, OpenGate>(rt, alloc, 1, plans.as_slice(), &OpenGate).err();
+    assert!(rt; refused == Some(Refusal::Torn));
+}
+
+#[test]
+fn tables_that_never_settle_or_list_nothing(rt: HostRuntime) {
+    check_torn::<HostRuntime, TornTable>(&rt, rt.alloc());
+    check_torn::<HostRuntime, BlindTable>(&rt, rt.alloc());
+}

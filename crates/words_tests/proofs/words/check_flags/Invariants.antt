@@ -1,0 +1,5 @@
+use Rattle.std.proofs.Common.{◌≡◌}
+use Rattle.words_tests.proofs.words.check_flags.Given as goal
+
+abbrev pub invariant-loop-flag : goal.invariant-loop-flag
+invariant-loop-flag l = l.whole.words ≡ l.words

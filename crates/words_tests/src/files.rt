@@ -1,0 +1,144 @@
+// Sync files beside running timelines.
+ghost use Rattle.std.specs.Prelude.{◌≡◌, ◌<◌, ◌≤◌};
+
+use crate::fences::reach_of;
+use crate::threads::drive_on;
+use crate::words::{driver_of, words_of};
+use point_core::{Context, Floor, Name, Point, Refusal, Status};
+use std::alloc::Global;
+use std::process::Abort;
+use std::thread::{Threads, join};
+use syncfile_core::SyncFile;
+use words_core::{Seat, Words};
+
+/// A file of one point of the context at a place.
+fn plain(rt: &impl Abort, alloc: Global, place: usize, value: u64) -> SyncFile
+    requires few { place < 3 }
+{
+    let name = Name::read(b"f").expect(rt, "a name");
+    let ctx = Context::at(place);
+    SyncFile::plain(alloc, name, Point { ctx, value }).expect(rt, "a file")
+}
+
+/// Brings the first context to 5.
+fn drive_to_five(rt: &impl Abort, words: &Words, driving: Seat)
+    requires own { driving.words ≡ words.now }
+    requires context { 1 ≤ words.now.contexts }
+{
+    let mut driver = driver_of(rt, words, driving, Context::at(0));
+    assert!(rt; driver.inc(words, 5) == Ok(5));
+}
+
+/// Merges two files, of which the first is signalled.
+fn merge_pending(
+    rt: &impl Abort,
+    alloc: Global,
+    signalled: &SyncFile,
+    pending: &SyncFile,
+    words: &Words,
+    seat: &mut Seat,
+)
+    requires own { seat.old.words ≡ words.now }
+    ensures same { seat.new.words ≡ seat.old.words }
+{
+    let merged = SyncFile::merge_with(alloc, signalled.name, signalled, pending, words, seat)
+        .expect(rt, "a file");
+    assert!(rt; merged.points.as_slice() == pending.points.as_slice());
+    assert!(rt; merged.floor.to_reach() == reach_of(5, 0));
+    assert!(rt; merged.poll(words, seat) == Ok(Status::Active));
+}
+
+/// Polls two files and waits for them, of which the first is signalled.
+fn poll_and_wait(
+    rt: &impl Abort,
+    signalled: &SyncFile,
+    pending: &SyncFile,
+    words: &Words,
+    seat: &mut Seat,
+)
+    requires own { seat.old.words ≡ words.now }
+    ensures same { seat.new.words ≡ seat.old.words }
+{
+    assert!(rt; signalled.poll(words, seat) == Ok(Status::Signalled));
+    assert!(rt; pending.wait_for(words, seat, 3) == Err(Refusal::TimedOut));
+    assert!(rt; signalled.wait_for(words, seat, 0) == Err(Refusal::TimedOut));
+    assert!(rt; signalled.wait_for(words, seat, 1) == Ok(()));
+}
+
+#[test]
+fn what_was_loaded_as_reached(rt: HostRuntime) {
+    let (words, mut seat) = words_of(&rt, rt.alloc(), 2, 0, 0);
+    let driving = words.part(&mut seat, 1);
+    drive_to_five(&rt, &words, driving);
+    let signalled = plain(&rt, rt.alloc(), 0, 5);
+    let pending = plain(&rt, rt.alloc(), 1, 2);
+    merge_pending(&rt, rt.alloc(), &signalled, &pending, &words, &mut seat);
+    poll_and_wait(&rt, &signalled, &pending, &words, &mut seat);
+}
+
+/// Checks that words do not bear a file out.
+fn check_foreign(rt: &impl Abort, file: &SyncFile, words: &Words, seat: &mut Seat)
+    requires own { seat.old.words ≡ words.now }
+    ensures same { seat.new.words ≡ seat.old.words }
+{
+    assert!(rt; file.poll(words, seat) == Err(Refusal::Foreign));
+}
+
+#[test]
+fn files_of_other_words(rt: HostRuntime) {
+    let (words, mut seat) = words_of(&rt, rt.alloc(), 2, 0, 0);
+    let past = plain(&rt, rt.alloc(), 2, 1);
+    check_foreign(&rt, &past, &words, &mut seat);
+    let mut later = plain(&rt, rt.alloc(), 1, 2);
+    later.floor = Floor::of(rt.alloc(), &reach_of(5, 0)).expect(&rt, "a floor");
+    check_foreign(&rt, &later, &words, &mut seat);
+}
+
+/// Drives the first context to 1,000.
+fn drive(rt: &impl Abort, words: &Words, driving: Seat)
+    requires own { driving.words ≡ words.now }
+    requires context { 1 ≤ words.now.contexts }
+{
+    let mut driver = driver_of(rt, words, driving, Context::at(0));
+    drive_on(rt, words, &mut driver);
+    assert_eq!(rt; driver.value(), 1_000);
+}
+
+/// Waits for a file, for seconds at most.
+fn wait_long(file: &SyncFile, words: &Words, mut waiting: Seat) -> Result<(), Refusal>
+    requires own { waiting.words ≡ words.now }
+{
+    file.wait_for(words, &mut waiting, 100_000_000)
+}
+
+/// Waits for a file by one thread while another drives its timeline.
+fn wait_beside_a_driver<R: Threads + Abort + Sync>(
+    rt: &R,
+    file: &SyncFile,
+    words: &Words,
+    driving: Seat,
+    waiting: Seat,
+) -> Result<(), Refusal>
+    requires own { (driving.words ≡ words.now) × (waiting.words ≡ words.now) }
+    requires context { 1 ≤ words.now.contexts }
+{
+    let ((), waited) = join(
+        rt,
+        move || -> ()
+            requires { (driving.words ≡ words.now) × (1 ≤ words.now.contexts) }
+        { drive(rt, words, driving) },
+        move || -> Result<(), Refusal>
+            requires { waiting.words ≡ words.now }
+        { wait_long(file, words, waiting) },
+    );
+    waited
+}
+
+#[test]
+fn a_wait_ends_once_another_thread_has_driven(rt: HostRuntime) {
+    let (words, mut seat) = words_of(&rt, rt.alloc(), 1, 0, 0);
+    let driving = words.part(&mut seat, 1);
+    let file = plain(&rt, rt.alloc(), 0, 1_000);
+    let waited = wait_beside_a_driver(&rt, &file, &words, driving, seat);
+    assert!(rt; waited == Ok(()));
+}
