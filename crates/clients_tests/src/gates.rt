@@ -1,5 +1,5 @@
 // Gates that hold clients back.
-use crate::plans::{check_rows, plans_of, point};
+use crate::plans::{WRITTEN, check_one_table, plans_of, point};
 use clients_core::{Board, Gate, LockedTable, run_clients};
 use point_core::{Context, Point, Refusal, Usage};
 use resv_core::{Act, Plan, SharedTable};
@@ -62,14 +62,11 @@ fn run_held<R: Threads + Wait + Abort + Sync, T: SharedTable>(
         other,
         ended: AtomicBool::new(false),
     };
-    let (settled, _table) = run_clients::<R, T, HoldGate>(rt, alloc, 1, plans, &gate)
-        .expect(rt, "a settled table");
-    assert_eq!(rt; settled.values.as_slice(), [0, 0].as_slice());
-    let [rows] = settled.tables.as_slice() else {
-        panic!(rt; "there is not one table")
-    };
-    let usages = [Usage::Write, Usage::Read, Usage::Bookkeep];
-    check_rows(rt, rows.as_slice(), &usages, 2, 1);
+    let (settled, _table) = run_clients::<R, T, HoldGate>(rt, alloc, 1, plans, &gate).expect(
+        rt,
+        "a settled table",
+    );
+    check_one_table(rt, &settled, &[0, 0], &WRITTEN, 1);
 }
 
 /// Runs two clients behind gates that hold one or the other, and behind one that never opens.

@@ -3,7 +3,7 @@ ghost use Rattle.std.specs.Prelude.{◌≡◌, vec_len};
 ghost use Rattle.resv_core.specs.Settled.{ArePlansWithin};
 
 use point_core::{Context, Point, TopRow, Usage};
-use resv_core::{Act, Plan};
+use resv_core::{Act, Plan, Settled};
 use std::alloc::Global;
 use std::process::Abort;
 
@@ -58,4 +58,25 @@ pub(crate) fn check_rows(
         }
     }
     assert!(rt; rest.is_empty());
+}
+
+/// The usages at which what was put for writing is pending.
+pub(crate) const WRITTEN: [Usage; 3] = [Usage::Write, Usage::Read, Usage::Bookkeep];
+
+/// The usages at which what was put for reading is pending.
+pub(crate) const READ: [Usage; 2] = [Usage::Read, Usage::Bookkeep];
+
+/// Checks the value of each client's timeline, and that one table has a row of this point for each usage and client.
+pub(crate) fn check_one_table(
+    rt: &impl Abort,
+    settled: &Settled,
+    values: &[u64],
+    usages: &[Usage],
+    point: u64,
+) {
+    assert!(rt; settled.values.as_slice() == values);
+    let [rows] = settled.tables.as_slice() else {
+        panic!(rt; "there is not one table")
+    };
+    check_rows(rt, rows.as_slice(), usages, values.len(), point);
 }

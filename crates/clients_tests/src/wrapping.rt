@@ -192,12 +192,15 @@ fn acts_of(place: usize) -> [Act; 2]
     requires few { place < 2 }
 {
     let ctx = Context::at(place);
-    [Act::Put(0, Point { ctx, value: 4 }, Usage::Read), Act::Look(0, Usage::Read)]
+    [
+        Act::Put(0, Point { ctx, value: 4 }, Usage::Read),
+        Act::Look(0, Usage::Read),
+    ]
 }
 
 /// Checks that these are the puts of two clients, in one order or the other.
 fn check_puts(rt: &impl Abort, puts: &[Entry]) {
-    assert_eq!(rt; puts.len(), 2);
+    assert!(rt; puts.len() == 2);
     for place in 0..2usize {
         let ctx = Context::at(place);
         let put = Entry {

@@ -36,28 +36,38 @@ pub(crate) fn fence_of(alloc: Global, first: u64, second: u64) -> Result<Fence, 
     }
 }
 
-/// Checks what a fence lists, and whether it is signalled at values of 5 and 2, of one of them, and of none.
-fn check_fence(rt: &impl Abort, fence: &Fence, members: &[(usize, u64)], signalled: [bool; 4]) {
-    assert_eq!(rt; fence.members().len(), members.len());
-    for (point, (place, value)) in fence.members().iter().zip(members.iter()) {
-        assert!(rt; point.ctx.index() == *place && point.value == *value);
-    }
-    let [none, first, second, both] = signalled;
-    assert_eq!(rt; fence.is_signalled(&reach_of(0, 0)), none);
-    assert_eq!(rt; fence.is_signalled(&reach_of(5, 0)), first);
-    assert_eq!(rt; fence.is_signalled(&reach_of(0, 2)), second);
-    assert_eq!(rt; fence.is_signalled(&reach_of(5, 2)), both);
+/// Checks whether a fence is signalled at these values of the first two contexts.
+fn check_signalled(rt: &impl Abort, fence: &Fence, first: u64, second: u64, wanted: bool) {
+    assert!(rt; fence.is_signalled(&reach_of(first, second)) == wanted);
+}
+
+/// Checks of which kind a fence of these points is, what it lists, and when it is signalled.
+fn check_fence(rt: &impl Abort, alloc: Global, first: u64, second: u64, members: &[Point]) {
+    let fence = fence_of(alloc, first, second).expect(rt, "a fence");
+    let count = match &fence {
+        Fence::Stub => 0,
+        Fence::Plain(_) => 1,
+        Fence::Array(_) => 2,
+    };
+    assert!(rt; count == members.len() && fence.members() == members);
+    check_signalled(rt, &fence, 0, 0, first == 0 && second == 0);
+    check_signalled(rt, &fence, 5, 0, second == 0);
+    check_signalled(rt, &fence, 0, 2, first == 0);
+    check_signalled(rt, &fence, 5, 2, true);
 }
 
 #[test]
 fn fence_rows(rt: HostRuntime) {
-    let stub = fence_of(rt.alloc(), 0, 0).expect(&rt, "a stub");
-    assert!(rt; matches!(stub, Fence::Stub));
-    check_fence(&rt, &stub, &[], [true, true, true, true]);
-    let plain = fence_of(rt.alloc(), 5, 0).expect(&rt, "a plain fence");
-    assert!(rt; matches!(plain, Fence::Plain(_)));
-    check_fence(&rt, &plain, &[(0, 5)], [false, true, false, true]);
-    let array = fence_of(rt.alloc(), 5, 2).expect(&rt, "an array");
-    assert!(rt; matches!(array, Fence::Array(_)));
-    check_fence(&rt, &array, &[(0, 5), (1, 2)], [false, false, false, true]);
+    let five = Point {
+        ctx: Context::at(0),
+        value: 5,
+    };
+    let two = Point {
+        ctx: Context::at(1),
+        value: 2,
+    };
+    check_fence(&rt, rt.alloc(), 0, 0, &[]);
+    check_fence(&rt, rt.alloc(), 5, 0, &[five]);
+    check_fence(&rt, rt.alloc(), 0, 2, &[two]);
+    check_fence(&rt, rt.alloc(), 5, 2, &[five, two]);
 }

@@ -3,7 +3,7 @@ ghost use Rattle.std.specs.Prelude.{◌≡◌, ◌<◌, ◌≤◌};
 
 use crate::fences::reach_of;
 use crate::threads::drive_on;
-use crate::words::{driver_of, words_of};
+use crate::words::{drive_to, driver_of, words_of};
 use point_core::{Context, Floor, Name, Point, Refusal, Status};
 use std::alloc::Global;
 use std::process::Abort;
@@ -20,15 +20,6 @@ fn plain(rt: &impl Abort, alloc: Global, place: usize, value: u64) -> SyncFile
     SyncFile::plain(alloc, name, Point { ctx, value }).expect(rt, "a file")
 }
 
-/// Brings the first context to 5.
-fn drive_to_five(rt: &impl Abort, words: &Words, driving: Seat)
-    requires own { driving.words ≡ words.now }
-    requires context { 1 ≤ words.now.contexts }
-{
-    let mut driver = driver_of(rt, words, driving, Context::at(0));
-    assert!(rt; driver.inc(words, 5) == Ok(5));
-}
-
 /// Merges two files, of which the first is signalled.
 fn merge_pending(
     rt: &impl Abort,
@@ -39,59 +30,85 @@ fn merge_pending(
     seat: &mut Seat,
 )
     requires own { seat.old.words ≡ words.now }
-    ensures same { seat.new.words ≡ seat.old.words }
+    ensures same { seat.new.words ≡ words.now }
 {
-    let merged = SyncFile::merge_with(alloc, signalled.name, signalled, pending, words, seat)
-        .expect(rt, "a file");
+    let merged = SyncFile::merge_with(
+        alloc,
+        signalled.name,
+        signalled,
+        pending,
+        words,
+        seat,
+    ).expect(rt, "a file");
     assert!(rt; merged.points.as_slice() == pending.points.as_slice());
     assert!(rt; merged.floor.to_reach() == reach_of(5, 0));
-    assert!(rt; merged.poll(words, seat) == Ok(Status::Active));
+    check_poll(rt, &merged, words, seat, Ok(Status::Active));
 }
 
-/// Polls two files and waits for them, of which the first is signalled.
-fn poll_and_wait(
+/// Polls a file, and checks the answer.
+fn check_poll(
     rt: &impl Abort,
-    signalled: &SyncFile,
-    pending: &SyncFile,
+    file: &SyncFile,
     words: &Words,
     seat: &mut Seat,
+    wanted: Result<Status, Refusal>,
 )
     requires own { seat.old.words ≡ words.now }
-    ensures same { seat.new.words ≡ seat.old.words }
+    ensures same { seat.new.words ≡ words.now }
 {
-    assert!(rt; signalled.poll(words, seat) == Ok(Status::Signalled));
-    assert!(rt; pending.wait_for(words, seat, 3) == Err(Refusal::TimedOut));
-    assert!(rt; signalled.wait_for(words, seat, 0) == Err(Refusal::TimedOut));
-    assert!(rt; signalled.wait_for(words, seat, 1) == Ok(()));
+    assert!(rt; file.poll(words, seat) == wanted);
+}
+
+/// Waits for a file, and checks the answer.
+fn check_wait(
+    rt: &impl Abort,
+    file: &SyncFile,
+    words: &Words,
+    seat: &mut Seat,
+    tries: u32,
+    wanted: Result<(), Refusal>,
+)
+    requires own { seat.old.words ≡ words.now }
+    ensures same { seat.new.words ≡ words.now }
+{
+    assert!(rt; file.wait_for(words, seat, tries) == wanted);
+}
+
+/// Merges, polls and waits for a file that is signalled and one that is not.
+fn check_both(rt: &impl Abort, alloc: Global, words: &Words, seat: &mut Seat)
+    requires own { seat.old.words ≡ words.now }
+{
+    let signalled = plain(rt, alloc, 0, 5);
+    let pending = plain(rt, alloc, 1, 2);
+    merge_pending(rt, alloc, &signalled, &pending, words, seat);
+    check_poll(rt, &signalled, words, seat, Ok(Status::Signalled));
+    check_wait(rt, &pending, words, seat, 3, Err(Refusal::TimedOut));
+    check_wait(rt, &signalled, words, seat, 0, Err(Refusal::TimedOut));
+    check_wait(rt, &signalled, words, seat, 1, Ok(()));
 }
 
 #[test]
 fn what_was_loaded_as_reached(rt: HostRuntime) {
     let (words, mut seat) = words_of(&rt, rt.alloc(), 2, 0, 0);
-    let driving = words.part(&mut seat, 1);
-    drive_to_five(&rt, &words, driving);
-    let signalled = plain(&rt, rt.alloc(), 0, 5);
-    let pending = plain(&rt, rt.alloc(), 1, 2);
-    merge_pending(&rt, rt.alloc(), &signalled, &pending, &words, &mut seat);
-    poll_and_wait(&rt, &signalled, &pending, &words, &mut seat);
+    drive_to(&rt, &words, &mut seat, 5);
+    check_both(&rt, rt.alloc(), &words, &mut seat);
 }
 
-/// Checks that words do not bear a file out.
-fn check_foreign(rt: &impl Abort, file: &SyncFile, words: &Words, seat: &mut Seat)
+/// Polls a file of a context that the words do not have, and one whose floor is above their values.
+fn check_foreign(rt: &impl Abort, alloc: Global, words: &Words, seat: &mut Seat)
     requires own { seat.old.words ≡ words.now }
-    ensures same { seat.new.words ≡ seat.old.words }
 {
-    assert!(rt; file.poll(words, seat) == Err(Refusal::Foreign));
+    let past = plain(rt, alloc, 2, 1);
+    check_poll(rt, &past, words, seat, Err(Refusal::Foreign));
+    let mut later = plain(rt, alloc, 1, 2);
+    later.floor = Floor::of(alloc, &reach_of(5, 0)).expect(rt, "a floor");
+    check_poll(rt, &later, words, seat, Err(Refusal::Foreign));
 }
 
 #[test]
 fn files_of_other_words(rt: HostRuntime) {
     let (words, mut seat) = words_of(&rt, rt.alloc(), 2, 0, 0);
-    let past = plain(&rt, rt.alloc(), 2, 1);
-    check_foreign(&rt, &past, &words, &mut seat);
-    let mut later = plain(&rt, rt.alloc(), 1, 2);
-    later.floor = Floor::of(rt.alloc(), &reach_of(5, 0)).expect(&rt, "a floor");
-    check_foreign(&rt, &later, &words, &mut seat);
+    check_foreign(&rt, rt.alloc(), &words, &mut seat);
 }
 
 /// Drives the first context to 1,000.
@@ -101,7 +118,7 @@ fn drive(rt: &impl Abort, words: &Words, driving: Seat)
 {
     let mut driver = driver_of(rt, words, driving, Context::at(0));
     drive_on(rt, words, &mut driver);
-    assert_eq!(rt; driver.value(), 1_000);
+    assert!(rt; driver.value() == 1_000);
 }
 
 /// Waits for a file, for seconds at most.

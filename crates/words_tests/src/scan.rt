@@ -79,13 +79,7 @@ fn unregister(rt: &impl Abort, watching: &mut Watching, plain: &mut Plain, cooki
 }
 
 /// Brings both to those values, and compares what fires.
-fn rise_both(
-    rt: &impl Abort,
-    watching: &mut Watching,
-    plain: &mut Plain,
-    first: u64,
-    second: u64,
-) {
+fn rise_both(rt: &impl Abort, watching: &mut Watching, plain: &mut Plain, first: u64, second: u64) {
     if let Ok(fired) = watching.rise(rt, &reach_of(first, second)) {
         compare(rt, fired.as_slice(), plain, first, second);
     }
@@ -111,7 +105,7 @@ fn compare(rt: &impl Abort, fired: &[u64], plain: &mut Plain, first: u64, second
             let Some((cookie, rest)) = told.split_first() else {
                 panic!(rt; "a watch has not fired")
             };
-            assert_eq!(rt; *cookie, watch.cookie);
+            assert!(rt; *cookie == watch.cookie);
             told = rest;
         }
     }
@@ -162,6 +156,13 @@ fn step(
     }
 }
 
+fn steps(rt: &impl Abort, alloc: Global, watching: &mut Watching, plain: &mut Plain) {
+    let mut seed = 1;
+    for _ in 0..20_000u32 {
+        step(rt, alloc, watching, plain, &mut seed);
+    }
+}
+
 // The same watches fire in the same order, and the same are refused.
 #[test]
 fn a_plain_list_of_watches(rt: HostRuntime) {
@@ -171,8 +172,5 @@ fn a_plain_list_of_watches(rt: HostRuntime) {
         second: 0,
     };
     let mut watching = Watching::new(&rt, rt.alloc());
-    let mut seed = 1;
-    for _ in 0..20_000u32 {
-        step(&rt, rt.alloc(), &mut watching, &mut plain, &mut seed);
-    }
+    steps(&rt, rt.alloc(), &mut watching, &mut plain);
 }

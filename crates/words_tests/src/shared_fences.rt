@@ -1,14 +1,15 @@
 // Fences that threads share.
 ghost use Rattle.std.specs.Prelude.{◌≡◌, ◌<◌, ◌≤◌};
+ghost use Rattle.fence_core.specs.SharedFence.{token_of};
 
-use crate::words::{driver_of, words_of};
+use crate::words::{drive_to, words_of};
 use fence_core::{SharedFence, Signal};
 use point_core::{Context, Point, Refusal};
 use std::alloc::Global;
 use std::process::Abort;
 use std::sync::Wait;
 use std::thread::{Threads, join};
-use words_core::{Driver, Seat, Words};
+use words_core::{Seat, Won, Words};
 
 /// A fence of a point of the first context, with the first flag.
 fn shared_fence_of(rt: &impl Abort, alloc: Global, words: &Words, value: u64) -> SharedFence
@@ -19,43 +20,72 @@ fn shared_fence_of(rt: &impl Abort, alloc: Global, words: &Words, value: u64) ->
     SharedFence::new(alloc, words, 0, &[Point { ctx, value }]).expect(rt, "a fence")
 }
 
-/// Signals a fence of point 2 before its context is there, and then twice, with callbacks before and between.
-fn signal_in_turn<R: Abort + Wait>(
-    rt: &R,
-    fence: &SharedFence,
-    words: &Words,
-    driver: &mut Driver,
-    seat: &mut Seat,
-)
-    requires own { (words.now ≡ fence.now.words) × (seat.old.words ≡ words.now) × (driver.old.seat.words ≡ words.now) }
+/// Adds a callback, and checks the answer.
+fn add<R: Abort + Wait>(rt: &R, fence: &SharedFence, cookie: u64, wanted: Result<(), Refusal>) {
+    assert!(rt; fence.add_callback(rt, cookie) == wanted);
+}
+
+/// Checks that a fence waits for the first context, which is at 0.
+fn check_pending(rt: &impl Abort, fence: &SharedFence, words: &Words, seat: &mut Seat)
+    requires own { (words.now ≡ fence.now.words) × (seat.old.words ≡ words.now) }
+    ensures same { seat.new.words ≡ seat.old.words }
 {
-    assert!(rt; fence.add_callback(rt, 7).is_ok());
-    assert!(rt; fence.add_callback(rt, 7) == Err(Refusal::Exists));
     let Signal::NotYet { ctx, value } = fence.signal(words, seat) else {
         panic!(rt; "it was signalled")
     };
     assert!(rt; ctx == Context::at(0) && value == 0);
-    assert!(rt; driver.inc(words, 2) == Ok(2));
+}
+
+/// Signals a fence, which no other call has done.
+fn signal_first(rt: &impl Abort, fence: &SharedFence, words: &Words, seat: &mut Seat) -> Won
+    requires own { (words.now ≡ fence.now.words) × (seat.old.words ≡ words.now) }
+    ensures token { result ≡ token_of fence.now }
+    ensures same { seat.new.words ≡ seat.old.words }
+{
     let Signal::First(token) = fence.signal(words, seat) else {
         panic!(rt; "it was not the first")
     };
-    assert!(rt; fence.add_callback(rt, 8).is_ok());
+    token
+}
+
+/// Signals a fence twice, with callbacks before and between, and hands them out.
+fn signal_again<R: Abort + Wait>(rt: &R, fence: &SharedFence, words: &Words, seat: &mut Seat)
+    requires own { (words.now ≡ fence.now.words) × (seat.old.words ≡ words.now) }
+{
+    add(rt, fence, 7, Ok(()));
+    add(rt, fence, 7, Err(Refusal::Exists));
+    let token = signal_first(rt, fence, words, seat);
+    add(rt, fence, 8, Ok(()));
     assert!(rt; matches!(fence.signal(words, seat), Signal::Already));
-    let cookies = fence.hand_out(rt, token);
-    assert_eq!(rt; cookies.as_slice(), [7, 8].as_slice());
-    assert!(rt; fence.add_callback(rt, 9) == Err(Refusal::Signalled));
+    assert!(rt; fence.hand_out(rt, token).as_slice() == [7, 8].as_slice());
+    add(rt, fence, 9, Err(Refusal::Signalled));
+}
+
+/// Drives the first context to the point 2 of a fence, which is then signalled.
+fn signal_in_turn<R: Abort + Wait>(rt: &R, alloc: Global, words: &Words, seat: &mut Seat)
+    requires own { (seat.old.words ≡ words.now) × (1 < seat.old.parts) }
+    requires sizes { (words.now.contexts ≡ 1) × (words.now.flags ≡ 1) }
+{
+    let fence = shared_fence_of(rt, alloc, words, 2);
+    check_pending(rt, &fence, words, seat);
+    drive_to(rt, words, seat, 2);
+    signal_again(rt, &fence, words, seat);
+}
+
+/// Checks that a fence of a context past those of the words is refused.
+fn check_foreign(rt: &impl Abort, alloc: Global, words: &Words)
+    requires sizes { (words.now.contexts ≡ 1) × (words.now.flags ≡ 1) }
+{
+    let ctx = Context::at(1);
+    let refused = SharedFence::new(alloc, words, 0, &[Point { ctx, value: 1 }]).err();
+    assert!(rt; refused == Some(Refusal::Foreign));
 }
 
 #[test]
 fn a_fence_is_signalled_once(rt: HostRuntime) {
     let (words, mut seat) = words_of(&rt, rt.alloc(), 1, 0, 1);
-    let driving = words.part(&mut seat, 1);
-    let mut driver = driver_of(&rt, &words, driving, Context::at(0));
-    let fence = shared_fence_of(&rt, rt.alloc(), &words, 2);
-    signal_in_turn(&rt, &fence, &words, &mut driver, &mut seat);
-    let ctx = Context::at(1);
-    let refused = SharedFence::new(rt.alloc(), &words, 0, &[Point { ctx, value: 1 }]).err();
-    assert!(rt; refused == Some(Refusal::Foreign));
+    signal_in_turn(&rt, rt.alloc(), &words, &mut seat);
+    check_foreign(&rt, rt.alloc(), &words);
 }
 
 /// What a thread that signals a fence comes back with: the callbacks, or that it was not the first.
@@ -129,12 +159,25 @@ fn is_handed_out_once(answers: &[Answer], cookies: &[u64]) -> bool {
     first == 1 && already + 1 == answers.len()
 }
 
+/// Signals a fence with two callbacks on four threads, of which one alone has both.
+fn signal_at_once<R: Threads + Wait + Abort + Sync>(
+    rt: &R,
+    alloc: Global,
+    words: &Words,
+    seat: &mut Seat,
+)
+    requires own { (seat.old.words ≡ words.now) × (4 < seat.old.parts) }
+    requires sizes { words.now.flags ≡ 1 }
+{
+    let fence = shared_fence_of(rt, alloc, words, 0);
+    add(rt, &fence, 7, Ok(()));
+    add(rt, &fence, 8, Ok(()));
+    let answers = signal_four_times(rt, &fence, words, seat);
+    assert!(rt; is_handed_out_once(&answers, &[7, 8]));
+}
+
 #[test]
 fn four_threads_signal_one_fence(rt: HostRuntime) {
     let (words, mut seat) = words_of(&rt, rt.alloc(), 1, 0, 1);
-    let fence = shared_fence_of(&rt, rt.alloc(), &words, 0);
-    fence.add_callback(&rt, 7).expect(&rt, "a callback");
-    fence.add_callback(&rt, 8).expect(&rt, "a callback");
-    let answers = signal_four_times(&rt, &fence, &words, &mut seat);
-    assert!(rt; is_handed_out_once(&answers, &[7, 8]));
+    signal_at_once(&rt, rt.alloc(), &words, &mut seat);
 }

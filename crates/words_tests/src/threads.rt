@@ -46,7 +46,10 @@ fn drive(
 {
     let mut driver = driver_of(rt, words, driving, mine);
     assert!(rt; driver.inc(words, 1) == Ok(1));
-    assert!(rt; is_advanced(words, &mut looking, other), "the threads did not meet");
+    assert!(rt;
+        is_advanced(words, &mut looking, other),
+        "the threads did not meet"
+    );
     drive_on(rt, words, &mut driver);
     words.join(&mut looking, driver.finish());
     looking
@@ -89,8 +92,9 @@ fn two_threads_drive(rt: HostRuntime) {
     let (words, mut all) = words_of(&rt, rt.alloc(), 2, 0, 0);
     drive_both(&rt, &words, &mut all);
     let mut whole = whole_of(&rt, all);
-    assert_eq!(rt; whole.value(&words, Context::at(0)), 1_001);
-    assert_eq!(rt; whole.value(&words, Context::at(1)), 1_001);
+    let first = whole.value(&words, Context::at(0));
+    let second = whole.value(&words, Context::at(1));
+    assert!(rt; first == 1_001 && second == 1_001);
 }
 
 /// Raises one entry again and again, each time to a later point.
@@ -101,7 +105,13 @@ fn raise_on(words: &Words, mut seat: Seat, first: u64) -> Seat
     ensures own { result.words ≡ words.now }
 {
     for round in 0..1_000_000u64 {
-        words.raise(&mut seat, 0, Context::at(0), Usage::Write, 2 * round + first);
+        words.raise(
+            &mut seat,
+            0,
+            Context::at(0),
+            Usage::Write,
+            2 * round + first,
+        );
     }
     seat
 }

@@ -3,7 +3,7 @@ ghost use Rattle.std.specs.Prelude.{◌≡◌, ◌<◌, ◌≤◌};
 ghost use Rattle.words_core.specs.declared.flags.Once.TheVariants as once;
 ghost use Rattle.words_core.specs.declared.seat.TheConstants.{PARTS};
 
-use point_core::{BUFFERS, CONTEXTS, Context, LimitKind, Refusal, Usage};
+use point_core::{BUFFERS, CONTEXTS, Context, LimitKind, Reach, Refusal, Usage};
 use std::alloc::Global;
 use std::process::Abort;
 use words_core::{Driver, FLAGS, Once, PARTS, Seat, Whole, Words};
@@ -87,85 +87,143 @@ fn seat_without(rt: &impl Abort, seat: Seat, missing: u32) -> Seat
     let Err((seat, told)) = seat.gather() else {
         panic!(rt; "no part was missing")
     };
-    assert_eq!(rt; told, missing);
+    assert!(rt; told == missing);
     seat
 }
 
-/// Advances the second context of three, and loads all values by another seat.
+/// Advances a context, and checks the answer.
+fn check_inc(
+    rt: &impl Abort,
+    words: &Words,
+    driver: &mut Driver,
+    n: u64,
+    wanted: Result<u64, Refusal>,
+)
+    requires own { driver.old.seat.words ≡ words.now }
+    ensures own { driver.new.seat.words ≡ words.now }
+{
+    assert!(rt; driver.inc(words, n) == wanted);
+}
+
+/// Checks that the second context alone is advanced.
+fn check_reach(rt: &impl Abort, reach: &Reach) {
+    for (index, value) in [(0, 0), (1, 7), (2, 0), (3, 0)] {
+        assert!(rt; reach.get(Context::at(index)) == value);
+    }
+}
+
+/// Advances the second context of three, and loads its value by another seat.
 fn advance(rt: &impl Abort, words: &Words, driver: &mut Driver, looking: &mut Seat)
     requires own { (driver.old.seat.words ≡ words.now) × (looking.old.words ≡ words.now) }
+    requires contexts { words.now.contexts ≡ 3 }
     ensures own { (driver.new.seat.words ≡ words.now) × (looking.new.words ≡ words.now) }
 {
-    assert!(rt; driver.inc(words, 5) == Ok(5));
-    assert!(rt; driver.inc(words, u64::MAX) == Err(Refusal::Overflow));
-    assert!(rt; driver.inc(words, 2) == Ok(7));
-    assert_eq!(rt; driver.value(), 7);
-    let reach = words.load_all(looking);
-    for (index, value) in [(0, 0), (1, 7), (2, 0), (3, 0)] {
-        assert_eq!(rt; reach.get(Context::at(index)), value);
-    }
+    check_inc(rt, words, driver, 5, Ok(5));
+    check_inc(rt, words, driver, u64::MAX, Err(Refusal::Overflow));
+    check_inc(rt, words, driver, 2, Ok(7));
+    assert!(rt; driver.value() == 7);
+    assert!(rt; words.load(looking, Context::at(1)) == 7);
+    check_reach(rt, &words.load_all(looking));
+}
+
+/// Drives the second context of three by a seat of three parts, without which the first seat is not whole.
+fn drive_apart(rt: &impl Abort, words: &Words, mut first: Seat) -> Seat
+    requires own { (first.words ≡ words.now) × (first.parts ≡ PARTS) × (words.now.contexts ≡ 3) }
+    ensures own { result.words ≡ words.now }
+{
+    let second = words.part(&mut first, 3);
+    assert!(rt; first.parts() == PARTS - 3 && second.parts() == 3);
+    let mut driver = driver_of(rt, words, second, Context::at(1));
+    advance(rt, words, &mut driver, &mut first);
+    let mut first = seat_without(rt, first, 3);
+    words.join(&mut first, driver.finish());
+    first
+}
+
+/// Checks the value of the second context by a seat of all parts.
+fn check_value(rt: &impl Abort, words: &Words, seat: Seat)
+    requires own { (seat.words ≡ words.now) × (words.now.contexts ≡ 3) }
+{
+    let mut whole = whole_of(rt, seat);
+    assert!(rt; whole.value(words, Context::at(1)) == 7);
+    assert!(rt; whole.seat().parts() == PARTS);
 }
 
 #[test]
 fn parts_and_a_driver(rt: HostRuntime) {
-    let ctx = Context::at(1);
-    let (words, mut first) = words_of(&rt, rt.alloc(), 3, 0, 0);
-    let second = words.part(&mut first, 3);
-    assert!(rt; first.parts() == PARTS - 3 && second.parts() == 3);
-    let mut driver = driver_of(&rt, &words, second, ctx);
-    advance(&rt, &words, &mut driver, &mut first);
-    assert_eq!(rt; words.load(&mut first, ctx), 7);
-    let mut first = seat_without(&rt, first, 3);
-    words.join(&mut first, driver.finish());
-    let mut whole = whole_of(&rt, first);
-    assert_eq!(rt; whole.value(&words, ctx), 7);
-    assert_eq!(rt; whole.seat().parts(), PARTS);
+    let (words, seat) = words_of(&rt, rt.alloc(), 3, 0, 0);
+    let seat = drive_apart(&rt, &words, seat);
+    check_value(&rt, &words, seat);
+}
+
+/// Checks that a context has no second driver. The seat that comes back lacks all other parts for good.
+fn check_claimed(rt: &impl Abort, words: &Words, seat: Seat)
+    requires own { (seat.words ≡ words.now) × (words.now.contexts ≡ 1) }
+{
+    let Err((refusal, seat)) = words.driver(seat, Context::at(0)) else {
+        panic!(rt; "there were two drivers")
+    };
+    assert!(rt; refusal == Refusal::Exists && seat.parts() == 1);
+    let seat = seat_without(rt, seat, PARTS - 1);
+    seat_without(rt, seat, PARTS - 1);
 }
 
 #[test]
 fn a_second_driver(rt: HostRuntime) {
-    let ctx = Context::at(0);
     let (words, mut one) = words_of(&rt, rt.alloc(), 1, 0, 0);
     let other = words.part(&mut one, 1);
-    drop(driver_of(&rt, &words, one, ctx));
-    let Err((refusal, other)) = words.driver(other, ctx) else {
-        panic!(rt; "there were two drivers")
-    };
-    assert!(rt; refusal == Refusal::Exists && other.parts() == 1);
-    let other = seat_without(&rt, other, PARTS - 1);
-    assert_eq!(rt; seat_without(&rt, other, PARTS - 1).parts(), 1);
+    drop(driver_of(&rt, &words, one, Context::at(0)));
+    check_claimed(&rt, &words, other);
 }
 
 /// Sets a flag twice by one seat. Whatever others do, the second answer is not the first.
 fn set_twice(words: &Words, seat: &mut Seat, flag: usize) -> (Once, Once)
     requires own { seat.old.words ≡ words.now }
     requires flag { flag < words.now.flags }
-    ensures own { (seat.new.words ≡ words.now) × (seat.new.parts ≡ seat.old.parts) }
+    ensures own { seat.new.words ≡ words.now }
     ensures again { result.1 ≡ once.Already }
 {
     let first = words.set_once(seat, flag);
     (first, words.set_once(seat, flag))
 }
 
-/// Checks three flags, of which the second alone is set.
-fn check_flags(rt: &impl Abort, words: &Words, whole: &mut Whole)
-    requires own { (whole.old.words ≡ words.now) × (words.now.flags ≡ 3) }
+/// Sets the second of three flags.
+fn set_second(rt: &impl Abort, words: &Words, seat: &mut Seat)
+    requires own { (seat.old.words ≡ words.now) × (words.now.flags ≡ 3) }
+    ensures own { seat.new.words ≡ words.now }
 {
+    let (first, again) = set_twice(words, seat, 1);
+    let Once::First(won) = first else {
+        panic!(rt; "the flag was set")
+    };
+    assert!(rt; won.flag() == 1 && matches!(again, Once::Already));
+}
+
+/// Checks three flags, of which the second alone is set.
+fn check_flags(rt: &impl Abort, words: &Words, seat: Seat)
+    requires own { (seat.words ≡ words.now) × (words.now.flags ≡ 3) }
+{
+    let mut whole = whole_of(rt, seat);
     for flag in 0..3usize {
-        assert_eq!(rt; whole.flag(words, flag), flag == 1);
+        assert!(rt; whole.flag(words, flag) == (flag == 1));
     }
 }
 
 #[test]
 fn flags(rt: HostRuntime) {
     let (words, mut seat) = words_of(&rt, rt.alloc(), 1, 0, 3);
-    let (first, again) = set_twice(&words, &mut seat, 1);
-    let Once::First(won) = first else {
-        panic!(rt; "the flag was set")
-    };
-    assert!(rt; won.flag() == 1 && matches!(again, Once::Already));
-    let mut whole = whole_of(&rt, seat);
-    check_flags(&rt, &words, &mut whole);
+    set_second(&rt, &words, &mut seat);
+    check_flags(&rt, &words, seat);
+}
+
+/// Drives the first context to a value by a seat of one part, which is lost.
+pub(crate) fn drive_to(rt: &impl Abort, words: &Words, seat: &mut Seat, value: u64)
+    requires own { (seat.old.words ≡ words.now) × (1 < seat.old.parts) }
+    ensures own { seat.new.words ≡ words.now }
+{
+    let driving = words.part(seat, 1);
+    let mut driver = driver_of(rt, words, driving, Context::at(0));
+    assert!(rt; driver.inc(words, value) == Ok(value));
 }
 
 const EVERY_USAGE: [Usage; 4] = [Usage::Kernel, Usage::Write, Usage::Read, Usage::Bookkeep];
@@ -187,10 +245,10 @@ fn raise_entries(rt: &impl Abort, words: &Words, seat: &mut Seat, buffer: usize,
     let ctx = Context::at(place);
     for usage in EVERY_USAGE {
         let point = point_for(buffer, place, usage);
-        assert_eq!(rt; words.shown(seat, buffer, ctx, usage), 0);
-        assert_eq!(rt; words.raise(seat, buffer, ctx, usage, point), point);
-        assert_eq!(rt; words.raise(seat, buffer, ctx, usage, point - 1), point);
-        assert_eq!(rt; words.shown(seat, buffer, ctx, usage), point);
+        assert!(rt; words.shown(seat, buffer, ctx, usage) == 0);
+        assert!(rt; words.raise(seat, buffer, ctx, usage, point) == point);
+        assert!(rt; words.raise(seat, buffer, ctx, usage, point - 1) == point);
+        assert!(rt; words.shown(seat, buffer, ctx, usage) == point);
     }
 }
 
@@ -216,10 +274,9 @@ fn check_entries(rt: &impl Abort, words: &Words, whole: &mut Whole, buffer: usiz
 {
     let ctx = Context::at(place);
     for usage in EVERY_USAGE {
-        let top = whole.top(words, buffer, ctx, usage);
-        assert_eq!(rt; top, point_for(buffer, place, usage));
+        assert!(rt; whole.top(words, buffer, ctx, usage) == point_for(buffer, place, usage));
     }
-    assert_eq!(rt; whole.value(words, ctx), 0);
+    assert!(rt; whole.value(words, ctx) == 0);
 }
 
 /// Checks each entry of two buffers and two contexts.
@@ -234,14 +291,21 @@ fn check_all(rt: &impl Abort, words: &Words, whole: &mut Whole)
     }
 }
 
+/// Raises the entries by one seat, and looks at one of them by another.
+fn raise_by_one(rt: &impl Abort, words: &Words, one: &mut Seat)
+    requires own { (one.old.words ≡ words.now) × (one.old.parts ≡ PARTS) }
+    requires sizes { (words.now.contexts ≡ 2) × (words.now.buffers ≡ 2) }
+    ensures own { one.new.words ≡ words.now }
+{
+    let mut other = words.part(one, 1);
+    raise_all(rt, words, one);
+    assert!(rt; words.shown(&mut other, 1, Context::at(1), Usage::Write) == 112);
+    words.join(one, other);
+}
+
 #[test]
 fn board(rt: HostRuntime) {
-    let (words, mut one) = words_of(&rt, rt.alloc(), 2, 2, 0);
-    let mut other = words.part(&mut one, 1);
-    raise_all(&rt, &words, &mut one);
-    let seen = words.shown(&mut other, 1, Context::at(1), Usage::Write);
-    assert_eq!(rt; seen, 112);
-    words.join(&mut one, other);
-    let mut whole = whole_of(&rt, one);
-    check_all(&rt, &words, &mut whole);
+    let (words, mut seat) = words_of(&rt, rt.alloc(), 2, 2, 0);
+    raise_by_one(&rt, &words, &mut seat);
+    check_all(&rt, &words, &mut whole_of(&rt, seat));
 }

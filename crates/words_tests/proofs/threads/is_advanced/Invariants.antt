@@ -1,4 +1,4 @@
-use Rattle.std.proofs.Common.{◌≡◌, ◌×◌}
+use Rattle.std.proofs.Common.{◌≡◌}
 use Rattle.words_tests.proofs.threads.is_advanced.Given as goal
 
 abbrev pub invariant-loop : goal.invariant-loop
