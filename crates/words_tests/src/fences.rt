@@ -41,19 +41,23 @@ fn check_signalled(rt: &impl Abort, fence: &Fence, first: u64, second: u64, want
     assert!(rt; fence.is_signalled(&reach_of(first, second)) == wanted);
 }
 
-/// Checks of which kind a fence of these points is, what it lists, and when it is signalled.
-fn check_fence(rt: &impl Abort, alloc: Global, first: u64, second: u64, members: &[Point]) {
-    let fence = fence_of(alloc, first, second).expect(rt, "a fence");
-    let count = match &fence {
+/// How many members a fence of its kind has, where 2 stands for several.
+fn kind_of(fence: &Fence) -> usize {
+    match fence {
         Fence::Stub => 0,
         Fence::Plain(_) => 1,
         Fence::Array(_) => 2,
-    };
-    assert!(rt; count == members.len() && fence.members() == members);
-    check_signalled(rt, &fence, 0, 0, first == 0 && second == 0);
-    check_signalled(rt, &fence, 5, 0, second == 0);
-    check_signalled(rt, &fence, 0, 2, first == 0);
-    check_signalled(rt, &fence, 5, 2, true);
+    }
+}
+
+/// Checks of which kind a fence of these points is, what it lists, and when it is signalled.
+fn check_fence(rt: &impl Abort, alloc: Global, first: u64, second: u64, members: &[Point]) {
+    let fence = fence_of(alloc, first, second).expect(rt, "a fence");
+    assert!(rt; kind_of(&fence) == members.len());
+    assert!(rt; fence.members() == members);
+    for (one, other) in [(0, 0), (5, 0), (0, 2), (5, 2)] {
+        check_signalled(rt, &fence, one, other, one >= first && other >= second);
+    }
 }
 
 #[test]

@@ -40,9 +40,14 @@ fn merge_pending(
         words,
         seat,
     ).expect(rt, "a file");
+    check_merged(rt, &merged, pending);
+    check_poll(rt, &merged, words, seat, Ok(Status::Active));
+}
+
+/// Checks that a merged file lists what is pending, and that its floor is what was loaded.
+fn check_merged(rt: &impl Abort, merged: &SyncFile, pending: &SyncFile) {
     assert!(rt; merged.points.as_slice() == pending.points.as_slice());
     assert!(rt; merged.floor.to_reach() == reach_of(5, 0));
-    check_poll(rt, &merged, words, seat, Ok(Status::Active));
 }
 
 /// Polls a file, and checks the answer.
@@ -74,17 +79,30 @@ fn check_wait(
     assert!(rt; file.wait_for(words, seat, tries) == wanted);
 }
 
-/// Merges, polls and waits for a file that is signalled and one that is not.
+/// Polls and waits for a file that is signalled and one that is not.
+fn wait_for_both(
+    rt: &impl Abort,
+    signalled: &SyncFile,
+    pending: &SyncFile,
+    words: &Words,
+    seat: &mut Seat,
+)
+    requires own { seat.old.words ≡ words.now }
+{
+    check_poll(rt, signalled, words, seat, Ok(Status::Signalled));
+    check_wait(rt, pending, words, seat, 3, Err(Refusal::TimedOut));
+    check_wait(rt, signalled, words, seat, 0, Err(Refusal::TimedOut));
+    check_wait(rt, signalled, words, seat, 1, Ok(()));
+}
+
+/// Merges, polls and waits for both.
 fn check_both(rt: &impl Abort, alloc: Global, words: &Words, seat: &mut Seat)
     requires own { seat.old.words ≡ words.now }
 {
     let signalled = plain(rt, alloc, 0, 5);
     let pending = plain(rt, alloc, 1, 2);
     merge_pending(rt, alloc, &signalled, &pending, words, seat);
-    check_poll(rt, &signalled, words, seat, Ok(Status::Signalled));
-    check_wait(rt, &pending, words, seat, 3, Err(Refusal::TimedOut));
-    check_wait(rt, &signalled, words, seat, 0, Err(Refusal::TimedOut));
-    check_wait(rt, &signalled, words, seat, 1, Ok(()));
+    wait_for_both(rt, &signalled, &pending, words, seat);
 }
 
 #[test]
@@ -94,15 +112,25 @@ fn what_was_loaded_as_reached(rt: HostRuntime) {
     check_both(&rt, rt.alloc(), &words, &mut seat);
 }
 
+/// A file whose floor is above the values of its words.
+fn above(rt: &impl Abort, alloc: Global) -> SyncFile {
+    let mut file = plain(rt, alloc, 1, 2);
+    file.floor = Floor::of(alloc, &reach_of(5, 0)).expect(rt, "a floor");
+    file
+}
+
 /// Polls a file of a context that the words do not have, and one whose floor is above their values.
 fn check_foreign(rt: &impl Abort, alloc: Global, words: &Words, seat: &mut Seat)
     requires own { seat.old.words ≡ words.now }
 {
-    let past = plain(rt, alloc, 2, 1);
-    check_poll(rt, &past, words, seat, Err(Refusal::Foreign));
-    let mut later = plain(rt, alloc, 1, 2);
-    later.floor = Floor::of(alloc, &reach_of(5, 0)).expect(rt, "a floor");
-    check_poll(rt, &later, words, seat, Err(Refusal::Foreign));
+    check_poll(
+        rt,
+        &plain(rt, alloc, 2, 1),
+        words,
+        seat,
+        Err(Refusal::Foreign),
+    );
+    check_poll(rt, &above(rt, alloc), words, seat, Err(Refusal::Foreign));
 }
 
 #[test]

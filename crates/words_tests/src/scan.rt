@@ -28,6 +28,14 @@ struct Plain {
 }
 
 impl Plain {
+    fn new(rt: &impl Abort, alloc: Global) -> Plain {
+        Plain {
+            pending: Vec::with_capacity(alloc, 64).expect(rt, "memory"),
+            first: 0,
+            second: 0,
+        }
+    }
+
     fn has(&self, cookie: u64) -> bool {
         self.pending.iter().any(|held| held.cookie == cookie)
     }
@@ -41,6 +49,13 @@ impl Plain {
             return Err(Refusal::Signalled);
         }
         Ok(())
+    }
+
+    /// Takes out the watches that fire at those values.
+    fn rise_to(&mut self, first: u64, second: u64) {
+        self.pending.retain(|held| !held.is_reached(first, second));
+        self.first = first;
+        self.second = second;
     }
 }
 
@@ -102,17 +117,20 @@ fn compare(rt: &impl Abort, fired: &[u64], plain: &mut Plain, first: u64, second
     let mut told = fired;
     for watch in &plain.pending {
         if watch.is_reached(first, second) {
-            let Some((cookie, rest)) = told.split_first() else {
-                panic!(rt; "a watch has not fired")
-            };
-            assert!(rt; *cookie == watch.cookie);
-            told = rest;
+            told = after_first(rt, told, watch.cookie);
         }
     }
     assert!(rt; told.is_empty());
-    plain.pending.retain(|held| !held.is_reached(first, second));
-    plain.first = first;
-    plain.second = second;
+    plain.rise_to(first, second);
+}
+
+/// What follows a cookie, which comes first.
+fn after_first<'a>(rt: &impl Abort, told: &'a [u64], cookie: u64) -> &'a [u64] {
+    let Some((first, rest)) = told.split_first() else {
+        panic!(rt; "a watch has not fired")
+    };
+    assert!(rt; *first == cookie);
+    rest
 }
 
 /// The next of a row of numbers that look random.
@@ -166,11 +184,7 @@ fn steps(rt: &impl Abort, alloc: Global, watching: &mut Watching, plain: &mut Pl
 // The same watches fire in the same order, and the same are refused.
 #[test]
 fn a_plain_list_of_watches(rt: HostRuntime) {
-    let mut plain = Plain {
-        pending: Vec::with_capacity(rt.alloc(), 64).expect(&rt, "memory"),
-        first: 0,
-        second: 0,
-    };
+    let mut plain = Plain::new(&rt, rt.alloc());
     let mut watching = Watching::new(&rt, rt.alloc());
     steps(&rt, rt.alloc(), &mut watching, &mut plain);
 }

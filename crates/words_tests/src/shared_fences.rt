@@ -48,6 +48,21 @@ fn signal_first(rt: &impl Abort, fence: &SharedFence, words: &Words, seat: &mut 
     token
 }
 
+/// Hands the callbacks out by the token, and checks which they are.
+fn hand_out<R: Abort + Wait>(rt: &R, fence: &SharedFence, token: Won, wanted: &[u64])
+    requires own { token ≡ token_of fence.now }
+{
+    let cookies = fence.hand_out(rt, token);
+    assert!(rt; cookies.as_slice() == wanted);
+}
+
+/// Checks that a fence was signalled by another call.
+fn check_signalled(rt: &impl Abort, fence: &SharedFence, words: &Words, seat: &mut Seat)
+    requires own { (words.now ≡ fence.now.words) × (seat.old.words ≡ words.now) }
+{
+    assert!(rt; matches!(fence.signal(words, seat), Signal::Already));
+}
+
 /// Signals a fence twice, with callbacks before and between, and hands them out.
 fn signal_again<R: Abort + Wait>(rt: &R, fence: &SharedFence, words: &Words, seat: &mut Seat)
     requires own { (words.now ≡ fence.now.words) × (seat.old.words ≡ words.now) }
@@ -56,8 +71,8 @@ fn signal_again<R: Abort + Wait>(rt: &R, fence: &SharedFence, words: &Words, sea
     add(rt, fence, 7, Err(Refusal::Exists));
     let token = signal_first(rt, fence, words, seat);
     add(rt, fence, 8, Ok(()));
-    assert!(rt; matches!(fence.signal(words, seat), Signal::Already));
-    assert!(rt; fence.hand_out(rt, token).as_slice() == [7, 8].as_slice());
+    check_signalled(rt, fence, words, seat);
+    hand_out(rt, fence, token, &[7, 8]);
     add(rt, fence, 9, Err(Refusal::Signalled));
 }
 

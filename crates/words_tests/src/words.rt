@@ -235,20 +235,37 @@ fn point_for(buffer: usize, place: usize, usage: Usage) -> u64
     100 * buffer as u64 + 10 * place as u64 + u64::from(usage.number()) + 1
 }
 
-/// Raises the entries of a buffer and a context, each to its point, and then to an earlier one.
+/// Raises an entry, which is 0, to a point, and then to an earlier one.
+fn raise_entry(
+    rt: &impl Abort,
+    words: &Words,
+    seat: &mut Seat,
+    buffer: usize,
+    ctx: Context,
+    usage: Usage,
+    point: u64,
+)
+    requires own { seat.old.words ≡ words.now }
+    requires within { (buffer < words.now.buffers) × (ctx ≤ words.now.contexts) }
+    ensures same { (seat.new.words ≡ seat.old.words) × (seat.new.parts ≡ seat.old.parts) }
+{
+    let before = words.shown(seat, buffer, ctx, usage);
+    let raised = words.raise(seat, buffer, ctx, usage, point);
+    let kept = words.raise(seat, buffer, ctx, usage, point / 2);
+    let after = words.shown(seat, buffer, ctx, usage);
+    assert!(rt; before == 0 && raised == point && kept == point && after == point);
+}
+
+/// Raises the entries of a buffer and a context, each to its point.
 fn raise_entries(rt: &impl Abort, words: &Words, seat: &mut Seat, buffer: usize, place: usize)
     requires own { seat.old.words ≡ words.now }
     requires few { (buffer < 2) × (place < 2) }
     requires sizes { (2 ≤ words.now.contexts) × (2 ≤ words.now.buffers) }
     ensures same { (seat.new.words ≡ seat.old.words) × (seat.new.parts ≡ seat.old.parts) }
 {
-    let ctx = Context::at(place);
     for usage in EVERY_USAGE {
         let point = point_for(buffer, place, usage);
-        assert!(rt; words.shown(seat, buffer, ctx, usage) == 0);
-        assert!(rt; words.raise(seat, buffer, ctx, usage, point) == point);
-        assert!(rt; words.raise(seat, buffer, ctx, usage, point - 1) == point);
-        assert!(rt; words.shown(seat, buffer, ctx, usage) == point);
+        raise_entry(rt, words, seat, buffer, Context::at(place), usage, point);
     }
 }
 
