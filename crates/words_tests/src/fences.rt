@@ -1,38 +1,46 @@
 // Fences of points of two contexts.
+ghost use Rattle.std.specs.Prelude.{◌≡◌};
+
 use fence_core::Fence;
 use point_core::{Context, Point, Reach, Refusal};
 use std::alloc::Global;
 use std::process::Abort;
 
+/// A point of the first context.
+fn first_point(value: u64) -> Point
+    ensures context { result.ctx ≡ 1 }
+{
+    Point {
+        ctx: Context::at(0),
+        value,
+    }
+}
+
+/// A point of the second context.
+fn second_point(value: u64) -> Point
+    ensures context { result.ctx ≡ 2 }
+{
+    Point {
+        ctx: Context::at(1),
+        value,
+    }
+}
+
 /// The values of the first two contexts.
 pub(crate) fn reach_of(first: u64, second: u64) -> Reach {
     let mut reach = Reach::zero();
-    reach.raise_to(Point {
-        ctx: Context::at(0),
-        value: first,
-    });
-    reach.raise_to(Point {
-        ctx: Context::at(1),
-        value: second,
-    });
+    reach.raise_to(first_point(first));
+    reach.raise_to(second_point(second));
     reach
 }
 
 /// The fence of a point of the first context and one of the second, where 0 stands for none.
 pub(crate) fn fence_of(alloc: Global, first: u64, second: u64) -> Result<Fence, Refusal> {
-    let one = Point {
-        ctx: Context::at(0),
-        value: first,
-    };
-    let other = Point {
-        ctx: Context::at(1),
-        value: second,
-    };
     match (first, second) {
         (0, 0) => Fence::of(alloc, &[]),
-        (_, 0) => Fence::of(alloc, &[one]),
-        (0, _) => Fence::of(alloc, &[other]),
-        _ => Fence::of(alloc, &[one, other]),
+        (_, 0) => Fence::of(alloc, &[first_point(first)]),
+        (0, _) => Fence::of(alloc, &[second_point(second)]),
+        _ => Fence::of(alloc, &[first_point(first), second_point(second)]),
     }
 }
 
@@ -62,16 +70,8 @@ fn check_fence(rt: &impl Abort, alloc: Global, first: u64, second: u64, members:
 
 #[test]
 fn fence_rows(rt: HostRuntime) {
-    let five = Point {
-        ctx: Context::at(0),
-        value: 5,
-    };
-    let two = Point {
-        ctx: Context::at(1),
-        value: 2,
-    };
     check_fence(&rt, rt.alloc(), 0, 0, &[]);
-    check_fence(&rt, rt.alloc(), 5, 0, &[five]);
-    check_fence(&rt, rt.alloc(), 0, 2, &[two]);
-    check_fence(&rt, rt.alloc(), 5, 2, &[five, two]);
+    check_fence(&rt, rt.alloc(), 5, 0, &[first_point(5)]);
+    check_fence(&rt, rt.alloc(), 0, 2, &[second_point(2)]);
+    check_fence(&rt, rt.alloc(), 5, 2, &[first_point(5), second_point(2)]);
 }

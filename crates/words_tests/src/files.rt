@@ -59,7 +59,7 @@ fn check_poll(
     wanted: Result<Status, Refusal>,
 )
     requires own { seat.old.words ≡ words.now }
-    ensures same { seat.new.words ≡ words.now }
+    ensures same { (seat.new.words ≡ words.now) × (seat.new.parts ≡ seat.old.parts) }
 {
     assert!(rt; file.poll(words, seat) == wanted);
 }
@@ -105,13 +105,6 @@ fn check_both(rt: &impl Abort, alloc: Global, words: &Words, seat: &mut Seat)
     wait_for_both(rt, &signalled, &pending, words, seat);
 }
 
-#[test]
-fn what_was_loaded_as_reached(rt: HostRuntime) {
-    let (words, mut seat) = words_of(&rt, rt.alloc(), 2, 0, 0);
-    drive_to(&rt, &words, &mut seat, 5);
-    check_both(&rt, rt.alloc(), &words, &mut seat);
-}
-
 /// A file whose floor is above the values of its words.
 fn above(rt: &impl Abort, alloc: Global) -> SyncFile {
     let mut file = plain(rt, alloc, 1, 2);
@@ -122,6 +115,7 @@ fn above(rt: &impl Abort, alloc: Global) -> SyncFile {
 /// Polls a file of a context that the words do not have, and one whose floor is above their values.
 fn check_foreign(rt: &impl Abort, alloc: Global, words: &Words, seat: &mut Seat)
     requires own { seat.old.words ≡ words.now }
+    ensures same { (seat.new.words ≡ words.now) × (seat.new.parts ≡ seat.old.parts) }
 {
     check_poll(
         rt,
@@ -134,9 +128,11 @@ fn check_foreign(rt: &impl Abort, alloc: Global, words: &Words, seat: &mut Seat)
 }
 
 #[test]
-fn files_of_other_words(rt: HostRuntime) {
+fn files_of_two_contexts(rt: HostRuntime) {
     let (words, mut seat) = words_of(&rt, rt.alloc(), 2, 0, 0);
     check_foreign(&rt, rt.alloc(), &words, &mut seat);
+    drive_to(&rt, &words, &mut seat, 5);
+    check_both(&rt, rt.alloc(), &words, &mut seat);
 }
 
 /// Drives the first context to 1,000.

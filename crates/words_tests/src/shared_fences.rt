@@ -11,13 +11,19 @@ use std::sync::Wait;
 use std::thread::{Threads, join};
 use words_core::{Seat, Won, Words};
 
-/// A fence of a point of the first context, with the first flag.
-fn shared_fence_of(rt: &impl Abort, alloc: Global, words: &Words, value: u64) -> SharedFence
-    requires flag { 1 ≤ words.now.flags }
+/// A fence of a point of the first context.
+fn shared_fence_of(
+    rt: &impl Abort,
+    alloc: Global,
+    words: &Words,
+    flag: usize,
+    value: u64,
+) -> SharedFence
+    requires flag { flag < words.now.flags }
     ensures own { result.words ≡ words.now }
 {
     let ctx = Context::at(0);
-    SharedFence::new(alloc, words, 0, &[Point { ctx, value }]).expect(rt, "a fence")
+    SharedFence::new(alloc, words, flag, &[Point { ctx, value }]).expect(rt, "a fence")
 }
 
 /// Adds a callback, and checks the answer.
@@ -79,9 +85,9 @@ fn signal_again<R: Abort + Wait>(rt: &R, fence: &SharedFence, words: &Words, sea
 /// Drives the first context to the point 2 of a fence, which is then signalled.
 fn signal_in_turn<R: Abort + Wait>(rt: &R, alloc: Global, words: &Words, seat: &mut Seat)
     requires own { (seat.old.words ≡ words.now) × (1 < seat.old.parts) }
-    requires sizes { (words.now.contexts ≡ 1) × (words.now.flags ≡ 1) }
+    requires sizes { (words.now.contexts ≡ 1) × (words.now.flags ≡ 2) }
 {
-    let fence = shared_fence_of(rt, alloc, words, 2);
+    let fence = shared_fence_of(rt, alloc, words, 0, 2);
     check_pending(rt, &fence, words, seat);
     drive_to(rt, words, seat, 2);
     signal_again(rt, &fence, words, seat);
@@ -89,18 +95,11 @@ fn signal_in_turn<R: Abort + Wait>(rt: &R, alloc: Global, words: &Words, seat: &
 
 /// Checks that a fence of a context past those of the words is refused.
 fn check_foreign(rt: &impl Abort, alloc: Global, words: &Words)
-    requires sizes { (words.now.contexts ≡ 1) × (words.now.flags ≡ 1) }
+    requires sizes { (words.now.contexts ≡ 1) × (words.now.flags ≡ 2) }
 {
     let ctx = Context::at(1);
     let refused = SharedFence::new(alloc, words, 0, &[Point { ctx, value: 1 }]).err();
     assert!(rt; refused == Some(Refusal::Foreign));
-}
-
-#[test]
-fn a_fence_is_signalled_once(rt: HostRuntime) {
-    let (words, mut seat) = words_of(&rt, rt.alloc(), 1, 0, 1);
-    signal_in_turn(&rt, rt.alloc(), &words, &mut seat);
-    check_foreign(&rt, rt.alloc(), &words);
 }
 
 /// What a thread that signals a fence comes back with: the callbacks, or that it was not the first.
@@ -146,6 +145,7 @@ fn signal_four_times<R: Threads + Wait + Sync>(
 ) -> [Answer; 4]
     requires own { (words.now ≡ fence.now.words) × (seat.old.words ≡ words.now) }
     requires parts { 4 < seat.old.parts }
+    ensures own { (seat.new.words ≡ words.now) × (seat.old.parts ≤ seat.new.parts + 4) }
 {
     let (one, two) = (words.part(seat, 1), words.part(seat, 1));
     let (three, four) = (words.part(seat, 1), words.part(seat, 1));
@@ -182,9 +182,10 @@ fn signal_at_once<R: Threads + Wait + Abort + Sync>(
     seat: &mut Seat,
 )
     requires own { (seat.old.words ≡ words.now) × (4 < seat.old.parts) }
-    requires sizes { words.now.flags ≡ 1 }
+    requires sizes { words.now.flags ≡ 2 }
+    ensures own { (seat.new.words ≡ words.now) × (seat.old.parts ≤ seat.new.parts + 4) }
 {
-    let fence = shared_fence_of(rt, alloc, words, 0);
+    let fence = shared_fence_of(rt, alloc, words, 1, 0);
     add(rt, &fence, 7, Ok(()));
     add(rt, &fence, 8, Ok(()));
     let answers = signal_four_times(rt, &fence, words, seat);
@@ -192,7 +193,9 @@ fn signal_at_once<R: Threads + Wait + Abort + Sync>(
 }
 
 #[test]
-fn four_threads_signal_one_fence(rt: HostRuntime) {
-    let (words, mut seat) = words_of(&rt, rt.alloc(), 1, 0, 1);
+fn fences_are_signalled_once(rt: HostRuntime) {
+    let (words, mut seat) = words_of(&rt, rt.alloc(), 1, 0, 2);
+    check_foreign(&rt, rt.alloc(), &words);
     signal_at_once(&rt, rt.alloc(), &words, &mut seat);
+    signal_in_turn(&rt, rt.alloc(), &words, &mut seat);
 }

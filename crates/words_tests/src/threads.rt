@@ -5,7 +5,7 @@ use crate::words::{driver_of, whole_of, words_of};
 use point_core::{Context, Usage};
 use std::process::Abort;
 use std::thread::{Threads, join};
-use words_core::{Driver, Seat, Words};
+use words_core::{Driver, Seat, Whole, Words};
 
 /// Whether a context is advanced before so many loads have found it at 0.
 fn is_advanced(words: &Words, looking: &mut Seat, ctx: Context) -> bool
@@ -59,7 +59,7 @@ fn drive(
 fn drive_both<R: Threads + Abort + Sync>(rt: &R, words: &Words, all: &mut Seat)
     requires own { (all.old.words ≡ words.now) × (4 < all.old.parts) }
     requires contexts { 2 ≤ words.now.contexts }
-    ensures own { all.new.words ≡ words.now }
+    ensures own { (all.new.words ≡ words.now) × (all.old.parts ≤ all.new.parts + 4) }
 {
     let (driving, looking) = (words.part(all, 1), words.part(all, 1));
     let (other_driving, other_looking) = (words.part(all, 1), words.part(all, 1));
@@ -85,16 +85,6 @@ fn drive_both<R: Threads + Abort + Sync>(rt: &R, words: &Words, all: &mut Seat)
     );
     words.join(all, one);
     words.join(all, other);
-}
-
-#[test]
-fn two_threads_drive(rt: HostRuntime) {
-    let (words, mut all) = words_of(&rt, rt.alloc(), 2, 0, 0);
-    drive_both(&rt, &words, &mut all);
-    let mut whole = whole_of(&rt, all);
-    let first = whole.value(&words, Context::at(0));
-    let second = whole.value(&words, Context::at(1));
-    assert!(rt; first == 1_001 && second == 1_001);
 }
 
 /// Raises one entry again and again, each time to a later point.
@@ -138,12 +128,22 @@ fn raise_by_both<R: Threads>(rt: &R, words: &Words, all: &mut Seat)
     words.join(all, other);
 }
 
+/// Checks what both threads have come to.
+fn check_both(rt: &impl Abort, words: &Words, whole: &mut Whole)
+    requires own { whole.old.words ≡ words.now }
+    requires sizes { (words.now.contexts ≡ 2) × (words.now.buffers ≡ 1) }
+{
+    let first = whole.value(words, Context::at(0));
+    let second = whole.value(words, Context::at(1));
+    let top = whole.top(words, 0, Context::at(0), Usage::Write);
+    assert!(rt; first == 1_001 && second == 1_001 && top == 1_999_999);
+}
+
 #[test]
-fn two_threads_raise(rt: HostRuntime) {
-    let (words, mut all) = words_of(&rt, rt.alloc(), 1, 1, 0);
+fn two_threads_drive_and_raise(rt: HostRuntime) {
+    let (words, mut all) = words_of(&rt, rt.alloc(), 2, 1, 0);
+    drive_both(&rt, &words, &mut all);
     raise_by_both(&rt, &words, &mut all);
-    let shown = words.shown(&mut all, 0, Context::at(0), Usage::Write);
-    let mut whole = whole_of(&rt, all);
-    let top = whole.top(&words, 0, Context::at(0), Usage::Write);
-    assert!(rt; shown == 1_999_999 && top == 1_999_999);
+    assert!(rt; words.shown(&mut all, 0, Context::at(0), Usage::Write) == 1_999_999);
+    check_both(&rt, &words, &mut whole_of(&rt, all));
 }

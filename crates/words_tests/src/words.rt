@@ -1,6 +1,5 @@
 // Words, their parts and the board.
 ghost use Rattle.std.specs.Prelude.{◌≡◌, ◌<◌, ◌≤◌};
-ghost use Rattle.words_core.specs.declared.flags.Once.TheVariants as once;
 ghost use Rattle.words_core.specs.declared.seat.TheConstants.{PARTS};
 
 use point_core::{BUFFERS, CONTEXTS, Context, LimitKind, Reach, Refusal, Usage};
@@ -26,7 +25,7 @@ pub(crate) fn words_of(
 pub(crate) fn driver_of(rt: &impl Abort, words: &Words, seat: Seat, ctx: Context) -> Driver
     requires own { seat.words ≡ words.now }
     requires context { ctx ≤ words.now.contexts }
-    ensures own { (result.seat.words ≡ words.now) × (result.ctx ≡ ctx) }
+    ensures own { (result.seat.words ≡ words.now) × (result.seat.parts ≡ seat.parts) }
 {
     let Ok(driver) = words.driver(seat, ctx) else {
         panic!(rt; "the context was claimed")
@@ -80,17 +79,6 @@ fn sizes_of_words(rt: HostRuntime) {
     }
 }
 
-/// The seat again, of which so many parts are missing.
-fn seat_without(rt: &impl Abort, seat: Seat, missing: u32) -> Seat
-    ensures { result ≡ seat }
-{
-    let Err((seat, told)) = seat.gather() else {
-        panic!(rt; "no part was missing")
-    };
-    assert!(rt; told == missing);
-    seat
-}
-
 /// Advances a context, and checks the answer.
 fn check_inc(
     rt: &impl Abort,
@@ -100,7 +88,7 @@ fn check_inc(
     wanted: Result<u64, Refusal>,
 )
     requires own { driver.old.seat.words ≡ words.now }
-    ensures own { driver.new.seat.words ≡ words.now }
+    ensures own { (driver.new.seat.words ≡ words.now) × (driver.new.seat.parts ≡ driver.old.seat.parts) }
 {
     assert!(rt; driver.inc(words, n) == wanted);
 }
@@ -116,7 +104,8 @@ fn check_reach(rt: &impl Abort, reach: &Reach) {
 fn advance(rt: &impl Abort, words: &Words, driver: &mut Driver, looking: &mut Seat)
     requires own { (driver.old.seat.words ≡ words.now) × (looking.old.words ≡ words.now) }
     requires contexts { words.now.contexts ≡ 3 }
-    ensures own { (driver.new.seat.words ≡ words.now) × (looking.new.words ≡ words.now) }
+    ensures own { (driver.new.seat.words ≡ words.now) × (driver.new.seat.parts ≡ driver.old.seat.parts) }
+    ensures same { (looking.new.words ≡ words.now) × (looking.new.parts ≡ looking.old.parts) }
 {
     check_inc(rt, words, driver, 5, Ok(5));
     check_inc(rt, words, driver, u64::MAX, Err(Refusal::Overflow));
@@ -126,37 +115,45 @@ fn advance(rt: &impl Abort, words: &Words, driver: &mut Driver, looking: &mut Se
     check_reach(rt, &words.load_all(looking));
 }
 
-/// Drives the second context of three by a seat of three parts, without which the first seat is not whole.
-fn drive_apart(rt: &impl Abort, words: &Words, mut first: Seat) -> Seat
-    requires own { (first.words ≡ words.now) × (first.parts ≡ PARTS) × (words.now.contexts ≡ 3) }
-    ensures own { result.words ≡ words.now }
+/// Drives the second context of three by a seat of three parts, which is then taken in again.
+fn drive_apart(rt: &impl Abort, words: &Words, first: &mut Seat)
+    requires own { (first.old.words ≡ words.now) × (first.old.parts ≡ PARTS) }
+    requires contexts { words.now.contexts ≡ 3 }
+    ensures own { (first.new.words ≡ words.now) × (first.new.parts ≡ PARTS) }
 {
-    let second = words.part(&mut first, 3);
+    let second = words.part(first, 3);
     assert!(rt; first.parts() == PARTS - 3 && second.parts() == 3);
     let mut driver = driver_of(rt, words, second, Context::at(1));
-    advance(rt, words, &mut driver, &mut first);
-    let mut first = seat_without(rt, first, 3);
-    words.join(&mut first, driver.finish());
-    first
+    advance(rt, words, &mut driver, first);
+    words.join(first, driver.finish());
 }
 
-/// Checks the value of the second context by a seat of all parts.
-fn check_value(rt: &impl Abort, words: &Words, seat: Seat)
-    requires own { (seat.words ≡ words.now) × (words.now.contexts ≡ 3) }
+/// Sets the second of three flags twice by one seat. Whatever others do, the second answer is not the first.
+fn set_second(rt: &impl Abort, words: &Words, seat: &mut Seat)
+    requires own { (seat.old.words ≡ words.now) × (words.now.flags ≡ 3) }
+    ensures same { (seat.new.words ≡ seat.old.words) × (seat.new.parts ≡ seat.old.parts) }
 {
-    let mut whole = whole_of(rt, seat);
-    assert!(rt; whole.value(words, Context::at(1)) == 7);
-    assert!(rt; whole.seat().parts() == PARTS);
+    let Once::First(won) = words.set_once(seat, 1) else {
+        panic!(rt; "the flag was set")
+    };
+    assert!(rt; won.flag() == 1);
+    assert!(rt; matches!(words.set_once(seat, 1), Once::Already));
 }
 
-#[test]
-fn parts_and_a_driver(rt: HostRuntime) {
-    let (words, seat) = words_of(&rt, rt.alloc(), 3, 0, 0);
-    let seat = drive_apart(&rt, &words, seat);
-    check_value(&rt, &words, seat);
+/// Checks the values of contexts and the flags, of which the second alone are not 0.
+fn check_seconds(rt: &impl Abort, words: &Words, whole: &mut Whole)
+    requires own { whole.old.words ≡ words.now }
+    requires sizes { (words.now.contexts ≡ 3) × (words.now.flags ≡ 3) }
+    ensures same { whole.new.words ≡ words.now }
+{
+    for place in 0..3usize {
+        let value = whole.value(words, Context::at(place));
+        let is_set = whole.flag(words, place);
+        assert!(rt; value == (if place == 1 { 7 } else { 0 }) && is_set == (place == 1));
+    }
 }
 
-/// Checks that a context has no second driver. The seat that comes back lacks all other parts for good.
+/// Checks that a context has no second driver, and that a seat of one part is not whole.
 fn check_claimed(rt: &impl Abort, words: &Words, seat: Seat)
     requires own { (seat.words ≡ words.now) × (words.now.contexts ≡ 1) }
 {
@@ -164,8 +161,11 @@ fn check_claimed(rt: &impl Abort, words: &Words, seat: Seat)
         panic!(rt; "there were two drivers")
     };
     assert!(rt; refusal == Refusal::Exists && seat.parts() == 1);
-    let seat = seat_without(rt, seat, PARTS - 1);
-    seat_without(rt, seat, PARTS - 1);
+    let missing = match seat.gather() {
+        Ok(_) => 0,
+        Err((_, missing)) => missing,
+    };
+    assert!(rt; missing == PARTS - 1);
 }
 
 #[test]
@@ -174,46 +174,6 @@ fn a_second_driver(rt: HostRuntime) {
     let other = words.part(&mut one, 1);
     drop(driver_of(&rt, &words, one, Context::at(0)));
     check_claimed(&rt, &words, other);
-}
-
-/// Sets a flag twice by one seat. Whatever others do, the second answer is not the first.
-fn set_twice(words: &Words, seat: &mut Seat, flag: usize) -> (Once, Once)
-    requires own { seat.old.words ≡ words.now }
-    requires flag { flag < words.now.flags }
-    ensures own { seat.new.words ≡ words.now }
-    ensures again { result.1 ≡ once.Already }
-{
-    let first = words.set_once(seat, flag);
-    (first, words.set_once(seat, flag))
-}
-
-/// Sets the second of three flags.
-fn set_second(rt: &impl Abort, words: &Words, seat: &mut Seat)
-    requires own { (seat.old.words ≡ words.now) × (words.now.flags ≡ 3) }
-    ensures own { seat.new.words ≡ words.now }
-{
-    let (first, again) = set_twice(words, seat, 1);
-    let Once::First(won) = first else {
-        panic!(rt; "the flag was set")
-    };
-    assert!(rt; won.flag() == 1 && matches!(again, Once::Already));
-}
-
-/// Checks three flags, of which the second alone is set.
-fn check_flags(rt: &impl Abort, words: &Words, seat: Seat)
-    requires own { (seat.words ≡ words.now) × (words.now.flags ≡ 3) }
-{
-    let mut whole = whole_of(rt, seat);
-    for flag in 0..3usize {
-        assert!(rt; whole.flag(words, flag) == (flag == 1));
-    }
-}
-
-#[test]
-fn flags(rt: HostRuntime) {
-    let (words, mut seat) = words_of(&rt, rt.alloc(), 1, 0, 3);
-    set_second(&rt, &words, &mut seat);
-    check_flags(&rt, &words, seat);
 }
 
 /// Drives the first context to a value by a seat of one part, which is lost.
@@ -293,13 +253,13 @@ fn check_entries(rt: &impl Abort, words: &Words, whole: &mut Whole, buffer: usiz
     for usage in EVERY_USAGE {
         assert!(rt; whole.top(words, buffer, ctx, usage) == point_for(buffer, place, usage));
     }
-    assert!(rt; whole.value(words, ctx) == 0);
 }
 
 /// Checks each entry of two buffers and two contexts.
 fn check_all(rt: &impl Abort, words: &Words, whole: &mut Whole)
     requires own { whole.old.words ≡ words.now }
     requires sizes { (2 ≤ words.now.contexts) × (2 ≤ words.now.buffers) }
+    ensures same { whole.new.words ≡ words.now }
 {
     for buffer in 0..2usize {
         for place in 0..2usize {
@@ -311,7 +271,7 @@ fn check_all(rt: &impl Abort, words: &Words, whole: &mut Whole)
 /// Raises the entries by one seat, and looks at one of them by another.
 fn raise_by_one(rt: &impl Abort, words: &Words, one: &mut Seat)
     requires own { (one.old.words ≡ words.now) × (one.old.parts ≡ PARTS) }
-    requires sizes { (words.now.contexts ≡ 2) × (words.now.buffers ≡ 2) }
+    requires sizes { (words.now.contexts ≡ 3) × (words.now.buffers ≡ 2) }
     ensures own { one.new.words ≡ words.now }
 {
     let mut other = words.part(one, 1);
@@ -321,8 +281,13 @@ fn raise_by_one(rt: &impl Abort, words: &Words, one: &mut Seat)
 }
 
 #[test]
-fn board(rt: HostRuntime) {
-    let (words, mut seat) = words_of(&rt, rt.alloc(), 2, 2, 0);
+fn steps_of_seats(rt: HostRuntime) {
+    let (words, mut seat) = words_of(&rt, rt.alloc(), 3, 2, 3);
+    drive_apart(&rt, &words, &mut seat);
+    set_second(&rt, &words, &mut seat);
     raise_by_one(&rt, &words, &mut seat);
-    check_all(&rt, &words, &mut whole_of(&rt, seat));
+    let mut whole = whole_of(&rt, seat);
+    check_all(&rt, &words, &mut whole);
+    check_seconds(&rt, &words, &mut whole);
+    assert!(rt; whole.seat().parts() == PARTS);
 }
