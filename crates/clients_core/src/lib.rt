@@ -26,6 +26,3 @@ pub use locked_buffer::LockedBuffer;
 pub use locked_table::LockedTable;
 pub use plans::{ACTS, CLIENTS};
 pub use rounds::{ROUND_BUFFERS, ROUNDS, plans_of_rounds};
-
-#[cfg(test)]
-mod tests;

@@ -84,6 +84,3 @@ fn has_cookie(cookies: &[u64], cookie: u64) -> bool
 {
     cookies.iter().any(|held| cookie == *held)
 }
-
-#[cfg(test)]
-mod tests;

@@ -133,6 +133,3 @@ fn are_within(points: &[Point], contexts: usize) -> bool
         .iter()
         .all(|point| usize::from(point.ctx.number()) <= contexts)
 }
-
-#[cfg(test)]
-mod tests;

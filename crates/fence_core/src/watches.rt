@@ -311,6 +311,3 @@ fn listed(alloc: Global, fired: &BTreeMap<u64, u64>) -> Result<Vec<u64>, Refusal
     }
     Ok(cookies)
 }
-
-#[cfg(test)]
-mod tests;

@@ -133,6 +133,3 @@ fn has_contexts(made: usize, points: &[Point]) -> bool
         .iter()
         .all(|point| usize::from(point.ctx.number()) <= made)
 }
-
-#[cfg(test)]
-mod tests;

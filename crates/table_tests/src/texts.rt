@@ -1,6 +1,6 @@
 // Rows of reports to the byte.
 use crate::values::{context, name};
-use desk_core::{BufferRows, FileRow, Report, ShowRow};
+use command_core::{BufferRows, FileRow, Report, ShowRow};
 use point_core::{Items, Name, Status, TopRow, Usage};
 use report_core::{Kind, file_row, report_text, row, settled_text, show_text};
 use resv_core::Settled;

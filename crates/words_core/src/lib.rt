@@ -11,8 +11,6 @@ mod laws;
 mod places;
 mod plays;
 mod seat;
-#[cfg(test)]
-mod tests;
 mod trace;
 mod values;
 mod whole;

@@ -1,13 +1,15 @@
 // Tables round the one under locks: what a run does with its table.
-ghost use Rattle.std.specs.Prelude.{◌≡◌, ◌≤◌, IfErr};
+ghost use Rattle.std.specs.Prelude.{◌≡◌, ◌<◌, IfErr};
 ghost use Rattle.point_core.specs.declared.refusal.Refusal.TheVariants as refusal;
 
-use crate::{LockedTable, OpenGate, run_clients};
+use crate::plans::plans_of;
+use clients_core::{LockedTable, OpenGate, run_clients};
 use point_core::{Context, Entry, Items, Listing, Point, Refusal, Usage};
 use resv_core::{Act, Plan, Settled, SharedTable};
 use std::alloc::Global;
+use std::process::Abort;
 use std::sync::{Mutex, Wait};
-use std::test::Fail;
+use std::thread::Threads;
 use words_core::{Seat, Whole, Words};
 
 /// Records each put that its table has accepted.
@@ -185,70 +187,53 @@ impl SharedTable for BlindTable {
     }
 }
 
-/// A plan that puts a point of each client's own timeline, and looks.
-fn plans_of_a_put(alloc: Global, clients: usize) -> Result<Vec<Plan>, Fail>
-    requires clients { clients ≤ 8 }
+/// A client that puts a point of its own timeline, and looks.
+fn acts_of(place: usize) -> [Act; 2]
+    requires few { place < 2 }
 {
-    let mut plans = Vec::new(alloc);
-    for index in 0..clients {
-        let ctx = Context::at(index);
-        let mut acts = Vec::new(alloc);
-        acts.push(Act::Put(0, Point { ctx, value: 4 }, Usage::Read))?;
-        acts.push(Act::Look(0, Usage::Read))?;
-        plans.push(Plan::of(acts))?;
+    let ctx = Context::at(place);
+    [
+        Act::Put(0, Point { ctx, value: 4 }, Usage::Read),
+        Act::Look(0, Usage::Read),
+    ]
+}
+
+/// Checks that these are the puts of two clients, in one order or the other.
+fn check_puts(rt: &impl Abort, puts: &[Entry]) {
+    assert!(rt; puts.len() == 2);
+    for place in 0..2usize {
+        let ctx = Context::at(place);
+        let put = Entry {
+            point: Point { ctx, value: 4 },
+            usage: Usage::Read,
+        };
+        assert!(rt; puts.contains(&put));
     }
-    Ok(plans)
 }
 
 #[test]
-fn every_put_reaches_the_table(rt: HostRuntime) -> Result<(), Fail> {
-    let plans = plans_of_a_put(rt.alloc(), 2)?;
+fn every_put_reaches_the_table(rt: HostRuntime) {
+    let plans = plans_of(&rt, rt.alloc(), &[&acts_of(0), &acts_of(1)]);
     let (_, table) = run_clients::<HostRuntime, RecordingTable, OpenGate>(
         &rt,
         rt.alloc(),
         1,
         plans.as_slice(),
         &OpenGate,
-    )?;
+    ).expect(&rt, "a settled table");
     let RecordingTable { table: _, puts } = table;
-    let puts = puts.into_inner();
-    assert!(rt; puts.len() == 2);
-    for index in 0..2usize {
-        let ctx = Context::at(index);
-        let usage = Usage::Read;
-        let put = Entry {
-            point: Point { ctx, value: 4 },
-            usage,
-        };
-        assert!(rt; puts.as_slice().contains(&put));
-    }
-    Ok(())
+    check_puts(&rt, puts.into_inner().as_slice());
+}
+
+/// Checks that one client against the table is refused as `Torn`.
+fn check_torn<R: Threads + Wait + Abort + Sync, T: SharedTable>(rt: &R, alloc: Global) {
+    let plans = plans_of(rt, alloc, &[&acts_of(0)]);
+    let refused = run_clients::<R, T, OpenGate>(rt, alloc, 1, plans.as_slice(), &OpenGate).err();
+    assert!(rt; refused == Some(Refusal::Torn));
 }
 
 #[test]
-fn a_table_that_never_settles(rt: HostRuntime) -> Result<(), Fail> {
-    let plans = plans_of_a_put(rt.alloc(), 1)?;
-    let refused = run_clients::<HostRuntime, TornTable, OpenGate>(
-        &rt,
-        rt.alloc(),
-        1,
-        plans.as_slice(),
-        &OpenGate,
-    ).err();
-    assert!(rt; refused == Some(Refusal::Torn));
-    Ok(())
-}
-
-#[test]
-fn a_table_that_lists_nothing(rt: HostRuntime) -> Result<(), Fail> {
-    let plans = plans_of_a_put(rt.alloc(), 1)?;
-    let refused = run_clients::<HostRuntime, BlindTable, OpenGate>(
-        &rt,
-        rt.alloc(),
-        1,
-        plans.as_slice(),
-        &OpenGate,
-    ).err();
-    assert!(rt; refused == Some(Refusal::Torn));
-    Ok(())
+fn tables_that_never_settle_or_list_nothing(rt: HostRuntime) {
+    check_torn::<HostRuntime, TornTable>(&rt, rt.alloc());
+    check_torn::<HostRuntime, BlindTable>(&rt, rt.alloc());
 }

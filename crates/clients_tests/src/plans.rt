@@ -1,0 +1,82 @@
+// Plans, and what they settle.
+ghost use Rattle.std.specs.Prelude.{◌≡◌, vec_len};
+ghost use Rattle.resv_core.specs.Settled.{ArePlansWithin};
+
+use point_core::{Context, Point, TopRow, Usage};
+use resv_core::{Act, Plan, Settled};
+use std::alloc::Global;
+use std::process::Abort;
+
+/// A point of the first context.
+pub(crate) fn point(value: u64) -> Point
+    ensures context { result.ctx ≡ 1 }
+{
+    Point {
+        ctx: Context::at(0),
+        value,
+    }
+}
+
+/// The plans of these acts, one for each client.
+pub(crate) fn plans_of(rt: &impl Abort, alloc: Global, clients: &[&[Act]]) -> Vec<Plan> {
+    let mut plans = Vec::new(alloc);
+    for acts in clients {
+        let acts = Vec::from_slice(alloc, acts).expect(rt, "acts");
+        plans.push(Plan::of(acts)).expect(rt, "a plan");
+    }
+    plans
+}
+
+/// The plan of one client, which puts a point into the first buffer.
+pub(crate) fn plan_of_a_put(rt: &impl Abort, alloc: Global) -> Vec<Plan>
+    ensures within { ArePlansWithin 1 1 result.items }
+    ensures count { vec_len result ≡ 1 }
+{
+    let put = Act::Put(0, point(1), Usage::Write);
+    let acts = Vec::from_elem(alloc, put, 1).expect(rt, "acts");
+    let mut plans = Vec::with_capacity(alloc, 1).expect(rt, "plans");
+    plans.push_reserved(Plan::of(acts));
+    plans
+}
+
+/// Checks that a table has a row of this point for each of these usages and, under it, for each client.
+pub(crate) fn check_rows(
+    rt: &impl Abort,
+    rows: &[TopRow],
+    usages: &[Usage],
+    clients: usize,
+    point: u64,
+) {
+    let mut rest = rows;
+    for usage in usages {
+        for place in 0..clients {
+            let Some((row, after)) = rest.split_first() else {
+                panic!(rt; "a row is missing")
+            };
+            assert!(rt; row.usage == *usage && row.ctx.index() == place && row.point == point);
+            rest = after;
+        }
+    }
+    assert!(rt; rest.is_empty());
+}
+
+/// The usages at which what was put for writing is pending.
+pub(crate) const WRITTEN: [Usage; 3] = [Usage::Write, Usage::Read, Usage::Bookkeep];
+
+/// The usages at which what was put for reading is pending.
+pub(crate) const READ: [Usage; 2] = [Usage::Read, Usage::Bookkeep];
+
+/// Checks the value of each client's timeline, and that one table has a row of this point for each usage and client.
+pub(crate) fn check_one_table(
+    rt: &impl Abort,
+    settled: &Settled,
+    values: &[u64],
+    usages: &[Usage],
+    point: u64,
+) {
+    assert!(rt; settled.values.as_slice() == values);
+    let [rows] = settled.tables.as_slice() else {
+        panic!(rt; "there is not one table")
+    };
+    check_rows(rt, rows.as_slice(), usages, values.len(), point);
+}

@@ -1,0 +1,40 @@
+// The callbacks of one fence.
+use fence_core::{CALLBACKS, CallbackList};
+use point_core::{LimitKind, Refusal};
+use std::process::Abort;
+
+const LAST: u64 = CALLBACKS as u64;
+
+/// Adds as many callbacks as there can be, with the cookies from 1 on.
+fn fill(rt: &impl Abort, list: &mut CallbackList) {
+    for cookie in 1..=LAST {
+        list.add(cookie).expect(rt, "a callback");
+    }
+    assert!(rt; list.add(5) == Err(Refusal::Exists));
+    assert!(rt; list.add(LAST + 1) == Err(Refusal::Limit(LimitKind::Watches)));
+}
+
+/// Checks that the cookies are those from 1 on.
+fn check(rt: &impl Abort, cookies: &[u64]) {
+    assert!(rt; cookies.len() == CALLBACKS);
+    let mut wanted = 0u64;
+    for cookie in cookies {
+        wanted = wanted.saturating_add(1);
+        assert!(rt; *cookie == wanted);
+    }
+}
+
+/// Takes the callbacks, which are then taken for good.
+fn take(rt: &impl Abort, list: &mut CallbackList) {
+    check(rt, list.take().as_slice());
+    assert!(rt; list.add(5) == Err(Refusal::Signalled));
+    assert!(rt; list.take().is_empty());
+}
+
+#[test]
+fn as_many_callbacks_as_there_can_be(rt: HostRuntime) {
+    assert!(rt; CALLBACKS == 4096);
+    let mut list = CallbackList::new(rt.alloc()).expect(&rt, "a list");
+    fill(&rt, &mut list);
+    take(&rt, &mut list);
+}

@@ -1,0 +1,77 @@
+// Fences of points of two contexts.
+ghost use Rattle.std.specs.Prelude.{◌≡◌};
+
+use fence_core::Fence;
+use point_core::{Context, Point, Reach, Refusal};
+use std::alloc::Global;
+use std::process::Abort;
+
+/// A point of the first context.
+fn first_point(value: u64) -> Point
+    ensures context { result.ctx ≡ 1 }
+{
+    Point {
+        ctx: Context::at(0),
+        value,
+    }
+}
+
+/// A point of the second context.
+fn second_point(value: u64) -> Point
+    ensures context { result.ctx ≡ 2 }
+{
+    Point {
+        ctx: Context::at(1),
+        value,
+    }
+}
+
+/// The values of the first two contexts.
+pub(crate) fn reach_of(first: u64, second: u64) -> Reach {
+    let mut reach = Reach::zero();
+    reach.raise_to(first_point(first));
+    reach.raise_to(second_point(second));
+    reach
+}
+
+/// The fence of a point of the first context and one of the second, where 0 stands for none.
+pub(crate) fn fence_of(alloc: Global, first: u64, second: u64) -> Result<Fence, Refusal> {
+    match (first, second) {
+        (0, 0) => Fence::of(alloc, &[]),
+        (_, 0) => Fence::of(alloc, &[first_point(first)]),
+        (0, _) => Fence::of(alloc, &[second_point(second)]),
+        _ => Fence::of(alloc, &[first_point(first), second_point(second)]),
+    }
+}
+
+/// Checks whether a fence is signalled at these values of the first two contexts.
+fn check_signalled(rt: &impl Abort, fence: &Fence, first: u64, second: u64, wanted: bool) {
+    assert!(rt; fence.is_signalled(&reach_of(first, second)) == wanted);
+}
+
+/// How many members a fence of its kind has, where 2 stands for several.
+fn kind_of(fence: &Fence) -> usize {
+    match fence {
+        Fence::Stub => 0,
+        Fence::Plain(_) => 1,
+        Fence::Array(_) => 2,
+    }
+}
+
+/// Checks of which kind a fence of these points is, what it lists, and when it is signalled.
+fn check_fence(rt: &impl Abort, alloc: Global, first: u64, second: u64, members: &[Point]) {
+    let fence = fence_of(alloc, first, second).expect(rt, "a fence");
+    assert!(rt; kind_of(&fence) == members.len());
+    assert!(rt; fence.members() == members);
+    for (one, other) in [(0, 0), (5, 0), (0, 2), (5, 2)] {
+        check_signalled(rt, &fence, one, other, one >= first && other >= second);
+    }
+}
+
+#[test]
+fn fence_rows(rt: HostRuntime) {
+    check_fence(&rt, rt.alloc(), 0, 0, &[]);
+    check_fence(&rt, rt.alloc(), 5, 0, &[first_point(5)]);
+    check_fence(&rt, rt.alloc(), 0, 2, &[second_point(2)]);
+    check_fence(&rt, rt.alloc(), 5, 2, &[first_point(5), second_point(2)]);
+}

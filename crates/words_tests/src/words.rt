@@ -1,0 +1,296 @@
+// Words, their parts and the board.
+ghost use Rattle.std.specs.Prelude.{◌≡◌, ◌<◌, ◌≤◌};
+ghost use Rattle.words_core.specs.declared.seat.TheConstants.{PARTS};
+
+use point_core::{BUFFERS, CONTEXTS, Context, LimitKind, Reach, Refusal, Usage};
+use std::alloc::Global;
+use std::process::Abort;
+use words_core::{Driver, FLAGS, Once, PARTS, Seat, Whole, Words};
+
+/// Words of these numbers of contexts, buffers and flags, and their first seat.
+pub(crate) fn words_of(
+    rt: &impl Abort,
+    alloc: Global,
+    contexts: usize,
+    buffers: usize,
+    flags: usize,
+) -> (Words, Seat)
+    ensures sizes { (result.0.contexts ≡ contexts) × (result.0.buffers ≡ buffers) × (result.0.flags ≡ flags) }
+    ensures seat { (result.1.words ≡ result.0) × (result.1.parts ≡ PARTS) }
+{
+    Words::new(alloc, contexts, buffers, flags).expect(rt, "words")
+}
+
+/// The driver of a context that was not claimed.
+pub(crate) fn driver_of(rt: &impl Abort, words: &Words, seat: Seat, ctx: Context) -> Driver
+    requires own { seat.words ≡ words.now }
+    requires context { ctx ≤ words.now.contexts }
+    ensures own { result.seat.words ≡ words.now }
+{
+    let Ok(driver) = words.driver(seat, ctx) else {
+        panic!(rt; "the context was claimed")
+    };
+    driver
+}
+
+/// The whole seat.
+pub(crate) fn whole_of(rt: &impl Abort, seat: Seat) -> Whole
+    ensures { result ≡ seat }
+{
+    let Ok(whole) = seat.gather() else {
+        panic!(rt; "a part was missing")
+    };
+    whole
+}
+
+/// The refusal of words of these sizes, where they are refused; else they have these sizes, and all parts.
+fn refusal_of(
+    rt: &impl Abort,
+    alloc: Global,
+    contexts: usize,
+    buffers: usize,
+    flags: usize,
+) -> Option<Refusal> {
+    match Words::new(alloc, contexts, buffers, flags) {
+        Ok((words, seat)) => {
+            assert!(rt; words.contexts() == contexts && words.buffers() == buffers);
+            assert!(rt; words.flags() == flags && seat.parts() == PARTS);
+            None
+        }
+        Err(refusal) => Some(refusal),
+    }
+}
+
+#[test]
+fn sizes_of_words(rt: HostRuntime) {
+    for (contexts, buffers, flags, limit) in [
+        (0, 0, 0, Some(LimitKind::Timelines)),
+        (CONTEXTS + 1, 0, 0, Some(LimitKind::Timelines)),
+        (1, BUFFERS + 1, 0, Some(LimitKind::Buffers)),
+        (1, 0, FLAGS + 1, Some(LimitKind::Flags)),
+        (2, 1, 1, None),
+        (CONTEXTS, 0, 0, None),
+        (1, BUFFERS, 0, None),
+        (1, 0, FLAGS, None),
+        (CONTEXTS, BUFFERS, FLAGS, None),
+    ] {
+        let refusal = refusal_of(&rt, rt.alloc(), contexts, buffers, flags);
+        assert!(rt; refusal == limit.map(Refusal::Limit));
+    }
+}
+
+/// Advances a context, and checks the answer.
+fn check_inc(
+    rt: &impl Abort,
+    words: &Words,
+    driver: &mut Driver,
+    n: u64,
+    wanted: Result<u64, Refusal>,
+)
+    requires own { driver.old.seat.words ≡ words.now }
+    ensures own { driver.new.seat.words ≡ words.now }
+{
+    assert!(rt; driver.inc(words, n) == wanted);
+}
+
+/// Checks that the second context alone is advanced.
+fn check_reach(rt: &impl Abort, reach: &Reach) {
+    for (index, value) in [(0, 0), (1, 7), (2, 0), (3, 0)] {
+        assert!(rt; reach.get(Context::at(index)) == value);
+    }
+}
+
+/// Advances the second context of three, and loads its value by another seat.
+fn advance(rt: &impl Abort, words: &Words, driver: &mut Driver, looking: &mut Seat)
+    requires own { (driver.old.seat.words ≡ words.now) × (looking.old.words ≡ words.now) }
+    requires contexts { words.now.contexts ≡ 3 }
+    ensures own { driver.new.seat.words ≡ words.now }
+    ensures same { (looking.new.words ≡ words.now) × (looking.new.parts ≡ looking.old.parts) }
+{
+    check_inc(rt, words, driver, 5, Ok(5));
+    check_inc(rt, words, driver, u64::MAX, Err(Refusal::Overflow));
+    check_inc(rt, words, driver, 2, Ok(7));
+    assert!(rt; driver.value() == 7);
+    assert!(rt; words.load(looking, Context::at(1)) == 7);
+    check_reach(rt, &words.load_all(looking));
+}
+
+/// Drives the second context of three by a seat of three parts, which is then taken in again.
+fn drive_apart(rt: &impl Abort, words: &Words, first: &mut Seat)
+    requires own { (first.old.words ≡ words.now) × (first.old.parts ≡ PARTS) }
+    requires contexts { words.now.contexts ≡ 3 }
+    ensures own { (first.new.words ≡ words.now) × (1 < first.new.parts) }
+{
+    let second = words.part(first, 3);
+    assert!(rt; first.parts() == PARTS - 3 && second.parts() == 3);
+    let mut driver = driver_of(rt, words, second, Context::at(1));
+    advance(rt, words, &mut driver, first);
+    words.join(first, driver.finish());
+}
+
+/// Sets the second of three flags twice by one seat. Whatever others do, the second answer is not the first.
+fn set_second(rt: &impl Abort, words: &Words, seat: &mut Seat)
+    requires own { (seat.old.words ≡ words.now) × (words.now.flags ≡ 3) }
+    ensures same { (seat.new.words ≡ seat.old.words) × (seat.new.parts ≡ seat.old.parts) }
+{
+    let Once::First(won) = words.set_once(seat, 1) else {
+        panic!(rt; "the flag was set")
+    };
+    assert!(rt; won.flag() == 1);
+    assert!(rt; matches!(words.set_once(seat, 1), Once::Already));
+}
+
+/// Checks the values of three contexts, and three flags, of which the second is not 0 and set.
+fn check_seconds(rt: &impl Abort, words: &Words, whole: &mut Whole)
+    requires own { whole.old.words ≡ words.now }
+    requires sizes { (words.now.contexts ≡ 3) × (words.now.flags ≡ 3) }
+    ensures same { whole.new.words ≡ words.now }
+{
+    let first = whole.value(words, Context::at(0));
+    let second = whole.value(words, Context::at(1));
+    let third = whole.value(words, Context::at(2));
+    assert!(rt; first == 0 && second == 7 && third == 0);
+    let before = whole.flag(words, 0);
+    let is_set = whole.flag(words, 1);
+    let after = whole.flag(words, 2);
+    assert!(rt; is_set && !before && !after);
+}
+
+/// Checks that a context has no second driver, and that a seat of one part is not whole.
+fn check_claimed(rt: &impl Abort, words: &Words, seat: Seat)
+    requires own { (seat.words ≡ words.now) × (words.now.contexts ≡ 1) }
+{
+    let Err((refusal, seat)) = words.driver(seat, Context::at(0)) else {
+        panic!(rt; "there were two drivers")
+    };
+    assert!(rt; refusal == Refusal::Exists && seat.parts() == 1);
+    let missing = match seat.gather() {
+        Ok(_) => 0,
+        Err((_, missing)) => missing,
+    };
+    assert!(rt; missing == PARTS - 1);
+}
+
+#[test]
+fn a_second_driver(rt: HostRuntime) {
+    let (words, mut one) = words_of(&rt, rt.alloc(), 1, 0, 0);
+    let other = words.part(&mut one, 1);
+    drop(driver_of(&rt, &words, one, Context::at(0)));
+    check_claimed(&rt, &words, other);
+}
+
+/// Drives the first context to a value by a seat of one part, which is lost.
+pub(crate) fn drive_to(rt: &impl Abort, words: &Words, seat: &mut Seat, value: u64)
+    requires own { (seat.old.words ≡ words.now) × (1 < seat.old.parts) }
+    ensures own { seat.new.words ≡ words.now }
+{
+    let driving = words.part(seat, 1);
+    let mut driver = driver_of(rt, words, driving, Context::at(0));
+    assert!(rt; driver.inc(words, value) == Ok(value));
+}
+
+const EVERY_USAGE: [Usage; 4] = [Usage::Kernel, Usage::Write, Usage::Read, Usage::Bookkeep];
+
+/// A point for an entry of the first contexts and buffers, which no other entry has.
+fn point_for(buffer: usize, place: usize, usage: Usage) -> u64
+    requires few { (buffer < 2) × (place < 2) }
+{
+    100 * buffer as u64 + 10 * place as u64 + u64::from(usage.number()) + 1
+}
+
+/// Raises an entry, which is 0, to a point, and then to an earlier one.
+fn raise_entry(
+    rt: &impl Abort,
+    words: &Words,
+    seat: &mut Seat,
+    buffer: usize,
+    ctx: Context,
+    usage: Usage,
+    point: u64,
+)
+    requires own { seat.old.words ≡ words.now }
+    requires within { (buffer < words.now.buffers) × (ctx ≤ words.now.contexts) }
+    ensures same { (seat.new.words ≡ seat.old.words) × (seat.new.parts ≡ seat.old.parts) }
+{
+    let before = words.shown(seat, buffer, ctx, usage);
+    let raised = words.raise(seat, buffer, ctx, usage, point);
+    let kept = words.raise(seat, buffer, ctx, usage, point / 2);
+    let after = words.shown(seat, buffer, ctx, usage);
+    assert!(rt; before == 0 && raised == point && kept == point && after == point);
+}
+
+/// Raises the entries of a buffer and a context, each to its point.
+fn raise_entries(rt: &impl Abort, words: &Words, seat: &mut Seat, buffer: usize, place: usize)
+    requires own { seat.old.words ≡ words.now }
+    requires few { (buffer < 2) × (place < 2) }
+    requires sizes { (2 ≤ words.now.contexts) × (2 ≤ words.now.buffers) }
+    ensures same { (seat.new.words ≡ seat.old.words) × (seat.new.parts ≡ seat.old.parts) }
+{
+    for usage in EVERY_USAGE {
+        let point = point_for(buffer, place, usage);
+        raise_entry(rt, words, seat, buffer, Context::at(place), usage, point);
+    }
+}
+
+/// Raises each entry of two buffers and two contexts.
+fn raise_all(rt: &impl Abort, words: &Words, seat: &mut Seat)
+    requires own { seat.old.words ≡ words.now }
+    requires sizes { (2 ≤ words.now.contexts) × (2 ≤ words.now.buffers) }
+    ensures same { (seat.new.words ≡ seat.old.words) × (seat.new.parts ≡ seat.old.parts) }
+{
+    for buffer in 0..2usize {
+        for place in 0..2usize {
+            raise_entries(rt, words, seat, buffer, place);
+        }
+    }
+}
+
+/// Checks the entries of a buffer and a context, as the whole seat sees them.
+fn check_entries(rt: &impl Abort, words: &Words, whole: &mut Whole, buffer: usize, place: usize)
+    requires own { whole.old.words ≡ words.now }
+    requires few { (buffer < 2) × (place < 2) }
+    requires sizes { (2 ≤ words.now.contexts) × (2 ≤ words.now.buffers) }
+    ensures same { whole.new.words ≡ whole.old.words }
+{
+    let ctx = Context::at(place);
+    for usage in EVERY_USAGE {
+        assert!(rt; whole.top(words, buffer, ctx, usage) == point_for(buffer, place, usage));
+    }
+}
+
+/// Checks each entry of two buffers and two contexts.
+fn check_all(rt: &impl Abort, words: &Words, whole: &mut Whole)
+    requires own { whole.old.words ≡ words.now }
+    requires sizes { (2 ≤ words.now.contexts) × (2 ≤ words.now.buffers) }
+    ensures same { whole.new.words ≡ words.now }
+{
+    for buffer in 0..2usize {
+        for place in 0..2usize {
+            check_entries(rt, words, whole, buffer, place);
+        }
+    }
+}
+
+/// Raises the entries by one seat, and looks at one of them by another.
+fn raise_by_one(rt: &impl Abort, words: &Words, one: &mut Seat)
+    requires own { (one.old.words ≡ words.now) × (1 < one.old.parts) }
+    requires sizes { (words.now.contexts ≡ 3) × (words.now.buffers ≡ 2) }
+    ensures own { one.new.words ≡ words.now }
+{
+    let mut other = words.part(one, 1);
+    raise_all(rt, words, one);
+    assert!(rt; words.shown(&mut other, 1, Context::at(1), Usage::Write) == 112);
+    words.join(one, other);
+}
+
+#[test]
+fn steps_of_seats(rt: HostRuntime) {
+    let (words, mut seat) = words_of(&rt, rt.alloc(), 3, 2, 3);
+    drive_apart(&rt, &words, &mut seat);
+    set_second(&rt, &words, &mut seat);
+    raise_by_one(&rt, &words, &mut seat);
+    let mut whole = whole_of(&rt, seat);
+    check_all(&rt, &words, &mut whole);
+    check_seconds(&rt, &words, &mut whole);
+    assert!(rt; whole.seat().parts() == PARTS);
+}
