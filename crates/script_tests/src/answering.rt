@@ -1,0 +1,225 @@
+// A script from a reader, and its answers to a writer.
+use crate::pipes::{PIECES, Sink, Source, failing_source_of, sink_of, source_of};
+use point_core::Refusal;
+use script_core::{SCRIPT_BYTES, Totals, engine};
+use std::alloc::Global;
+use std::process::Abort;
+
+const BOTH_ORDERS: &[u8] = b"timeline a
+fence f a 5
+fence g a 3
+merge m f g
+merge n g f
+info m
+info n
+";
+
+const BOTH_ORDERS_ANSWERS: &[u8] = b"ok 1
+ok
+ok
+ok
+ok
+ok m 0 1
+fence a sw_sync 5 0
+ok n 0 1
+fence a sw_sync 5 0
+";
+
+// The answers of that many of its lines.
+fn first_answers(lines: usize) -> &'static [u8] {
+    match lines {
+        0 => b"",
+        1 => b"ok 1\n",
+        2 => b"ok 1\nok\n",
+        3 => b"ok 1\nok\nok\n",
+        4 => b"ok 1\nok\nok\nok\n",
+        5 => b"ok 1\nok\nok\nok\nok\n",
+        6 => b"ok 1\nok\nok\nok\nok\nok m 0 1\nfence a sw_sync 5 0\n",
+        _ => BOTH_ORDERS_ANSWERS,
+    }
+}
+
+fn assert_totals(rt: &impl Abort, totals: Totals, wanted: (u64, u64, u64)) {
+    assert_eq!(rt; (totals.lines, totals.accepted, totals.refused), wanted);
+}
+
+fn assert_refused(
+    rt: &impl Abort,
+    alloc: Global,
+    reader: &mut Source<'_>,
+    writer: &mut Sink<'_>,
+    refusal: Refusal,
+) {
+    let result = engine(alloc, reader, writer);
+    assert_eq!(rt; result.err(), Some(refusal));
+}
+
+// The script's answers are the wanted ones, in whatever pieces it comes and they go. They are flushed once, after the last
+// byte.
+fn assert_answers(
+    rt: &impl Abort,
+    alloc: Global,
+    script: &[u8],
+    wanted: &[u8],
+    totals: (u64, u64, u64),
+) {
+    for piece in PIECES {
+        let mut reader = source_of(script, piece);
+        let mut writer = sink_of(wanted, piece, usize::MAX);
+        let answered = engine(alloc, &mut reader, &mut writer).expect(rt, "answers");
+        writer.assert_whole(rt);
+        assert_eq!(rt; (writer.flushes, writer.unflushed), (1, 0));
+        assert_totals(rt, answered, totals);
+    }
+}
+
+#[test]
+fn answers_in_pieces(rt: HostRuntime) {
+    let cases: [(&[u8], &[u8], (u64, u64, u64)); 4] = [
+        (b"", b"", (0, 0, 0)),
+        (b"\n# note", b"", (0, 0, 0)),
+        (BOTH_ORDERS, BOTH_ORDERS_ANSWERS, (7, 7, 0)),
+        (
+            b"value a\ntimeline a\nfence f a 1\n\nwatch f 3\nxx\ninc a 1\nvalue a",
+            b"err 2 NoEntry\nok 1\nok\nok\nerr 1 Syntax line 6\nok 1\nfired 3\nok 1\n",
+            (7, 5, 2),
+        ),
+    ];
+    for (script, wanted, totals) in cases {
+        assert_answers(&rt, rt.alloc(), script, wanted, totals);
+    }
+}
+
+// The first bytes, and so many copies of a text after them.
+pub(crate) fn repeated(
+    rt: &impl Abort,
+    alloc: Global,
+    first: &[u8],
+    text: &[u8],
+    count: usize,
+) -> Vec<u8> {
+    let mut copies = Vec::from_slice(alloc, first).expect(rt, "memory");
+    for _ in 0..count {
+        copies.extend_from_slice(text).expect(rt, "memory");
+    }
+    copies
+}
+
+// More answers than are written at once.
+#[test]
+fn many_answers(rt: HostRuntime) {
+    let script = repeated(&rt, rt.alloc(), b"timeline a\n", b"value b\n", 2000);
+    let wanted = repeated(&rt, rt.alloc(), b"ok 1\n", b"err 2 NoEntry\n", 2000);
+    assert_answers(
+        &rt,
+        rt.alloc(),
+        script.as_slice(),
+        wanted.as_slice(),
+        (2001, 1, 2000),
+    );
+}
+
+#[test]
+fn one_byte(rt: HostRuntime) {
+    for byte in 0..=255u8 {
+        let wanted: &[u8] = match byte {
+            b'\n' | b' ' | b'#' => b"",
+            _ => b"err 1 Syntax line 1\n",
+        };
+        let script = [byte];
+        let mut reader = script.as_slice();
+        let mut writer = sink_of(wanted, 4096, usize::MAX);
+        engine(rt.alloc(), &mut reader, &mut writer).expect(&rt, "answers");
+        writer.assert_whole(&rt);
+    }
+}
+
+// The first line has eleven bytes. Its answer is written before the next read.
+#[test]
+fn answered_before_the_next_read(rt: HostRuntime) {
+    let mut reader = source_of(BOTH_ORDERS, 1);
+    let mut writer = sink_of(b"", 4096, 0);
+    assert_refused(&rt, rt.alloc(), &mut reader, &mut writer, Refusal::Write);
+    assert_eq!(rt; reader.reads, 11);
+}
+
+// The lines whose line feed was read are answered.
+#[test]
+fn failing_reader(rt: HostRuntime) {
+    for cut in 0..BOTH_ORDERS.len() {
+        let script = &BOTH_ORDERS[..cut];
+        let ended = script.iter().filter(|byte| **byte == b'\n').count();
+        let mut reader = failing_source_of(script, 7);
+        let mut writer = sink_of(first_answers(ended), 4096, usize::MAX);
+        assert_refused(&rt, rt.alloc(), &mut reader, &mut writer, Refusal::Read);
+        writer.assert_whole(&rt);
+        assert_eq!(rt; writer.flushes, 1);
+    }
+}
+
+// A line that is too long is answered at its end.
+#[test]
+fn failing_in_a_long_line(rt: HostRuntime) {
+    let script = repeated(&rt, rt.alloc(), b"timeline a\n", b"x", 300);
+    for piece in PIECES {
+        let mut reader = failing_source_of(script.as_slice(), piece);
+        let mut writer = sink_of(b"ok 1\n", 4096, usize::MAX);
+        assert_refused(&rt, rt.alloc(), &mut reader, &mut writer, Refusal::Read);
+        writer.assert_whole(&rt);
+    }
+}
+
+#[test]
+fn failing_writer(rt: HostRuntime) {
+    for room in 0..BOTH_ORDERS_ANSWERS.len() {
+        for piece in [1, 4096] {
+            let mut reader = source_of(BOTH_ORDERS, 4096);
+            let mut writer = sink_of(&BOTH_ORDERS_ANSWERS[..room], piece, room);
+            assert_refused(&rt, rt.alloc(), &mut reader, &mut writer, Refusal::Write);
+            writer.assert_whole(&rt);
+            assert_eq!(rt; writer.flushes, 0);
+        }
+    }
+}
+
+#[test]
+fn halting_writer(rt: HostRuntime) {
+    let mut reader = source_of(BOTH_ORDERS, 4096);
+    let mut writer = sink_of(b"", 4096, 0);
+    writer.halts = true;
+    assert_refused(&rt, rt.alloc(), &mut reader, &mut writer, Refusal::Write);
+    writer.assert_whole(&rt);
+}
+
+#[test]
+fn failing_flush(rt: HostRuntime) {
+    let mut reader = source_of(BOTH_ORDERS, 4096);
+    let mut writer = sink_of(BOTH_ORDERS_ANSWERS, 4096, usize::MAX);
+    writer.flush_fails = true;
+    assert_refused(&rt, rt.alloc(), &mut reader, &mut writer, Refusal::Write);
+    writer.assert_whole(&rt);
+}
+
+// Where both fail, the writer's fault is reported.
+#[test]
+fn failing_reader_and_writer(rt: HostRuntime) {
+    let mut reader = failing_source_of(b"timeline a\ntime", 4096);
+    let mut writer = sink_of(b"ok", 4096, 2);
+    assert_refused(&rt, rt.alloc(), &mut reader, &mut writer, Refusal::Write);
+    writer.assert_whole(&rt);
+}
+
+// No byte is read after the one past the limit, and none is asked for.
+#[test]
+fn reads_up_to_the_limit(rt: HostRuntime) {
+    for (piece, reads) in [(1, SCRIPT_BYTES + 1), (SCRIPT_BYTES, 65)] {
+        let mut reader = source_of(b"timeline a\n", piece);
+        reader.line_feeds = SCRIPT_BYTES;
+        let mut writer = sink_of(b"ok 1\nerr 6 Limit script\n", 4096, usize::MAX);
+        let totals = engine(rt.alloc(), &mut reader, &mut writer).expect(&rt, "answers");
+        writer.assert_whole(&rt);
+        assert_totals(&rt, totals, (2, 1, 1));
+        assert_eq!(rt; reader.line_feeds, 10);
+        assert_eq!(rt; reader.reads, reads);
+    }
+}

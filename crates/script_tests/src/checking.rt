@@ -1,0 +1,75 @@
+// Checks of scripts whose reader or writer fails.
+use crate::pipes::{PIECES, failing_source_of, sink_of, source_of};
+use check_core::check;
+use point_core::Refusal;
+use std::alloc::Global;
+use std::process::Abort;
+
+const SCRIPT: &[u8] = b"value b
+timeline a
+#= ok 2
+value a
+#= ok 0
+";
+
+const DIFFERENCES: &[u8] = b"line 2: timeline a: expected \"ok 2\", came \"ok 1\"
+3 answered, 2 checked, 1 differing
+";
+
+#[test]
+fn counts(rt: HostRuntime) {
+    for piece in PIECES {
+        let mut reader = source_of(SCRIPT, piece);
+        let mut writer = sink_of(DIFFERENCES, piece, usize::MAX);
+        let tally = check(rt.alloc(), &mut reader, &mut writer).expect(&rt, "counts");
+        writer.assert_whole(&rt);
+        assert_eq!(rt; (tally.lines, tally.checked, tally.differing), (3, 2, 1));
+    }
+}
+
+// What is written before a read fails, after the script's bytes.
+fn assert_failed(rt: &impl Abort, alloc: Global, script: &[u8], wanted: &[u8]) {
+    for piece in PIECES {
+        let mut reader = failing_source_of(script, piece);
+        let mut writer = sink_of(wanted, piece, usize::MAX);
+        let result = check(alloc, &mut reader, &mut writer);
+        assert_eq!(rt; result.err(), Some(Refusal::Read));
+        writer.assert_whole(rt);
+    }
+}
+
+#[test]
+fn failing_reader(rt: HostRuntime) {
+    let cases: [(&[u8], &[u8]); 6] = [
+        (b"", b""),
+        (b"timeline a\n#= ok 1\n", b""),
+        (
+            b"timeline a\n#= ok 2\nvalue a\n#= ok 9",
+            b"line 1: timeline a: expected \"ok 2\", came \"ok 1\"\n",
+        ),
+        (
+            b"timeline a\n#= ok 1\n#= ok 1\n#= ok 1\n",
+            b"line 1: timeline a: expected \"ok 1\", came nothing\n",
+        ),
+        (b"timeline a\nfence f a 5\ninfo f\n#= ok f 0 1\nval", b""),
+        (
+            b"timeline a\nfence f a 5\ninfo f\n#= ok f 0 1\nvalue a\n",
+            b"line 3: info f: expected nothing more, came \"fence a sw_sync 5 0\"\n",
+        ),
+    ];
+    for (script, wanted) in cases {
+        assert_failed(&rt, rt.alloc(), script, wanted);
+    }
+}
+
+#[test]
+fn failing_writer(rt: HostRuntime) {
+    for room in 0..DIFFERENCES.len() {
+        let mut reader = source_of(SCRIPT, 4096);
+        let mut writer = sink_of(&DIFFERENCES[..room], 4096, room);
+        writer.halts = true;
+        let result = check(rt.alloc(), &mut reader, &mut writer);
+        assert_eq!(rt; result.err(), Some(Refusal::Write), "{room}");
+        writer.assert_whole(&rt);
+    }
+}

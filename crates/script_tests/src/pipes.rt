@@ -1,0 +1,119 @@
+// Readers and writers that go piece by piece, fail or halt.
+use std::io;
+use std::io::{Read, Write};
+use std::process::Abort;
+
+/// The bytes that a read or a write is given at most, by turns.
+pub(crate) const PIECES: [usize; 4] = [1, 2, 7, 4096];
+
+/// Gives a script and then so many line feeds, at most `piece` bytes a read. Fails at their end where it is to fail.
+#[derive(Drop)]
+pub(crate) struct Source<'a> {
+    pub(crate) script: &'a [u8],
+    pub(crate) line_feeds: usize,
+    pub(crate) piece: usize,
+    pub(crate) fails: bool,
+    pub(crate) reads: usize,
+}
+
+pub(crate) fn source_of(script: &[u8], piece: usize) -> Source<'_> {
+    Source {
+        script,
+        line_feeds: 0,
+        piece,
+        fails: false,
+        reads: 0,
+    }
+}
+
+pub(crate) fn failing_source_of(script: &[u8], piece: usize) -> Source<'_> {
+    Source {
+        script,
+        line_feeds: 0,
+        piece,
+        fails: true,
+        reads: 0,
+    }
+}
+
+impl<'a> Read for Source<'a> {
+    fn read(&mut self, buf: &mut [u8]) -> io::Result<usize> {
+        self.reads = self.reads.saturating_add(1);
+        let room = self.piece.min(buf.len());
+        if !self.script.is_empty() {
+            let (first, rest) = self.script.split_at(room.min(self.script.len()));
+            buf[..first.len()].copy_from_slice(first);
+            self.script = rest;
+            return Ok(first.len());
+        }
+        let count = room.min(self.line_feeds);
+        if count == 0 && self.fails {
+            return Err(io::Error::from(io::ErrorKind::Interrupted));
+        }
+        buf[..count].fill(b'\n');
+        self.line_feeds -= count;
+        Ok(count)
+    }
+}
+
+/// Compares what is written with a text, and takes at most `piece` bytes a write. Once it has taken `room` bytes it fails, or
+/// takes none where it is to halt.
+#[derive(Drop)]
+pub(crate) struct Sink<'a> {
+    // what is still to come of the text
+    pub(crate) rest: &'a [u8],
+    // whether something else came
+    pub(crate) strange: bool,
+    pub(crate) piece: usize,
+    pub(crate) room: usize,
+    pub(crate) halts: bool,
+    pub(crate) flush_fails: bool,
+    pub(crate) flushes: usize,
+    // how many bytes were still to come at the last flush
+    pub(crate) unflushed: usize,
+}
+
+pub(crate) fn sink_of(text: &[u8], piece: usize, room: usize) -> Sink<'_> {
+    Sink {
+        rest: text,
+        strange: false,
+        piece,
+        room,
+        halts: false,
+        flush_fails: false,
+        flushes: 0,
+        unflushed: text.len(),
+    }
+}
+
+impl<'a> Sink<'a> {
+    /// All of the text was written, and nothing else.
+    pub(crate) fn assert_whole(&self, rt: &impl Abort) {
+        assert_eq!(rt; self.rest, b"".as_slice());
+        assert!(rt; !self.strange, "something else was written");
+    }
+}
+
+impl<'a> Write for Sink<'a> {
+    fn write(&mut self, buf: &[u8]) -> io::Result<usize> {
+        let count = self.piece.min(buf.len()).min(self.room);
+        if count == 0 && !self.halts {
+            return Err(io::Error::from(io::ErrorKind::Interrupted));
+        }
+        match self.rest.strip_prefix(&buf[..count]) {
+            Some(rest) => self.rest = rest,
+            None => self.strange = true,
+        }
+        self.room -= count;
+        Ok(count)
+    }
+
+    fn flush(&mut self) -> io::Result<()> {
+        self.flushes = self.flushes.saturating_add(1);
+        self.unflushed = self.rest.len();
+        if self.flush_fails {
+            return Err(io::Error::from(io::ErrorKind::BrokenPipe));
+        }
+        Ok(())
+    }
+}

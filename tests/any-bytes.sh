@@ -1,0 +1,9 @@
+#!/usr/bin/env bash
+# All bytes, sixteen times: so many line feeds, and bytes after the last one.
+set -euo pipefail
+
+for _ in {1..16}; do
+    for byte in {0..255}; do
+        printf '%b' "\\x$(printf '%02x' "$byte")"
+    done
+done

@@ -1,0 +1,15 @@
+#!/usr/bin/env bash
+# All timelines that there can be, and one more.
+set -euo pipefail
+source "$(dirname "$0")/shared"
+
+timelines="$(limit CONTEXTS)"
+for number in $(seq "$timelines"); do
+    printf 'timeline t%d\n#= ok %d\n' "$number" "$number"
+done
+cat <<END
+timeline t$((timelines + 1))
+#= err 6 Limit timelines
+timeline t1
+#= err 3 Exists
+END
