@@ -18,28 +18,36 @@ enum Kind {
     Flags,
 }
 
-/// The words of commands.
-const COMMANDS: [&str; 18] = [
-    "timeline", "inc", "value", "fence", "merge", "close", "wait", "info", "buffer", "add",
-    "import", "export", "test", "trim", "watch", "unwatch", "show", "report",
+/// The words of commands, and what follows each.
+const COMMANDS: [(&str, &[Kind]); 18] = [
+    ("timeline", &[Kind::Name]),
+    ("inc", &[Kind::Name, Kind::Number]),
+    ("value", &[Kind::Name]),
+    ("fence", &[Kind::Name, Kind::Name, Kind::Number]),
+    ("merge", &[Kind::Name, Kind::Name, Kind::Name]),
+    ("close", &[Kind::Name]),
+    ("wait", &[Kind::Name]),
+    ("info", &[Kind::Name]),
+    ("buffer", &[Kind::Name]),
+    ("add", &[Kind::Name, Kind::Name, Kind::Number, Kind::Usage]),
+    ("import", &[Kind::Name, Kind::Name, Kind::Flags]),
+    ("export", &[Kind::Name, Kind::Name, Kind::Flags]),
+    ("test", &[Kind::Name, Kind::Usage]),
+    ("trim", &[Kind::Name]),
+    ("watch", &[Kind::Name, Kind::Number]),
+    ("unwatch", &[Kind::Number]),
+    ("show", &[Kind::Name]),
+    ("report", &[]),
 ];
 
 /// What follows a command's word, or none where the word is no command.
 fn kinds_of(word: &[u8]) -> Option<&'static [Kind]> {
-    Some(match word {
-        b"timeline" | b"value" | b"close" | b"wait" | b"info" | b"buffer" | b"trim" | b"show" => &[
-            Kind::Name,
-        ],
-        b"inc" | b"watch" => &[Kind::Name, Kind::Number],
-        b"fence" => &[Kind::Name, Kind::Name, Kind::Number],
-        b"merge" => &[Kind::Name, Kind::Name, Kind::Name],
-        b"add" => &[Kind::Name, Kind::Name, Kind::Number, Kind::Usage],
-        b"import" | b"export" => &[Kind::Name, Kind::Name, Kind::Flags],
-        b"test" => &[Kind::Name, Kind::Usage],
-        b"unwatch" => &[Kind::Number],
-        b"report" => &[],
-        _ => return None,
-    })
+    for (command, kinds) in COMMANDS {
+        if command.as_bytes() == word {
+            return Some(kinds);
+        }
+    }
+    None
 }
 
 /// A word is taken for a command that differs from it in one letter of so many.
@@ -158,7 +166,7 @@ fn nearest(alloc: Global, word: &[u8]) -> Result<Option<&'static str>, Refusal>
     };
     let mut least = word.len() / LETTERS + 1;
     let mut found = None;
-    for command in COMMANDS {
+    for (command, _) in COMMANDS {
         let letters = osa_distance(alloc, text, command)?;
         if letters < least {
             least = letters;
