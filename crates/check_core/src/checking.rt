@@ -37,7 +37,24 @@ pub fn check<R: Read, W: Write>(
         (refusal ≡ ReadFault) ⊎ (refusal ≡ Limit Script) ⊎ (refusal ≡ WriteFault) ⊎ (refusal ≡ Memory)) }
 {
     let mut checker = Checker::new(alloc)?;
-    match check_lines(reader, &mut checker, writer)? {
+    check_script(&mut checker, reader, writer)
+}
+
+/// Checks a script from its first line on, and writes the counts at its end.
+fn check_script<R: Read, W: Write>(
+    checker: &mut Checker,
+    reader: &mut R,
+    writer: &mut W,
+) -> Result<Tally, Refusal>
+    requires fresh { IsFresh checker.old }
+    ensures ok { IfOk result (λ tally. (script : List ℕ) × IsInput (R.remaining reader.old) script
+        × ChecksScript script tally) }
+    ensures within { ConsumesAtMost (SCRIPT_BYTES + 1) (R.remaining reader.old) (R.remaining reader.new) }
+    ensures limit { result ≡ Err (Limit Script) → IsTooLong (R.remaining reader.old) (R.remaining reader.new) }
+    ensures refusals { IfErr result (λ refusal.
+        (refusal ≡ ReadFault) ⊎ (refusal ≡ Limit Script) ⊎ (refusal ≡ WriteFault) ⊎ (refusal ≡ Memory)) }
+{
+    match check_lines(reader, checker, writer)? {
         Ending::Whole => {
             tell_tally(&checker.tally, writer)?;
             Ok(checker.tally)

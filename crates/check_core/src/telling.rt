@@ -19,16 +19,29 @@ pub(crate) fn tell_difference<W: Write>(
     ensures refusals { IfErr result (λ refusal. refusal ≡ WriteFault) }
 {
     tell_line(number, bytes, writer)?;
-    match difference.expected {
-        Some(expected) => tell(writer, "expected", expected)?,
-        None => tell_word(writer, "expected nothing more")?,
-    }
+    tell_expected(difference.expected, writer)?;
     tell_word(writer, ", ")?;
-    match first_line(difference.came) {
-        Some((came, _)) => tell(writer, "came", came)?,
-        None => tell_word(writer, "came nothing")?,
-    }
+    tell_came(difference.came, writer)?;
     tell_word(writer, "\n")
+}
+
+fn tell_expected<W: Write>(expected: Option<&[u8]>, writer: &mut W) -> Result<(), Refusal>
+    ensures refusals { IfErr result (λ refusal. refusal ≡ WriteFault) }
+{
+    match expected {
+        Some(line) => tell(writer, "expected", line),
+        None => tell_word(writer, "expected nothing more"),
+    }
+}
+
+/// The first line of what came.
+fn tell_came<W: Write>(came: &[u8], writer: &mut W) -> Result<(), Refusal>
+    ensures refusals { IfErr result (λ refusal. refusal ≡ WriteFault) }
+{
+    match first_line(came) {
+        Some((line, _)) => tell(writer, "came", line),
+        None => tell_word(writer, "came nothing"),
+    }
 }
 
 fn tell_line<W: Write>(number: u32, bytes: &[u8], writer: &mut W) -> Result<(), Refusal>

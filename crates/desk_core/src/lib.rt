@@ -15,6 +15,3 @@ pub use command_core::{
 };
 pub use desk::Desk;
 pub use runs::run;
-
-#[cfg(test)]
-mod tests;

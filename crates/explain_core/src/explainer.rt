@@ -1,5 +1,5 @@
 // The lines of a script, answered and explained one after another.
-ghost use Rattle.std.specs.Prelude.{◌≡◌, ◌+◌, ◌<◌, ◌≤◌, ◌⊎◌, ◌++◌, [], List, ℕ, Option, Some, IfOk, OnOk, OnErr, IfErr};
+ghost use Rattle.std.specs.Prelude.{◌≡◌, ◌+◌, ◌<◌, ◌≤◌, ◌⊎◌, ◌++◌, [], List, ℕ, Option, Some, OnOk, OnErr, IfErr};
 ghost use Rattle.point_core.specs.declared.refusal.Refusal.TheVariants.{Write as WriteFault, Memory};
 ghost use Rattle.script_core.specs.Answering.{HasAnswered};
 ghost use Rattle.script_core.specs.Output.{WritesFront};
@@ -17,11 +17,10 @@ use script_core::{Answers, answer_line};
 use std::alloc::Global;
 use std::io::Write;
 
-/// Answers the lines of a script and explains them, one after another. What it keeps is what the answers keep, what a desk of
-/// its own holds, which answers each line again and may be asked, and the lines that made what stands for something.
+/// Has the lines of a script answered and explains them, one after another. What it keeps is what a desk of its own holds, which
+/// answers each line again and may be asked, and the lines that made what stands for something.
 #[derive(Drop)]
 pub(crate) struct Explainer {
-    pub(crate) answers: Answers,
     alloc: Global,
     look: Look,
     desk: Desk,
@@ -33,12 +32,9 @@ impl Explainer {
     ///
     /// Refused as Memory alone.
     pub(crate) fn new(alloc: Global, look: Look) -> Result<Explainer, Refusal>
-        ensures none { IfOk result (λ explainer. (contents : Option (List ℕ)) →
-            HasAnswered [] explainer.answers contents contents) }
         ensures refusals { IfErr result (λ refusal. refusal ≡ Memory) }
     {
         Ok(Explainer {
-            answers: Answers::new(alloc)?,
             alloc,
             look,
             desk: Desk::new(alloc)?,
@@ -52,48 +48,50 @@ impl Explainer {
     /// answers is written.
     pub(crate) fn explain<W: Write, N: Write>(
         &mut self,
+        answers: &mut Answers,
         line: &RawLine<'_>,
         body: Option<Body>,
         writer: &mut W,
         notes: &mut N,
     ) -> Result<(), Refusal>
-        requires few { self.old.answers.totals.lines < line.now.number }
+        requires few { answers.old.totals.lines < line.now.number }
         ensures ok { OnOk result ((done : List Line) → (start : Option (List ℕ)) →
-            HasAnswered done self.old.answers start (W.contents writer.old)
-            → HasAnswered (done ++ answered line.now.number body []) self.new.answers start (W.contents writer.new)) }
+            HasAnswered done answers.old start (W.contents writer.old)
+            → HasAnswered (done ++ answered line.now.number body []) answers.new start (W.contents writer.new)) }
         ensures err { OnErr result ((done : List Line) → (start : Option (List ℕ)) →
-            HasAnswered done self.old.answers start (W.contents writer.old)
+            HasAnswered done answers.old start (W.contents writer.old)
             → WritesFront (done ++ answered line.now.number body []) start (W.contents writer.new)) }
-        ensures lines { self.new.answers.totals.lines ≤ self.old.answers.totals.lines + 1 }
+        ensures lines { answers.new.totals.lines ≤ answers.old.totals.lines + 1 }
         ensures refusals { IfErr result (λ refusal. (refusal ≡ WriteFault) ⊎ (refusal ≡ Memory)) }
     {
         match body {
-            Some(body) => self.explain_body(line, body, writer, notes),
+            Some(body) => self.explain_body(answers, line, body, writer, notes),
             None => Ok(()),
         }
     }
 
     fn explain_body<W: Write, N: Write>(
         &mut self,
+        answers: &mut Answers,
         line: &RawLine<'_>,
         body: Body,
         writer: &mut W,
         notes: &mut N,
     ) -> Result<(), Refusal>
-        requires few { self.old.answers.totals.lines < line.now.number }
+        requires few { answers.old.totals.lines < line.now.number }
         ensures ok { OnOk result ((done : List Line) → (start : Option (List ℕ)) →
-            HasAnswered done self.old.answers start (W.contents writer.old)
-            → HasAnswered (done ++ answered line.now.number (Some body) []) self.new.answers start (W.contents writer.new)) }
+            HasAnswered done answers.old start (W.contents writer.old)
+            → HasAnswered (done ++ answered line.now.number (Some body) []) answers.new start (W.contents writer.new)) }
         ensures err { OnErr result ((done : List Line) → (start : Option (List ℕ)) →
-            HasAnswered done self.old.answers start (W.contents writer.old)
+            HasAnswered done answers.old start (W.contents writer.old)
             → WritesFront (done ++ answered line.now.number (Some body) []) start (W.contents writer.new)) }
-        ensures lines { self.new.answers.totals.lines ≤ self.old.answers.totals.lines + 1 }
+        ensures lines { answers.new.totals.lines ≤ answers.old.totals.lines + 1 }
         ensures refusals { IfErr result (λ refusal. (refusal ≡ WriteFault) ⊎ (refusal ≡ Memory)) }
     {
-        self.answers.answer(line.number, Some(body), writer)?;
+        answers.answer(line.number, Some(body), writer)?;
         if let Some(refusal) = self.refusal_of(line.number, body)? {
-            self.answers.write(writer)?;
-            self.tell(line, &body, refusal, notes)?;
+            answers.write(writer)?;
+            self.tell(answers, line, &body, refusal, notes)?;
         }
         Ok(())
     }
@@ -102,16 +100,10 @@ impl Explainer {
     ///
     /// Refused as Memory alone.
     fn refusal_of(&mut self, number: u32, body: Body) -> Result<Option<Refusal>, Refusal>
-        ensures answers { self.new.answers ≡ self.old.answers }
         ensures refusals { IfErr result (λ refusal. refusal ≡ Memory) }
     {
         let answer = answer_line(&mut self.desk, body);
-        match (&body, &answer) {
-            (_, Answer::Refused(refusal)) => return Ok(Some(*refusal)),
-            (Body::Cmd(command), _) => self.book.enter(number, command, &answer)?,
-            (Body::Bad(_), _) => (),
-        }
-        Ok(None)
+        refusal_or_enter(&mut self.book, number, &body, &answer)
     }
 
     /// Tells why a line was refused, the last that was answered, once its answer is written. The desk is asked, but only by
@@ -120,13 +112,13 @@ impl Explainer {
     /// Refused as Write where a write failed, and as Memory.
     fn tell<N: Write>(
         &mut self,
+        answers: &Answers,
         line: &RawLine<'_>,
         body: &Body,
         refusal: Refusal,
         notes: &mut N,
     ) -> Result<(), Refusal>
-        requires written { self.old.answers.out ≡ [] }
-        ensures answers { self.new.answers ≡ self.old.answers }
+        requires written { answers.now.out ≡ [] }
         ensures refusals { IfErr result (λ refusal. (refusal ≡ WriteFault) ⊎ (refusal ≡ Memory)) }
     {
         let place = Place {
@@ -142,4 +134,23 @@ impl Explainer {
             Body::Bad(_) => explain_syntax(self.alloc, &place, line.bytes, notes),
         }
     }
+}
+
+/// The refusal of a line; of one that was accepted, what it made is entered.
+///
+/// Refused as Memory alone.
+fn refusal_or_enter(
+    book: &mut Book,
+    number: u32,
+    body: &Body,
+    answer: &Answer,
+) -> Result<Option<Refusal>, Refusal>
+    ensures refusals { IfErr result (λ refusal. refusal ≡ Memory) }
+{
+    match (body, answer) {
+        (_, Answer::Refused(refusal)) => return Ok(Some(*refusal)),
+        (Body::Cmd(command), _) => book.enter(number, command, answer)?,
+        (Body::Bad(_), _) => (),
+    }
+    Ok(None)
 }

@@ -12,7 +12,7 @@ use crate::explainer::Explainer;
 use crate::look::Look;
 use line_core::{Ending, ScriptLines, body_of, last_body};
 use point_core::Refusal;
-use script_core::Totals;
+use script_core::{Answers, Totals};
 use std::alloc::Global;
 use std::io::{Read, Write};
 
@@ -54,17 +54,20 @@ pub fn explain<R: Read, W: Write, N: Write>(
     ensures refusals { IfErr result (λ refusal.
         (refusal ≡ ReadFault) ⊎ (refusal ≡ WriteFault) ⊎ (refusal ≡ Memory)) }
 {
-    let mut explainer = Explainer::new(alloc, look)?;
-    explain_script(&mut explainer, reader, writer, notes)
+    let mut answers = Answers::new(alloc)?;
+    explain_answers(alloc, look, &mut answers, reader, writer, notes)
 }
 
-fn explain_script<R: Read, W: Write, N: Write>(
-    explainer: &mut Explainer,
+/// Runs the script with an explainer. Its desk and that of the answers are owned by a function each.
+fn explain_answers<R: Read, W: Write, N: Write>(
+    alloc: Global,
+    look: Look,
+    answers: &mut Answers,
     reader: &mut R,
     writer: &mut W,
     notes: &mut N,
 ) -> Result<Totals, Refusal>
-    requires fresh { HasAnswered [] explainer.old.answers (W.contents writer.old) (W.contents writer.old) }
+    requires fresh { HasAnswered [] answers.old (W.contents writer.old) (W.contents writer.old) }
     ensures ok { IfOk result (λ totals. (script : List ℕ) × IsInput (R.remaining reader.old) script
         × AnswersScript script totals (W.contents writer.old) (W.contents writer.new)) }
     ensures reads { IfOk result (λ _. IfSome (R.remaining reader.old) (λ input.
@@ -78,8 +81,33 @@ fn explain_script<R: Read, W: Write, N: Write>(
     ensures refusals { IfErr result (λ refusal.
         (refusal ≡ ReadFault) ⊎ (refusal ≡ WriteFault) ⊎ (refusal ≡ Memory)) }
 {
-    let ending = explain_lines(explainer, reader, writer, notes)?;
-    let totals = explainer.answers.finish(writer)?;
+    let mut explainer = Explainer::new(alloc, look)?;
+    explain_script(&mut explainer, answers, reader, writer, notes)
+}
+
+fn explain_script<R: Read, W: Write, N: Write>(
+    explainer: &mut Explainer,
+    answers: &mut Answers,
+    reader: &mut R,
+    writer: &mut W,
+    notes: &mut N,
+) -> Result<Totals, Refusal>
+    requires fresh { HasAnswered [] answers.old (W.contents writer.old) (W.contents writer.old) }
+    ensures ok { IfOk result (λ totals. (script : List ℕ) × IsInput (R.remaining reader.old) script
+        × AnswersScript script totals (W.contents writer.old) (W.contents writer.new)) }
+    ensures reads { IfOk result (λ _. IfSome (R.remaining reader.old) (λ input.
+        Consumes (R.remaining reader.old) (R.remaining reader.new) (take (SCRIPT_BYTES + 1) input))) }
+    ensures within { ConsumesAtMost (SCRIPT_BYTES + 1) (R.remaining reader.old) (R.remaining reader.new) }
+    ensures read { result ≡ Err ReadFault
+        → AnswersEndedLines (R.remaining reader.old) (R.remaining reader.new)
+        (W.contents writer.old) (W.contents writer.new) }
+    ensures err { OnErr result ((script : List ℕ) × IsInput (R.remaining reader.old) script
+        × WritesFront (script_of script) (W.contents writer.old) (W.contents writer.new)) }
+    ensures refusals { IfErr result (λ refusal.
+        (refusal ≡ ReadFault) ⊎ (refusal ≡ WriteFault) ⊎ (refusal ≡ Memory)) }
+{
+    let ending = explain_lines(explainer, answers, reader, writer, notes)?;
+    let totals = answers.finish(writer)?;
     match ending {
         Ending::Failed => Err(Refusal::Read),
         Ending::Whole | Ending::TooLong => Ok(totals),
@@ -90,13 +118,14 @@ fn explain_script<R: Read, W: Write, N: Write>(
 /// written.
 fn explain_lines<R: Read, W: Write, N: Write>(
     explainer: &mut Explainer,
+    answers: &mut Answers,
     reader: &mut R,
     writer: &mut W,
     notes: &mut N,
 ) -> Result<Ending, Refusal>
-    requires fresh { HasAnswered [] explainer.old.answers (W.contents writer.old) (W.contents writer.old) }
+    requires fresh { HasAnswered [] answers.old (W.contents writer.old) (W.contents writer.old) }
     ensures ok { IfOk result (λ ending. HasAnsweredBytes (R.remaining reader.old) (R.remaining reader.new) ending
-        explainer.new.answers (W.contents writer.old) (W.contents writer.new)) }
+        answers.new (W.contents writer.old) (W.contents writer.new)) }
     ensures within { ConsumesAtMost (SCRIPT_BYTES + 1) (R.remaining reader.old) (R.remaining reader.new) }
     ensures err { OnErr result ((script : List ℕ) × IsInput (R.remaining reader.old) script
         × WritesFront (script_of script) (W.contents writer.old) (W.contents writer.new)) }
@@ -106,12 +135,12 @@ fn explain_lines<R: Read, W: Write, N: Write>(
     loop {
         if lines.advance() {
             let line = lines.line();
-            explainer.explain(&line, body_of(line.bytes), writer, notes)?;
+            explainer.explain(answers, &line, body_of(line.bytes), writer, notes)?;
         } else {
-            explainer.answers.write(writer)?;
+            answers.write(writer)?;
             if let Some(ending) = lines.read(reader) {
                 let line = lines.line();
-                explainer.explain(&line, last_body(ending, line.bytes), writer, notes)?;
+                explainer.explain(answers, &line, last_body(ending, line.bytes), writer, notes)?;
                 return Ok(ending);
             }
         }

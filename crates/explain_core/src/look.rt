@@ -55,3 +55,11 @@ pub(crate) fn end<N: Write>(sentence: &str, notes: &mut N) -> Result<(), Refusal
 {
     writeln!(notes, "{sentence}").map_err(|_| Refusal::Write)
 }
+
+/// Writes `line N: ` and a sentence, and ends the line.
+pub(crate) fn tell<N: Write>(place: &Place, sentence: &str, notes: &mut N) -> Result<(), Refusal>
+    ensures refusals { IfErr result (λ refusal. refusal ≡ WriteFault) }
+{
+    begin(place, notes)?;
+    end(sentence, notes)
+}

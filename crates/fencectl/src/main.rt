@@ -3,25 +3,18 @@
 //! they settle.
 #![tactic(auto)]
 
-mod arguments;
-mod clients;
-mod fault;
-mod source;
 mod status;
-mod usage;
 
-use arguments::{
-    Action, STANDARD_INPUT, action_of, asks_for_locks, clients_of, command, counts_of,
-};
 use check_core::{Tally, check};
 use clap::ArgMatches;
-pub use clients::{clients_report, report_over};
 use clients_core::LockedTable;
+use command_line::{
+    Action, STANDARD_INPUT, Source, action_of, asks_for_locks, clients_of, clients_report,
+    counts_of, matches_of, report_over, tell_error, tell_fault, tell_unread_word,
+};
 use explain_core::{Look, explain};
-pub use fault::tell_fault;
 use point_core::Refusal;
 use script_core::{Totals, engine};
-use source::Source;
 use status::{ACCEPTED, status_of_check, status_of_run};
 use std::fs::File;
 use std::io::{IsTerminal, Stdout};
@@ -37,18 +30,35 @@ fn main(rt: HostRuntime) -> ExitCode {
 
 /// Reads the command line, and does what it says. Gives the exit status.
 fn start<T: Threads + Wait + Sync>(rt: &HostRuntime, threads: &T) -> Result<u8, Refusal> {
-    let alloc = rt.alloc();
-    let words: Vec<String> = match env::args(rt) {
-        Ok(words) => words.collect(alloc)?,
-        Err(error) => return usage::tell_unread_word(rt, error),
-    };
-    let command = command(alloc)?;
-    match command.try_get_matches_from(words.as_slice()) {
-        Ok(matches) => match clients_of(&matches) {
-            Some(asked) => run_clients(rt, threads, asked),
-            None => Ok(act(rt, action_of(&matches))),
-        },
-        Err(error) => usage::tell_error(rt, &error),
+    match env::args(rt) {
+        Ok(words) => {
+            let words: Vec<String> = words.collect(rt.alloc())?;
+            act_on(rt, threads, words.as_slice())
+        }
+        Err(error) => tell_unread_word(rt, error),
+    }
+}
+
+/// Does what the words of the command line ask for. Gives the exit status.
+fn act_on<T: Threads + Wait + Sync>(
+    rt: &HostRuntime,
+    threads: &T,
+    words: &[String],
+) -> Result<u8, Refusal> {
+    match matches_of(rt.alloc(), words) {
+        Ok(matches) => act_on_matches(rt, threads, &matches),
+        Err(error) => tell_error(rt, &error),
+    }
+}
+
+fn act_on_matches<T: Threads + Wait + Sync>(
+    rt: &HostRuntime,
+    threads: &T,
+    matches: &ArgMatches,
+) -> Result<u8, Refusal> {
+    match clients_of(matches) {
+        Some(asked) => run_clients(rt, threads, asked),
+        None => Ok(act(rt, action_of(matches))),
     }
 }
 

@@ -2,10 +2,10 @@
 ghost use Rattle.std.specs.Prelude.{◌≡◌, ◌==◌, if◌then◌else◌, MatchResult};
 ghost use Rattle.std.specs.Io.KnownBytes.{Keeps};
 ghost use Rattle.script_core.specs.Bytes.{AppendsFront};
-ghost use Rattle.fencectl.specs.Fault.{fault_text};
+ghost use Rattle.command_line.specs.Fault.{fault_text};
 
-use crate::fault::tell_fault;
 use check_core::Tally;
+use command_line::tell_fault;
 use point_core::Refusal;
 use script_core::Totals;
 use std::io::Write;

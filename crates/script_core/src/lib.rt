@@ -7,8 +7,6 @@
 mod answering;
 mod answers;
 mod passing;
-#[cfg(test)]
-mod tests;
 mod text;
 mod totals;
 mod writing;

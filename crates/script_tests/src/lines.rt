@@ -3,7 +3,7 @@ use crate::answering::repeated;
 use crate::pipes::{PIECES, source_of};
 use desk_core::Command;
 use point_core::Usage;
-use script_core::{Body, Line, LineCutter, SCRIPT_BYTES, ScriptLines, body_of};
+use line_core::{Body, Line, LineCutter, SCRIPT_BYTES, ScriptLines, body_of};
 use std::process::Abort;
 
 fn fed(cutter: &mut LineCutter, byte: u8) -> Option<Line> {

@@ -25,7 +25,7 @@ loop-lines-preserved-in-Continue-1 g c =
     let answered = c.in_ok-explain.ensures.ok (ended_lines 1 at.0) start at.2 in (
       at.0 ++ more.line ∷ [],
       more.more,
-      subst (λ ls. HasAnswered ls c.explain.new.self.answers start (g.W.Write.contents c.explain.new.writer)) e answered,
+      subst (λ ls. HasAnswered ls c.explain.new.answers start (g.W.Write.contents c.explain.new.writer)) e answered,
       omega (arith, at.3, c.in_ok-explain.ensures.lines, length-append at.0 (more.line ∷ [])),
     )
 
@@ -112,5 +112,5 @@ returns-in-Some-clause-ok g c =
     record {
       bytes = ended.bytes;
       read = ended.read;
-      answered = subst (λ ls. HasAnswered ls c.explain-in-Some.new.self.answers start end) e (c.in_ok-explain-2.ensures.ok (ended_lines 1 at.0) start answered);
+      answered = subst (λ ls. HasAnswered ls c.explain-in-Some.new.answers start end) e (c.in_ok-explain-2.ensures.ok (ended_lines 1 at.0) start answered);
     }

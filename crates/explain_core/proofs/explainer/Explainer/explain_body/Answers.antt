@@ -1,7 +1,6 @@
 -- The answer stands, whatever becomes of its explanation.
-use Rattle.std.proofs.Common.{[], ◌++◌, Some, sym, subst}
+use Rattle.std.proofs.Common.{[], ◌++◌, Some}
 use Rattle.std.proofs.lemmas.Result.{err_from_is_err_and}
-use Rattle.script_core.specs.Answering.{HasAnswered}
 use Rattle.line_core.specs.Script.{answered}
 use Rattle.explain_core.proofs.Written.{answered-front}
 use Rattle.explain_core.proofs.explainer.Explainer.explain_body.Goals as goal
@@ -14,8 +13,6 @@ returns-in_err-refusal-clause-err g c =
 pub returns-in_err-tell-clause-err : goal.returns-in_err-tell-clause-err
 returns-in_err-tell-clause-err g c =
     let q = err_from_is_err_and c.from_residual-in_err-tell.result c.from_residual-in_err-tell.ensures.1 in
-    let written = g.W.Write.contents c.answer.new.writer in
     rw q.1 (λ done start p.
     let lines = done ++ answered c.args.line.now.number (Some c.args.body) [] in
-    let stands = subst (λ s. HasAnswered lines s start written) (sym c.in_ok-refusal.ensures.answers) (c.in_ok-answer.ensures.ok done start p) in
-    answered-front lines _ start _ (c.in_ok-write.ensures.ok lines start stands))
+    answered-front lines _ start _ (c.in_ok-write.ensures.ok lines start (c.in_ok-answer.ensures.ok done start p)))

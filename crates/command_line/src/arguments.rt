@@ -3,10 +3,12 @@ ghost use Rattle.std.specs.Prelude.{◌≤◌, IfOk};
 ghost use Rattle.clients_core.specs.declared.plans.TheConstants.{CLIENTS};
 ghost use Rattle.clients_core.specs.declared.rounds.TheConstants.{ROUNDS};
 
-use clap::{Arg, ArgAction, ArgMatches, Command, value_parser};
+use clap::{Arg, ArgAction, ArgMatches, Command, Error, value_parser};
 use clients_core::{CLIENTS, ROUNDS};
 use point_core::{LimitKind, Refusal};
 use std::alloc::{AllocError, Global};
+
+const PROGRAM: &str = "fencectl";
 
 const ABOUT: &str =
     "Runs a script of GPU fence commands and prints their answers, or runs clients on threads";
@@ -75,12 +77,23 @@ const FILE: &str = "FILE";
 
 const RUN: &str = "run";
 
+const RUN_ABOUT: &str =
+    "Runs the script of a file; without one that of standard input, as no word at all does";
+
 const CHECK: &str = "check";
+
+const CHECK_ABOUT: &str =
+    "Runs a script, and compares its answers with those that its notes expect";
 
 const EXPLAIN: &str = "explain";
 
-/// The word for a run of clients, and the numbers behind it.
+const EXPLAIN_ABOUT: &str = "Runs a script, and tells on standard error why lines were refused";
+
+/// The word for a run of clients, and the numbers that follow it.
 const CLIENTS_WORD: &str = "clients";
+
+const CLIENTS_ABOUT: &str =
+    "Runs clients on threads against shared buffers, and prints what they settle";
 
 const COUNT: &str = "N";
 
@@ -100,57 +113,100 @@ pub enum Action<'a> {
     Explain(&'a str),
 }
 
+/// What the words of the command line ask for. The first of them is the program's own.
+///
+/// The error has its kind where memory was refused.
+pub fn matches_of<'a>(alloc: Global, words: &'a [String]) -> Result<ArgMatches<'a>, Error> {
+    let command = command(alloc)?;
+    command.try_get_matches_from(words)
+}
+
 /// The program's command line: `run`, `check` or `explain`, with a file or without, or nothing to run the script of standard
 /// input; or `clients` with two numbers.
-pub fn command<'a>(alloc: Global) -> Result<Command<'a>, AllocError> {
-    let run = Command::new(alloc, RUN)
-        .about(
-            "Runs the script of a file; without one that of standard input, as no word at all does",
-        )
-        .arg(file(alloc))?;
-    let check = Command::new(alloc, CHECK)
-        .about("Runs a script, and compares its answers with those that its notes expect")
-        .arg(file(alloc))?;
-    let explain = Command::new(alloc, EXPLAIN)
-        .about("Runs a script, and tells on standard error why lines were refused")
-        .arg(file(alloc))?;
-    Command::new(alloc, "fencectl")
-        .bin_name("fencectl")?
+fn command<'a>(alloc: Global) -> Result<Command<'a>, AllocError> {
+    let command = with(program(alloc)?, run(alloc))?;
+    let command = with(command, check(alloc))?;
+    let command = with(command, explain(alloc))?;
+    with(command, clients(alloc))
+}
+
+/// The command with one subcommand more, where that could be made.
+fn with<'a>(
+    command: Command<'a>,
+    subcommand: Result<Command<'a>, AllocError>,
+) -> Result<Command<'a>, AllocError> {
+    command.subcommand(subcommand?)
+}
+
+/// The program without its subcommands.
+fn program<'a>(alloc: Global) -> Result<Command<'a>, AllocError> {
+    let command = Command::new(alloc, PROGRAM)
         .version(VERSION)
         .about(ABOUT)
-        .after_help(HELP)
-        .subcommand_help_heading("Subcommands")
-        .subcommand(run)?
-        .subcommand(check)?
-        .subcommand(explain)?
-        .subcommand(clients(alloc)?)
+        .after_help(help())
+        .subcommand_help_heading("Subcommands");
+    command.bin_name(PROGRAM)
 }
 
-/// `clients`, its two numbers and its table.
-fn clients<'a>(alloc: Global) -> Result<Command<'a>, AllocError> {
-    let count = Arg::new(alloc, COUNT)
-        .required(true)
-        .value_parser(value_parser!(u16).range(1..=CLIENTS as i64))
-        .help("How many clients, 1 to 8");
-    let rounds = Arg::new(alloc, ROUNDS_WORD)
-        .required(true)
-        .value_parser(value_parser!(u16).range(1..=ROUNDS as i64))
-        .help("How many rounds each of them makes, 1 to 10000");
-    let locks = Arg::new(alloc, LOCKS)
-        .long(LOCKS)
-        .action(ArgAction::SetTrue)
-        .help("Shares buffers under locks, in the place of a lock-free board");
-    Command::new(alloc, CLIENTS_WORD)
-        .about("Runs clients on threads against shared buffers, and prints what they settle")
-        .arg(count)?
-        .arg(rounds)?
-        .arg(locks)
+/// What follows the options in the help.
+fn help() -> &'static str {
+    HELP
 }
 
+fn run<'a>(alloc: Global) -> Result<Command<'a>, AllocError> {
+    Command::new(alloc, RUN).about(RUN_ABOUT).arg(file(alloc))
+}
+
+fn check<'a>(alloc: Global) -> Result<Command<'a>, AllocError> {
+    Command::new(alloc, CHECK)
+        .about(CHECK_ABOUT)
+        .arg(file(alloc))
+}
+
+fn explain<'a>(alloc: Global) -> Result<Command<'a>, AllocError> {
+    Command::new(alloc, EXPLAIN)
+        .about(EXPLAIN_ABOUT)
+        .arg(file(alloc))
+}
+
+/// The file of a script.
 fn file<'a>(alloc: Global) -> Arg<'a> {
     Arg::new(alloc, FILE)
         .default_value(STANDARD_INPUT)
         .help("The script's file, or - for standard input")
+}
+
+/// `clients`, its two numbers and its table.
+fn clients<'a>(alloc: Global) -> Result<Command<'a>, AllocError> {
+    let command = Command::new(alloc, CLIENTS_WORD).about(CLIENTS_ABOUT);
+    command
+        .arg(count(alloc))?
+        .arg(rounds(alloc))?
+        .arg(locks(alloc))
+}
+
+/// The number of clients.
+fn count<'a>(alloc: Global) -> Arg<'a> {
+    Arg::new(alloc, COUNT)
+        .required(true)
+        .value_parser(value_parser!(u16).range(1..=CLIENTS as i64))
+        .help("How many clients, 1 to 8")
+}
+
+/// The number of rounds.
+fn rounds<'a>(alloc: Global) -> Arg<'a> {
+    Arg::new(alloc, ROUNDS_WORD)
+        .required(true)
+        .value_parser(value_parser!(u16).range(1..=ROUNDS as i64))
+        .help("How many rounds each of them makes, 1 to 10000")
+}
+
+/// The flag that asks for buffers under locks.
+fn locks<'a>(alloc: Global) -> Arg<'a> {
+    Arg::new(alloc, LOCKS)
+        .long(LOCKS)
+        .action(ArgAction::SetTrue)
+        .help("Shares buffers under locks, in the place of a lock-free board")
 }
 
 /// What the command line asks for.

@@ -6,7 +6,7 @@ ghost use Rattle.clients_core.specs.Clients.{IsClientRefusal};
 ghost use Rattle.clients_core.specs.declared.plans.TheConstants.{CLIENTS};
 ghost use Rattle.clients_core.specs.declared.rounds.TheConstants.{ROUNDS};
 ghost use Rattle.script_core.specs.Bytes.{AppendsFront};
-ghost use Rattle.fencectl.specs.Clients.{clients_text};
+ghost use Rattle.command_line.specs.Clients.{clients_text};
 
 use clients_core::{Board, CLIENTS, OpenGate, ROUND_BUFFERS, ROUNDS, plans_of_rounds, run_clients};
 use point_core::Refusal;
@@ -92,70 +92,4 @@ fn flush<W: Write>(writer: &mut W) -> Result<(), Refusal>
     ensures err { IfErr result (λ e. e ≡ refusal.Write) }
 {
     writer.flush().map_err(|_| Refusal::Write)
-}
-
-#[cfg(test)]
-mod tests {
-    use super::*;
-    use clients_core::LockedTable;
-    use std::io;
-    use std::test::Fail;
-
-    const TWO_CLIENTS: &str = "\
-timeline c1                                               100\n\
-timeline c2                                               100\n\
-buffer   b0                                                 6\n\
-write    c1                                               200\n\
-write    c2                                               200\n\
-read     c1                                               200\n\
-read     c2                                               200\n\
-bookkeep c1                                               200\n\
-bookkeep c2                                               200\n\
-buffer   b1                                                 4\n\
-read     c1                                               300\n\
-read     c2                                               300\n\
-bookkeep c1                                               300\n\
-bookkeep c2                                               300\n\
-";
-
-    #[test]
-    fn two_clients(rt: HostRuntime) -> Result<(), Fail> {
-        let mut told = Vec::new(rt.alloc());
-        clients_report(&rt, rt.alloc(), 2, 100, &mut told)?;
-        assert_eq!(rt; told.as_slice(), TWO_CLIENTS.as_bytes());
-        Ok(())
-    }
-
-    #[test]
-    fn two_clients_under_locks(rt: HostRuntime) -> Result<(), Fail> {
-        let mut told = Vec::new(rt.alloc());
-        report_over::<HostRuntime, LockedTable, Vec<u8>>(&rt, rt.alloc(), 2, 100, &mut told)?;
-        assert_eq!(rt; told.as_slice(), TWO_CLIENTS.as_bytes());
-        Ok(())
-    }
-
-    /// Takes what is written to it, and cannot be flushed.
-    #[derive(Drop)]
-    struct Stuck {
-        taken: usize,
-    }
-
-    impl Write for Stuck {
-        fn write(&mut self, bytes: &[u8]) -> io::Result<usize> {
-            self.taken = bytes.len();
-            Ok(bytes.len())
-        }
-
-        fn flush(&mut self) -> io::Result<()> {
-            Err(io::Error::from(io::ErrorKind::BrokenPipe))
-        }
-    }
-
-    #[test]
-    fn a_failed_flush_is_told(rt: HostRuntime) {
-        let mut stuck = Stuck { taken: 0 };
-        let told = clients_report(&rt, rt.alloc(), 2, 100, &mut stuck);
-        assert!(rt; told == Err(Refusal::Write));
-        assert_eq!(rt; stuck.taken, TWO_CLIENTS.len());
-    }
 }

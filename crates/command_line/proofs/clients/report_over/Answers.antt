@@ -1,8 +1,8 @@
 -- After the text was written the flush alone can fail.
 use Rattle.std.proofs.Common.{rules, ◌≡◌}
-use Rattle.fencectl.specs.Clients.{clients_text}
-use Rattle.fencectl.proofs.Fronts.{AppendsFront-whole, OnErr-always}
-use Rattle.fencectl.proofs.clients.report_over.Goals as goal
+use Rattle.command_line.specs.Clients.{clients_text}
+use Rattle.command_line.proofs.Fronts.{AppendsFront-whole, OnErr-always}
+use Rattle.command_line.proofs.clients.report_over.Goals as goal
 
 pub returns-clause-err : goal.returns-clause-err
 returns-clause-err g c =

@@ -2,7 +2,7 @@
 ghost use Rattle.std.specs.Prelude.{◌≡◌, OnOk, OnErr};
 ghost use Rattle.std.specs.Io.KnownBytes.{Appends};
 ghost use Rattle.script_core.specs.Bytes.{AppendsFront};
-ghost use Rattle.fencectl.specs.Fault.{fault_text};
+ghost use Rattle.command_line.specs.Fault.{fault_text};
 
 use itoa::Buffer;
 use point_core::Refusal;
@@ -10,7 +10,7 @@ use script_core::write_whole;
 use std::io::Write;
 
 /// The status of a fault: the command line was wrong, or reading, writing or memory failed.
-pub(crate) const FAULT: u8 = 2;
+pub const FAULT: u8 = 2;
 
 /// Writes `fencectl: NUMBER NAME` and a line feed, whatever becomes of the write, and gives the status of a fault. Where
 /// a write fails, a front of the line is written.
@@ -35,45 +35,4 @@ fn write_fault<W: Write>(refusal: Refusal, writer: &mut W) -> Result<(), Refusal
     write_whole(writer, refusal.name().as_bytes())?;
     write_whole(writer, b"\n")?;
     Ok(())
-}
-
-#[cfg(test)]
-mod tests {
-    use super::*;
-    use std::io;
-    use std::test::Fail;
-
-    #[test]
-    fn tells_number_and_name(rt: HostRuntime) -> Result<(), Fail> {
-        let faults = [
-            (Refusal::Read, "fencectl: 13 Read\n"),
-            (Refusal::Write, "fencectl: 14 Write\n"),
-            (Refusal::Memory, "fencectl: 16 Memory\n"),
-        ];
-        for (refusal, line) in faults {
-            let mut told = Vec::new(rt.alloc());
-            let status = tell_fault(&refusal, &mut told);
-            assert_eq!(rt; status, FAULT);
-            assert_eq!(rt; told.as_slice(), line.as_bytes());
-        }
-        Ok(())
-    }
-
-    #[derive(Drop)]
-    struct Closed;
-
-    impl Write for Closed {
-        fn write(&mut self, _bytes: &[u8]) -> io::Result<usize> {
-            Ok(0)
-        }
-
-        fn flush(&mut self) -> io::Result<()> {
-            Ok(())
-        }
-    }
-
-    #[test]
-    fn gives_the_status_to_a_closed_writer(rt: HostRuntime) {
-        assert_eq!(rt; tell_fault(&Refusal::Read, &mut Closed), FAULT);
-    }
 }

@@ -5,14 +5,14 @@ use std::io::Read;
 
 /// A reader that keeps why its last read failed.
 #[derive(Drop)]
-pub(crate) struct Source<R> {
+pub struct Source<R> {
     reader: R,
     failed: Option<io::Error>,
 }
 
 impl<R: Read + Drop> Source<R> {
     /// A reader none of whose reads has failed.
-    pub(crate) fn of(reader: R) -> Source<R> {
+    pub fn of(reader: R) -> Source<R> {
         Source {
             reader,
             failed: None,
@@ -20,7 +20,7 @@ impl<R: Read + Drop> Source<R> {
     }
 
     /// Why the last read that failed did so.
-    pub(crate) fn failed(&self) -> Option<io::Error> {
+    pub fn failed(&self) -> Option<io::Error> {
         self.failed
     }
 }

@@ -10,7 +10,7 @@ use std::io;
 /// subcommand, it tells how a script in a file is run.
 ///
 /// Refuses as `Write` where that could not be printed, and as `Memory` where clap had none.
-pub(crate) fn tell_error(rt: &HostRuntime, error: &Error) -> Result<u8, Refusal> {
+pub fn tell_error(rt: &(impl Print + Eprint), error: &Error) -> Result<u8, Refusal> {
     if error.kind() == ErrorKind::OutOfMemory {
         return Err(Refusal::Memory);
     }
@@ -26,7 +26,7 @@ pub(crate) fn tell_error(rt: &HostRuntime, error: &Error) -> Result<u8, Refusal>
 /// Tells that the words of the command line could not be read, which is wrong usage where one is no UTF-8.
 ///
 /// Refuses as `Memory` where they were refused for memory, and as `Write` where that could not be told.
-pub(crate) fn tell_unread_word(rt: &HostRuntime, error: io::Error) -> Result<u8, Refusal> {
+pub fn tell_unread_word(rt: &impl Eprint, error: io::Error) -> Result<u8, Refusal> {
     if error.kind() == io::ErrorKind::OutOfMemory {
         return Err(Refusal::Memory);
     }

@@ -1,0 +1,26 @@
+-- The script is what was read of it, where the reader is at its end. Each call tells why it was refused.
+use Rattle.std.proofs.Common.{inl, inr, refl}
+use Rattle.std.proofs.lemmas.Result.{err_from_is_err_and}
+use Rattle.check_core.proofs.Progress.{Checked-input}
+use Rattle.check_core.proofs.checking.check_script.Goals as goal
+
+pub returns-in_err-check_lines-clause-refusals : goal.returns-in_err-check_lines-clause-refusals
+returns-in_err-check_lines-clause-refusals g c =
+    let p = err_from_is_err_and c.from_residual.result c.from_residual.ensures.1 in
+    rw (p.1, p.2) (inr (inr c.in_err-check_lines.ensures.refusals))
+
+pub returns-in_err-tell_tally-in-Whole-clause-refusals : goal.returns-in_err-tell_tally-in-Whole-clause-refusals
+returns-in_err-tell_tally-in-Whole-clause-refusals g c =
+    let told = c.from_residual-in_err-tell_tally-in-Whole in
+    let p = err_from_is_err_and told.result told.ensures.1 in
+    rw (p.1, p.2) (inr (inr (inl c.in_err-tell_tally-in-Whole.ensures.refusals)))
+
+pub returns-in-TooLong-clause-refusals : goal.returns-in-TooLong-clause-refusals
+returns-in-TooLong-clause-refusals g c = inr (inl refl)
+
+pub returns-clause-refusals : goal.returns-clause-refusals
+returns-clause-refusals g c = inl refl
+
+pub returns-in-Whole-clause-ok : goal.returns-in-Whole-clause-ok
+returns-in-Whole-clause-ok g c =
+    Checked-input _ _ _ c.check_lines.new.checker.tally c.in-Whole.is c.in_ok-check_lines.ensures.ok

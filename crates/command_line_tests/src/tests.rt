@@ -1,0 +1,111 @@
+use clients_core::LockedTable;
+use command_line::{FAULT, clients_report, report_over, tell_fault};
+use point_core::Refusal;
+use std::io;
+use std::io::Write;
+
+const FAULTS: &str = "\
+fencectl: 13 Read\n\
+fencectl: 14 Write\n\
+fencectl: 16 Memory\n\
+";
+
+#[test]
+fn faults_print_their_numbers_and_names(rt: HostRuntime) {
+    let mut printed = Vec::new(rt.alloc());
+    let refusals = [Refusal::Read, Refusal::Write, Refusal::Memory];
+    assert!(rt; are_faults(&refusals, &mut printed));
+    assert_eq!(rt; printed.as_slice(), FAULTS.as_bytes());
+}
+
+#[test]
+fn a_closed_writer_changes_no_status(rt: HostRuntime) {
+    assert!(rt; are_faults(&[Refusal::Read], &mut Closed));
+}
+
+/// Whether each of them has the status of a fault.
+fn are_faults<W: Write>(refusals: &[Refusal], writer: &mut W) -> bool {
+    let mut are = true;
+    for refusal in refusals {
+        are &= tell_fault(refusal, writer) == FAULT;
+    }
+    are
+}
+
+/// Takes nothing.
+#[derive(Drop)]
+struct Closed;
+
+impl Write for Closed {
+    fn write(&mut self, _bytes: &[u8]) -> io::Result<usize> {
+        Ok(0)
+    }
+
+    fn flush(&mut self) -> io::Result<()> {
+        Ok(())
+    }
+}
+
+const TWO_CLIENTS: &str = "\
+timeline c1                                               100\n\
+timeline c2                                               100\n\
+buffer   b0                                                 6\n\
+write    c1                                               200\n\
+write    c2                                               200\n\
+read     c1                                               200\n\
+read     c2                                               200\n\
+bookkeep c1                                               200\n\
+bookkeep c2                                               200\n\
+buffer   b1                                                 4\n\
+read     c1                                               300\n\
+read     c2                                               300\n\
+bookkeep c1                                               300\n\
+bookkeep c2                                               300\n\
+";
+
+#[test]
+fn two_clients_settle(rt: HostRuntime) {
+    let mut printed = Vec::new(rt.alloc());
+    let ended = clients_report(&rt, rt.alloc(), 2, 100, &mut printed);
+    assert_eq!(rt; ended, Ok(()));
+    assert_eq!(rt; printed.as_slice(), TWO_CLIENTS.as_bytes());
+}
+
+#[test]
+fn two_clients_settle_under_locks(rt: HostRuntime) {
+    let mut printed = Vec::new(rt.alloc());
+    let ended = report_over::<HostRuntime, LockedTable, Vec<u8>>(
+        &rt,
+        rt.alloc(),
+        2,
+        100,
+        &mut printed,
+    );
+    assert_eq!(rt; ended, Ok(()));
+    assert_eq!(rt; printed.as_slice(), TWO_CLIENTS.as_bytes());
+}
+
+/// Takes what is written to it, and cannot be flushed.
+#[derive(Drop)]
+struct Stuck {
+    taken: usize,
+}
+
+impl Write for Stuck {
+    fn write(&mut self, bytes: &[u8]) -> io::Result<usize> {
+        self.taken = bytes.len();
+        Ok(bytes.len())
+    }
+
+    fn flush(&mut self) -> io::Result<()> {
+        Err(io::Error::from(io::ErrorKind::BrokenPipe))
+    }
+}
+
+#[test]
+fn a_failed_flush_is_refused(rt: HostRuntime) {
+    let mut stuck = Stuck { taken: 0 };
+    let ended = clients_report(&rt, rt.alloc(), 2, 100, &mut stuck);
+    assert_eq!(rt; ended, Err(Refusal::Write));
+    assert_eq!(rt; stuck.taken, TWO_CLIENTS.len());
+}
