@@ -14,9 +14,11 @@ const WRITE: u32 = 2;
 
 const READ_WRITE: u32 = 3;
 
-/// Makes the buffer B.
-fn create_b(rt: &impl Abort, buffers: &mut Buffers) {
-    buffers.create(name(rt, "B")).expect(rt, "a new buffer");
+/// Makes a buffer.
+fn create(rt: &impl Abort, buffers: &mut Buffers, text: &str) -> Name {
+    let name = name(rt, text);
+    buffers.create(name).expect(rt, "a new buffer");
+    name
 }
 
 /// The file f of point 3 of the first context.
@@ -24,47 +26,27 @@ fn file_f(rt: &impl Abort, alloc: Global) -> SyncFile {
     SyncFile::plain(alloc, name(rt, "f"), point(rt, 1, 3)).expect(rt, "memory")
 }
 
-fn add(rt: &impl Abort, buffers: &mut Buffers, point: Point, usage: Usage) {
-    let added = buffers.add(&name(rt, "B"), point, usage, &Reach::zero());
+fn add(rt: &impl Abort, buffers: &mut Buffers, to: &Name, point: Point, usage: Usage) {
+    let added = buffers.add(to, point, usage, &Reach::zero());
     added.expect(rt, "an added fence");
 }
 
-/// What an import into B answers.
-fn import(
-    rt: &impl Abort,
-    buffers: &mut Buffers,
-    file: &SyncFile,
-    flags: u32,
-) -> Result<(), Refusal> {
-    buffers.import(&name(rt, "B"), file, flags, &Reach::zero())
-}
-
-/// Whether an export from B lists these points, with the reach as floor.
+/// Whether an export lists these points, with the reach as floor.
 fn exports(
     rt: &impl Abort,
     buffers: &Buffers,
+    from: &Name,
     flags: u32,
     reach: &Reach,
     points: &[Point],
 ) -> bool {
-    let listing = buffers
-        .export(&name(rt, "B"), flags, reach)
-        .expect(rt, "a listing");
+    let listing = buffers.export(from, flags, reach).expect(rt, "a listing");
     listing.points.as_slice() == points && listing.floor == *reach
 }
 
-fn has_rows(rt: &impl Abort, buffers: &Buffers, rows: &[TopRow]) -> bool {
-    let table = buffers
-        .table(&name(rt, "B"), &Reach::zero())
-        .expect(rt, "memory");
+fn has_rows(rt: &impl Abort, buffers: &Buffers, name: &Name, rows: &[TopRow]) -> bool {
+    let table = buffers.table(name, &Reach::zero()).expect(rt, "memory");
     table.as_slice() == rows
-}
-
-fn has_full_rows(rt: &impl Abort, buffers: &Buffers) -> bool {
-    let table = buffers
-        .table(&name(rt, "B"), &Reach::zero())
-        .expect(rt, "memory");
-    are_full_rows(table.as_slice())
 }
 
 #[test]
@@ -78,94 +60,72 @@ fn flags_are_three_numbers(rt: HostRuntime) {
 }
 
 fn imports_by_flags(rt: &impl Abort, buffers: &mut Buffers, file: &SyncFile) {
+    let b = create(rt, buffers, "written");
+    let zero = Reach::zero();
     for flags in [0, 4, 7] {
         assert!(rt;
-            import(rt, buffers, file, flags) == Err(Refusal::Flags),
+            buffers.import(&b, file, flags, &zero) == Err(Refusal::Flags),
             "at {flags}"
         );
     }
-    import(rt, buffers, file, READ_WRITE).expect(rt, "an import");
-    assert!(rt; exports(rt, buffers, READ, &Reach::zero(), &[point(rt, 1, 3)]));
+    buffers
+        .import(&b, file, READ_WRITE, &zero)
+        .expect(rt, "an import");
+    assert!(rt; exports(rt, buffers, &b, READ, &zero, &[point(rt, 1, 3)]));
     let rows = [
         row(rt, Usage::Write, 1, 3),
         row(rt, Usage::Read, 1, 3),
         row(rt, Usage::Bookkeep, 1, 3),
     ];
-    assert!(rt; has_rows(rt, buffers, &rows));
-}
-
-#[test]
-fn import_for_writing(rt: HostRuntime) {
-    let mut buffers = Buffers::new(rt.alloc()).expect(&rt, "buffers");
-    create_b(&rt, &mut buffers);
-    imports_by_flags(&rt, &mut buffers, &file_f(&rt, rt.alloc()));
+    assert!(rt; has_rows(rt, buffers, &b, &rows));
 }
 
 /// A reader's point 9 and the kernel's point 5 of the first context.
 fn exports_by_flags(rt: &impl Abort, buffers: &mut Buffers) {
-    add(rt, buffers, point(rt, 1, 9), Usage::Read);
-    add(rt, buffers, point(rt, 1, 5), Usage::Kernel);
+    let b = create(rt, buffers, "levels");
     let zero = Reach::zero();
-    assert!(rt; exports(rt, buffers, READ, &zero, &[point(rt, 1, 5)]));
-    assert!(rt; exports(rt, buffers, WRITE, &zero, &[point(rt, 1, 9)]));
-    assert!(rt; exports(rt, buffers, READ_WRITE, &zero, &[point(rt, 1, 9)]));
+    add(rt, buffers, &b, point(rt, 1, 9), Usage::Read);
+    add(rt, buffers, &b, point(rt, 1, 5), Usage::Kernel);
+    assert!(rt; exports(rt, buffers, &b, READ, &zero, &[point(rt, 1, 5)]));
+    assert!(rt; exports(rt, buffers, &b, WRITE, &zero, &[point(rt, 1, 9)]));
+    assert!(rt; exports(rt, buffers, &b, READ_WRITE, &zero, &[point(rt, 1, 9)]));
     let rows = [
         row(rt, Usage::Kernel, 1, 5),
         row(rt, Usage::Write, 1, 5),
         row(rt, Usage::Read, 1, 9),
         row(rt, Usage::Bookkeep, 1, 9),
     ];
-    assert!(rt; has_rows(rt, buffers, &rows));
-}
-
-#[test]
-fn export_by_flags(rt: HostRuntime) {
-    let mut buffers = Buffers::new(rt.alloc()).expect(&rt, "buffers");
-    create_b(&rt, &mut buffers);
-    exports_by_flags(&rt, &mut buffers);
+    assert!(rt; has_rows(rt, buffers, &b, &rows));
 }
 
 fn imports_a_reader(rt: &impl Abort, buffers: &mut Buffers, file: &SyncFile) {
+    let b = create(rt, buffers, "read");
     let zero = Reach::zero();
-    let b = name(rt, "B");
-    import(rt, buffers, file, READ).expect(rt, "an import");
-    assert!(rt; exports(rt, buffers, READ, &zero, &[]));
-    assert!(rt; exports(rt, buffers, WRITE, &zero, &[point(rt, 1, 3)]));
+    buffers
+        .import(&b, file, READ, &zero)
+        .expect(rt, "an import");
+    assert!(rt; exports(rt, buffers, &b, READ, &zero, &[]));
+    assert!(rt; exports(rt, buffers, &b, WRITE, &zero, &[point(rt, 1, 3)]));
     assert!(rt; buffers.test(&b, Usage::Write, &zero) == Ok(true));
     assert!(rt; buffers.test(&b, Usage::Read, &zero) == Ok(false));
     assert!(rt; buffers.test(&b, Usage::Read, &reach_at(rt, 3)) == Ok(true));
 }
 
-#[test]
-fn import_for_reading(rt: HostRuntime) {
-    let mut buffers = Buffers::new(rt.alloc()).expect(&rt, "buffers");
-    create_b(&rt, &mut buffers);
-    imports_a_reader(&rt, &mut buffers, &file_f(&rt, rt.alloc()));
-}
-
 fn exports_nothing(rt: &impl Abort, buffers: &mut Buffers) {
+    let b = create(rt, buffers, "idle");
     let two = reach_at(rt, 2);
-    let b = name(rt, "B");
-    assert!(rt; exports(rt, buffers, READ_WRITE, &Reach::zero(), &[]));
-    add(rt, buffers, point(rt, 1, 2), Usage::Write);
-    assert!(rt; exports(rt, buffers, READ_WRITE, &two, &[]));
+    assert!(rt; exports(rt, buffers, &b, READ_WRITE, &Reach::zero(), &[]));
+    add(rt, buffers, &b, point(rt, 1, 2), Usage::Write);
+    assert!(rt; exports(rt, buffers, &b, READ_WRITE, &two, &[]));
     assert!(rt; buffers.test(&b, Usage::Bookkeep, &two) == Ok(true));
     buffers.trim(&b, &two).expect(rt, "a buffer");
-    assert!(rt; has_rows(rt, buffers, &[]));
-}
-
-#[test]
-fn export_of_an_idle_buffer(rt: HostRuntime) {
-    let mut buffers = Buffers::new(rt.alloc()).expect(&rt, "buffers");
-    create_b(&rt, &mut buffers);
-    exports_nothing(&rt, &mut buffers);
+    assert!(rt; has_rows(rt, buffers, &b, &[]));
 }
 
 /// A file of no points, made of a listing in which nothing is pending.
-fn idle_file(rt: &impl Abort, alloc: Global, buffers: &Buffers) -> SyncFile {
-    let listing = buffers
-        .export(&name(rt, "B"), WRITE, &Reach::zero())
-        .expect(rt, "a listing");
+fn idle_file(rt: &impl Abort, alloc: Global, buffers: &Buffers, from: &Name) -> SyncFile {
+    let export = buffers.export(from, WRITE, &Reach::zero());
+    let listing = export.expect(rt, "a listing");
     SyncFile {
         name: name(rt, "e"),
         points: listing.points,
@@ -173,30 +133,12 @@ fn idle_file(rt: &impl Abort, alloc: Global, buffers: &Buffers) -> SyncFile {
     }
 }
 
-fn imports_nothing(rt: &impl Abort, buffers: &mut Buffers, file: &SyncFile) {
-    import(rt, buffers, file, WRITE).expect(rt, "an import");
-    assert!(rt; has_rows(rt, buffers, &[]));
-}
-
-#[test]
-fn import_of_an_idle_file(rt: HostRuntime) {
-    let mut buffers = Buffers::new(rt.alloc()).expect(&rt, "buffers");
-    create_b(&rt, &mut buffers);
-    let file = idle_file(&rt, rt.alloc(), &buffers);
-    imports_nothing(&rt, &mut buffers, &file);
-}
-
-// A name that is not there is told before flags that are none.
-fn refuses_x(rt: &impl Abort, buffers: &mut Buffers, file: &SyncFile) {
-    let x = name(rt, "X");
-    let zero = Reach::zero();
-    assert!(rt; buffers.import(&x, file, 4, &zero) == Err(Refusal::NoEntry));
-    assert!(rt; buffers.add(&x, point(rt, 1, 1), Usage::Read, &zero) == Err(Refusal::NoEntry));
-    assert!(rt; buffers.test(&x, Usage::Read, &zero) == Err(Refusal::NoEntry));
-    assert!(rt; buffers.trim(&x, &zero) == Err(Refusal::NoEntry));
-    assert!(rt; table_refusal(buffers, &x) == Some(Refusal::NoEntry));
-    assert!(rt; export_refusal(buffers, &x, 0) == Some(Refusal::NoEntry));
-    assert!(rt; export_refusal(buffers, &name(rt, "B"), 7) == Some(Refusal::Flags));
+fn imports_nothing(rt: &impl Abort, alloc: Global, buffers: &mut Buffers) {
+    let b = create(rt, buffers, "empty");
+    let file = idle_file(rt, alloc, buffers, &b);
+    let imported = buffers.import(&b, &file, WRITE, &Reach::zero());
+    imported.expect(rt, "an import");
+    assert!(rt; has_rows(rt, buffers, &b, &[]));
 }
 
 fn table_refusal(buffers: &Buffers, name: &Name) -> Option<Refusal> {
@@ -207,11 +149,31 @@ fn export_refusal(buffers: &Buffers, name: &Name, flags: u32) -> Option<Refusal>
     buffers.export(name, flags, &Reach::zero()).err()
 }
 
+// A name that is not there is told before flags that are none.
+fn refuses_x(rt: &impl Abort, buffers: &mut Buffers, file: &SyncFile) {
+    let x = name(rt, "X");
+    let zero = Reach::zero();
+    assert!(rt; buffers.import(&x, file, 0, &zero) == Err(Refusal::NoEntry));
+    assert!(rt; buffers.import(&x, file, 4, &zero) == Err(Refusal::NoEntry));
+    assert!(rt; buffers.add(&x, point(rt, 1, 1), Usage::Read, &zero) == Err(Refusal::NoEntry));
+    assert!(rt; buffers.test(&x, Usage::Read, &zero) == Err(Refusal::NoEntry));
+    assert!(rt; buffers.trim(&x, &zero) == Err(Refusal::NoEntry));
+    assert!(rt; table_refusal(buffers, &x) == Some(Refusal::NoEntry));
+    assert!(rt; export_refusal(buffers, &x, 0) == Some(Refusal::NoEntry));
+    assert!(rt; export_refusal(buffers, &name(rt, "read"), 7) == Some(Refusal::Flags));
+}
+
+// Each case has a buffer of its own, which the others leave as it is.
 #[test]
-fn two_causes_of_refusal(rt: HostRuntime) {
+fn imports_and_exports(rt: HostRuntime) {
     let mut buffers = Buffers::new(rt.alloc()).expect(&rt, "buffers");
-    create_b(&rt, &mut buffers);
-    refuses_x(&rt, &mut buffers, &file_f(&rt, rt.alloc()));
+    let file = file_f(&rt, rt.alloc());
+    imports_by_flags(&rt, &mut buffers, &file);
+    exports_by_flags(&rt, &mut buffers);
+    imports_a_reader(&rt, &mut buffers, &file);
+    exports_nothing(&rt, &mut buffers);
+    imports_nothing(&rt, rt.alloc(), &mut buffers);
+    refuses_x(&rt, &mut buffers, &file);
 }
 
 fn creates_all(rt: &impl Abort, buffers: &mut Buffers) {
@@ -269,31 +231,36 @@ fn merge_all(rt: &impl Abort, alloc: Global, files: &mut Files) {
 }
 
 /// Adds every context at every usage, each at the value of its usage.
-fn fill(rt: &impl Abort, buffers: &mut Buffers) {
+fn fill(rt: &impl Abort, buffers: &mut Buffers, to: &Name) {
     for index in 0..CONTEXTS {
         let ctx = Context::at(index);
         for usage in EVERY_USAGE {
             let value = value_of(usage);
-            add(rt, buffers, Point { ctx, value }, usage);
+            add(rt, buffers, to, Point { ctx, value }, usage);
         }
     }
 }
 
 /// Imports the file of every context, three times.
-fn import_thrice(rt: &impl Abort, buffers: &mut Buffers, files: &Files) {
+fn import_thrice(rt: &impl Abort, buffers: &mut Buffers, to: &Name, files: &Files) {
     let file = files.get(&name(rt, "all")).expect(rt, "a file");
     assert!(rt; file.points.as_slice().len() == CONTEXTS);
     for _ in 0..3 {
-        import(rt, buffers, file, WRITE).expect(rt, "an import");
+        let imported = buffers.import(to, file, WRITE, &Reach::zero());
+        imported.expect(rt, "an import");
     }
 }
 
-fn fill_and_import(rt: &impl Abort, alloc: Global, buffers: &mut Buffers, files: &mut Files) {
-    create_of_each_context(rt, files);
-    merge_all(rt, alloc, files);
-    fill(rt, buffers);
-    import_thrice(rt, buffers, files);
-    assert!(rt; has_full_rows(rt, buffers));
+fn has_full_rows(rt: &impl Abort, buffers: &Buffers, name: &Name) -> bool {
+    let table = buffers.table(name, &Reach::zero()).expect(rt, "memory");
+    are_full_rows(table.as_slice())
+}
+
+fn fills_and_imports(rt: &impl Abort, buffers: &mut Buffers, files: &Files) {
+    let b = create(rt, buffers, "full");
+    fill(rt, buffers, &b);
+    import_thrice(rt, buffers, &b, files);
+    assert!(rt; has_full_rows(rt, buffers, &b));
 }
 
 // Four usages of every context, and then three imports of a file of every context.
@@ -301,6 +268,7 @@ fn fill_and_import(rt: &impl Abort, alloc: Global, buffers: &mut Buffers, files:
 fn imports_into_a_full_table(rt: HostRuntime) {
     let mut buffers = Buffers::new(rt.alloc()).expect(&rt, "buffers");
     let mut files = Files::new(rt.alloc()).expect(&rt, "files");
-    create_b(&rt, &mut buffers);
-    fill_and_import(&rt, rt.alloc(), &mut buffers, &mut files);
+    create_of_each_context(&rt, &mut files);
+    merge_all(&rt, rt.alloc(), &mut files);
+    fills_and_imports(&rt, &mut buffers, &files);
 }

@@ -28,8 +28,10 @@ fn create(rt: &impl Abort, files: &mut Files, text: &str, number: u16, value: u6
     files.create(name(rt, text), point).expect(rt, "a new file");
 }
 
-/// Makes the files f at 5 of the first context, g at 2 of the second, and h at 7 of the first.
-fn create_three(rt: &impl Abort, files: &mut Files) {
+/// Makes the files d, e, f and h at 2, 3, 5 and 7 of the first context, and g at 2 of the second.
+fn create_five(rt: &impl Abort, files: &mut Files) {
+    create(rt, files, "d", 1, 2);
+    create(rt, files, "e", 1, 3);
     create(rt, files, "f", 1, 5);
     create(rt, files, "g", 2, 2);
     create(rt, files, "h", 1, 7);
@@ -70,34 +72,19 @@ fn tells(
     info.name == name && info.status == status && info.fences.as_slice() == fences
 }
 
-fn are_names(rt: &impl Abort, names: &[Name], texts: &[&str]) -> bool {
-    if names.len() != texts.len() {
-        return false;
-    }
-    for (made, text) in names.iter().zip(texts.iter()) {
-        if *made != name(rt, text) {
-            return false;
-        }
-    }
-    true
-}
-
 /// Whether the names are these, in this order.
 fn has_names(rt: &impl Abort, files: &Files, texts: &[&str]) -> bool {
     let names = files.names().expect(rt, "memory");
     are_names(rt, names.as_slice(), texts)
 }
 
-fn has_one_point(rt: &impl Abort, files: &mut Files) {
-    create(rt, files, "f", 1, 0);
-    assert!(rt; has_points(rt, files, "f", &[point(rt, 1, 0)]));
-    assert!(rt; has_floor(rt, files, "f", &Reach::zero()));
-}
-
-#[test]
-fn a_created_file_has_one_point(rt: HostRuntime) {
-    let mut files = Files::new(rt.alloc()).expect(&rt, "files");
-    has_one_point(&rt, &mut files);
+fn are_names(rt: &impl Abort, names: &[Name], texts: &[&str]) -> bool {
+    for index in 0..names.len().min(texts.len()) {
+        if names[index] != name(rt, texts[index]) {
+            return false;
+        }
+    }
+    names.len() == texts.len()
 }
 
 #[test]
@@ -109,87 +96,70 @@ fn a_plain_file_has_one_point(rt: HostRuntime) {
     assert!(rt; file.floor.to_reach() == Reach::zero());
 }
 
-/// Points 5 and 3 of one context are merged to point 5, in both orders.
-fn merges_in_both_orders(rt: &impl Abort, files: &mut Files) {
+// Inputs that are not there are refused before the name.
+fn refuses_merges(rt: &impl Abort, files: &mut Files) {
     let zero = Reach::zero();
-    create(rt, files, "f", 1, 5);
-    create(rt, files, "g", 1, 3);
-    let five = [fence(rt, 1, 5, ACTIVE)];
-    for (made, a, b) in [("m", "f", "g"), ("n", "g", "f")] {
-        merge(rt, files, made, a, b, &zero).expect(rt, "a merge");
-        assert!(rt; tells(rt, files, made, &zero, ACTIVE, &five), "{made}");
-    }
+    assert!(rt; merge(rt, files, "f", "g", "x", &zero) == Err(Refusal::NoEntry));
+    assert!(rt; merge(rt, files, "f", "x", "g", &zero) == Err(Refusal::NoEntry));
+    assert!(rt; merge(rt, files, "f", "g", "f", &zero) == Err(Refusal::Exists));
+    assert!(rt; has_names(rt, files, &["d", "e", "f", "g", "h"]));
 }
 
-#[test]
-fn both_orders(rt: HostRuntime) {
-    let mut files = Files::new(rt.alloc()).expect(&rt, "files");
-    merges_in_both_orders(&rt, &mut files);
+fn merges_in_both_orders(rt: &impl Abort, files: &mut Files) {
+    let zero = Reach::zero();
+    let five = [fence(rt, 1, 5, ACTIVE)];
+    merge(rt, files, "fe", "f", "e", &zero).expect(rt, "a merge");
+    merge(rt, files, "ef", "e", "f", &zero).expect(rt, "a merge");
+    assert!(rt; tells(rt, files, "fe", &zero, ACTIVE, &five));
+    assert!(rt; tells(rt, files, "ef", &zero, ACTIVE, &five));
 }
 
 fn merges_to_the_stub(rt: &impl Abort, files: &mut Files) {
     let two = reach_at(rt, 2);
-    create(rt, files, "f", 1, 2);
-    merge(rt, files, "m", "f", "f", &two).expect(rt, "a merge");
-    assert!(rt; tells(rt, files, "m", &two, SIGNALLED, &[STUB]));
-}
-
-#[test]
-fn merge_of_signalled(rt: HostRuntime) {
-    let mut files = Files::new(rt.alloc()).expect(&rt, "files");
-    merges_to_the_stub(&rt, &mut files);
+    merge(rt, files, "dd", "d", "d", &two).expect(rt, "a merge");
+    assert!(rt; tells(rt, files, "dd", &two, SIGNALLED, &[STUB]));
 }
 
 fn merges_before_and_after(rt: &impl Abort, files: &mut Files) {
     let five = reach_at(rt, 5);
-    let reached = fence(rt, 1, 5, SIGNALLED);
-    let pending = fence(rt, 2, 2, ACTIVE);
-    merge(rt, files, "m", "f", "g", &Reach::zero()).expect(rt, "a merge");
-    assert!(rt; tells(rt, files, "m", &five, ACTIVE, &[reached, pending]));
-    merge(rt, files, "n", "m", "m", &five).expect(rt, "a merge");
-    assert!(rt; tells(rt, files, "n", &five, ACTIVE, &[pending]));
-    assert!(rt; has_floor(rt, files, "n", &five));
-}
-
-#[test]
-fn merge_after_advance(rt: HostRuntime) {
-    let mut files = Files::new(rt.alloc()).expect(&rt, "files");
-    create_three(&rt, &mut files);
-    merges_before_and_after(&rt, &mut files);
+    let pending = [fence(rt, 2, 2, ACTIVE)];
+    let both = [fence(rt, 1, 5, SIGNALLED), fence(rt, 2, 2, ACTIVE)];
+    merge(rt, files, "before", "f", "g", &Reach::zero()).expect(rt, "a merge");
+    assert!(rt; tells(rt, files, "before", &five, ACTIVE, &both));
+    merge(rt, files, "after", "before", "before", &five).expect(rt, "a merge");
+    assert!(rt; tells(rt, files, "after", &five, ACTIVE, &pending));
+    assert!(rt; has_floor(rt, files, "after", &five));
 }
 
 fn merges_many(rt: &impl Abort, files: &mut Files) {
     let zero = Reach::zero();
     let [f, g, h, x] = [name(rt, "f"), name(rt, "g"), name(rt, "h"), name(rt, "x")];
-    let [m, n, p] = [name(rt, "m"), name(rt, "n"), name(rt, "p")];
-    files.merge_many(m, &[], &zero).expect(rt, "a merge");
-    assert!(rt; has_points(rt, files, "m", &[]));
-    files.merge_many(n, &[f, g, h], &zero).expect(rt, "a merge");
-    assert!(rt; has_points(rt, files, "n", &[point(rt, 1, 7), point(rt, 2, 2)]));
-    assert!(rt; files.merge_many(p, &[f, x], &zero) == Err(Refusal::NoEntry));
-    assert!(rt; files.merge_many(m, &[f], &zero) == Err(Refusal::Exists));
+    let [none, three, refused] = [name(rt, "none"), name(rt, "three"), name(rt, "refused")];
+    files.merge_many(none, &[], &zero).expect(rt, "a merge");
+    assert!(rt; has_points(rt, files, "none", &[]));
+    files
+        .merge_many(three, &[f, g, h], &zero)
+        .expect(rt, "a merge");
+    assert!(rt; has_points(rt, files, "three", &[point(rt, 1, 7), point(rt, 2, 2)]));
+    assert!(rt; files.merge_many(refused, &[f, x], &zero) == Err(Refusal::NoEntry));
+    assert!(rt; files.merge_many(none, &[f], &zero) == Err(Refusal::Exists));
 }
 
 #[test]
-fn merge_many_rows(rt: HostRuntime) {
+fn files_are_merged(rt: HostRuntime) {
     let mut files = Files::new(rt.alloc()).expect(&rt, "files");
-    create_three(&rt, &mut files);
+    create_five(&rt, &mut files);
+    refuses_merges(&rt, &mut files);
+    merges_in_both_orders(&rt, &mut files);
+    merges_to_the_stub(&rt, &mut files);
+    merges_before_and_after(&rt, &mut files);
     merges_many(&rt, &mut files);
 }
 
-fn refuses_by_input_first(rt: &impl Abort, files: &mut Files) {
-    let zero = Reach::zero();
-    assert!(rt; merge(rt, files, "f", "g", "x", &zero) == Err(Refusal::NoEntry));
-    assert!(rt; merge(rt, files, "f", "x", "g", &zero) == Err(Refusal::NoEntry));
-    assert!(rt; merge(rt, files, "f", "g", "f", &zero) == Err(Refusal::Exists));
-    assert!(rt; has_names(rt, files, &["f", "g", "h"]));
-}
-
-#[test]
-fn no_entry_comes_before_exists(rt: HostRuntime) {
-    let mut files = Files::new(rt.alloc()).expect(&rt, "files");
-    create_three(&rt, &mut files);
-    refuses_by_input_first(&rt, &mut files);
+fn has_one_point(rt: &impl Abort, files: &mut Files) {
+    create(rt, files, "f", 1, 0);
+    assert!(rt; has_points(rt, files, "f", &[point(rt, 1, 0)]));
+    assert!(rt; has_floor(rt, files, "f", &Reach::zero()));
 }
 
 /// Adopts the listing of point 5 of the first context, above its value 4, as the file m.
@@ -205,7 +175,7 @@ fn adopt(rt: &impl Abort, alloc: Global, files: &mut Files) {
 fn has_the_listing(rt: &impl Abort, files: &Files) {
     assert!(rt; has_points(rt, files, "m", &[point(rt, 1, 5)]));
     assert!(rt; has_floor(rt, files, "m", &reach_at(rt, 4)));
-    assert!(rt; has_names(rt, files, &["m"]));
+    assert!(rt; has_names(rt, files, &["f", "m"]));
 }
 
 fn is_signalled_and_closed(rt: &impl Abort, files: &mut Files) {
@@ -220,8 +190,9 @@ fn is_signalled_and_closed(rt: &impl Abort, files: &mut Files) {
 }
 
 #[test]
-fn an_adopted_listing_is_a_file(rt: HostRuntime) {
+fn files_are_created_and_adopted(rt: HostRuntime) {
     let mut files = Files::new(rt.alloc()).expect(&rt, "files");
+    has_one_point(&rt, &mut files);
     adopt(&rt, rt.alloc(), &mut files);
     has_the_listing(&rt, &files);
     is_signalled_and_closed(&rt, &mut files);
@@ -230,18 +201,18 @@ fn an_adopted_listing_is_a_file(rt: HostRuntime) {
 fn makes_again(rt: &impl Abort, files: &mut Files) {
     let g = name(rt, "g");
     files.close(&g).expect(rt, "a closed file");
-    assert!(rt; has_names(rt, files, &["f", "h"]));
+    assert!(rt; has_names(rt, files, &["d", "e", "f", "h"]));
     assert!(rt; files.close(&g) == Err(Refusal::NoEntry));
     assert!(rt; files.get(&g).is_none());
     create(rt, files, "g", 2, 9);
-    assert!(rt; has_names(rt, files, &["f", "h", "g"]));
+    assert!(rt; has_names(rt, files, &["d", "e", "f", "h", "g"]));
     assert!(rt; has_points(rt, files, "g", &[point(rt, 2, 9)]));
 }
 
 #[test]
 fn a_name_closed_in_the_middle_goes_last_when_made_again(rt: HostRuntime) {
     let mut files = Files::new(rt.alloc()).expect(&rt, "files");
-    create_three(&rt, &mut files);
+    create_five(&rt, &mut files);
     makes_again(&rt, &mut files);
 }
 
