@@ -32,7 +32,8 @@ pub(crate) fn plan_of_a_put(rt: &impl Abort, alloc: Global) -> Vec<Plan>
     ensures within { ArePlansWithin 1 1 result.items }
     ensures count { vec_len result ≡ 1 }
 {
-    let put = Act::Put(0, point(1), Usage::Write);
+    let ctx = Context::at(0);
+    let put = Act::Put(0, Point { ctx, value: 1 }, Usage::Write);
     let acts = Vec::from_elem(alloc, put, 1).expect(rt, "acts");
     let mut plans = Vec::with_capacity(alloc, 1).expect(rt, "plans");
     plans.push_reserved(Plan::of(acts));

@@ -103,16 +103,18 @@ fn run_refused<R: Threads + Wait + Abort + Sync, T: SharedTable>(rt: &R, alloc: 
     let ctx = Context::at(1);
     let on_the_second = [Act::Put(0, Point { ctx, value: 1 }, Usage::Write)];
     let wraps = [Act::Inc(u64::MAX), Act::Inc(1)];
-    let idle: &[Act] = &[];
     check_refusal::<R, T>(rt, alloc, &[&on_the_second], Refusal::NoEntry);
-    check_refusal::<R, T>(rt, alloc, &[], Refusal::Limit(LimitKind::Clients));
-    check_refusal::<R, T>(
-        rt,
-        alloc,
-        &[idle; CLIENTS + 1],
-        Refusal::Limit(LimitKind::Clients),
-    );
     check_refusal::<R, T>(rt, alloc, &[&wraps], Refusal::Overflow);
+}
+
+/// Runs so many idle clients, which are too few or too many.
+fn run_idle<R: Threads + Wait + Abort + Sync, T: SharedTable>(rt: &R, alloc: Global, count: usize) {
+    let mut plans = Vec::new(alloc);
+    for _ in 0..count {
+        plans.push(Plan::of(Vec::new(alloc))).expect(rt, "a plan");
+    }
+    let refused = run_clients::<R, T, OpenGate>(rt, alloc, 1, plans.as_slice(), &OpenGate).err();
+    assert!(rt; refused == Some(Refusal::Limit(LimitKind::Clients)));
 }
 
 /// Runs a plan that is too long.
@@ -140,6 +142,8 @@ fn run_accepted<R: Threads + Wait + Abort + Sync, T: SharedTable>(rt: &R, alloc:
 /// Runs plans of one buffer.
 fn run_plans<R: Threads + Wait + Abort + Sync, T: SharedTable>(rt: &R, alloc: Global) {
     run_refused::<R, T>(rt, alloc);
+    run_idle::<R, T>(rt, alloc, 0);
+    run_idle::<R, T>(rt, alloc, CLIENTS + 1);
     run_too_long::<R, T>(rt, alloc);
     run_accepted::<R, T>(rt, alloc);
 }
