@@ -11,8 +11,6 @@ mod front;
 mod stage;
 mod tally;
 mod telling;
-#[cfg(test)]
-mod tests;
 
 pub use checking::check;
 pub use tally::Tally;

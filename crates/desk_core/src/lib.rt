@@ -16,6 +16,3 @@ pub use answer::{Answer, BufferRows, FenceRow, FileRow, Info, Maker, Report, Sho
 pub use command::Command;
 pub use desk::Desk;
 pub use runs::run;
-
-#[cfg(test)]
-mod tests;

@@ -8,8 +8,6 @@ mod look;
 mod names;
 mod refused;
 mod syntax;
-#[cfg(test)]
-mod tests;
 
 pub use explaining::explain;
 pub use look::Look;

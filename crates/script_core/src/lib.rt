@@ -13,8 +13,6 @@ mod passing;
 mod script;
 mod script_lines;
 mod table;
-#[cfg(test)]
-mod tests;
 mod text;
 mod totals;
 mod usages;
