@@ -1,5 +1,6 @@
 // Words, their parts and the board.
 ghost use Rattle.std.specs.Prelude.{◌≡◌, ◌<◌, ◌≤◌};
+ghost use Rattle.words_core.specs.declared.flags.Once.TheVariants as once;
 ghost use Rattle.words_core.specs.declared.seat.TheConstants.{PARTS};
 
 use point_core::{BUFFERS, CONTEXTS, Context, LimitKind, Reach, Refusal, Usage};
@@ -128,16 +129,27 @@ fn drive_apart(rt: &impl Abort, words: &Words, first: &mut Seat)
     words.join(first, driver.finish());
 }
 
-/// Sets the second of three flags twice by one seat. Whatever others do, the second answer is not the first.
+/// Sets a flag twice by one seat. Whatever others do, the second answer is not the first.
+fn set_twice(words: &Words, seat: &mut Seat, flag: usize) -> (Once, Once)
+    requires own { seat.old.words ≡ words.now }
+    requires flag { flag < words.now.flags }
+    ensures own { (seat.new.words ≡ words.now) × (seat.new.parts ≡ seat.old.parts) }
+    ensures again { result.1 ≡ once.Already }
+{
+    let first = words.set_once(seat, flag);
+    (first, words.set_once(seat, flag))
+}
+
+/// Sets the second of three flags.
 fn set_second(rt: &impl Abort, words: &Words, seat: &mut Seat)
     requires own { (seat.old.words ≡ words.now) × (words.now.flags ≡ 3) }
-    ensures same { (seat.new.words ≡ seat.old.words) × (seat.new.parts ≡ seat.old.parts) }
+    ensures same { (seat.new.words ≡ words.now) × (seat.new.parts ≡ seat.old.parts) }
 {
-    let Once::First(won) = words.set_once(seat, 1) else {
+    let (first, again) = set_twice(words, seat, 1);
+    let Once::First(won) = first else {
         panic!(rt; "the flag was set")
     };
-    assert!(rt; won.flag() == 1);
-    assert!(rt; matches!(words.set_once(seat, 1), Once::Already));
+    assert!(rt; won.flag() == 1 && matches!(again, Once::Already));
 }
 
 /// Checks the values of three contexts, and three flags, of which the second is not 0 and set.
