@@ -18,33 +18,35 @@ enum Kind {
     Flags,
 }
 
-/// The commands: the word of each, and the kinds of the words behind it.
-static COMMANDS: [(&str, &[Kind]); 18] = [
-    ("timeline", &[Kind::Name]),
-    ("inc", &[Kind::Name, Kind::Number]),
-    ("value", &[Kind::Name]),
-    ("fence", &[Kind::Name, Kind::Name, Kind::Number]),
-    ("merge", &[Kind::Name, Kind::Name, Kind::Name]),
-    ("close", &[Kind::Name]),
-    ("wait", &[Kind::Name]),
-    ("info", &[Kind::Name]),
-    ("buffer", &[Kind::Name]),
-    ("add", &[Kind::Name, Kind::Name, Kind::Number, Kind::Usage]),
-    ("import", &[Kind::Name, Kind::Name, Kind::Flags]),
-    ("export", &[Kind::Name, Kind::Name, Kind::Flags]),
-    ("test", &[Kind::Name, Kind::Usage]),
-    ("trim", &[Kind::Name]),
-    ("watch", &[Kind::Name, Kind::Number]),
-    ("unwatch", &[Kind::Number]),
-    ("show", &[Kind::Name]),
-    ("report", &[]),
-];
+/// The words of commands, and what follows each.
+fn commands() -> &'static [(&'static str, &'static [Kind])] {
+    &[
+        ("timeline", &[Kind::Name]),
+        ("inc", &[Kind::Name, Kind::Number]),
+        ("value", &[Kind::Name]),
+        ("fence", &[Kind::Name, Kind::Name, Kind::Number]),
+        ("merge", &[Kind::Name, Kind::Name, Kind::Name]),
+        ("close", &[Kind::Name]),
+        ("wait", &[Kind::Name]),
+        ("info", &[Kind::Name]),
+        ("buffer", &[Kind::Name]),
+        ("add", &[Kind::Name, Kind::Name, Kind::Number, Kind::Usage]),
+        ("import", &[Kind::Name, Kind::Name, Kind::Flags]),
+        ("export", &[Kind::Name, Kind::Name, Kind::Flags]),
+        ("test", &[Kind::Name, Kind::Usage]),
+        ("trim", &[Kind::Name]),
+        ("watch", &[Kind::Name, Kind::Number]),
+        ("unwatch", &[Kind::Number]),
+        ("show", &[Kind::Name]),
+        ("report", &[]),
+    ]
+}
 
 /// What follows a command's word, or none where the word is no command.
 fn kinds_of(word: &[u8]) -> Option<&'static [Kind]> {
-    for (command, kinds) in &COMMANDS {
+    for (command, kinds) in commands() {
         if command.as_bytes() == word {
-            return Some(kinds);
+            return Some(*kinds);
         }
     }
     None
@@ -166,7 +168,7 @@ fn nearest(alloc: Global, word: &[u8]) -> Result<Option<&'static str>, Refusal>
     };
     let mut least = word.len() / LETTERS + 1;
     let mut found = None;
-    for (command, _) in &COMMANDS {
+    for (command, _) in commands() {
         let letters = osa_distance(alloc, text, command)?;
         if letters < least {
             least = letters;

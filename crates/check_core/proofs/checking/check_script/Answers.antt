@@ -18,9 +18,9 @@ returns-in_err-tell_tally-in-Whole-clause-refusals g c =
 pub returns-in-TooLong-clause-refusals : goal.returns-in-TooLong-clause-refusals
 returns-in-TooLong-clause-refusals g c = inr (inl refl)
 
-pub returns-clause-refusals : goal.returns-clause-refusals
-returns-clause-refusals g c = inl refl
+pub returns-in-Failed-clause-refusals : goal.returns-in-Failed-clause-refusals
+returns-in-Failed-clause-refusals g c = inl refl
 
-pub returns-in-Whole-clause-ok : goal.returns-in-Whole-clause-ok
-returns-in-Whole-clause-ok g c =
+pub returns-in_ok-tell_tally-in-Whole-clause-ok : goal.returns-in_ok-tell_tally-in-Whole-clause-ok
+returns-in_ok-tell_tally-in-Whole-clause-ok g c =
     Checked-input _ _ _ c.check_lines.new.checker.tally c.in-Whole.is c.in_ok-check_lines.ensures.ok
