@@ -1,5 +1,5 @@
 // Fences that threads share.
-ghost use Rattle.std.specs.Prelude.{◌≡◌, ◌<◌, ◌≤◌};
+ghost use Rattle.std.specs.Prelude.{◌≡◌, ◌+◌, ◌<◌, ◌≤◌};
 ghost use Rattle.fence_core.specs.SharedFence.{token_of};
 
 use crate::words::{drive_to, words_of};

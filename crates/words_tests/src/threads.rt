@@ -1,5 +1,5 @@
 // Words on two threads.
-ghost use Rattle.std.specs.Prelude.{◌≡◌, ◌<◌, ◌≤◌};
+ghost use Rattle.std.specs.Prelude.{◌≡◌, ◌+◌, ◌<◌, ◌≤◌};
 
 use crate::words::{driver_of, whole_of, words_of};
 use point_core::{Context, Usage};
