@@ -27,15 +27,25 @@ fn makes_two(rt: &impl Abort, timelines: &mut Timelines) {
     assert!(rt; timelines.create(a) == Err(Refusal::Exists));
 }
 
-fn has_rows(rt: &impl Abort, timelines: &Timelines, rows: &[(Name, u64)]) -> bool {
-    timelines.rows().expect(rt, "memory").as_slice() == rows
+fn is_row(row: Option<&(Name, u64)>, name: &Name, value: u64) -> bool {
+    match row {
+        Some(row) => row.0 == *name && row.1 == value,
+        None => false,
+    }
+}
+
+fn has_two_rows(rt: &impl Abort, timelines: &Timelines, a: &Name, b: &Name) {
+    let rows = timelines.rows().expect(rt, "memory");
+    assert!(rt; rows.len() == 2);
+    assert!(rt; is_row(rows.first(), a, 0));
+    assert!(rt; is_row(rows.last(), b, 3));
 }
 
 /// The timelines a at 0 and b at 3 are found by name and by context.
 fn finds_two(rt: &impl Abort, timelines: &Timelines) {
     let (a, b) = (name(rt, "a"), name(rt, "b"));
     let [first, second, third] = [context(rt, 1), context(rt, 2), context(rt, 3)];
-    assert!(rt; has_rows(rt, timelines, &[(a, 0), (b, 3)]));
+    has_two_rows(rt, timelines, &a, &b);
     assert!(rt; timelines.value(&b) == Ok(3));
     assert!(rt; timelines.context(&b) == Some(second));
     assert!(rt; timelines.name(second) == Some(b));

@@ -31,6 +31,26 @@ fn add(rt: &impl Abort, buffers: &mut Buffers, to: &Name, point: Point, usage: U
     added.expect(rt, "an added fence");
 }
 
+fn import(rt: &impl Abort, buffers: &mut Buffers, to: &Name, file: &SyncFile, flags: u32) {
+    let imported = buffers.import(to, file, flags, &Reach::zero());
+    imported.expect(rt, "an import");
+}
+
+fn refuses_flags(rt: &impl Abort, buffers: &mut Buffers, to: &Name, file: &SyncFile, flags: u32) {
+    let refusal = buffers.import(to, file, flags, &Reach::zero()).err();
+    assert!(rt; refusal == Some(Refusal::Flags), "at {flags}");
+}
+
+fn is_signalled(
+    rt: &impl Abort,
+    buffers: &Buffers,
+    name: &Name,
+    usage: Usage,
+    reach: &Reach,
+) -> bool {
+    buffers.test(name, usage, reach).expect(rt, "a buffer")
+}
+
 /// Whether an export lists these points, with the reach as floor.
 fn exports(
     rt: &impl Abort,
@@ -62,15 +82,10 @@ fn flags_are_three_numbers(rt: HostRuntime) {
 fn imports_by_flags(rt: &impl Abort, buffers: &mut Buffers, file: &SyncFile) {
     let b = create(rt, buffers, "written");
     let zero = Reach::zero();
-    for flags in [0, 4, 7] {
-        assert!(rt;
-            buffers.import(&b, file, flags, &zero) == Err(Refusal::Flags),
-            "at {flags}"
-        );
-    }
-    buffers
-        .import(&b, file, READ_WRITE, &zero)
-        .expect(rt, "an import");
+    refuses_flags(rt, buffers, &b, file, 0);
+    refuses_flags(rt, buffers, &b, file, 4);
+    refuses_flags(rt, buffers, &b, file, 7);
+    import(rt, buffers, &b, file, READ_WRITE);
     assert!(rt; exports(rt, buffers, &b, READ, &zero, &[point(rt, 1, 3)]));
     let rows = [
         row(rt, Usage::Write, 1, 3),
@@ -101,14 +116,12 @@ fn exports_by_flags(rt: &impl Abort, buffers: &mut Buffers) {
 fn imports_a_reader(rt: &impl Abort, buffers: &mut Buffers, file: &SyncFile) {
     let b = create(rt, buffers, "read");
     let zero = Reach::zero();
-    buffers
-        .import(&b, file, READ, &zero)
-        .expect(rt, "an import");
+    import(rt, buffers, &b, file, READ);
     assert!(rt; exports(rt, buffers, &b, READ, &zero, &[]));
     assert!(rt; exports(rt, buffers, &b, WRITE, &zero, &[point(rt, 1, 3)]));
-    assert!(rt; buffers.test(&b, Usage::Write, &zero) == Ok(true));
-    assert!(rt; buffers.test(&b, Usage::Read, &zero) == Ok(false));
-    assert!(rt; buffers.test(&b, Usage::Read, &reach_at(rt, 3)) == Ok(true));
+    assert!(rt; is_signalled(rt, buffers, &b, Usage::Write, &zero));
+    assert!(rt; !is_signalled(rt, buffers, &b, Usage::Read, &zero));
+    assert!(rt; is_signalled(rt, buffers, &b, Usage::Read, &reach_at(rt, 3)));
 }
 
 fn exports_nothing(rt: &impl Abort, buffers: &mut Buffers) {
@@ -117,7 +130,7 @@ fn exports_nothing(rt: &impl Abort, buffers: &mut Buffers) {
     assert!(rt; exports(rt, buffers, &b, READ_WRITE, &Reach::zero(), &[]));
     add(rt, buffers, &b, point(rt, 1, 2), Usage::Write);
     assert!(rt; exports(rt, buffers, &b, READ_WRITE, &two, &[]));
-    assert!(rt; buffers.test(&b, Usage::Bookkeep, &two) == Ok(true));
+    assert!(rt; is_signalled(rt, buffers, &b, Usage::Bookkeep, &two));
     buffers.trim(&b, &two).expect(rt, "a buffer");
     assert!(rt; has_rows(rt, buffers, &b, &[]));
 }
@@ -136,8 +149,7 @@ fn idle_file(rt: &impl Abort, alloc: Global, buffers: &Buffers, from: &Name) -> 
 fn imports_nothing(rt: &impl Abort, alloc: Global, buffers: &mut Buffers) {
     let b = create(rt, buffers, "empty");
     let file = idle_file(rt, alloc, buffers, &b);
-    let imported = buffers.import(&b, &file, WRITE, &Reach::zero());
-    imported.expect(rt, "an import");
+    import(rt, buffers, &b, &file, WRITE);
     assert!(rt; has_rows(rt, buffers, &b, &[]));
 }
 
@@ -246,8 +258,7 @@ fn import_thrice(rt: &impl Abort, buffers: &mut Buffers, to: &Name, files: &File
     let file = files.get(&name(rt, "all")).expect(rt, "a file");
     assert!(rt; file.points.as_slice().len() == CONTEXTS);
     for _ in 0..3 {
-        let imported = buffers.import(to, file, WRITE, &Reach::zero());
-        imported.expect(rt, "an import");
+        import(rt, buffers, to, file, WRITE);
     }
 }
 
