@@ -124,16 +124,20 @@ fn lists_are_merged_as_canon_lists_both(rt: HostRuntime) {
     }
 }
 
+fn has_latest(rt: &impl Abort, latest: &LatestPoints, number: u16, value: u64) {
+    assert!(rt; latest.get(context(rt, number)) == value);
+}
+
 #[test]
 fn latest_points(rt: HostRuntime) {
     let reach = reach_of(&rt, &[(1, 5)]);
     let mut latest = LatestPoints::above(&reach);
     latest.put(point(&rt, 1, 4));
     latest.put_all(&[point(&rt, 3, 7), point(&rt, 2, 2), point(&rt, 3, 6)]);
-    assert!(rt; latest.get(context(&rt, 1)) == 5);
-    assert!(rt; latest.get(context(&rt, 2)) == 2);
-    assert!(rt; latest.get(context(&rt, 3)) == 7);
-    assert!(rt; latest.get(context(&rt, 4)) == 0);
+    has_latest(&rt, &latest, 1, 5);
+    has_latest(&rt, &latest, 2, 2);
+    has_latest(&rt, &latest, 3, 7);
+    has_latest(&rt, &latest, 4, 0);
     lists_in_memory_for_these_alone(&rt, rt.alloc(), &latest, &reach);
 }
 

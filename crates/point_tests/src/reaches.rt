@@ -3,24 +3,36 @@ use crate::values::{context, point, reach_of};
 use point_core::{Floor, Reach};
 use std::process::Abort;
 
-fn has_values(rt: &impl Abort, reach: &Reach, values: &[(u16, u64)]) -> bool {
-    for (number, value) in values {
-        if reach.get(context(rt, *number)) != *value {
-            return false;
-        }
-    }
-    true
+fn has_value(rt: &impl Abort, reach: &Reach, number: u16, value: u64) {
+    assert!(rt; reach.get(context(rt, number)) == value);
+}
+
+fn would_wrap(rt: &impl Abort, reach: &Reach, by: u64) {
+    assert!(rt; reach.raised(context(rt, 1), by).is_none());
+}
+
+fn raised(rt: &impl Abort, reach: &Reach, by: u64) -> Reach {
+    let reach = reach.raised(context(rt, 1), by);
+    reach.expect(rt, "no more than the greatest value")
 }
 
 #[test]
 fn reaches_do_not_wrap(rt: HostRuntime) {
-    let first = context(&rt, 1);
     let high = reach_of(&rt, &[(1, u64::MAX - 1)]);
-    assert!(rt; high.raised(first, 2).is_none());
-    let top = high.raised(first, 1).expect(&rt, "the greatest value");
-    assert!(rt; has_values(&rt, &top, &[(1, u64::MAX), (2, 0)]));
-    assert!(rt; top.raised(first, 0) == Some(top));
-    assert!(rt; top.raised(first, 1).is_none());
+    would_wrap(&rt, &high, 2);
+    let top = raised(&rt, &high, 1);
+    has_value(&rt, &top, 1, u64::MAX);
+    has_value(&rt, &top, 2, 0);
+    assert!(rt; raised(&rt, &top, 0) == top);
+    would_wrap(&rt, &top, 1);
+}
+
+fn is_at_least(rt: &impl Abort, reach: &Reach, other: &Reach) {
+    assert!(rt; reach.at_least(other));
+}
+
+fn falls_short_of(rt: &impl Abort, reach: &Reach, other: &Reach) {
+    assert!(rt; !reach.at_least(other));
 }
 
 #[test]
@@ -28,9 +40,13 @@ fn reaches_join(rt: HostRuntime) {
     let left = reach_of(&rt, &[(1, 5)]);
     let right = reach_of(&rt, &[(1, 3), (2, 2)]);
     let both = left.joined(&right);
-    assert!(rt; has_values(&rt, &both, &[(1, 5), (2, 2)]));
-    assert!(rt; both.at_least(&left) && both.at_least(&right) && both.at_least(&both));
-    assert!(rt; !left.at_least(&right) && !right.at_least(&left));
+    has_value(&rt, &both, 1, 5);
+    has_value(&rt, &both, 2, 2);
+    is_at_least(&rt, &both, &left);
+    is_at_least(&rt, &both, &right);
+    is_at_least(&rt, &both, &both);
+    falls_short_of(&rt, &left, &right);
+    falls_short_of(&rt, &right, &left);
 }
 
 #[test]
@@ -38,15 +54,20 @@ fn a_reach_never_falls(rt: HostRuntime) {
     let mut reach = reach_of(&rt, &[(1, 3), (2, 2)]);
     reach.raise_to(point(&rt, 1, 4));
     reach.raise_to(point(&rt, 2, 1));
-    assert!(rt; has_values(&rt, &reach, &[(1, 4), (2, 2)]));
+    has_value(&rt, &reach, 1, 4);
+    has_value(&rt, &reach, 2, 2);
+}
+
+fn goes_as_far_as(rt: &impl Abort, reach: &Reach, used: usize) {
+    assert!(rt; reach.used() == used);
 }
 
 #[test]
 fn a_reach_goes_as_far_as_the_last_context_in_use(rt: HostRuntime) {
     let reach = reach_of(&rt, &[(7, 1), (3, 9), (9, 0)]);
-    assert!(rt; Reach::zero().used() == 0);
-    assert!(rt; reach.used() == 7);
-    assert!(rt; Reach::zero().joined(&reach).used() == 7);
+    goes_as_far_as(&rt, &Reach::zero(), 0);
+    goes_as_far_as(&rt, &reach, 7);
+    goes_as_far_as(&rt, &Reach::zero().joined(&reach), 7);
     assert!(rt; reach.joined(&Reach::zero()) == reach);
 }
 
@@ -58,7 +79,8 @@ fn is_floor_of(rt: &impl Abort, floor: &Floor, reach: &Reach) {
 fn joins_a_floor(rt: &impl Abort, floor: &Floor) {
     let mut joined = reach_of(rt, &[(2, 3)]);
     joined.join_floor(floor);
-    assert!(rt; has_values(rt, &joined, &[(2, 3), (7, 4)]));
+    has_value(rt, &joined, 2, 3);
+    has_value(rt, &joined, 7, 4);
 }
 
 #[test]

@@ -1,9 +1,13 @@
 // What the tests make of plain numbers: a point is written as its context and its value.
-use point_core::{CONTEXTS, Context, Point, Reach};
+use point_core::{CONTEXTS, Context, Name, Point, Reach};
 use std::alloc::Global;
 use std::process::Abort;
 
 pub(crate) const LAST_CONTEXT: u16 = CONTEXTS as u16;
+
+pub(crate) fn name(rt: &impl Abort, bytes: &[u8]) -> Name {
+    Name::read(bytes).expect(rt, "a name")
+}
 
 pub(crate) fn context(rt: &impl Abort, number: u16) -> Context {
     Context::new(number).expect(rt, "a context")
