@@ -1,4 +1,5 @@
 // Which bytes are a name.
+use crate::values::holds;
 use point_core::{NAME_BYTES, Name};
 use std::process::Abort;
 
@@ -13,11 +14,11 @@ fn is_name(bytes: &[u8]) -> bool {
 }
 
 fn reads(rt: &impl Abort, bytes: &[u8]) {
-    assert!(rt; is_name(bytes));
+    holds(rt, is_name(bytes));
 }
 
 fn refuses(rt: &impl Abort, bytes: &[u8]) {
-    assert!(rt; Name::read(bytes).is_none());
+    holds(rt, Name::read(bytes).is_none());
 }
 
 #[test]
@@ -33,7 +34,7 @@ fn names_of_one_byte(rt: HostRuntime) {
 
 #[test]
 fn names_by_length(rt: HostRuntime) {
-    assert!(rt; NAME_BYTES == 31);
+    holds(&rt, NAME_BYTES == 31);
     reads(&rt, b"g");
     reads(&rt, b"gpu-0.render_pass-17.frame_000");
     reads(&rt, b"gpu-0.render_pass-17.frame_0004");

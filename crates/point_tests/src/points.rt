@@ -1,15 +1,15 @@
 // Contexts, signalled points, usages, covering entries and statuses.
-use crate::values::{LAST_CONTEXT, point, reach_of};
+use crate::values::{LAST_CONTEXT, holds, point, reach_of};
 use point_core::{CONTEXTS, Context, Entry, Reach, Status, Usage, covers, is_signalled};
 use std::process::Abort;
 
 fn refuses_context(rt: &impl Abort, number: u16) {
-    assert!(rt; Context::new(number).is_none());
+    holds(rt, Context::new(number).is_none());
 }
 
 fn is_context(rt: &impl Abort, ctx: Context, number: u16, index: usize) {
-    assert!(rt; Context::new(number) == Some(ctx));
-    assert!(rt; ctx.number() == number && ctx.index() == index);
+    holds(rt, Context::new(number) == Some(ctx));
+    holds(rt, ctx.number() == number && ctx.index() == index);
 }
 
 #[test]
@@ -22,11 +22,11 @@ fn contexts_are_from_one_to_the_limit(rt: HostRuntime) {
 }
 
 fn is_reached(rt: &impl Abort, reach: &Reach, number: u16, value: u64) {
-    assert!(rt; is_signalled(point(rt, number, value), reach));
+    holds(rt, is_signalled(point(rt, number, value), reach));
 }
 
 fn is_pending(rt: &impl Abort, reach: &Reach, number: u16, value: u64) {
-    assert!(rt; !is_signalled(point(rt, number, value), reach));
+    holds(rt, !is_signalled(point(rt, number, value), reach));
 }
 
 #[test]
@@ -50,11 +50,11 @@ fn is_covered(rt: &impl Abort, number: u16, value: u64, usage: Usage) -> bool {
 }
 
 fn covered(rt: &impl Abort, number: u16, value: u64, usage: Usage) {
-    assert!(rt; is_covered(rt, number, value, usage));
+    holds(rt, is_covered(rt, number, value, usage));
 }
 
 fn not_covered(rt: &impl Abort, number: u16, value: u64, usage: Usage) {
-    assert!(rt; !is_covered(rt, number, value, usage));
+    holds(rt, !is_covered(rt, number, value, usage));
 }
 
 #[test]
@@ -68,7 +68,7 @@ fn covering_entries(rt: HostRuntime) {
 }
 
 fn has_number(rt: &impl Abort, usage: Usage, number: u8) {
-    assert!(rt; usage.number() == number);
+    holds(rt, usage.number() == number);
 }
 
 #[test]
@@ -80,8 +80,8 @@ fn usages_have_the_kernels_numbers(rt: HostRuntime) {
 }
 
 fn is_status(rt: &impl Abort, is_signalled: bool, status: Status, number: u8) {
-    assert!(rt; Status::of(is_signalled) == status);
-    assert!(rt; status.number() == number);
+    holds(rt, Status::of(is_signalled) == status);
+    holds(rt, status.number() == number);
 }
 
 #[test]

@@ -1,14 +1,14 @@
 // What reaches are raised to and joined of, and the floors that are made of them.
-use crate::values::{context, point, reach_of};
+use crate::values::{context, holds, point, reach_of};
 use point_core::{Floor, Reach};
 use std::process::Abort;
 
 fn has_value(rt: &impl Abort, reach: &Reach, number: u16, value: u64) {
-    assert!(rt; reach.get(context(rt, number)) == value);
+    holds(rt, reach.get(context(rt, number)) == value);
 }
 
 fn would_wrap(rt: &impl Abort, reach: &Reach, by: u64) {
-    assert!(rt; reach.raised(context(rt, 1), by).is_none());
+    holds(rt, reach.raised(context(rt, 1), by).is_none());
 }
 
 fn raised(rt: &impl Abort, reach: &Reach, by: u64) -> Reach {
@@ -23,16 +23,16 @@ fn reaches_do_not_wrap(rt: HostRuntime) {
     let top = raised(&rt, &high, 1);
     has_value(&rt, &top, 1, u64::MAX);
     has_value(&rt, &top, 2, 0);
-    assert!(rt; raised(&rt, &top, 0) == top);
+    holds(&rt, raised(&rt, &top, 0) == top);
     would_wrap(&rt, &top, 1);
 }
 
 fn is_at_least(rt: &impl Abort, reach: &Reach, other: &Reach) {
-    assert!(rt; reach.at_least(other));
+    holds(rt, reach.at_least(other));
 }
 
 fn falls_short_of(rt: &impl Abort, reach: &Reach, other: &Reach) {
-    assert!(rt; !reach.at_least(other));
+    holds(rt, !reach.at_least(other));
 }
 
 #[test]
@@ -59,7 +59,7 @@ fn a_reach_never_falls(rt: HostRuntime) {
 }
 
 fn goes_as_far_as(rt: &impl Abort, reach: &Reach, used: usize) {
-    assert!(rt; reach.used() == used);
+    holds(rt, reach.used() == used);
 }
 
 #[test]
@@ -68,12 +68,15 @@ fn a_reach_goes_as_far_as_the_last_context_in_use(rt: HostRuntime) {
     goes_as_far_as(&rt, &Reach::zero(), 0);
     goes_as_far_as(&rt, &reach, 7);
     goes_as_far_as(&rt, &Reach::zero().joined(&reach), 7);
-    assert!(rt; reach.joined(&Reach::zero()) == reach);
+    holds(&rt, reach.joined(&Reach::zero()) == reach);
 }
 
 fn is_floor_of(rt: &impl Abort, floor: &Floor, reach: &Reach) {
-    assert!(rt; floor.to_reach() == *reach);
-    assert!(rt; reach.at_least_floor(floor) && !Reach::zero().at_least_floor(floor));
+    holds(rt, floor.to_reach() == *reach);
+    holds(
+        rt,
+        reach.at_least_floor(floor) && !Reach::zero().at_least_floor(floor),
+    );
 }
 
 fn joins_a_floor(rt: &impl Abort, floor: &Floor) {
@@ -89,5 +92,5 @@ fn a_floor_is_the_reach_that_it_was_made_of(rt: HostRuntime) {
     let floor = Floor::of(rt.alloc(), &reach).expect(&rt, "memory");
     is_floor_of(&rt, &floor, &reach);
     joins_a_floor(&rt, &floor);
-    assert!(rt; Floor::zero(rt.alloc()).to_reach() == Reach::zero());
+    holds(&rt, Floor::zero(rt.alloc()).to_reach() == Reach::zero());
 }

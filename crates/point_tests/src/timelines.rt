@@ -1,5 +1,5 @@
 // Timelines that are made and raised.
-use crate::values::{context, name};
+use crate::values::{context, holds, name};
 use point_core::{CONTEXTS, Context, LimitKind, Name, Refusal};
 use std::process::Abort;
 use timeline_core::Timelines;
@@ -10,19 +10,19 @@ fn numbered(rt: &impl Abort, number: u8) -> Name {
 }
 
 fn makes(rt: &impl Abort, timelines: &mut Timelines, name: Name, ctx: Context) {
-    assert!(rt; timelines.create(name) == Ok(ctx));
+    holds(rt, timelines.create(name) == Ok(ctx));
 }
 
 fn refuses_to_make(rt: &impl Abort, timelines: &mut Timelines, name: Name, refusal: Refusal) {
-    assert!(rt; timelines.create(name) == Err(refusal));
+    holds(rt, timelines.create(name) == Err(refusal));
 }
 
 fn raises(rt: &impl Abort, timelines: &mut Timelines, name: &Name, by: u64, value: u64) {
-    assert!(rt; timelines.inc(name, by) == Ok(value));
+    holds(rt, timelines.inc(name, by) == Ok(value));
 }
 
 fn refuses_to_raise(rt: &impl Abort, timelines: &mut Timelines, name: &Name, refusal: Refusal) {
-    assert!(rt; timelines.inc(name, 1) == Err(refusal));
+    holds(rt, timelines.inc(name, 1) == Err(refusal));
 }
 
 /// Makes the timelines a and b, and raises b to 3.
@@ -43,26 +43,26 @@ fn is_row(row: Option<&(Name, u64)>, name: &Name, value: u64) -> bool {
 
 fn has_two_rows(rt: &impl Abort, timelines: &Timelines) {
     let rows = timelines.rows().expect(rt, "memory");
-    assert!(rt; rows.len() == 2);
-    assert!(rt; is_row(rows.first(), &name(rt, b"a"), 0));
-    assert!(rt; is_row(rows.last(), &name(rt, b"b"), 3));
+    holds(rt, rows.len() == 2);
+    holds(rt, is_row(rows.first(), &name(rt, b"a"), 0));
+    holds(rt, is_row(rows.last(), &name(rt, b"b"), 3));
 }
 
 /// The timeline is found by its name and by its context.
 fn finds(rt: &impl Abort, timelines: &Timelines, name: Name, ctx: Context, value: u64) {
-    assert!(rt; timelines.value(&name) == Ok(value));
-    assert!(rt; timelines.context(&name) == Some(ctx));
-    assert!(rt; timelines.name(ctx) == Some(name));
-    assert!(rt; timelines.as_reach().get(ctx) == value);
+    holds(rt, timelines.value(&name) == Ok(value));
+    holds(rt, timelines.context(&name) == Some(ctx));
+    holds(rt, timelines.name(ctx) == Some(name));
+    holds(rt, timelines.as_reach().get(ctx) == value);
 }
 
 fn has_no_name(rt: &impl Abort, timelines: &Timelines, ctx: Context) {
-    assert!(rt; timelines.name(ctx).is_none());
-    assert!(rt; timelines.as_reach().get(ctx) == 0);
+    holds(rt, timelines.name(ctx).is_none());
+    holds(rt, timelines.as_reach().get(ctx) == 0);
 }
 
 fn copies_its_reach(rt: &impl Abort, timelines: &Timelines) {
-    assert!(rt; timelines.reach() == *timelines.as_reach());
+    holds(rt, timelines.reach() == *timelines.as_reach());
 }
 
 /// The timelines a at 0 and b at 3 are all that is found.
@@ -77,8 +77,8 @@ fn finds_two(rt: &impl Abort, timelines: &Timelines) {
 fn misses_one(rt: &impl Abort, timelines: &mut Timelines) {
     let z = name(rt, b"z");
     refuses_to_raise(rt, timelines, &z, Refusal::NoEntry);
-    assert!(rt; timelines.value(&z) == Err(Refusal::NoEntry));
-    assert!(rt; timelines.context(&z).is_none());
+    holds(rt, timelines.value(&z) == Err(Refusal::NoEntry));
+    holds(rt, timelines.context(&z).is_none());
 }
 
 #[test]
@@ -94,7 +94,7 @@ fn raises_to_the_greatest(rt: &impl Abort, timelines: &mut Timelines) {
     makes(rt, timelines, a, context(rt, 1));
     raises(rt, timelines, &a, u64::MAX, u64::MAX);
     refuses_to_raise(rt, timelines, &a, Refusal::Overflow);
-    assert!(rt; timelines.value(&a) == Ok(u64::MAX));
+    holds(rt, timelines.value(&a) == Ok(u64::MAX));
     raises(rt, timelines, &a, 0, u64::MAX);
 }
 
