@@ -1,5 +1,5 @@
 // What points are listed as, alone and merged.
-use crate::values::{LAST_CONTEXT, are_points, context, point, points_of, reach_of};
+use crate::values::{LAST_CONTEXT, context, has_points, holds, point, points_of, reach_of};
 use point_core::{Items, LatestPoints, Listing, Point, Reach, Refusal, canon, merged};
 use std::alloc::Global;
 use std::process::Abort;
@@ -29,7 +29,7 @@ fn points_are_listed(rt: HostRuntime) {
 fn lists(rt: &impl Abort, alloc: Global, reach: &Reach, rows: Rows, listed: Rows) {
     let points = points_of(rt, alloc, rows);
     let list = canon(alloc, points.as_slice(), reach).expect(rt, "memory");
-    assert!(rt; are_points(rt, alloc, list.as_slice(), listed));
+    has_points(rt, alloc, list.as_slice(), listed);
 }
 
 /// The merge of the two lists that `canon` makes of these points.
@@ -51,13 +51,11 @@ fn lists_are_merged(rt: HostRuntime) {
     let left = points_of(&rt, alloc, &[(1, 5), (2, 4), (4, 1)]);
     let right = points_of(&rt, alloc, &[(1, 3), (2, 9), (5, 8)]);
     let merge = merge_of(alloc, left.as_slice(), right.as_slice(), &reach).expect(&rt, "memory");
-    assert!(rt;
-        are_points(
-            &rt,
-            rt.alloc(),
-            merge.as_slice(),
-            &[(1, 5), (2, 9), (4, 1), (5, 8)]
-        )
+    has_points(
+        &rt,
+        rt.alloc(),
+        merge.as_slice(),
+        &[(1, 5), (2, 9), (4, 1), (5, 8)],
     );
 }
 
@@ -89,27 +87,23 @@ fn list_of_both(
     canon(alloc, both.as_slice(), reach).expect(rt, "memory")
 }
 
-fn are_merged_as_listed(
+fn merges_as_listed(
     rt: &impl Abort,
     alloc: Global,
     left: &[Point],
     right: &[Point],
     reach: &Reach,
-) -> bool {
+) {
     let merge = merge_of(alloc, left, right, reach).expect(rt, "memory");
-    merge.as_slice() == list_of_both(rt, alloc, left, right, reach).as_slice()
+    let listed = list_of_both(rt, alloc, left, right, reach);
+    holds(rt, merge.as_slice() == listed.as_slice());
 }
 
-/// Whether the points of two seeds are merged as they are listed together.
-fn are_mixed_points_merged(
-    rt: &impl Abort,
-    alloc: Global,
-    seeds: (u64, u64),
-    reach: &Reach,
-) -> bool {
+/// The points of two seeds are merged as they are listed together.
+fn merges_mixed_points(rt: &impl Abort, alloc: Global, seeds: (u64, u64), reach: &Reach) {
     let left = mixed_points(rt, alloc, seeds.0);
     let right = mixed_points(rt, alloc, seeds.1);
-    are_merged_as_listed(rt, alloc, left.as_slice(), right.as_slice(), reach)
+    merges_as_listed(rt, alloc, left.as_slice(), right.as_slice(), reach);
 }
 
 #[test]
@@ -117,11 +111,12 @@ fn lists_are_merged_as_canon_lists_both(rt: HostRuntime) {
     let reach = reach_of(&rt, &[(2, 3), (5, 6)]);
     for seed in 0..300 {
         let seeds = (seed, seed / 7 + 1000);
-        assert!(rt;
-            are_mixed_points_merged(&rt, rt.alloc(), seeds, &reach),
-            "at {seed}"
-        );
+        merges_mixed_points(&rt, rt.alloc(), seeds, &reach);
     }
+}
+
+fn has_latest(rt: &impl Abort, latest: &LatestPoints, number: u16, value: u64) {
+    holds(rt, latest.get(context(rt, number)) == value);
 }
 
 #[test]
@@ -130,10 +125,10 @@ fn latest_points(rt: HostRuntime) {
     let mut latest = LatestPoints::above(&reach);
     latest.put(point(&rt, 1, 4));
     latest.put_all(&[point(&rt, 3, 7), point(&rt, 2, 2), point(&rt, 3, 6)]);
-    assert!(rt; latest.get(context(&rt, 1)) == 5);
-    assert!(rt; latest.get(context(&rt, 2)) == 2);
-    assert!(rt; latest.get(context(&rt, 3)) == 7);
-    assert!(rt; latest.get(context(&rt, 4)) == 0);
+    has_latest(&rt, &latest, 1, 5);
+    has_latest(&rt, &latest, 2, 2);
+    has_latest(&rt, &latest, 3, 7);
+    has_latest(&rt, &latest, 4, 0);
     lists_in_memory_for_these_alone(&rt, rt.alloc(), &latest, &reach);
 }
 
@@ -144,8 +139,8 @@ fn lists_in_memory_for_these_alone(
     reach: &Reach,
 ) {
     let points = latest.points(alloc, reach).expect(rt, "memory");
-    assert!(rt; are_points(rt, alloc, points.as_slice(), &[(2, 2), (3, 7)]));
-    assert!(rt; points.capacity() == points.len());
+    has_points(rt, alloc, points.as_slice(), &[(2, 2), (3, 7)]);
+    holds(rt, points.capacity() == points.len());
 }
 
 fn listing(rt: &impl Abort, alloc: Global, rows: Rows) -> Listing {
@@ -160,8 +155,8 @@ fn a_listing_keeps_its_points(rt: HostRuntime) {
     let rows = &[(1, 5), (2, 2)];
     let made = listing(&rt, rt.alloc(), rows);
     let same = listing(&rt, rt.alloc(), rows);
-    assert!(rt; made == same);
-    assert!(rt; are_points(&rt, rt.alloc(), made.points.as_slice(), rows));
+    holds(&rt, made == same);
+    has_points(&rt, rt.alloc(), made.points.as_slice(), rows);
     let Listing { points, floor: _ } = same;
-    assert!(rt; are_points(&rt, rt.alloc(), points.into_vec().as_slice(), rows));
+    has_points(&rt, rt.alloc(), points.into_vec().as_slice(), rows);
 }

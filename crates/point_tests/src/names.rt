@@ -1,5 +1,7 @@
 // Which bytes are a name.
+use crate::values::holds;
 use point_core::{NAME_BYTES, Name};
+use std::process::Abort;
 
 const ALLOWED: &[u8] = b"ABCDEFGHIJKLMNOPQRSTUVWXYZabcdefghijklmnopqrstuvwxyz0123456789_.-";
 
@@ -11,24 +13,32 @@ fn is_name(bytes: &[u8]) -> bool {
     }
 }
 
+fn reads(rt: &impl Abort, bytes: &[u8]) {
+    holds(rt, is_name(bytes));
+}
+
+fn refuses(rt: &impl Abort, bytes: &[u8]) {
+    holds(rt, Name::read(bytes).is_none());
+}
+
 #[test]
 fn names_of_one_byte(rt: HostRuntime) {
     for byte in 0..=u8::MAX {
         if ALLOWED.contains(&byte) {
-            assert!(rt; is_name(&[byte]), "at {byte}");
+            reads(&rt, &[byte]);
         } else {
-            assert!(rt; Name::read(&[byte]).is_none(), "at {byte}");
+            refuses(&rt, &[byte]);
         }
     }
 }
 
 #[test]
 fn names_by_length(rt: HostRuntime) {
-    assert!(rt; NAME_BYTES == 31);
-    assert!(rt; is_name(b"g"));
-    assert!(rt; is_name(b"gpu-0.render_pass-17.frame_000"));
-    assert!(rt; is_name(b"gpu-0.render_pass-17.frame_0004"));
-    assert!(rt; Name::read(b"gpu-0.render_pass-17.frame_00042").is_none());
-    assert!(rt; Name::read(b"").is_none());
-    assert!(rt; Name::read(b"a name").is_none());
+    holds(&rt, NAME_BYTES == 31);
+    reads(&rt, b"g");
+    reads(&rt, b"gpu-0.render_pass-17.frame_000");
+    reads(&rt, b"gpu-0.render_pass-17.frame_0004");
+    refuses(&rt, b"gpu-0.render_pass-17.frame_00042");
+    refuses(&rt, b"");
+    refuses(&rt, b"a name");
 }

@@ -1,4 +1,5 @@
 // The table of refusals, and the words of limits.
+use crate::values::holds;
 use point_core::{LimitKind, Refusal};
 use std::alloc::Global;
 use std::process::Abort;
@@ -9,11 +10,8 @@ fn is_written(rt: &impl Abort, alloc: Global, refusal: Refusal, text: &str) -> b
 
 /// A row of the table: the number, the name and the text of a refusal.
 fn has(rt: &impl Abort, alloc: Global, refusal: Refusal, number: u8, name: &str, text: &str) {
-    assert!(rt;
-        refusal.number() == number && refusal.name() == name,
-        "{name}"
-    );
-    assert!(rt; is_written(rt, alloc, refusal, text), "{text}");
+    holds(rt, refusal.number() == number && refusal.name() == name);
+    holds(rt, is_written(rt, alloc, refusal, text));
 }
 
 #[test]
@@ -133,8 +131,8 @@ fn is_limit_written(rt: &impl Abort, alloc: Global, kind: LimitKind, word: &str)
 }
 
 fn is_called(rt: &impl Abort, alloc: Global, kind: LimitKind, word: &str) {
-    assert!(rt; kind.word() == word, "{word}");
-    assert!(rt; is_limit_written(rt, alloc, kind, word), "{word}");
+    holds(rt, kind.word() == word);
+    holds(rt, is_limit_written(rt, alloc, kind, word));
 }
 
 #[test]

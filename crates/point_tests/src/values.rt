@@ -1,9 +1,18 @@
 // What the tests make of plain numbers: a point is written as its context and its value.
-use point_core::{CONTEXTS, Context, Point, Reach};
+use point_core::{CONTEXTS, Context, Name, Point, Reach};
 use std::alloc::Global;
 use std::process::Abort;
 
 pub(crate) const LAST_CONTEXT: u16 = CONTEXTS as u16;
+
+/// Ends the test unless the condition holds. An `assert!` costs more to prove than a call of this function.
+pub(crate) fn holds(rt: &impl Abort, condition: bool) {
+    assert!(rt; condition);
+}
+
+pub(crate) fn name(rt: &impl Abort, bytes: &[u8]) -> Name {
+    Name::read(bytes).expect(rt, "a name")
+}
 
 pub(crate) fn context(rt: &impl Abort, number: u16) -> Context {
     Context::new(number).expect(rt, "a context")
@@ -22,14 +31,9 @@ pub(crate) fn points_of(rt: &impl Abort, alloc: Global, rows: &[(u16, u64)]) -> 
     points
 }
 
-/// Whether the points are these, in this order.
-pub(crate) fn are_points(
-    rt: &impl Abort,
-    alloc: Global,
-    points: &[Point],
-    rows: &[(u16, u64)],
-) -> bool {
-    points == points_of(rt, alloc, rows).as_slice()
+/// The points are these, in this order.
+pub(crate) fn has_points(rt: &impl Abort, alloc: Global, points: &[Point], rows: &[(u16, u64)]) {
+    holds(rt, points == points_of(rt, alloc, rows).as_slice());
 }
 
 /// The reach that has just come to these points.

@@ -1,5 +1,5 @@
 // What clients do in rounds.
-use crate::values::point;
+use crate::values::{holds, point};
 use point_core::{Context, Usage};
 use resv_core::{Act, Plan, Rounds};
 
@@ -10,6 +10,9 @@ fn a_plan_of_rounds(rt: HostRuntime) {
         next: Context::at(1),
         count: 3,
     };
-    assert!(rt; Plan::of_rounds(rounds).len() == 12);
-    assert!(rt; rounds.round(3)[2] == Act::Put(1, point(&rt, 2, 9), Usage::Read));
+    holds(&rt, Plan::of_rounds(rounds).len() == 12);
+    holds(
+        &rt,
+        rounds.round(3)[2] == Act::Put(1, point(&rt, 2, 9), Usage::Read),
+    );
 }

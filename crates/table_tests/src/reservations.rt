@@ -1,5 +1,5 @@
 // Reservations: what is put in, what replaces what, and what is listed.
-use crate::values::{EVERY_USAGE, are_full_rows, point, reach_at, row, value_of};
+use crate::values::{EVERY_USAGE, are_full_rows, holds, point, reach_at, row, value_of};
 use point_core::{CONTEXTS, Context, Point, Reach, TopRow, Usage};
 use resv_core::{PLACES, Resv};
 use std::process::Abort;
@@ -14,32 +14,57 @@ fn put(rt: &impl Abort, resv: &mut Resv, point: Point, usage: Usage, reach: &Rea
     resv.put(point, usage, reach);
 }
 
-fn collects(rt: &impl Abort, resv: &Resv, usage: Usage, reach: &Reach, points: &[Point]) -> bool {
+/// Adds that value of the first context, where nothing is signalled.
+fn add_value(rt: &impl Abort, resv: &mut Resv, value: u64, usage: Usage) {
+    add(rt, resv, point(rt, 1, value), usage, &Reach::zero());
+}
+
+/// Puts that value of the first context at the weakest usage, where nothing is signalled.
+fn put_value(rt: &impl Abort, resv: &mut Resv, value: u64) {
+    let point = point(rt, 1, value);
+    put(rt, resv, point, Usage::Bookkeep, &Reach::zero());
+}
+
+fn collects(rt: &impl Abort, resv: &Resv, usage: Usage, reach: &Reach, points: &[Point]) {
     let list = resv.collect(usage, reach).expect(rt, "memory");
-    list.as_slice() == points
+    holds(rt, list.as_slice() == points);
 }
 
-fn has_rows(rt: &impl Abort, resv: &Resv, reach: &Reach, rows: &[TopRow]) -> bool {
+/// What is collected is that value of the first context, where nothing is signalled.
+fn collects_value(rt: &impl Abort, resv: &Resv, usage: Usage, value: u64) {
+    collects(rt, resv, usage, &Reach::zero(), &[point(rt, 1, value)]);
+}
+
+fn has_rows(rt: &impl Abort, resv: &Resv, reach: &Reach, rows: &[TopRow]) {
     let table = resv.table(reach).expect(rt, "memory");
-    table.as_slice() == rows
+    holds(rt, table.as_slice() == rows);
 }
 
-fn has_full_rows(rt: &impl Abort, resv: &Resv) -> bool {
+/// Its one row is that value of the first context at the weakest usage.
+fn has_the_row(rt: &impl Abort, resv: &Resv, value: u64) {
+    let rows = [row(rt, Usage::Bookkeep, 1, value)];
+    has_rows(rt, resv, &Reach::zero(), &rows);
+}
+
+fn has_full_rows(rt: &impl Abort, resv: &Resv) {
     let table = resv.table(&Reach::zero()).expect(rt, "memory");
-    are_full_rows(table.as_slice())
+    holds(rt, are_full_rows(table.as_slice()));
+}
+
+fn has_room(rt: &impl Abort, resv: &Resv, room: usize) {
+    holds(rt, resv.room() == room);
 }
 
 /// A reader's point 9 and the kernel's point 5 of the first context.
 fn is_collected_by_usage(rt: &impl Abort, resv: &mut Resv) {
-    let zero = Reach::zero();
-    add(rt, resv, point(rt, 1, 9), Usage::Read, &zero);
-    add(rt, resv, point(rt, 1, 5), Usage::Kernel, &zero);
-    assert!(rt; collects(rt, resv, Usage::Write, &zero, &[point(rt, 1, 5)]));
-    assert!(rt; collects(rt, resv, Usage::Read, &zero, &[point(rt, 1, 9)]));
-    assert!(rt; collects(rt, resv, Usage::Read, &reach_at(rt, 9), &[]));
+    add_value(rt, resv, 9, Usage::Read);
+    add_value(rt, resv, 5, Usage::Kernel);
+    collects_value(rt, resv, Usage::Write, 5);
+    collects_value(rt, resv, Usage::Read, 9);
+    collects(rt, resv, Usage::Read, &reach_at(rt, 9), &[]);
     let five = reach_at(rt, 5);
-    assert!(rt; resv.test(Usage::Write, &five));
-    assert!(rt; !resv.test(Usage::Read, &five));
+    holds(rt, resv.test(Usage::Write, &five));
+    holds(rt, !resv.test(Usage::Read, &five));
 }
 
 #[test]
@@ -54,13 +79,13 @@ fn replaces_what_is_signalled(rt: &impl Abort, resv: &mut Resv) {
     resv.add(point(rt, 1, 1), Usage::Write, &Reach::zero());
     let room = resv.room();
     add(rt, resv, point(rt, 2, 4), Usage::Read, &one);
-    assert!(rt; resv.room() == room);
+    has_room(rt, resv, room);
     add(rt, resv, point(rt, 2, 3), Usage::Read, &one);
-    assert!(rt; resv.room() + 1 == room);
+    has_room(rt, resv, room.saturating_sub(1));
     resv.trim(&one);
-    assert!(rt; resv.room() == PLACES - 1);
+    has_room(rt, resv, PLACES - 1);
     let rows = [row(rt, Usage::Read, 2, 4), row(rt, Usage::Bookkeep, 2, 4)];
-    assert!(rt; has_rows(rt, resv, &one, &rows));
+    has_rows(rt, resv, &one, &rows);
 }
 
 #[test]
@@ -72,20 +97,13 @@ fn signalled_entry_is_replaced(rt: HostRuntime) {
 /// Adds the points of the first context from that value down to 1.
 fn add_falling(rt: &impl Abort, resv: &mut Resv, from: u64) {
     for value in (1..=from).rev() {
-        add(
-            rt,
-            resv,
-            point(rt, 1, value),
-            Usage::Bookkeep,
-            &Reach::zero(),
-        );
+        add_value(rt, resv, value, Usage::Bookkeep);
     }
 }
 
 fn keeps_the_latest(rt: &impl Abort, resv: &mut Resv) {
     add_falling(rt, resv, 400);
-    let rows = [row(rt, Usage::Bookkeep, 1, 400)];
-    assert!(rt; has_rows(rt, resv, &Reach::zero(), &rows));
+    has_the_row(rt, resv, 400);
 }
 
 #[test]
@@ -97,14 +115,14 @@ fn four_hundred_falling_points(rt: HostRuntime) {
 // The last place is taken by an entry that replaces none; for the next one the table is trimmed.
 fn takes_the_last_place(rt: &impl Abort, resv: &mut Resv) {
     add_falling(rt, resv, PLACES as u64);
-    assert!(rt; resv.room() == 0);
+    has_room(rt, resv, 0);
     add(rt, resv, point(rt, 2, 1), Usage::Bookkeep, &Reach::zero());
-    assert!(rt; resv.room() == PLACES - 2);
+    has_room(rt, resv, PLACES - 2);
     let rows = [
         row(rt, Usage::Bookkeep, 1, PLACES as u64),
         row(rt, Usage::Bookkeep, 2, 1),
     ];
-    assert!(rt; has_rows(rt, resv, &Reach::zero(), &rows));
+    has_rows(rt, resv, &Reach::zero(), &rows);
 }
 
 #[test]
@@ -115,14 +133,13 @@ fn every_place_is_taken(rt: HostRuntime) {
 
 // A small table takes no place for what an entry of it covers, and a later point replaces that entry.
 fn takes_one_place(rt: &impl Abort, resv: &mut Resv) {
-    let zero = Reach::zero();
     for value in (1..=100).rev() {
-        put(rt, resv, point(rt, 1, value), Usage::Bookkeep, &zero);
+        put_value(rt, resv, value);
     }
-    assert!(rt; resv.room() == PLACES - 1);
-    put(rt, resv, point(rt, 1, 200), Usage::Bookkeep, &zero);
-    assert!(rt; resv.room() == PLACES - 1);
-    assert!(rt; has_rows(rt, resv, &zero, &[row(rt, Usage::Bookkeep, 1, 200)]));
+    has_room(rt, resv, PLACES - 1);
+    put_value(rt, resv, 200);
+    has_room(rt, resv, PLACES - 1);
+    has_the_row(rt, resv, 200);
 }
 
 #[test]
@@ -143,24 +160,30 @@ fn are_weakest_rows(rows: &[TopRow], point: u64) -> bool {
     rows.len() == CONTEXTS
 }
 
-fn has_weakest_rows(rt: &impl Abort, resv: &Resv, point: u64) -> bool {
+fn has_weakest_rows(rt: &impl Abort, resv: &Resv, point: u64) {
     let table = resv.table(&Reach::zero()).expect(rt, "memory");
-    are_weakest_rows(table.as_slice(), point)
+    holds(rt, are_weakest_rows(table.as_slice(), point));
+}
+
+/// Puts that value of every context at the weakest usage.
+fn put_every_context(rt: &impl Abort, resv: &mut Resv, value: u64) {
+    for index in 0..CONTEXTS {
+        let ctx = Context::at(index);
+        let point = Point { ctx, value };
+        put(rt, resv, point, Usage::Bookkeep, &Reach::zero());
+    }
 }
 
 // A large table takes a place for each put, whatever covers what, until it is trimmed.
 fn takes_a_place_for_each_put(rt: &impl Abort, resv: &mut Resv) {
     let zero = Reach::zero();
-    for index in 0..CONTEXTS {
-        let ctx = Context::at(index);
-        put(rt, resv, Point { ctx, value: 9 }, Usage::Bookkeep, &zero);
-    }
+    put_every_context(rt, resv, 9);
     put(rt, resv, point(rt, 1, 8), Usage::Bookkeep, &zero);
     put(rt, resv, point(rt, 2, 9), Usage::Bookkeep, &zero);
-    assert!(rt; resv.room() == PLACES - CONTEXTS - 2);
+    has_room(rt, resv, PLACES - CONTEXTS - 2);
     resv.trim(&zero);
-    assert!(rt; resv.room() == PLACES - CONTEXTS);
-    assert!(rt; has_weakest_rows(rt, resv, 9));
+    has_room(rt, resv, PLACES - CONTEXTS);
+    has_weakest_rows(rt, resv, 9);
 }
 
 #[test]
@@ -188,7 +211,7 @@ fn import_every_context(rt: &impl Abort, resv: &mut Resv) {
         let ctx = Context::at(index);
         resv.add(Point { ctx, value: 1 }, Usage::Write, &Reach::zero());
     }
-    assert!(rt; resv.room() == 0);
+    has_room(rt, resv, 0);
 }
 
 // Four usages of every context, and then three imports of a file with a point of every context. The first fills the
@@ -197,10 +220,10 @@ fn import_every_context(rt: &impl Abort, resv: &mut Resv) {
 fn imports_into_a_full_table(rt: HostRuntime) {
     let mut resv = Resv::new(rt.alloc()).expect(&rt, "a reservation");
     fill(&rt, &mut resv);
-    for _ in 0..3 {
-        import_every_context(&rt, &mut resv);
-    }
-    assert!(rt; has_full_rows(&rt, &resv));
+    import_every_context(&rt, &mut resv);
+    import_every_context(&rt, &mut resv);
+    import_every_context(&rt, &mut resv);
+    has_full_rows(&rt, &resv);
 }
 
 // Points that are added together put out what they cover and what is signalled; without any, nothing changes.
@@ -211,10 +234,10 @@ fn adds_together(rt: &impl Abort, resv: &mut Resv) {
     add(rt, resv, point(rt, 3, 5), Usage::Bookkeep, &Reach::zero());
     let room = resv.room();
     resv.add_all(&[], Usage::Read, &one);
-    assert!(rt; resv.room() == room);
+    has_room(rt, resv, room);
     resv.reserve(2, &one).expect(rt, "memory");
     resv.add_all(&[point(rt, 2, 9), point(rt, 3, 9)], Usage::Read, &one);
-    assert!(rt; resv.room() == room);
+    has_room(rt, resv, room);
     let rows = [
         row(rt, Usage::Write, 2, 5),
         row(rt, Usage::Read, 2, 9),
@@ -222,7 +245,7 @@ fn adds_together(rt: &impl Abort, resv: &mut Resv) {
         row(rt, Usage::Bookkeep, 2, 9),
         row(rt, Usage::Bookkeep, 3, 9),
     ];
-    assert!(rt; has_rows(rt, resv, &one, &rows));
+    has_rows(rt, resv, &one, &rows);
 }
 
 #[test]

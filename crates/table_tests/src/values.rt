@@ -9,20 +9,28 @@ pub(crate) const EVERY_USAGE: [Usage; 4] = [
     Usage::Bookkeep,
 ];
 
-pub(crate) fn name(rt: &impl Abort, text: &str) -> Name {
-    Name::read(text.as_bytes()).expect(rt, "a name")
+/// Ends the test unless the condition holds. An `assert!` costs more to prove than a call of this function.
+pub(crate) fn holds(rt: &impl Abort, condition: bool) {
+    assert!(rt; condition);
 }
 
-/// The name of that number below 10000.
+pub(crate) fn name(rt: &impl Abort, bytes: &[u8]) -> Name {
+    Name::read(bytes).expect(rt, "a name")
+}
+
+fn digit(number: usize) -> u8 {
+    b'0' + (number % 10) as u8
+}
+
+/// The name of that number below 10000, in four digits.
 pub(crate) fn numbered(rt: &impl Abort, number: usize) -> Name {
     let digits = [
-        b'n',
-        b'0' + (number / 1000 % 10) as u8,
-        b'0' + (number / 100 % 10) as u8,
-        b'0' + (number / 10 % 10) as u8,
-        b'0' + (number % 10) as u8,
+        digit(number / 1000),
+        digit(number / 100),
+        digit(number / 10),
+        digit(number),
     ];
-    Name::read(&digits).expect(rt, "a name")
+    name(rt, &digits)
 }
 
 pub(crate) fn context(rt: &impl Abort, number: u16) -> Context {

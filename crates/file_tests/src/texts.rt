@@ -1,5 +1,5 @@
 // Rows of reports to the byte.
-use crate::values::{context, name};
+use crate::values::{context, holds, name};
 use command_core::{BufferRows, FileRow, Report, ShowRow};
 use point_core::{Items, Name, Status, TopRow, Usage};
 use report_core::{Kind, file_row, report_text, row, settled_text, show_text};
@@ -7,7 +7,7 @@ use resv_core::Settled;
 use std::alloc::Global;
 use std::process::Abort;
 
-const LONGEST_NAME: &str = "abcdefghijklmnopqrstuvwxyz_0.-9";
+const LONGEST_NAME: &[u8] = b"abcdefghijklmnopqrstuvwxyz_0.-9";
 
 const FULL: &str = "\
 timeline abcdefghijklmnopqrstuvwxyz_0.-9 18446744073709551615\n\
@@ -19,18 +19,18 @@ bookkeep abcdefghijklmnopqrstuvwxyz_0.-9 18446744073709551615\n\
 file     abcdefghijklmnopqrstuvwxyz_0.-9                    1 999\n\
 ";
 
+fn full_row(rt: &impl Abort, kind: Kind, name: &Name, out: &mut Vec<u8>) {
+    row(kind, name, u64::MAX, out).expect(rt, "memory");
+}
+
 fn writes_each_kind(rt: &impl Abort, out: &mut Vec<u8>) {
     let longest = name(rt, LONGEST_NAME);
-    for kind in [
-        Kind::Timeline,
-        Kind::Buffer,
-        Kind::Level(Usage::Kernel),
-        Kind::Level(Usage::Write),
-        Kind::Level(Usage::Read),
-        Kind::Level(Usage::Bookkeep),
-    ] {
-        row(kind, &longest, u64::MAX, out).expect(rt, "memory");
-    }
+    full_row(rt, Kind::Timeline, &longest, out);
+    full_row(rt, Kind::Buffer, &longest, out);
+    full_row(rt, Kind::Level(Usage::Kernel), &longest, out);
+    full_row(rt, Kind::Level(Usage::Write), &longest, out);
+    full_row(rt, Kind::Level(Usage::Read), &longest, out);
+    full_row(rt, Kind::Level(Usage::Bookkeep), &longest, out);
     let file = FileRow {
         name: longest,
         status: Status::Signalled,
@@ -43,14 +43,14 @@ fn writes_each_kind(rt: &impl Abort, out: &mut Vec<u8>) {
 fn full_columns(rt: HostRuntime) {
     let mut out = Vec::new(rt.alloc());
     writes_each_kind(&rt, &mut out);
-    assert!(rt; out.as_slice() == FULL.as_bytes());
+    holds(&rt, out.as_slice() == FULL.as_bytes());
 }
 
 /// A row of the timeline a.
 fn shown(rt: &impl Abort, usage: Usage, point: u64) -> ShowRow {
     ShowRow {
         usage,
-        timeline: name(rt, "a"),
+        timeline: name(rt, b"a"),
         point,
     }
 }
@@ -80,12 +80,12 @@ fn shows_levels(rt: &impl Abort, out: &mut Vec<u8>) {
 fn levels(rt: HostRuntime) {
     let mut out = Vec::from_slice(rt.alloc(), b"ok 4\n").expect(&rt, "memory");
     shows_levels(&rt, &mut out);
-    assert!(rt; out.as_slice() == LEVELS.as_bytes());
+    holds(&rt, out.as_slice() == LEVELS.as_bytes());
 }
 
-fn file(rt: &impl Abort, text: &str, status: Status, count: u64) -> FileRow {
+fn file(rt: &impl Abort, bytes: &[u8], status: Status, count: u64) -> FileRow {
     FileRow {
-        name: name(rt, text),
+        name: name(rt, bytes),
         status,
         count,
     }
@@ -98,7 +98,7 @@ fn list<T: Copy>(rt: &impl Abort, alloc: Global, items: &[T]) -> Items<T> {
 fn is_reported_as(rt: &impl Abort, alloc: Global, report: &Report, text: &str) {
     let mut out = Vec::new(alloc);
     report_text(report, &mut out).expect(rt, "memory");
-    assert!(rt; out.as_slice() == text.as_bytes());
+    holds(rt, out.as_slice() == text.as_bytes());
 }
 
 /// The buffer B, with point 2 of the timeline a at every usage from `Write` on.
@@ -109,7 +109,7 @@ fn buffer_b(rt: &impl Abort, alloc: Global) -> BufferRows {
         shown(rt, Usage::Bookkeep, 2),
     ];
     BufferRows {
-        name: name(rt, "B"),
+        name: name(rt, b"B"),
         rows: list(rt, alloc, &rows),
     }
 }
@@ -117,8 +117,8 @@ fn buffer_b(rt: &impl Abort, alloc: Global) -> BufferRows {
 fn report_of_import(rt: &impl Abort, alloc: Global) -> Report {
     let buffers = Vec::from_array(alloc, [buffer_b(rt, alloc)]).expect(rt, "memory");
     Report {
-        timelines: list(rt, alloc, &[(name(rt, "a"), 0)]),
-        files: list(rt, alloc, &[file(rt, "f", Status::Active, 1)]),
+        timelines: list(rt, alloc, &[(name(rt, b"a"), 0)]),
+        files: list(rt, alloc, &[file(rt, b"f", Status::Active, 1)]),
         buffers: Items::of(buffers),
     }
 }
@@ -159,10 +159,10 @@ file     f                                                  1  64\n\
 
 #[test]
 fn files_are_reported(rt: HostRuntime) {
-    let timelines = [(name(&rt, "a"), 0)];
+    let timelines = [(name(&rt, b"a"), 0)];
     let files = [
-        file(&rt, "g", Status::Active, 1),
-        file(&rt, "f", Status::Signalled, 64),
+        file(&rt, b"g", Status::Active, 1),
+        file(&rt, b"f", Status::Signalled, 64),
     ];
     let report = report_without_buffers(&rt, rt.alloc(), &timelines, &files);
     is_reported_as(&rt, rt.alloc(), &report, REMADE);
@@ -208,5 +208,5 @@ fn clients_from_one_and_buffers_from_zero(rt: HostRuntime) {
     let settled = two_buffers(&rt, rt.alloc());
     let mut out = Vec::new(rt.alloc());
     settled_text(&settled, &mut out).expect(&rt, "memory");
-    assert!(rt; out.as_slice() == SETTLED.as_bytes());
+    holds(&rt, out.as_slice() == SETTLED.as_bytes());
 }
