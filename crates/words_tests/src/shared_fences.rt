@@ -34,7 +34,7 @@ fn add<R: Abort + Wait>(rt: &R, fence: &SharedFence, cookie: u64, wanted: Result
 /// Checks that a fence waits for the first context, which is at 0.
 fn check_pending(rt: &impl Abort, fence: &SharedFence, words: &Words, seat: &mut Seat)
     requires own { (words.now ≡ fence.now.words) × (seat.old.words ≡ words.now) }
-    ensures same { seat.new.words ≡ seat.old.words }
+    ensures same { (seat.new.words ≡ seat.old.words) × (seat.new.parts ≡ seat.old.parts) }
 {
     let Signal::NotYet { ctx, value } = fence.signal(words, seat) else {
         panic!(rt; "it was signalled")

@@ -194,6 +194,7 @@ fn a_second_driver(rt: HostRuntime) {
 /// Drives the first context to a value by a seat of one part, which is lost.
 pub(crate) fn drive_to(rt: &impl Abort, words: &Words, seat: &mut Seat, value: u64)
     requires own { (seat.old.words ≡ words.now) × (1 < seat.old.parts) }
+    requires context { 1 ≤ words.now.contexts }
     ensures own { seat.new.words ≡ words.now }
 {
     let driving = words.part(seat, 1);
