@@ -1,13 +1,9 @@
-//! Tests of fences, of their watches and callbacks, and of fences that threads share.
+//! Tests of fences and of their watches.
 #![tactic(auto)]
 
-#[cfg(test)]
-mod callbacks;
 #[cfg(test)]
 mod fences;
 #[cfg(test)]
 mod scan;
-#[cfg(test)]
-mod shared_fences;
 #[cfg(test)]
 mod watches;

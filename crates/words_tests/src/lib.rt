@@ -1,8 +1,6 @@
-//! Tests of words that threads share, and of sync files beside running timelines.
+//! Tests of words that threads share, of their seats and drivers, and of the board.
 #![tactic(auto)]
 
-#[cfg(test)]
-mod files;
 #[cfg(test)]
 mod threads;
 #[cfg(test)]

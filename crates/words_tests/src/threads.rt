@@ -22,7 +22,7 @@ fn is_advanced(words: &Words, looking: &mut Seat, ctx: Context) -> bool
 }
 
 /// Advances a context a thousand times by 1.
-pub(crate) fn drive_on(rt: &impl Abort, words: &Words, driver: &mut Driver)
+fn drive_on(rt: &impl Abort, words: &Words, driver: &mut Driver)
     requires own { driver.old.seat.words ≡ words.now }
     ensures own { driver.new.seat.words ≡ words.now }
 {

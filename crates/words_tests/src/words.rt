@@ -236,23 +236,19 @@ fn check_missing(rt: &impl Abort, seat: Seat) {
     assert!(rt; missing_from(seat) == PARTS - 1);
 }
 
-#[test]
-fn a_second_driver(rt: HostRuntime) {
-    let (words, mut one) = words_of(&rt, rt.alloc(), 1, 0, 0);
+/// Claims the first context by a seat, which is lost, and then asks for a second driver by another.
+fn claim_and_check(rt: &impl Abort, words: &Words, mut one: Seat)
+    requires own { (one.words ≡ words.now) × (1 < one.parts) × (words.now.contexts ≡ 1) }
+{
     let other = words.part(&mut one, 1);
-    drop(driver_of(&rt, &words, one, Context::at(0)));
-    check_claimed(&rt, &words, other);
+    drop(driver_of(rt, words, one, Context::at(0)));
+    check_claimed(rt, words, other);
 }
 
-/// Drives the first context to a value by a seat of one part, which is lost.
-pub(crate) fn drive_to(rt: &impl Abort, words: &Words, seat: &mut Seat, value: u64)
-    requires own { (seat.old.words ≡ words.now) × (1 < seat.old.parts) }
-    requires context { 1 ≤ words.now.contexts }
-    ensures own { seat.new.words ≡ words.now }
-{
-    let driving = words.part(seat, 1);
-    let mut driver = driver_of(rt, words, driving, Context::at(0));
-    assert!(rt; driver.inc(words, value) == Ok(value));
+#[test]
+fn a_second_driver(rt: HostRuntime) {
+    let (words, seat) = words_of(&rt, rt.alloc(), 1, 0, 0);
+    claim_and_check(&rt, &words, seat);
 }
 
 const EVERY_USAGE: [Usage; 4] = [Usage::Kernel, Usage::Write, Usage::Read, Usage::Bookkeep];

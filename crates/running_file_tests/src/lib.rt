@@ -1,0 +1,5 @@
+//! Tests of sync files beside running timelines.
+#![tactic(auto)]
+
+#[cfg(test)]
+mod files;
