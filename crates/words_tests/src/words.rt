@@ -9,7 +9,7 @@ use std::process::Abort;
 use words_core::{Driver, FLAGS, Once, PARTS, Seat, Whole, Words};
 
 /// Words of these numbers of contexts, buffers and flags, and their first seat.
-pub(crate) fn words_of(
+fn words_of(
     rt: &impl Abort,
     alloc: Global,
     contexts: usize,
@@ -23,7 +23,7 @@ pub(crate) fn words_of(
 }
 
 /// The driver of a context that was not claimed.
-pub(crate) fn driver_of(rt: &impl Abort, words: &Words, seat: Seat, ctx: Context) -> Driver
+fn driver_of(rt: &impl Abort, words: &Words, seat: Seat, ctx: Context) -> Driver
     requires own { seat.words ≡ words.now }
     requires context { ctx ≤ words.now.contexts }
     ensures own { result.seat.words ≡ words.now }
@@ -35,7 +35,7 @@ pub(crate) fn driver_of(rt: &impl Abort, words: &Words, seat: Seat, ctx: Context
 }
 
 /// The whole seat.
-pub(crate) fn whole_of(rt: &impl Abort, seat: Seat) -> Whole
+fn whole_of(rt: &impl Abort, seat: Seat) -> Whole
     ensures { result ≡ seat }
 {
     let Ok(whole) = seat.gather() else {

@@ -1,33 +1,13 @@
 // Sync files beside running timelines.
 ghost use Rattle.std.specs.Prelude.{◌≡◌, ◌<◌, ◌≤◌};
-ghost use Rattle.words_core.specs.declared.seat.TheConstants.{PARTS};
 
+use crate::threads::{drive_on, driver_of, words_of};
 use point_core::{Context, Floor, Name, Point, Reach, Refusal, Status};
 use std::alloc::Global;
 use std::process::Abort;
 use std::thread::{Threads, join};
 use syncfile_core::SyncFile;
-use words_core::{Driver, Seat, Words};
-
-/// Words of this number of contexts, and their first seat.
-fn words_of(rt: &impl Abort, alloc: Global, contexts: usize) -> (Words, Seat)
-    ensures contexts { result.0.contexts ≡ contexts }
-    ensures seat { (result.1.words ≡ result.0) × (result.1.parts ≡ PARTS) }
-{
-    Words::new(alloc, contexts, 0, 0).expect(rt, "words")
-}
-
-/// The driver of the first context, which was not claimed.
-fn driver_of(rt: &impl Abort, words: &Words, seat: Seat) -> Driver
-    requires own { seat.words ≡ words.now }
-    requires context { 1 ≤ words.now.contexts }
-    ensures own { result.seat.words ≡ words.now }
-{
-    let Ok(driver) = words.driver(seat, Context::at(0)) else {
-        panic!(rt; "the context was claimed")
-    };
-    driver
-}
+use words_core::{Seat, Words};
 
 /// Drives the first context to a value by a seat of one part, which is lost.
 fn drive_to(rt: &impl Abort, words: &Words, seat: &mut Seat, value: u64)
@@ -36,18 +16,8 @@ fn drive_to(rt: &impl Abort, words: &Words, seat: &mut Seat, value: u64)
     ensures own { seat.new.words ≡ words.now }
 {
     let driving = words.part(seat, 1);
-    let mut driver = driver_of(rt, words, driving);
+    let mut driver = driver_of(rt, words, driving, Context::at(0));
     assert!(rt; driver.inc(words, value) == Ok(value));
-}
-
-/// Advances a context a thousand times by 1.
-fn drive_on(rt: &impl Abort, words: &Words, driver: &mut Driver)
-    requires own { driver.old.seat.words ≡ words.now }
-    ensures own { driver.new.seat.words ≡ words.now }
-{
-    for _ in 0..1_000u32 {
-        driver.inc(words, 1).expect(rt, "an increment");
-    }
 }
 
 /// A file of one point of the context at a place.
@@ -230,7 +200,7 @@ fn poll_and_drive(rt: &impl Abort, alloc: Global, words: &Words, seat: &mut Seat
 
 #[test]
 fn files_of_two_contexts(rt: HostRuntime) {
-    let (words, mut seat) = words_of(&rt, rt.alloc(), 2);
+    let (words, mut seat) = words_of(&rt, rt.alloc(), 2, 0);
     poll_and_drive(&rt, rt.alloc(), &words, &mut seat);
 }
 
@@ -239,7 +209,7 @@ fn drive(rt: &impl Abort, words: &Words, driving: Seat)
     requires own { driving.words ≡ words.now }
     requires context { 1 ≤ words.now.contexts }
 {
-    let mut driver = driver_of(rt, words, driving);
+    let mut driver = driver_of(rt, words, driving, Context::at(0));
     drive_on(rt, words, &mut driver);
     assert!(rt; driver.value() == 1_000);
 }
@@ -290,6 +260,6 @@ fn wait_until_driven<R: Threads + Abort + Sync>(
 
 #[test]
 fn a_wait_ends_once_another_thread_has_driven(rt: HostRuntime) {
-    let (words, seat) = words_of(&rt, rt.alloc(), 1);
+    let (words, seat) = words_of(&rt, rt.alloc(), 1, 0);
     wait_until_driven(&rt, &plain(&rt, rt.alloc(), 0, 1_000), &words, seat);
 }

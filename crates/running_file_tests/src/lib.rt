@@ -1,5 +1,0 @@
-//! Tests of sync files beside running timelines.
-#![tactic(auto)]
-
-#[cfg(test)]
-mod files;
