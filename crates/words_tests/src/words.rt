@@ -9,7 +9,7 @@ use std::process::Abort;
 use words_core::{Driver, FLAGS, Once, PARTS, Seat, Whole, Words};
 
 /// Words of these numbers of contexts, buffers and flags, and their first seat.
-pub(crate) fn words_of(
+fn words_of(
     rt: &impl Abort,
     alloc: Global,
     contexts: usize,
@@ -23,7 +23,7 @@ pub(crate) fn words_of(
 }
 
 /// The driver of a context that was not claimed.
-pub(crate) fn driver_of(rt: &impl Abort, words: &Words, seat: Seat, ctx: Context) -> Driver
+fn driver_of(rt: &impl Abort, words: &Words, seat: Seat, ctx: Context) -> Driver
     requires own { seat.words ≡ words.now }
     requires context { ctx ≤ words.now.contexts }
     ensures own { result.seat.words ≡ words.now }
@@ -35,7 +35,7 @@ pub(crate) fn driver_of(rt: &impl Abort, words: &Words, seat: Seat, ctx: Context
 }
 
 /// The whole seat.
-pub(crate) fn whole_of(rt: &impl Abort, seat: Seat) -> Whole
+fn whole_of(rt: &impl Abort, seat: Seat) -> Whole
     ensures { result ≡ seat }
 {
     let Ok(whole) = seat.gather() else {
@@ -54,30 +54,48 @@ fn refusal_of(
 ) -> Option<Refusal> {
     match Words::new(alloc, contexts, buffers, flags) {
         Ok((words, seat)) => {
-            assert!(rt; words.contexts() == contexts && words.buffers() == buffers);
-            assert!(rt; words.flags() == flags && seat.parts() == PARTS);
+            check_sizes(rt, &words, contexts, buffers, flags);
+            assert!(rt; seat.parts() == PARTS);
             None
         }
         Err(refusal) => Some(refusal),
     }
 }
 
+fn check_sizes(rt: &impl Abort, words: &Words, contexts: usize, buffers: usize, flags: usize) {
+    assert!(rt; words.contexts() == contexts);
+    assert!(rt; words.buffers() == buffers);
+    assert!(rt; words.flags() == flags);
+}
+
+/// Checks which limit words of these sizes are refused by.
+fn check_limit(
+    rt: &impl Abort,
+    alloc: Global,
+    contexts: usize,
+    buffers: usize,
+    flags: usize,
+    wanted: Option<LimitKind>,
+) {
+    let refusal = refusal_of(rt, alloc, contexts, buffers, flags);
+    assert!(rt; refusal == wanted.map(Refusal::Limit));
+}
+
+fn check_refused(rt: &impl Abort, alloc: Global) {
+    check_limit(rt, alloc, 0, 0, 0, Some(LimitKind::Timelines));
+    check_limit(rt, alloc, CONTEXTS + 1, 0, 0, Some(LimitKind::Timelines));
+    check_limit(rt, alloc, 1, BUFFERS + 1, 0, Some(LimitKind::Buffers));
+    check_limit(rt, alloc, 1, 0, FLAGS + 1, Some(LimitKind::Flags));
+}
+
 #[test]
 fn sizes_of_words(rt: HostRuntime) {
-    for (contexts, buffers, flags, limit) in [
-        (0, 0, 0, Some(LimitKind::Timelines)),
-        (CONTEXTS + 1, 0, 0, Some(LimitKind::Timelines)),
-        (1, BUFFERS + 1, 0, Some(LimitKind::Buffers)),
-        (1, 0, FLAGS + 1, Some(LimitKind::Flags)),
-        (2, 1, 1, None),
-        (CONTEXTS, 0, 0, None),
-        (1, BUFFERS, 0, None),
-        (1, 0, FLAGS, None),
-        (CONTEXTS, BUFFERS, FLAGS, None),
-    ] {
-        let refusal = refusal_of(&rt, rt.alloc(), contexts, buffers, flags);
-        assert!(rt; refusal == limit.map(Refusal::Limit));
-    }
+    check_refused(&rt, rt.alloc());
+    check_limit(&rt, rt.alloc(), 2, 1, 1, None);
+    check_limit(&rt, rt.alloc(), CONTEXTS, 0, 0, None);
+    check_limit(&rt, rt.alloc(), 1, BUFFERS, 0, None);
+    check_limit(&rt, rt.alloc(), 1, 0, FLAGS, None);
+    check_limit(&rt, rt.alloc(), CONTEXTS, BUFFERS, FLAGS, None);
 }
 
 /// Advances a context, and checks the answer.
@@ -94,11 +112,27 @@ fn check_inc(
     assert!(rt; driver.inc(words, n) == wanted);
 }
 
+fn check_value(rt: &impl Abort, reach: &Reach, ctx: Context, wanted: u64) {
+    assert!(rt; reach.get(ctx) == wanted);
+}
+
 /// Checks that the second context alone is advanced.
 fn check_reach(rt: &impl Abort, reach: &Reach) {
-    for (index, value) in [(0, 0), (1, 7), (2, 0), (3, 0)] {
-        assert!(rt; reach.get(Context::at(index)) == value);
-    }
+    check_value(rt, reach, Context::at(0), 0);
+    check_value(rt, reach, Context::at(1), 7);
+    check_value(rt, reach, Context::at(2), 0);
+    check_value(rt, reach, Context::at(3), 0);
+}
+
+/// Advances a context to 7.
+fn advance_to_seven(rt: &impl Abort, words: &Words, driver: &mut Driver)
+    requires own { driver.old.seat.words ≡ words.now }
+    ensures own { driver.new.seat.words ≡ words.now }
+{
+    check_inc(rt, words, driver, 5, Ok(5));
+    check_inc(rt, words, driver, u64::MAX, Err(Refusal::Overflow));
+    check_inc(rt, words, driver, 2, Ok(7));
+    assert!(rt; driver.value() == 7);
 }
 
 /// Advances the second context of three, and loads its value by another seat.
@@ -108,10 +142,7 @@ fn advance(rt: &impl Abort, words: &Words, driver: &mut Driver, looking: &mut Se
     ensures own { driver.new.seat.words ≡ words.now }
     ensures same { (looking.new.words ≡ words.now) × (looking.new.parts ≡ looking.old.parts) }
 {
-    check_inc(rt, words, driver, 5, Ok(5));
-    check_inc(rt, words, driver, u64::MAX, Err(Refusal::Overflow));
-    check_inc(rt, words, driver, 2, Ok(7));
-    assert!(rt; driver.value() == 7);
+    advance_to_seven(rt, words, driver);
     assert!(rt; words.load(looking, Context::at(1)) == 7);
     check_reach(rt, &words.load_all(looking));
 }
@@ -140,28 +171,41 @@ fn set_twice(words: &Words, seat: &mut Seat, flag: usize) -> (Once, Once)
     (first, words.set_once(seat, flag))
 }
 
-/// Sets the second of three flags.
-fn set_second(rt: &impl Abort, words: &Words, seat: &mut Seat)
-    requires own { (seat.old.words ≡ words.now) × (words.now.flags ≡ 3) }
-    ensures same { (seat.new.words ≡ words.now) × (seat.new.parts ≡ seat.old.parts) }
-{
-    let (first, again) = set_twice(words, seat, 1);
+/// Checks that a flag, the second, was set by the first call and not again.
+fn check_answers(rt: &impl Abort, first: &Once, again: &Once) {
     let Once::First(won) = first else {
         panic!(rt; "the flag was set")
     };
     assert!(rt; won.flag() == 1 && matches!(again, Once::Already));
 }
 
-/// Checks the values of three contexts, and three flags, of which the second is not 0 and set.
-fn check_seconds(rt: &impl Abort, words: &Words, whole: &mut Whole)
+/// Sets the second of three flags.
+fn set_second(rt: &impl Abort, words: &Words, seat: &mut Seat)
+    requires own { (seat.old.words ≡ words.now) × (words.now.flags ≡ 3) }
+    ensures same { (seat.new.words ≡ words.now) × (seat.new.parts ≡ seat.old.parts) }
+{
+    let (first, again) = set_twice(words, seat, 1);
+    check_answers(rt, &first, &again);
+}
+
+/// Checks the values of three contexts, of which the second is not 0.
+fn check_values(rt: &impl Abort, words: &Words, whole: &mut Whole)
     requires own { whole.old.words ≡ words.now }
-    requires sizes { (words.now.contexts ≡ 3) × (words.now.flags ≡ 3) }
+    requires contexts { words.now.contexts ≡ 3 }
     ensures same { whole.new.words ≡ words.now }
 {
     let first = whole.value(words, Context::at(0));
     let second = whole.value(words, Context::at(1));
     let third = whole.value(words, Context::at(2));
     assert!(rt; first == 0 && second == 7 && third == 0);
+}
+
+/// Checks three flags, of which the second is set.
+fn check_flags(rt: &impl Abort, words: &Words, whole: &mut Whole)
+    requires own { whole.old.words ≡ words.now }
+    requires flags { words.now.flags ≡ 3 }
+    ensures same { whole.new.words ≡ words.now }
+{
     let before = whole.flag(words, 0);
     let is_set = whole.flag(words, 1);
     let after = whole.flag(words, 2);
@@ -172,33 +216,39 @@ fn check_seconds(rt: &impl Abort, words: &Words, whole: &mut Whole)
 fn check_claimed(rt: &impl Abort, words: &Words, seat: Seat)
     requires own { (seat.words ≡ words.now) × (words.now.contexts ≡ 1) }
 {
-    let Err((refusal, seat)) = words.driver(seat, Context::at(0)) else {
+    let Err((Refusal::Exists, seat)) = words.driver(seat, Context::at(0)) else {
         panic!(rt; "there were two drivers")
     };
-    assert!(rt; refusal == Refusal::Exists && seat.parts() == 1);
-    let missing = match seat.gather() {
+    assert!(rt; seat.parts() == 1);
+    check_missing(rt, seat);
+}
+
+/// How many parts a seat lacks.
+fn missing_from(seat: Seat) -> u32 {
+    match seat.gather() {
         Ok(_) => 0,
         Err((_, missing)) => missing,
-    };
-    assert!(rt; missing == PARTS - 1);
+    }
+}
+
+/// Checks that a seat has one part alone.
+fn check_missing(rt: &impl Abort, seat: Seat) {
+    assert!(rt; missing_from(seat) == PARTS - 1);
+}
+
+/// Claims the first context by a seat, which is lost, and then asks for a second driver by another.
+fn claim_and_check(rt: &impl Abort, words: &Words, mut one: Seat)
+    requires own { (one.words ≡ words.now) × (1 < one.parts) × (words.now.contexts ≡ 1) }
+{
+    let other = words.part(&mut one, 1);
+    drop(driver_of(rt, words, one, Context::at(0)));
+    check_claimed(rt, words, other);
 }
 
 #[test]
 fn a_second_driver(rt: HostRuntime) {
-    let (words, mut one) = words_of(&rt, rt.alloc(), 1, 0, 0);
-    let other = words.part(&mut one, 1);
-    drop(driver_of(&rt, &words, one, Context::at(0)));
-    check_claimed(&rt, &words, other);
-}
-
-/// Drives the first context to a value by a seat of one part, which is lost.
-pub(crate) fn drive_to(rt: &impl Abort, words: &Words, seat: &mut Seat, value: u64)
-    requires own { (seat.old.words ≡ words.now) × (1 < seat.old.parts) }
-    ensures own { seat.new.words ≡ words.now }
-{
-    let driving = words.part(seat, 1);
-    let mut driver = driver_of(rt, words, driving, Context::at(0));
-    assert!(rt; driver.inc(words, value) == Ok(value));
+    let (words, seat) = words_of(&rt, rt.alloc(), 1, 0, 0);
+    claim_and_check(&rt, &words, seat);
 }
 
 const EVERY_USAGE: [Usage; 4] = [Usage::Kernel, Usage::Write, Usage::Read, Usage::Bookkeep];
@@ -295,14 +345,32 @@ fn raise_by_one(rt: &impl Abort, words: &Words, one: &mut Seat)
     words.join(one, other);
 }
 
+/// Drives a context, sets a flag and raises entries.
+fn make_steps(rt: &impl Abort, words: &Words, seat: &mut Seat)
+    requires own { (seat.old.words ≡ words.now) × (seat.old.parts ≡ PARTS) }
+    requires sizes { (words.now.contexts ≡ 3) × (words.now.buffers ≡ 2) × (words.now.flags ≡ 3) }
+    ensures own { seat.new.words ≡ words.now }
+{
+    drive_apart(rt, words, seat);
+    set_second(rt, words, seat);
+    raise_by_one(rt, words, seat);
+}
+
+/// Checks what those steps have come to.
+fn check_steps(rt: &impl Abort, words: &Words, whole: &mut Whole)
+    requires own { whole.old.words ≡ words.now }
+    requires sizes { (words.now.contexts ≡ 3) × (words.now.buffers ≡ 2) × (words.now.flags ≡ 3) }
+{
+    check_all(rt, words, whole);
+    check_values(rt, words, whole);
+    check_flags(rt, words, whole);
+}
+
 #[test]
 fn steps_of_seats(rt: HostRuntime) {
     let (words, mut seat) = words_of(&rt, rt.alloc(), 3, 2, 3);
-    drive_apart(&rt, &words, &mut seat);
-    set_second(&rt, &words, &mut seat);
-    raise_by_one(&rt, &words, &mut seat);
+    make_steps(&rt, &words, &mut seat);
     let mut whole = whole_of(&rt, seat);
-    check_all(&rt, &words, &mut whole);
-    check_seconds(&rt, &words, &mut whole);
+    check_steps(&rt, &words, &mut whole);
     assert!(rt; whole.seat().parts() == PARTS);
 }

@@ -147,9 +147,17 @@ fn make(rt: &impl Abort, alloc: Global, watching: &mut Watching, call: &Call<'_>
             add(rt, alloc, watching, cookie, points, values, wanted);
         }
         Call::Rise(values, wanted) => rise(rt, watching, values, wanted),
-        Call::Remove(cookie, wanted) => assert!(rt; watching.remove(cookie) == wanted),
-        Call::Free(cookie, wanted) => assert!(rt; watching.free(cookie).is_ok() == wanted),
+        Call::Remove(cookie, wanted) => remove(rt, watching, cookie, wanted),
+        Call::Free(cookie, wanted) => check_free(rt, watching, cookie, wanted),
     }
+}
+
+fn remove(rt: &impl Abort, watching: &mut Watching, cookie: u64, wanted: bool) {
+    assert!(rt; watching.remove(cookie) == wanted);
+}
+
+fn check_free(rt: &impl Abort, watching: &Watching, cookie: u64, wanted: bool) {
+    assert!(rt; watching.free(cookie).is_ok() == wanted);
 }
 
 fn add(
@@ -216,11 +224,15 @@ const OF_FULL: [Call<'static>; 5] = [
     Call::Add(17, (1, 0), (1, 0), LIMIT),
 ];
 
-/// Checks that all of them fire, the last that was registered after the others.
-fn fire_all(rt: &impl Abort, watching: &mut Watching) {
-    let fired = watching.rise(rt, &reach_of(1, 0)).expect(rt, "a rise");
+/// Checks that these are all of them, the last that was registered after the others.
+fn check_fired(rt: &impl Abort, fired: &[u64]) {
     assert!(rt; fired.len() == WATCHES);
     assert!(rt; fired[0] == 1 && fired[WATCHES - 1] == LAST + 1);
+}
+
+fn fire_all(rt: &impl Abort, watching: &mut Watching) {
+    let fired = watching.rise(rt, &reach_of(1, 0)).expect(rt, "a rise");
+    check_fired(rt, fired.as_slice());
 }
 
 fn fill_and_fire(rt: &impl Abort, alloc: Global, watching: &mut Watching) {

@@ -1,6 +1,7 @@
 // Watches beside a plain list of them, which is gone through at each rise.
 use crate::fences::{fence_of, reach_of};
 use crate::watches::Watching;
+use fence_core::Fence;
 use point_core::{Context, Point, Refusal};
 use std::alloc::Global;
 use std::process::Abort;
@@ -51,11 +52,43 @@ impl Plain {
         Ok(())
     }
 
+    /// Takes in a watch that was registered at those values.
+    fn add(&mut self, rt: &impl Abort, watch: Waiting, first: u64, second: u64) {
+        self.pending.push(watch).expect(rt, "memory");
+        self.first = first;
+        self.second = second;
+    }
+
+    fn remove(&mut self, cookie: u64) {
+        self.pending.retain(|held| held.cookie != cookie);
+    }
+
     /// Takes out the watches that fire at those values.
     fn rise_to(&mut self, first: u64, second: u64) {
         self.pending.retain(|held| !held.is_reached(first, second));
         self.first = first;
         self.second = second;
+    }
+}
+
+/// Registers the watch on the fence in both, at those values, unless memory is refused.
+fn register_on(
+    rt: &impl Abort,
+    fence: &Fence,
+    watching: &mut Watching,
+    plain: &mut Plain,
+    watch: Waiting,
+    first: u64,
+    second: u64,
+) {
+    let wanted = plain.answer_to(&watch, watch.is_reached(first, second));
+    let answer = watching.add(rt, watch.cookie, fence, &reach_of(first, second));
+    if answer == Err(Refusal::Memory) {
+        return;
+    }
+    assert!(rt; answer == wanted);
+    if answer.is_ok() {
+        plain.add(rt, watch, first, second);
     }
 }
 
@@ -69,19 +102,8 @@ fn register(
     first: u64,
     second: u64,
 ) {
-    let wanted = plain.answer_to(&watch, watch.is_reached(first, second));
-    let Ok(fence) = fence_of(alloc, watch.first, watch.second) else {
-        return;
-    };
-    let answer = watching.add(rt, watch.cookie, &fence, &reach_of(first, second));
-    if answer == Err(Refusal::Memory) {
-        return;
-    }
-    assert!(rt; answer == wanted);
-    if answer.is_ok() {
-        plain.pending.push(watch).expect(rt, "memory");
-        plain.first = first;
-        plain.second = second;
+    if let Ok(fence) = fence_of(alloc, watch.first, watch.second) {
+        register_on(rt, &fence, watching, plain, watch, first, second);
     }
 }
 
@@ -90,7 +112,7 @@ fn unregister(rt: &impl Abort, watching: &mut Watching, plain: &mut Plain, cooki
     let wanted = plain.has(cookie);
     assert!(rt; watching.free(cookie).is_ok() != wanted);
     assert!(rt; watching.remove(cookie) == wanted);
-    plain.pending.retain(|held| held.cookie != cookie);
+    plain.remove(cookie);
 }
 
 /// Brings both to those values, and compares what fires.
@@ -181,10 +203,15 @@ fn steps(rt: &impl Abort, alloc: Global, watching: &mut Watching, plain: &mut Pl
     }
 }
 
+/// Makes steps of new watches beside the list.
+fn run(rt: &impl Abort, alloc: Global, plain: &mut Plain) {
+    let mut watching = Watching::new(rt, alloc);
+    steps(rt, alloc, &mut watching, plain);
+}
+
 // The same watches fire in the same order, and the same are refused.
 #[test]
 fn a_plain_list_of_watches(rt: HostRuntime) {
     let mut plain = Plain::new(&rt, rt.alloc());
-    let mut watching = Watching::new(&rt, rt.alloc());
-    steps(&rt, rt.alloc(), &mut watching, &mut plain);
+    run(&rt, rt.alloc(), &mut plain);
 }

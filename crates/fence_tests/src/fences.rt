@@ -58,14 +58,25 @@ fn kind_of(fence: &Fence) -> usize {
     }
 }
 
-/// Checks of which kind a fence of these points is, what it lists, and when it is signalled.
+/// Checks of which kind a fence is, and what it lists.
+fn check_members(rt: &impl Abort, fence: &Fence, members: &[Point]) {
+    assert!(rt; kind_of(fence) == members.len());
+    assert!(rt; fence.members() == members);
+}
+
+/// Checks when a fence of these points is signalled.
+fn check_reached(rt: &impl Abort, fence: &Fence, first: u64, second: u64) {
+    check_signalled(rt, fence, 0, 0, first == 0 && second == 0);
+    check_signalled(rt, fence, 5, 0, first <= 5 && second == 0);
+    check_signalled(rt, fence, 0, 2, first == 0 && second <= 2);
+    check_signalled(rt, fence, 5, 2, first <= 5 && second <= 2);
+}
+
+/// Checks a fence of these points.
 fn check_fence(rt: &impl Abort, alloc: Global, first: u64, second: u64, members: &[Point]) {
     let fence = fence_of(alloc, first, second).expect(rt, "a fence");
-    assert!(rt; kind_of(&fence) == members.len());
-    assert!(rt; fence.members() == members);
-    for (one, other) in [(0, 0), (5, 0), (0, 2), (5, 2)] {
-        check_signalled(rt, &fence, one, other, one >= first && other >= second);
-    }
+    check_members(rt, &fence, members);
+    check_reached(rt, &fence, first, second);
 }
 
 #[test]

@@ -5,13 +5,18 @@ use std::process::Abort;
 
 const LAST: u64 = CALLBACKS as u64;
 
+/// Adds a callback, and checks the answer.
+fn add(rt: &impl Abort, list: &mut CallbackList, cookie: u64, wanted: Result<(), Refusal>) {
+    assert!(rt; list.add(cookie) == wanted);
+}
+
 /// Adds as many callbacks as there can be, with the cookies from 1 on.
 fn fill(rt: &impl Abort, list: &mut CallbackList) {
     for cookie in 1..=LAST {
-        list.add(cookie).expect(rt, "a callback");
+        add(rt, list, cookie, Ok(()));
     }
-    assert!(rt; list.add(5) == Err(Refusal::Exists));
-    assert!(rt; list.add(LAST + 1) == Err(Refusal::Limit(LimitKind::Watches)));
+    add(rt, list, 5, Err(Refusal::Exists));
+    add(rt, list, LAST + 1, Err(Refusal::Limit(LimitKind::Watches)));
 }
 
 /// Checks that the cookies are those from 1 on.
@@ -27,7 +32,7 @@ fn check(rt: &impl Abort, cookies: &[u64]) {
 /// Takes the callbacks, which are then taken for good.
 fn take(rt: &impl Abort, list: &mut CallbackList) {
     check(rt, list.take().as_slice());
-    assert!(rt; list.add(5) == Err(Refusal::Signalled));
+    add(rt, list, 5, Err(Refusal::Signalled));
     assert!(rt; list.take().is_empty());
 }
 

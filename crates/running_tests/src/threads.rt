@@ -1,11 +1,47 @@
 // Words on two threads.
 ghost use Rattle.std.specs.Prelude.{◌≡◌, ◌+◌, ◌<◌, ◌≤◌};
+ghost use Rattle.words_core.specs.declared.seat.TheConstants.{PARTS};
 
-use crate::words::{driver_of, whole_of, words_of};
 use point_core::{Context, Usage};
+use std::alloc::Global;
 use std::process::Abort;
 use std::thread::{Threads, join};
 use words_core::{Driver, Seat, Whole, Words};
+
+/// Words of these numbers of contexts and buffers, and their first seat.
+pub(crate) fn words_of(
+    rt: &impl Abort,
+    alloc: Global,
+    contexts: usize,
+    buffers: usize,
+) -> (Words, Seat)
+    ensures sizes { (result.0.contexts ≡ contexts) × (result.0.buffers ≡ buffers) }
+    ensures seat { (result.1.words ≡ result.0) × (result.1.parts ≡ PARTS) }
+{
+    Words::new(alloc, contexts, buffers, 0).expect(rt, "words")
+}
+
+/// The driver of a context that was not claimed.
+pub(crate) fn driver_of(rt: &impl Abort, words: &Words, seat: Seat, ctx: Context) -> Driver
+    requires own { seat.words ≡ words.now }
+    requires context { ctx ≤ words.now.contexts }
+    ensures own { result.seat.words ≡ words.now }
+{
+    let Ok(driver) = words.driver(seat, ctx) else {
+        panic!(rt; "the context was claimed")
+    };
+    driver
+}
+
+/// The whole seat.
+fn whole_of(rt: &impl Abort, seat: Seat) -> Whole
+    ensures { result ≡ seat }
+{
+    let Ok(whole) = seat.gather() else {
+        panic!(rt; "a part was missing")
+    };
+    whole
+}
 
 /// Whether a context is advanced before so many loads have found it at 0.
 fn is_advanced(words: &Words, looking: &mut Seat, ctx: Context) -> bool
@@ -31,7 +67,27 @@ pub(crate) fn drive_on(rt: &impl Abort, words: &Words, driver: &mut Driver)
     }
 }
 
-/// Drives one context, and goes on once the other has been advanced. It takes both seats, and gives them back as one.
+/// Advances one context, and drives it on once the other has been advanced.
+fn drive_beside(
+    rt: &impl Abort,
+    words: &Words,
+    driver: &mut Driver,
+    looking: &mut Seat,
+    other: Context,
+)
+    requires own { (driver.old.seat.words ≡ words.now) × (looking.old.words ≡ words.now) }
+    requires context { other ≤ words.now.contexts }
+    ensures own { (driver.new.seat.words ≡ words.now) × (looking.new.words ≡ words.now) }
+{
+    assert!(rt; driver.inc(words, 1) == Ok(1));
+    assert!(rt;
+        is_advanced(words, looking, other),
+        "the threads did not meet"
+    );
+    drive_on(rt, words, driver);
+}
+
+/// Drives one context beside the other. It takes both seats, and gives them back as one.
 fn drive(
     rt: &impl Abort,
     words: &Words,
@@ -45,12 +101,7 @@ fn drive(
     ensures own { result.words ≡ words.now }
 {
     let mut driver = driver_of(rt, words, driving, mine);
-    assert!(rt; driver.inc(words, 1) == Ok(1));
-    assert!(rt;
-        is_advanced(words, &mut looking, other),
-        "the threads did not meet"
-    );
-    drive_on(rt, words, &mut driver);
+    drive_beside(rt, words, &mut driver, &mut looking, other);
     words.join(&mut looking, driver.finish());
     looking
 }
@@ -139,11 +190,20 @@ fn check_both(rt: &impl Abort, words: &Words, whole: &mut Whole)
     assert!(rt; first == 1_001 && second == 1_001 && top == 1_999_999);
 }
 
+/// Drives and raises on two threads, and checks the entry that both have raised.
+fn drive_and_raise<R: Threads + Abort + Sync>(rt: &R, words: &Words, all: &mut Seat)
+    requires own { (all.old.words ≡ words.now) × (8 < all.old.parts) }
+    requires sizes { (2 ≤ words.now.contexts) × (1 ≤ words.now.buffers) }
+    ensures own { all.new.words ≡ words.now }
+{
+    drive_both(rt, words, all);
+    raise_by_both(rt, words, all);
+    assert!(rt; words.shown(all, 0, Context::at(0), Usage::Write) == 1_999_999);
+}
+
 #[test]
 fn two_threads_drive_and_raise(rt: HostRuntime) {
-    let (words, mut all) = words_of(&rt, rt.alloc(), 2, 1, 0);
-    drive_both(&rt, &words, &mut all);
-    raise_by_both(&rt, &words, &mut all);
-    assert!(rt; words.shown(&mut all, 0, Context::at(0), Usage::Write) == 1_999_999);
+    let (words, mut all) = words_of(&rt, rt.alloc(), 2, 1);
+    drive_and_raise(&rt, &words, &mut all);
     check_both(&rt, &words, &mut whole_of(&rt, all));
 }

@@ -1,8 +1,8 @@
 // Fences that threads share.
 ghost use Rattle.std.specs.Prelude.{◌≡◌, ◌+◌, ◌<◌, ◌≤◌};
 ghost use Rattle.fence_core.specs.SharedFence.{token_of};
+ghost use Rattle.words_core.specs.declared.seat.TheConstants.{PARTS};
 
-use crate::words::{drive_to, words_of};
 use fence_core::{SharedFence, Signal};
 use point_core::{Context, Point, Refusal};
 use std::alloc::Global;
@@ -10,6 +10,25 @@ use std::process::Abort;
 use std::sync::Wait;
 use std::thread::{Threads, join};
 use words_core::{Seat, Won, Words};
+
+/// Words of one context and two flags, and their first seat.
+fn words_of(rt: &impl Abort, alloc: Global) -> (Words, Seat)
+    ensures sizes { (result.0.contexts ≡ 1) × (result.0.flags ≡ 2) }
+    ensures seat { (result.1.words ≡ result.0) × (result.1.parts ≡ PARTS) }
+{
+    Words::new(alloc, 1, 0, 2).expect(rt, "words")
+}
+
+/// Drives the first context to 2 by a seat of one part, which is lost.
+fn drive(rt: &impl Abort, words: &Words, seat: Seat)
+    requires own { seat.words ≡ words.now }
+    requires context { 1 ≤ words.now.contexts }
+{
+    let Ok(mut driver) = words.driver(seat, Context::at(0)) else {
+        panic!(rt; "the context was claimed")
+    };
+    assert!(rt; driver.inc(words, 2) == Ok(2));
+}
 
 /// A fence of a point of the first context.
 fn shared_fence_of(
@@ -31,15 +50,17 @@ fn add<R: Abort + Wait>(rt: &R, fence: &SharedFence, cookie: u64, wanted: Result
     assert!(rt; fence.add_callback(rt, cookie) == wanted);
 }
 
-/// Checks that a fence waits for the first context, which is at 0.
+/// Whether a fence waits for the first context, which is at 0.
+fn is_pending(signal: &Signal) -> bool {
+    matches!(*signal, Signal::NotYet { ctx, value } if ctx == Context::at(0) && value == 0)
+}
+
+/// Checks that a fence waits for the first context.
 fn check_pending(rt: &impl Abort, fence: &SharedFence, words: &Words, seat: &mut Seat)
     requires own { (words.now ≡ fence.now.words) × (seat.old.words ≡ words.now) }
-    ensures same { seat.new.words ≡ seat.old.words }
+    ensures same { (seat.new.words ≡ seat.old.words) × (seat.new.parts ≡ seat.old.parts) }
 {
-    let Signal::NotYet { ctx, value } = fence.signal(words, seat) else {
-        panic!(rt; "it was signalled")
-    };
-    assert!(rt; ctx == Context::at(0) && value == 0);
+    assert!(rt; is_pending(&fence.signal(words, seat)));
 }
 
 /// Signals a fence, which no other call has done.
@@ -82,15 +103,24 @@ fn signal_again<R: Abort + Wait>(rt: &R, fence: &SharedFence, words: &Words, sea
     add(rt, fence, 9, Err(Refusal::Signalled));
 }
 
-/// Drives the first context to the point 2 of a fence, which is then signalled.
+/// Drives the first context to the point of a pending fence, which is then signalled.
+fn signal_once_driven<R: Abort + Wait>(rt: &R, fence: &SharedFence, words: &Words, seat: &mut Seat)
+    requires own { (words.now ≡ fence.now.words) × (seat.old.words ≡ words.now) }
+    requires parts { 1 < seat.old.parts }
+    requires context { 1 ≤ words.now.contexts }
+{
+    check_pending(rt, fence, words, seat);
+    drive(rt, words, words.part(seat, 1));
+    signal_again(rt, fence, words, seat);
+}
+
+/// Signals a fence of the point 2 of the first context.
 fn signal_in_turn<R: Abort + Wait>(rt: &R, alloc: Global, words: &Words, seat: &mut Seat)
     requires own { (seat.old.words ≡ words.now) × (1 < seat.old.parts) }
     requires sizes { (words.now.contexts ≡ 1) × (words.now.flags ≡ 2) }
 {
     let fence = shared_fence_of(rt, alloc, words, 0, 2);
-    check_pending(rt, &fence, words, seat);
-    drive_to(rt, words, seat, 2);
-    signal_again(rt, &fence, words, seat);
+    signal_once_driven(rt, &fence, words, seat);
 }
 
 /// Checks that a fence of a context past those of the words is refused.
@@ -161,20 +191,44 @@ fn signal_four_times<R: Threads + Wait + Sync>(
     [one, two, three, four]
 }
 
+/// Whether an answer has these callbacks.
+fn has(answer: &Answer, cookies: &[u64]) -> bool {
+    matches!(answer, Ok(given) if given.as_slice() == cookies)
+}
+
+fn is_already(answer: &Answer) -> bool {
+    matches!(answer, Err(Signal::Already))
+}
+
 /// Whether one of the answers alone has these callbacks, and each other found the flag set.
 fn is_handed_out_once(answers: &[Answer], cookies: &[u64]) -> bool {
-    let first = answers
-        .iter()
-        .filter(|answer| matches!(answer, Ok(given) if given.as_slice() == cookies))
-        .count();
-    let already = answers
-        .iter()
-        .filter(|answer| matches!(answer, Err(Signal::Already)))
-        .count();
-    first == 1 && already + 1 == answers.len()
+    let mut first = 0usize;
+    let mut already = 1usize;
+    for answer in answers {
+        first = first.saturating_add(usize::from(has(answer, cookies)));
+        already = already.saturating_add(usize::from(is_already(answer)));
+    }
+    first == 1 && already == answers.len()
 }
 
 /// Signals a fence with two callbacks on four threads, of which one alone has both.
+fn signal_and_count<R: Threads + Wait + Abort + Sync>(
+    rt: &R,
+    fence: &SharedFence,
+    words: &Words,
+    seat: &mut Seat,
+)
+    requires own { (words.now ≡ fence.now.words) × (seat.old.words ≡ words.now) }
+    requires parts { 4 < seat.old.parts }
+    ensures own { (seat.new.words ≡ words.now) × (seat.old.parts ≤ seat.new.parts + 4) }
+{
+    add(rt, fence, 7, Ok(()));
+    add(rt, fence, 8, Ok(()));
+    let answers = signal_four_times(rt, fence, words, seat);
+    assert!(rt; is_handed_out_once(&answers, &[7, 8]));
+}
+
+/// Signals a fence of no point on four threads.
 fn signal_at_once<R: Threads + Wait + Abort + Sync>(
     rt: &R,
     alloc: Global,
@@ -186,15 +240,12 @@ fn signal_at_once<R: Threads + Wait + Abort + Sync>(
     ensures own { (seat.new.words ≡ words.now) × (seat.old.parts ≤ seat.new.parts + 4) }
 {
     let fence = shared_fence_of(rt, alloc, words, 1, 0);
-    add(rt, &fence, 7, Ok(()));
-    add(rt, &fence, 8, Ok(()));
-    let answers = signal_four_times(rt, &fence, words, seat);
-    assert!(rt; is_handed_out_once(&answers, &[7, 8]));
+    signal_and_count(rt, &fence, words, seat);
 }
 
 #[test]
 fn fences_are_signalled_once(rt: HostRuntime) {
-    let (words, mut seat) = words_of(&rt, rt.alloc(), 1, 0, 2);
+    let (words, mut seat) = words_of(&rt, rt.alloc());
     check_foreign(&rt, rt.alloc(), &words);
     signal_at_once(&rt, rt.alloc(), &words, &mut seat);
     signal_in_turn(&rt, rt.alloc(), &words, &mut seat);

@@ -1,15 +1,24 @@
 // Sync files beside running timelines.
 ghost use Rattle.std.specs.Prelude.{◌≡◌, ◌<◌, ◌≤◌};
 
-use crate::fences::reach_of;
-use crate::threads::drive_on;
-use crate::words::{drive_to, driver_of, words_of};
-use point_core::{Context, Floor, Name, Point, Refusal, Status};
+use crate::threads::{drive_on, driver_of, words_of};
+use point_core::{Context, Floor, Name, Point, Reach, Refusal, Status};
 use std::alloc::Global;
 use std::process::Abort;
 use std::thread::{Threads, join};
 use syncfile_core::SyncFile;
 use words_core::{Seat, Words};
+
+/// Drives the first context to a value by a seat of one part, which is lost.
+fn drive_to(rt: &impl Abort, words: &Words, seat: &mut Seat, value: u64)
+    requires own { (seat.old.words ≡ words.now) × (1 < seat.old.parts) }
+    requires context { 1 ≤ words.now.contexts }
+    ensures own { seat.new.words ≡ words.now }
+{
+    let driving = words.part(seat, 1);
+    let mut driver = driver_of(rt, words, driving, Context::at(0));
+    assert!(rt; driver.inc(words, value) == Ok(value));
+}
 
 /// A file of one point of the context at a place.
 fn plain(rt: &impl Abort, alloc: Global, place: usize, value: u64) -> SyncFile
@@ -18,6 +27,16 @@ fn plain(rt: &impl Abort, alloc: Global, place: usize, value: u64) -> SyncFile
     let name = Name::read(b"f").expect(rt, "a name");
     let ctx = Context::at(place);
     SyncFile::plain(alloc, name, Point { ctx, value }).expect(rt, "a file")
+}
+
+/// What is reached where the first context is at 5, and the others at 0.
+fn reached() -> Reach {
+    let mut reach = Reach::zero();
+    reach.raise_to(Point {
+        ctx: Context::at(0),
+        value: 5,
+    });
+    reach
 }
 
 /// Merges two files, of which the first is signalled.
@@ -40,14 +59,31 @@ fn merge_pending(
         words,
         seat,
     ).expect(rt, "a file");
-    check_merged(rt, &merged, pending);
-    check_poll(rt, &merged, words, seat, Ok(Status::Active));
+    check_merged(rt, &merged, pending, words, seat);
 }
 
-/// Checks that a merged file lists what is pending, and that its floor is what was loaded.
-fn check_merged(rt: &impl Abort, merged: &SyncFile, pending: &SyncFile) {
-    assert!(rt; merged.points.as_slice() == pending.points.as_slice());
-    assert!(rt; merged.floor.to_reach() == reach_of(5, 0));
+/// Checks that a merged file lists what is pending, that its floor is what was loaded, and that it is active.
+fn check_merged(
+    rt: &impl Abort,
+    merged: &SyncFile,
+    pending: &SyncFile,
+    words: &Words,
+    seat: &mut Seat,
+)
+    requires own { seat.old.words ≡ words.now }
+    ensures same { seat.new.words ≡ words.now }
+{
+    check_points(rt, merged.points.as_slice(), pending.points.as_slice());
+    check_floor(rt, &merged.floor);
+    check_poll(rt, merged, words, seat, Ok(Status::Active));
+}
+
+fn check_points(rt: &impl Abort, points: &[Point], wanted: &[Point]) {
+    assert!(rt; points == wanted);
+}
+
+fn check_floor(rt: &impl Abort, floor: &Floor) {
+    assert!(rt; floor.to_reach() == reached());
 }
 
 /// Polls a file, and checks the answer.
@@ -95,21 +131,52 @@ fn wait_for_both(
     check_wait(rt, signalled, words, seat, 1, Ok(()));
 }
 
-/// Merges, polls and waits for both.
-fn check_both(rt: &impl Abort, alloc: Global, words: &Words, seat: &mut Seat)
+/// Merges, polls and waits for a signalled file and one that is pending.
+fn check_both(
+    rt: &impl Abort,
+    alloc: Global,
+    signalled: &SyncFile,
+    pending: &SyncFile,
+    words: &Words,
+    seat: &mut Seat,
+)
     requires own { seat.old.words ≡ words.now }
 {
-    let signalled = plain(rt, alloc, 0, 5);
+    merge_pending(rt, alloc, signalled, pending, words, seat);
+    wait_for_both(rt, signalled, pending, words, seat);
+}
+
+/// Makes a pending file, and checks it beside a signalled one.
+fn check_beside(
+    rt: &impl Abort,
+    alloc: Global,
+    signalled: &SyncFile,
+    words: &Words,
+    seat: &mut Seat,
+)
+    requires own { seat.old.words ≡ words.now }
+{
     let pending = plain(rt, alloc, 1, 2);
-    merge_pending(rt, alloc, &signalled, &pending, words, seat);
-    wait_for_both(rt, &signalled, &pending, words, seat);
+    check_both(rt, alloc, signalled, &pending, words, seat);
+}
+
+fn floor_of(rt: &impl Abort, alloc: Global, reach: &Reach) -> Floor {
+    Floor::of(alloc, reach).expect(rt, "a floor")
 }
 
 /// A file whose floor is above the values of its words.
 fn above(rt: &impl Abort, alloc: Global) -> SyncFile {
     let mut file = plain(rt, alloc, 1, 2);
-    file.floor = Floor::of(alloc, &reach_of(5, 0)).expect(rt, "a floor");
+    file.floor = floor_of(rt, alloc, &reached());
     file
+}
+
+/// Polls a file that is not of these words.
+fn poll_foreign(rt: &impl Abort, file: SyncFile, words: &Words, seat: &mut Seat)
+    requires own { seat.old.words ≡ words.now }
+    ensures same { (seat.new.words ≡ words.now) × (seat.new.parts ≡ seat.old.parts) }
+{
+    check_poll(rt, &file, words, seat, Err(Refusal::Foreign));
 }
 
 /// Polls a file of a context that the words do not have, and one whose floor is above their values.
@@ -117,22 +184,24 @@ fn check_foreign(rt: &impl Abort, alloc: Global, words: &Words, seat: &mut Seat)
     requires own { seat.old.words ≡ words.now }
     ensures same { (seat.new.words ≡ words.now) × (seat.new.parts ≡ seat.old.parts) }
 {
-    check_poll(
-        rt,
-        &plain(rt, alloc, 2, 1),
-        words,
-        seat,
-        Err(Refusal::Foreign),
-    );
-    check_poll(rt, &above(rt, alloc), words, seat, Err(Refusal::Foreign));
+    poll_foreign(rt, plain(rt, alloc, 2, 1), words, seat);
+    poll_foreign(rt, above(rt, alloc), words, seat);
+}
+
+/// Polls foreign files, and drives the first context to the point of a file.
+fn poll_and_drive(rt: &impl Abort, alloc: Global, words: &Words, seat: &mut Seat)
+    requires own { (seat.old.words ≡ words.now) × (1 < seat.old.parts) }
+    requires context { 1 ≤ words.now.contexts }
+{
+    check_foreign(rt, alloc, words, seat);
+    drive_to(rt, words, seat, 5);
+    check_beside(rt, alloc, &plain(rt, alloc, 0, 5), words, seat);
 }
 
 #[test]
 fn files_of_two_contexts(rt: HostRuntime) {
-    let (words, mut seat) = words_of(&rt, rt.alloc(), 2, 0, 0);
-    check_foreign(&rt, rt.alloc(), &words, &mut seat);
-    drive_to(&rt, &words, &mut seat, 5);
-    check_both(&rt, rt.alloc(), &words, &mut seat);
+    let (words, mut seat) = words_of(&rt, rt.alloc(), 2, 0);
+    poll_and_drive(&rt, rt.alloc(), &words, &mut seat);
 }
 
 /// Drives the first context to 1,000.
@@ -175,11 +244,22 @@ fn wait_beside_a_driver<R: Threads + Abort + Sync>(
     waited
 }
 
+/// Waits for a file whose timeline another thread drives.
+fn wait_until_driven<R: Threads + Abort + Sync>(
+    rt: &R,
+    file: &SyncFile,
+    words: &Words,
+    mut seat: Seat,
+)
+    requires own { (seat.words ≡ words.now) × (1 < seat.parts) }
+    requires context { 1 ≤ words.now.contexts }
+{
+    let driving = words.part(&mut seat, 1);
+    assert!(rt; wait_beside_a_driver(rt, file, words, driving, seat) == Ok(()));
+}
+
 #[test]
 fn a_wait_ends_once_another_thread_has_driven(rt: HostRuntime) {
-    let (words, mut seat) = words_of(&rt, rt.alloc(), 1, 0, 0);
-    let driving = words.part(&mut seat, 1);
-    let file = plain(&rt, rt.alloc(), 0, 1_000);
-    let waited = wait_beside_a_driver(&rt, &file, &words, driving, seat);
-    assert!(rt; waited == Ok(()));
+    let (words, seat) = words_of(&rt, rt.alloc(), 1, 0);
+    wait_until_driven(&rt, &plain(&rt, rt.alloc(), 0, 1_000), &words, seat);
 }
