@@ -1,5 +1,5 @@
 // Gates that hold clients back.
-use crate::plans::{WRITTEN, check_one_table, plans_of, point};
+use crate::plans::{WRITTEN, check_one_table, check_refused, plans_of, point};
 use clients_core::{Board, Gate, LockedTable, run_clients};
 use point_core::{Context, Point, Refusal, Usage};
 use resv_core::{Act, Plan, SharedTable};
@@ -77,8 +77,8 @@ fn run_gates<R: Threads + Wait + Abort + Sync, T: SharedTable>(
 ) {
     run_held::<R, T>(rt, alloc, plans, 1, 2);
     run_held::<R, T>(rt, alloc, plans, 2, 1);
-    let refused = run_clients::<R, T, ClosedGate>(rt, alloc, 1, plans, &ClosedGate).err();
-    assert!(rt; refused == Some(Refusal::TimedOut));
+    let refused = run_clients::<R, T, ClosedGate>(rt, alloc, 1, plans, &ClosedGate);
+    check_refused(rt, refused, Refusal::TimedOut);
 }
 
 #[test]

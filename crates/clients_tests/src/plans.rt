@@ -2,7 +2,7 @@
 ghost use Rattle.std.specs.Prelude.{◌≡◌, vec_len};
 ghost use Rattle.resv_core.specs.Settled.{ArePlansWithin};
 
-use point_core::{Context, Point, TopRow, Usage};
+use point_core::{Context, Point, Refusal, TopRow, Usage};
 use resv_core::{Act, Plan, Settled};
 use std::alloc::Global;
 use std::process::Abort;
@@ -40,6 +40,34 @@ pub(crate) fn plan_of_a_put(rt: &impl Abort, alloc: Global) -> Vec<Plan>
     plans
 }
 
+/// Checks that a call is refused for this cause.
+pub(crate) fn check_refused<A: Drop>(rt: &impl Abort, answer: Result<A, Refusal>, wanted: Refusal) {
+    assert!(rt; answer.err() == Some(wanted));
+}
+
+fn is_row(row: &TopRow, usage: Usage, place: usize, point: u64) -> bool {
+    row.usage == usage && row.ctx.index() == place && row.point == point
+}
+
+/// Checks that the first rows are of this usage and point, one for each client, and gives the rows after them.
+fn rows_after<'a>(
+    rt: &impl Abort,
+    rows: &'a [TopRow],
+    usage: Usage,
+    clients: usize,
+    point: u64,
+) -> &'a [TopRow] {
+    let mut rest = rows;
+    for place in 0..clients {
+        let Some((row, after)) = rest.split_first() else {
+            panic!(rt; "a row is missing")
+        };
+        assert!(rt; is_row(row, usage, place, point));
+        rest = after;
+    }
+    rest
+}
+
 /// Checks that a table has a row of this point for each of these usages and, under it, for each client.
 pub(crate) fn check_rows(
     rt: &impl Abort,
@@ -50,13 +78,7 @@ pub(crate) fn check_rows(
 ) {
     let mut rest = rows;
     for usage in usages {
-        for place in 0..clients {
-            let Some((row, after)) = rest.split_first() else {
-                panic!(rt; "a row is missing")
-            };
-            assert!(rt; row.usage == *usage && row.ctx.index() == place && row.point == point);
-            rest = after;
-        }
+        rest = rows_after(rt, rest, *usage, clients, point);
     }
     assert!(rt; rest.is_empty());
 }

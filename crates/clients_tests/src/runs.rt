@@ -1,7 +1,7 @@
 // Clients on threads against both tables.
 ghost use Rattle.std.specs.Prelude.{◌≤◌};
 
-use crate::plans::{READ, WRITTEN, check_one_table, check_rows, plans_of, point};
+use crate::plans::{READ, WRITTEN, check_one_table, check_refused, check_rows, plans_of, point};
 use clients_core::{
     ACTS, Board, CLIENTS, LockedTable, OpenGate, ROUND_BUFFERS, plans_of_rounds, run_clients,
 };
@@ -12,11 +12,18 @@ use std::process::Abort;
 use std::sync::Wait;
 use std::thread::Threads;
 
+/// Checks that there is a value for each client, and that each is 100.
+fn check_values(rt: &impl Abort, values: &[u64], clients: usize) {
+    assert!(rt; values.len() == clients);
+    for value in values {
+        assert!(rt; *value == 100);
+    }
+}
+
 /// Checks what clients of 100 rounds settle: each timeline ends at 100, and of each the points of the last round are
 /// pending.
 fn check_rounds(rt: &impl Abort, settled: &Settled, clients: usize) {
-    let values = settled.values.as_slice();
-    assert!(rt; values.len() == clients && values.iter().all(|value| *value == 100));
+    check_values(rt, settled.values.as_slice(), clients);
     let [written, read] = settled.tables.as_slice() else {
         panic!(rt; "there are not two tables")
     };
@@ -95,7 +102,7 @@ fn check_refusal<R: Threads + Wait + Abort + Sync, T: SharedTable>(
     clients: &[&[Act]],
     wanted: Refusal,
 ) {
-    assert!(rt; settled_by::<R, T>(rt, alloc, clients).err() == Some(wanted));
+    check_refused(rt, settled_by::<R, T>(rt, alloc, clients), wanted);
 }
 
 /// Runs plans that are refused.
@@ -107,14 +114,20 @@ fn run_refused<R: Threads + Wait + Abort + Sync, T: SharedTable>(rt: &R, alloc: 
     check_refusal::<R, T>(rt, alloc, &[&wraps], Refusal::Overflow);
 }
 
-/// Runs so many idle clients, which are too few or too many.
-fn run_idle<R: Threads + Wait + Abort + Sync, T: SharedTable>(rt: &R, alloc: Global, count: usize) {
+/// The plans of so many clients that do nothing.
+fn idle_plans(rt: &impl Abort, alloc: Global, count: usize) -> Vec<Plan> {
     let mut plans = Vec::new(alloc);
     for _ in 0..count {
         plans.push(Plan::of(Vec::new(alloc))).expect(rt, "a plan");
     }
-    let refused = run_clients::<R, T, OpenGate>(rt, alloc, 1, plans.as_slice(), &OpenGate).err();
-    assert!(rt; refused == Some(Refusal::Limit(LimitKind::Clients)));
+    plans
+}
+
+/// Runs so many idle clients, which are too few or too many.
+fn run_idle<R: Threads + Wait + Abort + Sync, T: SharedTable>(rt: &R, alloc: Global, count: usize) {
+    let plans = idle_plans(rt, alloc, count);
+    let refused = run_clients::<R, T, OpenGate>(rt, alloc, 1, plans.as_slice(), &OpenGate);
+    check_refused(rt, refused, Refusal::Limit(LimitKind::Clients));
 }
 
 /// Runs a plan that is too long.

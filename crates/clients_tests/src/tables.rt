@@ -1,15 +1,21 @@
 // One buffer of each table, and what lies under a lock.
-ghost use Rattle.std.specs.Prelude.{◌≡◌};
-ghost use Rattle.words_core.specs.declared.seat.TheConstants.{PARTS};
+ghost use Rattle.std.specs.Prelude.{◌≡◌, length};
+ghost use Rattle.resv_core.specs.Settled.{ArePlansWithin};
 
-use crate::plans::{plan_of_a_put, point};
+use crate::plans::{check_refused, plan_of_a_put, point};
 use clients_core::{Board, LockedBuffer, LockedTable};
 use point_core::{Entry, Listing, Point, Reach, Refusal, Usage};
-use resv_core::SharedTable;
+use resv_core::{Plan, SharedTable};
 use std::alloc::Global;
 use std::process::Abort;
 use std::sync::Wait;
-use words_core::{Seat, Words};
+use words_core::{Seat, Whole, Words};
+
+/// Checks that these points are listed, and above which values.
+fn check_listing(rt: &impl Abort, listing: &Listing, floor: &Reach, points: &[Point]) {
+    assert!(rt; listing.floor == *floor);
+    assert!(rt; listing.points.as_slice() == points);
+}
 
 /// Checks a look at a buffer, which lists these points.
 fn check_look(
@@ -20,20 +26,25 @@ fn check_look(
     points: &[Point],
 ) {
     let listing = buffer.export(usage, reach).expect(rt, "a look");
-    assert!(rt; listing.points.as_slice() == points && listing.floor == *reach);
+    check_listing(rt, &listing, reach, points);
+}
+
+/// Checks that nothing is pending in a buffer at a reach.
+fn check_empty(rt: &impl Abort, buffer: &mut LockedBuffer, reach: &Reach) {
+    let rows = buffer.settle(&[], reach).expect(rt, "rows");
+    assert!(rt; rows.is_empty());
 }
 
 /// Checks what a buffer refuses, and that nothing is pending in it at a reach.
 fn check_settled(rt: &impl Abort, buffer: &mut LockedBuffer, reach: &Reach) {
-    let refused = buffer.export(Usage::Read, &Reach::zero()).err();
-    assert!(rt; refused == Some(Refusal::Torn));
-    assert!(rt; buffer.settle(&[], reach).expect(rt, "rows").is_empty());
+    let refused = buffer.export(Usage::Read, &Reach::zero());
+    check_refused(rt, refused, Refusal::Torn);
+    check_empty(rt, buffer, reach);
     let later = Entry {
         point: point(9),
         usage: Usage::Read,
     };
-    let refused = buffer.settle(&[later], reach).err();
-    assert!(rt; refused == Some(Refusal::Torn));
+    check_refused(rt, buffer.settle(&[later], reach), Refusal::Torn);
 }
 
 /// Checks puts, looks and what is settled of an empty buffer.
@@ -56,10 +67,24 @@ fn locked_buffer_rows(rt: HostRuntime) {
     check_buffer(&rt, &mut buffer);
 }
 
-/// Checks that nothing is signalled, and that these points are listed.
-fn check_listing(rt: &impl Abort, listing: &Listing, points: &[Point]) {
-    assert!(rt; listing.floor == Reach::zero());
-    assert!(rt; listing.points.as_slice() == points);
+/// Checks a look at a table of one buffer, which lists these points. Nothing is signalled.
+fn check_export<R: Wait + Abort, T: SharedTable>(
+    rt: &R,
+    alloc: Global,
+    table: &T,
+    words: &Words,
+    seat: &mut Seat,
+    usage: Usage,
+    points: &[Point],
+)
+    requires own { (seat.old.words ≡ words.now) × (T.made_for table.now ≡ words.now) }
+    requires buffers { words.now.buffers ≡ 1 }
+    ensures same { (seat.new.words ≡ seat.old.words) × (seat.new.parts ≡ seat.old.parts) }
+{
+    let listing = table
+        .export(rt, alloc, words, seat, 0, usage)
+        .expect(rt, "a look");
+    check_listing(rt, &listing, &Reach::zero(), points);
 }
 
 /// Checks a put into an empty table, and looks for other usages.
@@ -77,69 +102,102 @@ fn check_table<R: Wait + Abort, T: SharedTable>(
     table
         .put(rt, alloc, words, seat, 0, point(4), Usage::Read)
         .expect(rt, "a put");
-    let written = table
-        .export(rt, alloc, words, seat, 0, Usage::Write)
-        .expect(rt, "a look");
-    check_listing(rt, &written, &[]);
-    let read = table
-        .export(rt, alloc, words, seat, 0, Usage::Read)
-        .expect(rt, "a look");
-    check_listing(rt, &read, &[point(4)]);
+    check_export::<R, T>(rt, alloc, table, words, seat, Usage::Write, &[]);
+    check_export::<R, T>(rt, alloc, table, words, seat, Usage::Read, &[point(4)]);
 }
 
-/// Checks that an empty table has not settled a put.
+/// The seat with all parts.
+fn gathered(rt: &impl Abort, seat: Seat) -> Whole
+    ensures words { result.words ≡ seat.words }
+{
+    let Ok(all) = seat.gather() else {
+        panic!(rt; "a part was missing")
+    };
+    all
+}
+
+/// Checks that a new table has not settled these plans.
 fn check_unsettled<R: Wait + Abort, T: SharedTable>(
     rt: &R,
     alloc: Global,
-    table: &T,
     words: &Words,
-    seat: Seat,
+    all: &mut Whole,
+    plans: &[Plan],
 )
-    requires own { (seat.words ≡ words.now) × (T.made_for table.now ≡ words.now) }
+    requires own { all.old.words ≡ words.now }
     requires sizes { (words.now.contexts ≡ 1) × (words.now.buffers ≡ 1) }
+    requires within { ArePlansWithin 1 1 plans.now }
+    requires count { length plans.now ≡ 1 }
 {
-    let plans = plan_of_a_put(rt, alloc);
-    let Ok(mut all) = seat.gather() else {
-        panic!(rt; "a part was missing")
-    };
-    let refused = table
-        .settle(rt, alloc, words, &mut all, plans.as_slice())
-        .err();
-    assert!(rt; refused == Some(Refusal::Torn));
+    let table = T::empty(alloc, words).expect(rt, "a table");
+    check_refused(
+        rt,
+        table.settle(rt, alloc, words, all, plans),
+        Refusal::Torn,
+    );
+}
+
+/// Checks a put into a new table, and looks.
+fn check_new_table<R: Wait + Abort, T: SharedTable>(
+    rt: &R,
+    alloc: Global,
+    words: &Words,
+    seat: &mut Seat,
+)
+    requires own { seat.old.words ≡ words.now }
+    requires sizes { (words.now.contexts ≡ 1) × (words.now.buffers ≡ 1) }
+    ensures same { (seat.new.words ≡ seat.old.words) × (seat.new.parts ≡ seat.old.parts) }
+{
+    let table = T::empty(alloc, words).expect(rt, "a table");
+    check_table::<R, T>(rt, alloc, &table, words, seat);
 }
 
 /// Checks tables of one buffer and one context.
 fn check_tables<R: Wait + Abort, T: SharedTable>(rt: &R, alloc: Global) {
+    let plans = plan_of_a_put(rt, alloc);
     let (words, mut seat) = Words::new(alloc, 1, 1, 0).expect(rt, "words");
-    let table = T::empty(alloc, &words).expect(rt, "a table");
-    let fresh = T::empty(alloc, &words).expect(rt, "a table");
-    check_table::<R, T>(rt, alloc, &table, &words, &mut seat);
-    check_unsettled::<R, T>(rt, alloc, &fresh, &words, seat);
+    check_new_table::<R, T>(rt, alloc, &words, &mut seat);
+    let mut all = gathered(rt, seat);
+    check_unsettled::<R, T>(rt, alloc, &words, &mut all, plans.as_slice());
+}
+
+/// Checks a look at a board of one buffer, by the board's own call, which lists these points. Nothing is signalled.
+fn check_board_export(
+    rt: &impl Abort,
+    alloc: Global,
+    board: &Board,
+    words: &Words,
+    seat: &mut Seat,
+    usage: Usage,
+    points: &[Point],
+)
+    requires own { (seat.old.words ≡ words.now) × (board.now ≡ words.now) }
+    requires buffers { words.now.buffers ≡ 1 }
+    ensures same { seat.new.words ≡ seat.old.words }
+{
+    let listing = board
+        .export(alloc, words, seat, 0, usage)
+        .expect(rt, "a look");
+    check_listing(rt, &listing, &Reach::zero(), points);
 }
 
 /// Checks a put into an empty board, and looks for other usages, by the board's own calls.
-fn check_board(rt: &impl Abort, alloc: Global, board: &Board, words: &Words, seat: &mut Seat)
-    requires own { (seat.old.words ≡ words.now) × (board.now ≡ words.now) }
+fn check_board(rt: &impl Abort, alloc: Global, words: &Words, seat: &mut Seat)
+    requires own { seat.old.words ≡ words.now }
     requires sizes { (words.now.contexts ≡ 1) × (words.now.buffers ≡ 1) }
 {
+    let board = Board::empty(alloc, words).expect(rt, "a board");
     board
         .put(words, seat, 0, point(4), Usage::Read)
         .expect(rt, "a put");
-    let written = board
-        .export(alloc, words, seat, 0, Usage::Write)
-        .expect(rt, "a look");
-    check_listing(rt, &written, &[]);
-    let read = board
-        .export(alloc, words, seat, 0, Usage::Read)
-        .expect(rt, "a look");
-    check_listing(rt, &read, &[point(4)]);
+    check_board_export(rt, alloc, &board, words, seat, Usage::Write, &[]);
+    check_board_export(rt, alloc, &board, words, seat, Usage::Read, &[point(4)]);
 }
 
 #[test]
 fn a_board_of_one_buffer(rt: HostRuntime) {
     let (words, mut seat) = Words::new(rt.alloc(), 1, 1, 0).expect(&rt, "words");
-    let board = Board::empty(rt.alloc(), &words).expect(&rt, "a board");
-    check_board(&rt, rt.alloc(), &board, &words, &mut seat);
+    check_board(&rt, rt.alloc(), &words, &mut seat);
 }
 
 #[test]

@@ -2,7 +2,7 @@
 ghost use Rattle.std.specs.Prelude.{◌≡◌, ◌<◌, IfErr};
 ghost use Rattle.point_core.specs.declared.refusal.Refusal.TheVariants as refusal;
 
-use crate::plans::plans_of;
+use crate::plans::{check_refused, plans_of};
 use clients_core::{LockedTable, OpenGate, run_clients};
 use point_core::{Context, Entry, Items, Listing, Point, Refusal, Usage};
 use resv_core::{Act, Plan, Settled, SharedTable};
@@ -211,25 +211,31 @@ fn check_puts(rt: &impl Abort, puts: &[Entry]) {
     }
 }
 
+/// The puts that a table has recorded.
+fn puts_of(table: RecordingTable) -> Vec<Entry> {
+    let RecordingTable { table: _, puts } = table;
+    puts.into_inner()
+}
+
+/// Checks that the table of two clients has recorded the puts of both.
+fn check_recorded<R: Threads + Wait + Abort + Sync>(rt: &R, alloc: Global, plans: &[Plan]) {
+    let (_, table) = run_clients::<R, RecordingTable, OpenGate>(
+        rt, alloc, 1, plans, &OpenGate,
+    ).expect(rt, "a settled table");
+    check_puts(rt, puts_of(table).as_slice());
+}
+
 #[test]
 fn every_put_reaches_the_table(rt: HostRuntime) {
     let plans = plans_of(&rt, rt.alloc(), &[&acts_of(0), &acts_of(1)]);
-    let (_, table) = run_clients::<HostRuntime, RecordingTable, OpenGate>(
-        &rt,
-        rt.alloc(),
-        1,
-        plans.as_slice(),
-        &OpenGate,
-    ).expect(&rt, "a settled table");
-    let RecordingTable { table: _, puts } = table;
-    check_puts(&rt, puts.into_inner().as_slice());
+    check_recorded(&rt, rt.alloc(), plans.as_slice());
 }
 
 /// Checks that one client against the table is refused as `Torn`.
 fn check_torn<R: Threads + Wait + Abort + Sync, T: SharedTable>(rt: &R, alloc: Global) {
     let plans = plans_of(rt, alloc, &[&acts_of(0)]);
-    let refused = run_clients::<R, T, OpenGate>(rt, alloc, 1, plans.as_slice(), &OpenGate).err();
-    assert!(rt; refused == Some(Refusal::Torn));
+    let refused = run_clients::<R, T, OpenGate>(rt, alloc, 1, plans.as_slice(), &OpenGate);
+    check_refused(rt, refused, Refusal::Torn);
 }
 
 #[test]

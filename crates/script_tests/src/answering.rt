@@ -1,5 +1,5 @@
 // A script from a reader, and its answers to a writer.
-use crate::pipes::{PIECES, Sink, Source, failing_source_of, sink_of, source_of};
+use crate::pipes::{PIECES, Sink, Source, assert_refusal, failing_source_of, sink_of, source_of};
 use point_core::Refusal;
 use script_core::{SCRIPT_BYTES, Totals, engine};
 use std::alloc::Global;
@@ -39,8 +39,11 @@ fn first_answers(lines: usize) -> &'static [u8] {
     }
 }
 
-fn assert_totals(rt: &impl Abort, totals: Totals, wanted: (u64, u64, u64)) {
-    assert_eq!(rt; (totals.lines, totals.accepted, totals.refused), wanted);
+pub(crate) fn assert_totals(rt: &impl Abort, totals: Totals, wanted: (u64, u64, u64)) {
+    let (lines, accepted, refused) = wanted;
+    assert!(rt; totals.lines == lines);
+    assert!(rt; totals.accepted == accepted);
+    assert!(rt; totals.refused == refused);
 }
 
 fn assert_refused(
@@ -51,7 +54,7 @@ fn assert_refused(
     refusal: Refusal,
 ) {
     let result = engine(alloc, reader, writer);
-    assert_eq!(rt; result.err(), Some(refusal));
+    assert_refusal(rt, result.err(), refusal);
 }
 
 // The script's answers are the wanted ones, in whatever pieces it comes and they go. They are flushed once, after the last
@@ -68,7 +71,7 @@ fn assert_answers(
         let mut writer = sink_of(wanted, piece, usize::MAX);
         let answered = engine(alloc, &mut reader, &mut writer).expect(rt, "answers");
         writer.assert_whole(rt);
-        assert_eq!(rt; (writer.flushes, writer.unflushed), (1, 0));
+        assert!(rt; writer.flushes == 1 && writer.unflushed == 0);
         assert_totals(rt, answered, totals);
     }
 }
@@ -140,7 +143,7 @@ fn answered_before_the_next_read(rt: HostRuntime) {
     let mut reader = source_of(BOTH_ORDERS, 1);
     let mut writer = sink_of(b"", 4096, 0);
     assert_refused(&rt, rt.alloc(), &mut reader, &mut writer, Refusal::Write);
-    assert_eq!(rt; reader.reads, 11);
+    assert!(rt; reader.reads == 11);
 }
 
 // The lines whose line feed was read are answered.
@@ -153,7 +156,7 @@ fn failing_reader(rt: HostRuntime) {
         let mut writer = sink_of(first_answers(ended), 4096, usize::MAX);
         assert_refused(&rt, rt.alloc(), &mut reader, &mut writer, Refusal::Read);
         writer.assert_whole(&rt);
-        assert_eq!(rt; writer.flushes, 1);
+        assert!(rt; writer.flushes == 1);
     }
 }
 
@@ -177,7 +180,7 @@ fn failing_writer(rt: HostRuntime) {
             let mut writer = sink_of(&BOTH_ORDERS_ANSWERS[..room], piece, room);
             assert_refused(&rt, rt.alloc(), &mut reader, &mut writer, Refusal::Write);
             writer.assert_whole(&rt);
-            assert_eq!(rt; writer.flushes, 0);
+            assert!(rt; writer.flushes == 0);
         }
     }
 }
@@ -219,7 +222,6 @@ fn reads_up_to_the_limit(rt: HostRuntime) {
         let totals = engine(rt.alloc(), &mut reader, &mut writer).expect(&rt, "answers");
         writer.assert_whole(&rt);
         assert_totals(&rt, totals, (2, 1, 1));
-        assert_eq!(rt; reader.line_feeds, 10);
-        assert_eq!(rt; reader.reads, reads);
+        assert!(rt; reader.line_feeds == 10 && reader.reads == reads);
     }
 }

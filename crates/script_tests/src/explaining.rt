@@ -1,5 +1,6 @@
 // Explanations of scripts whose reader or one of whose writers fails.
-use crate::pipes::{Source, failing_source_of, sink_of, source_of};
+use crate::answering::assert_totals;
+use crate::pipes::{Source, assert_refusal, failing_source_of, sink_of, source_of};
 use explain_core::{Look, explain};
 use point_core::Refusal;
 use std::alloc::Global;
@@ -35,10 +36,10 @@ fn numbers_in_bold(rt: HostRuntime) {
         let totals = explain(rt.alloc(), look, &mut reader, &mut answers, &mut notes).expect(
             &rt, "answers",
         );
-        assert_eq!(rt; (totals.lines, totals.accepted, totals.refused), (3, 0, 3));
+        assert_totals(&rt, totals, (3, 0, 3));
         answers.assert_whole(&rt);
         notes.assert_whole(&rt);
-        assert_eq!(rt; answers.flushes, 1);
+        assert!(rt; answers.flushes == 1);
     }
 }
 
@@ -55,7 +56,7 @@ fn assert_ended(
     let mut notes = sink_of(first(NOTES, written.1), 4096, rooms.1);
     notes.halts = true;
     let result = explain(alloc, Look::Plain, reader, &mut answers, &mut notes);
-    assert_eq!(rt; result.err(), Some(refusal));
+    assert_refusal(rt, result.err(), refusal);
     answers.assert_whole(rt);
     notes.assert_whole(rt);
 }

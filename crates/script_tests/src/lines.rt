@@ -2,8 +2,8 @@
 use crate::answering::repeated;
 use crate::pipes::{PIECES, source_of};
 use desk_core::Command;
-use point_core::Usage;
 use line_core::{Body, Line, LineCutter, SCRIPT_BYTES, ScriptLines, body_of};
+use point_core::Usage;
 use std::process::Abort;
 
 fn fed(cutter: &mut LineCutter, byte: u8) -> Option<Line> {
@@ -19,13 +19,17 @@ fn assert_fed(rt: &impl Abort, cutter: &mut LineCutter, bytes: &[u8]) {
     }
 }
 
+fn assert_number(rt: &impl Abort, cutter: &LineCutter, number: u32) {
+    assert!(rt; cutter.number() == number);
+}
+
 #[test]
 fn cutter(rt: HostRuntime) {
     let mut cutter = LineCutter::new();
-    assert_eq!(rt; cutter.number(), 1);
+    assert_number(&rt, &cutter, 1);
     assert_fed(&rt, &mut cutter, b"value a");
     assert!(rt; fed(&mut cutter, b'\n').is_some());
-    assert_eq!(rt; cutter.number(), 2);
+    assert_number(&rt, &cutter, 2);
     assert_fed(&rt, &mut cutter, b"# note");
     assert!(rt; cutter.end().is_none());
 }
@@ -39,6 +43,21 @@ fn cutter_of_a_long_line(rt: HostRuntime) {
     assert!(rt; cutter.end().is_some());
 }
 
+// The lengths after the first, which is this one.
+fn lengths_after<'a>(rt: &impl Abort, lengths: &'a [usize], length: usize) -> &'a [usize] {
+    let Some((first, rest)) = lengths.split_first() else {
+        panic!(rt; "a line too many")
+    };
+    assert!(rt; length == *first);
+    rest
+}
+
+fn assert_last(rt: &impl Abort, lines: &ScriptLines, number: u32, bytes: &[u8]) {
+    let line = lines.line();
+    assert!(rt; line.number == number);
+    assert!(rt; line.bytes == bytes);
+}
+
 // A line of two blocks, one of a byte too many, and the last.
 fn assert_lines(rt: &impl Abort, script: &[u8], piece: usize) {
     let mut source = source_of(script, piece);
@@ -46,16 +65,13 @@ fn assert_lines(rt: &impl Abort, script: &[u8], piece: usize) {
     let mut lengths = [7, 300, 0].as_slice();
     for _ in 0..1000 {
         if lines.advance() {
-            let (first, rest) = lengths.split_first().expect(rt, "a line more");
-            assert_eq!(rt; lines.line().length, *first);
-            lengths = rest;
+            lengths = lengths_after(rt, lengths, lines.line().length);
         } else if lines.read(&mut source).is_some() {
             break;
         }
     }
     assert!(rt; lengths.is_empty());
-    assert_eq!(rt; lines.line().number, 4);
-    assert_eq!(rt; lines.line().bytes, b"last".as_slice());
+    assert_last(rt, &lines, 4, b"last");
 }
 
 #[test]
@@ -94,7 +110,7 @@ fn flags(rt: HostRuntime) {
         (b"export a b kernel", None),
     ];
     for (line, wanted) in cases {
-        assert_eq!(rt; flags_of(line), wanted, "{line:?}");
+        assert!(rt; flags_of(line) == wanted, "{line:?}");
     }
 }
 
@@ -110,6 +126,6 @@ fn usages(rt: HostRuntime) {
         (b"add a b 7 rw", None),
     ];
     for (line, wanted) in cases {
-        assert_eq!(rt; usage_of(line), wanted, "{line:?}");
+        assert!(rt; usage_of(line) == wanted, "{line:?}");
     }
 }

@@ -1,4 +1,5 @@
 // Readers and writers that go piece by piece, fail or halt.
+use point_core::Refusal;
 use std::io;
 use std::io::{Read, Write};
 use std::process::Abort;
@@ -89,8 +90,8 @@ pub(crate) fn sink_of(text: &[u8], piece: usize, room: usize) -> Sink<'_> {
 impl<'a> Sink<'a> {
     /// All of the text was written, and nothing else.
     pub(crate) fn assert_whole(&self, rt: &impl Abort) {
-        assert_eq!(rt; self.rest, b"".as_slice());
-        assert!(rt; !self.strange, "something else was written");
+        assert!(rt; self.rest.is_empty());
+        assert!(rt; !self.strange);
     }
 }
 
@@ -116,4 +117,8 @@ impl<'a> Write for Sink<'a> {
         }
         Ok(())
     }
+}
+
+pub(crate) fn assert_refusal(rt: &impl Abort, refused: Option<Refusal>, wanted: Refusal) {
+    assert!(rt; refused == Some(wanted));
 }

@@ -2,6 +2,7 @@
 use desk_core::{Answer, Command, Desk, run};
 use point_core::Name;
 use script_core::{Line, answer_line, print, read_script};
+use std::alloc::Global;
 use std::process::Abort;
 
 fn assert_step(rt: &impl Abort, desk: &mut Desk, line: &Line, out: &mut Vec<u8>) {
@@ -76,20 +77,49 @@ bookkeep a                                                  9
 err 1 Syntax line 23
 ";
 
+fn script() -> &'static [u8] {
+    SCRIPT
+}
+
+fn answers() -> &'static [u8] {
+    ANSWERS
+}
+
+// Of the script's lines the desk gives these answers.
+fn assert_answers(rt: &impl Abort, desk: &mut Desk, lines: &[Line], wanted: &[u8], alloc: Global) {
+    let mut out = Vec::new(alloc);
+    assert_steps(rt, desk, lines, &mut out);
+    assert!(rt; out.as_slice() == wanted);
+}
+
+fn assert_script(rt: &impl Abort, desk: &mut Desk, alloc: Global) {
+    let lines = read_script(alloc, script()).expect(rt, "memory");
+    assert_answers(rt, desk, lines.as_slice(), answers(), alloc);
+}
+
 // Each command, on its way to an answer.
 #[test]
 fn step(rt: HostRuntime) {
-    let lines = read_script(rt.alloc(), SCRIPT).expect(&rt, "memory");
     let mut desk = Desk::new(rt.alloc()).expect(&rt, "memory");
-    let mut out = Vec::new(rt.alloc());
-    assert_steps(&rt, &mut desk, lines.as_slice(), &mut out);
-    assert_eq!(rt; out.as_slice(), ANSWERS);
+    assert_script(&rt, &mut desk, rt.alloc());
 }
 
 fn print_all(rt: &impl Abort, answers: &[Answer], out: &mut Vec<u8>) {
     for answer in answers {
         print(7, answer, out).expect(rt, "memory");
     }
+}
+
+fn print_run(rt: &impl Abort, alloc: Global, commands: &[Command], out: &mut Vec<u8>) {
+    let (_desk, answers) = run(alloc, commands).expect(rt, "memory");
+    print_all(rt, answers.as_slice(), out);
+}
+
+// The answers of a run are printed after what is there.
+fn assert_run(rt: &impl Abort, alloc: Global, commands: &[Command]) {
+    let mut out = Vec::from_slice(alloc, b"as it was\n").expect(rt, "memory");
+    print_run(rt, alloc, commands, &mut out);
+    assert!(rt; out.as_slice() == b"as it was\nok 1\nok 2\nok 2\nerr 3 Exists\n".as_slice());
 }
 
 #[test]
@@ -101,23 +131,23 @@ fn run_of_commands(rt: HostRuntime) {
         Command::Value(a),
         Command::Timeline(a),
     ];
-    let mut out = Vec::from_slice(rt.alloc(), b"as it was\n").expect(&rt, "memory");
-    let (_desk, answers) = run(rt.alloc(), &commands).expect(&rt, "memory");
-    print_all(&rt, answers.as_slice(), &mut out);
-    assert_eq!(rt;
-        out.as_slice(),
-        b"as it was\nok 1\nok 2\nok 2\nerr 3 Exists\n".as_slice()
-    );
+    assert_run(&rt, rt.alloc(), &commands);
+}
+
+fn assert_numbers(rt: &impl Abort, lines: &[Line], wanted: &[u32]) {
+    let mut numbers = wanted;
+    for line in lines {
+        let Some((first, rest)) = numbers.split_first() else {
+            panic!(rt; "a line too many")
+        };
+        assert!(rt; line.number == *first);
+        numbers = rest;
+    }
+    assert!(rt; numbers.is_empty());
 }
 
 #[test]
 fn numbers_of_lines(rt: HostRuntime) {
     let lines = read_script(rt.alloc(), b"value a\n\n# note\nxx").expect(&rt, "memory");
-    let mut numbers = [1, 4].as_slice();
-    for line in &lines {
-        let (first, rest) = numbers.split_first().expect(&rt, "a line more");
-        assert_eq!(rt; line.number, *first);
-        numbers = rest;
-    }
-    assert!(rt; numbers.is_empty());
+    assert_numbers(&rt, lines.as_slice(), &[1, 4]);
 }
