@@ -27,20 +27,22 @@ const NOTES_IN_BOLD: &[u8] = b"\x1b[1mline 1:\x1b[0m \"a\": there is no timeline
 \x1b[1mline 3:\x1b[0m \"c\": there is no timeline of that name
 ";
 
+// All of the answers and of the notes are written, and the answers are flushed once.
+fn assert_explained(rt: &impl Abort, alloc: Global, look: Look, wanted: &[u8]) {
+    let mut answers = sink_of(ANSWERS, 7, usize::MAX);
+    let mut notes = sink_of(wanted, 7, usize::MAX);
+    let mut reader = source_of(REFUSED, 7);
+    let totals = explain(alloc, look, &mut reader, &mut answers, &mut notes).expect(rt, "answers");
+    assert_totals(rt, totals, (3, 0, 3));
+    answers.assert_whole(rt);
+    notes.assert_whole(rt);
+    assert!(rt; answers.flushes == 1);
+}
+
 #[test]
 fn numbers_in_bold(rt: HostRuntime) {
-    for (look, wanted) in [(Look::Plain, NOTES), (Look::Bold, NOTES_IN_BOLD)] {
-        let mut answers = sink_of(ANSWERS, 7, usize::MAX);
-        let mut notes = sink_of(wanted, 7, usize::MAX);
-        let mut reader = source_of(REFUSED, 7);
-        let totals = explain(rt.alloc(), look, &mut reader, &mut answers, &mut notes).expect(
-            &rt, "answers",
-        );
-        assert_totals(&rt, totals, (3, 0, 3));
-        answers.assert_whole(&rt);
-        notes.assert_whole(&rt);
-        assert!(rt; answers.flushes == 1);
-    }
+    assert_explained(&rt, rt.alloc(), Look::Plain, NOTES);
+    assert_explained(&rt, rt.alloc(), Look::Bold, NOTES_IN_BOLD);
 }
 
 // So many bytes of the answers and of the notes are written, where there is that much room.

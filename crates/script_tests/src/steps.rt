@@ -110,15 +110,16 @@ fn print_all(rt: &impl Abort, answers: &[Answer], out: &mut Vec<u8>) {
     }
 }
 
-fn print_run(rt: &impl Abort, alloc: Global, commands: &[Command], out: &mut Vec<u8>) {
+fn answers_of(rt: &impl Abort, alloc: Global, commands: &[Command]) -> Vec<Answer> {
     let (_desk, answers) = run(alloc, commands).expect(rt, "memory");
-    print_all(rt, answers.as_slice(), out);
+    answers
 }
 
 // The answers of a run are printed after what is there.
 fn assert_run(rt: &impl Abort, alloc: Global, commands: &[Command]) {
     let mut out = Vec::from_slice(alloc, b"as it was\n").expect(rt, "memory");
-    print_run(rt, alloc, commands, &mut out);
+    let answers = answers_of(rt, alloc, commands);
+    print_all(rt, answers.as_slice(), &mut out);
     assert!(rt; out.as_slice() == b"as it was\nok 1\nok 2\nok 2\nerr 3 Exists\n".as_slice());
 }
 
