@@ -1,4 +1,4 @@
-//! Tests of clients on threads, and of the tables that they share.
+//! Tests of clients on threads.
 #![tactic(auto)]
 
 #[cfg(test)]
@@ -7,7 +7,3 @@ mod gates;
 mod plans;
 #[cfg(test)]
 mod runs;
-#[cfg(test)]
-mod tables;
-#[cfg(test)]
-mod wrapping;

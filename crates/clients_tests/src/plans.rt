@@ -1,6 +1,5 @@
 // Plans, and what they settle.
-ghost use Rattle.std.specs.Prelude.{◌≡◌, vec_len};
-ghost use Rattle.resv_core.specs.Settled.{ArePlansWithin};
+ghost use Rattle.std.specs.Prelude.{◌≡◌};
 
 use point_core::{Context, Point, Refusal, TopRow, Usage};
 use resv_core::{Act, Plan, Settled};
@@ -24,19 +23,6 @@ pub(crate) fn plans_of(rt: &impl Abort, alloc: Global, clients: &[&[Act]]) -> Ve
         let acts = Vec::from_slice(alloc, acts).expect(rt, "acts");
         plans.push(Plan::of(acts)).expect(rt, "a plan");
     }
-    plans
-}
-
-/// The plan of one client, which puts a point into the first buffer.
-pub(crate) fn plan_of_a_put(rt: &impl Abort, alloc: Global) -> Vec<Plan>
-    ensures within { ArePlansWithin 1 1 result.items }
-    ensures count { vec_len result ≡ 1 }
-{
-    let ctx = Context::at(0);
-    let put = Act::Put(0, Point { ctx, value: 1 }, Usage::Write);
-    let acts = Vec::from_elem(alloc, put, 1).expect(rt, "acts");
-    let mut plans = Vec::with_capacity(alloc, 1).expect(rt, "plans");
-    plans.push_reserved(Plan::of(acts));
     plans
 }
 

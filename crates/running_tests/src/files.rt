@@ -1,7 +1,7 @@
 // Sync files beside running timelines.
 ghost use Rattle.std.specs.Prelude.{◌≡◌, ◌<◌, ◌≤◌};
 
-use crate::threads::{drive_on, driver_of, words_of};
+use crate::driving::{drive_on, driver_of, words_of};
 use point_core::{Context, Floor, Name, Point, Reach, Refusal, Status};
 use std::alloc::Global;
 use std::process::Abort;
@@ -110,7 +110,7 @@ fn check_wait(
     wanted: Result<(), Refusal>,
 )
     requires own { seat.old.words ≡ words.now }
-    ensures same { seat.new.words ≡ words.now }
+    ensures same { (seat.new.words ≡ words.now) × (seat.new.parts ≡ seat.old.parts) }
 {
     assert!(rt; file.wait_for(words, seat, tries) == wanted);
 }
@@ -171,6 +171,26 @@ fn above(rt: &impl Abort, alloc: Global) -> SyncFile {
     file
 }
 
+/// A file whose floor has a value of a context that words of two contexts do not have.
+fn past(rt: &impl Abort, alloc: Global) -> SyncFile {
+    let mut reach = Reach::zero();
+    reach.raise_to(Point {
+        ctx: Context::at(2),
+        value: 1,
+    });
+    let mut file = plain(rt, alloc, 1, 2);
+    file.floor = floor_of(rt, alloc, &reach);
+    file
+}
+
+/// Waits for a file that is not of these words.
+fn wait_foreign(rt: &impl Abort, file: SyncFile, words: &Words, seat: &mut Seat)
+    requires own { seat.old.words ≡ words.now }
+    ensures same { (seat.new.words ≡ words.now) × (seat.new.parts ≡ seat.old.parts) }
+{
+    check_wait(rt, &file, words, seat, 3, Err(Refusal::Foreign));
+}
+
 /// Polls a file that is not of these words.
 fn poll_foreign(rt: &impl Abort, file: SyncFile, words: &Words, seat: &mut Seat)
     requires own { seat.old.words ≡ words.now }
@@ -179,13 +199,15 @@ fn poll_foreign(rt: &impl Abort, file: SyncFile, words: &Words, seat: &mut Seat)
     check_poll(rt, &file, words, seat, Err(Refusal::Foreign));
 }
 
-/// Polls a file of a context that the words do not have, and one whose floor is above their values.
+/// Polls a file of a context that the words do not have, and one whose floor is above their values, and waits for one whose
+/// floor has a value past them.
 fn check_foreign(rt: &impl Abort, alloc: Global, words: &Words, seat: &mut Seat)
     requires own { seat.old.words ≡ words.now }
     ensures same { (seat.new.words ≡ words.now) × (seat.new.parts ≡ seat.old.parts) }
 {
     poll_foreign(rt, plain(rt, alloc, 2, 1), words, seat);
     poll_foreign(rt, above(rt, alloc), words, seat);
+    wait_foreign(rt, past(rt, alloc), words, seat);
 }
 
 /// Polls foreign files, and drives the first context to the point of a file.
@@ -200,7 +222,7 @@ fn poll_and_drive(rt: &impl Abort, alloc: Global, words: &Words, seat: &mut Seat
 
 #[test]
 fn files_of_two_contexts(rt: HostRuntime) {
-    let (words, mut seat) = words_of(&rt, rt.alloc(), 2, 0);
+    let (words, mut seat) = words_of(&rt, rt.alloc(), 2);
     poll_and_drive(&rt, rt.alloc(), &words, &mut seat);
 }
 
@@ -260,6 +282,6 @@ fn wait_until_driven<R: Threads + Abort + Sync>(
 
 #[test]
 fn a_wait_ends_once_another_thread_has_driven(rt: HostRuntime) {
-    let (words, seat) = words_of(&rt, rt.alloc(), 1, 0);
+    let (words, seat) = words_of(&rt, rt.alloc(), 1);
     wait_until_driven(&rt, &plain(&rt, rt.alloc(), 0, 1_000), &words, seat);
 }

@@ -1,7 +1,7 @@
-//! Tests of words on two threads, and of sync files beside running timelines.
+//! Tests of sync files beside running timelines.
 #![tactic(auto)]
 
 #[cfg(test)]
-mod files;
+mod driving;
 #[cfg(test)]
-mod threads;
+mod files;

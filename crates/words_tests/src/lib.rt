@@ -1,5 +1,9 @@
-//! Tests of words, of their seats and drivers, and of the board.
+//! Tests of words, on one thread and on two.
 #![tactic(auto)]
 
+#[cfg(test)]
+mod seats;
+#[cfg(test)]
+mod threads;
 #[cfg(test)]
 mod words;

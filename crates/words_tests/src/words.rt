@@ -3,46 +3,11 @@ ghost use Rattle.std.specs.Prelude.{◌≡◌, ◌<◌, ◌≤◌};
 ghost use Rattle.words_core.specs.declared.flags.Once.TheVariants as once;
 ghost use Rattle.words_core.specs.declared.seat.TheConstants.{PARTS};
 
+use crate::seats::{driver_of, whole_of, words_of};
 use point_core::{BUFFERS, CONTEXTS, Context, LimitKind, Reach, Refusal, Usage};
 use std::alloc::Global;
 use std::process::Abort;
 use words_core::{Driver, FLAGS, Once, PARTS, Seat, Whole, Words};
-
-/// Words of these numbers of contexts, buffers and flags, and their first seat.
-fn words_of(
-    rt: &impl Abort,
-    alloc: Global,
-    contexts: usize,
-    buffers: usize,
-    flags: usize,
-) -> (Words, Seat)
-    ensures sizes { (result.0.contexts ≡ contexts) × (result.0.buffers ≡ buffers) × (result.0.flags ≡ flags) }
-    ensures seat { (result.1.words ≡ result.0) × (result.1.parts ≡ PARTS) }
-{
-    Words::new(alloc, contexts, buffers, flags).expect(rt, "words")
-}
-
-/// The driver of a context that was not claimed.
-fn driver_of(rt: &impl Abort, words: &Words, seat: Seat, ctx: Context) -> Driver
-    requires own { seat.words ≡ words.now }
-    requires context { ctx ≤ words.now.contexts }
-    ensures own { result.seat.words ≡ words.now }
-{
-    let Ok(driver) = words.driver(seat, ctx) else {
-        panic!(rt; "the context was claimed")
-    };
-    driver
-}
-
-/// The whole seat.
-fn whole_of(rt: &impl Abort, seat: Seat) -> Whole
-    ensures { result ≡ seat }
-{
-    let Ok(whole) = seat.gather() else {
-        panic!(rt; "a part was missing")
-    };
-    whole
-}
 
 /// The refusal of words of these sizes, where they are refused; else they have these sizes, and all parts.
 fn refusal_of(

@@ -1,47 +1,11 @@
 // Words on two threads.
 ghost use Rattle.std.specs.Prelude.{◌≡◌, ◌+◌, ◌<◌, ◌≤◌};
-ghost use Rattle.words_core.specs.declared.seat.TheConstants.{PARTS};
 
+use crate::seats::{driver_of, whole_of, words_of};
 use point_core::{Context, Usage};
-use std::alloc::Global;
 use std::process::Abort;
 use std::thread::{Threads, join};
 use words_core::{Driver, Seat, Whole, Words};
-
-/// Words of these numbers of contexts and buffers, and their first seat.
-pub(crate) fn words_of(
-    rt: &impl Abort,
-    alloc: Global,
-    contexts: usize,
-    buffers: usize,
-) -> (Words, Seat)
-    ensures sizes { (result.0.contexts ≡ contexts) × (result.0.buffers ≡ buffers) }
-    ensures seat { (result.1.words ≡ result.0) × (result.1.parts ≡ PARTS) }
-{
-    Words::new(alloc, contexts, buffers, 0).expect(rt, "words")
-}
-
-/// The driver of a context that was not claimed.
-pub(crate) fn driver_of(rt: &impl Abort, words: &Words, seat: Seat, ctx: Context) -> Driver
-    requires own { seat.words ≡ words.now }
-    requires context { ctx ≤ words.now.contexts }
-    ensures own { result.seat.words ≡ words.now }
-{
-    let Ok(driver) = words.driver(seat, ctx) else {
-        panic!(rt; "the context was claimed")
-    };
-    driver
-}
-
-/// The whole seat.
-fn whole_of(rt: &impl Abort, seat: Seat) -> Whole
-    ensures { result ≡ seat }
-{
-    let Ok(whole) = seat.gather() else {
-        panic!(rt; "a part was missing")
-    };
-    whole
-}
 
 /// Whether a context is advanced before so many loads have found it at 0.
 fn is_advanced(words: &Words, looking: &mut Seat, ctx: Context) -> bool
@@ -58,7 +22,7 @@ fn is_advanced(words: &Words, looking: &mut Seat, ctx: Context) -> bool
 }
 
 /// Advances a context a thousand times by 1.
-pub(crate) fn drive_on(rt: &impl Abort, words: &Words, driver: &mut Driver)
+fn drive_on(rt: &impl Abort, words: &Words, driver: &mut Driver)
     requires own { driver.old.seat.words ≡ words.now }
     ensures own { driver.new.seat.words ≡ words.now }
 {
@@ -203,7 +167,7 @@ fn drive_and_raise<R: Threads + Abort + Sync>(rt: &R, words: &Words, all: &mut S
 
 #[test]
 fn two_threads_drive_and_raise(rt: HostRuntime) {
-    let (words, mut all) = words_of(&rt, rt.alloc(), 2, 1);
+    let (words, mut all) = words_of(&rt, rt.alloc(), 2, 1, 0);
     drive_and_raise(&rt, &words, &mut all);
     check_both(&rt, &words, &mut whole_of(&rt, all));
 }

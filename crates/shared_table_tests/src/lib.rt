@@ -1,0 +1,9 @@
+//! Tests of the tables that clients share, and of tables that wrap one.
+#![tactic(auto)]
+
+#[cfg(test)]
+mod plans;
+#[cfg(test)]
+mod tables;
+#[cfg(test)]
+mod wrapping;

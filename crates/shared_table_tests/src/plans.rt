@@ -1,0 +1,46 @@
+// Points and plans that are put.
+ghost use Rattle.std.specs.Prelude.{◌≡◌, vec_len};
+ghost use Rattle.resv_core.specs.Settled.{ArePlansWithin};
+
+use point_core::{Context, Point, Refusal, Usage};
+use resv_core::{Act, Plan};
+use std::alloc::Global;
+use std::process::Abort;
+
+/// A point of the first context.
+pub(crate) fn point(value: u64) -> Point
+    ensures context { result.ctx ≡ 1 }
+{
+    Point {
+        ctx: Context::at(0),
+        value,
+    }
+}
+
+/// The plans of these acts, one for each client.
+pub(crate) fn plans_of(rt: &impl Abort, alloc: Global, clients: &[&[Act]]) -> Vec<Plan> {
+    let mut plans = Vec::new(alloc);
+    for acts in clients {
+        let acts = Vec::from_slice(alloc, acts).expect(rt, "acts");
+        plans.push(Plan::of(acts)).expect(rt, "a plan");
+    }
+    plans
+}
+
+/// The plan of one client, which puts a point into the first buffer.
+pub(crate) fn plan_of_a_put(rt: &impl Abort, alloc: Global) -> Vec<Plan>
+    ensures within { ArePlansWithin 1 1 result.items }
+    ensures count { vec_len result ≡ 1 }
+{
+    let ctx = Context::at(0);
+    let put = Act::Put(0, Point { ctx, value: 1 }, Usage::Write);
+    let acts = Vec::from_elem(alloc, put, 1).expect(rt, "acts");
+    let mut plans = Vec::with_capacity(alloc, 1).expect(rt, "plans");
+    plans.push_reserved(Plan::of(acts));
+    plans
+}
+
+/// Checks that a call is refused for this cause.
+pub(crate) fn check_refused<A: Drop>(rt: &impl Abort, answer: Result<A, Refusal>, wanted: Refusal) {
+    assert!(rt; answer.err() == Some(wanted));
+}
