@@ -1,5 +1,5 @@
 -- The place of the timeline of a name.
-use Rattle.std.proofs.Common.{◌≡◌, ℕ, ◌+◌, ◌-◌, ◌<◌, suc, Bool, true, false, cond, ◌||◌, refl, sym, ap, subst, ◌∙◌, List, [], ◌∷◌, length, get_or, replicate, Option, None, Some, arith, true≢false, zero}
+use Rattle.std.proofs.Common.{◌≡◌, ℕ, ◌+◌, ◌-◌, ◌<◌, suc, Bool, true, false, cond, ◌||◌, refl, sym, ap, subst, ◌∙◌, List, [], ◌∷◌, length, get_or, slice_get, replicate, Option, None, Some, arith, true≢false, zero}
 use Rattle.std.specs.Prelude.{option_map, unwrap_or}
 use Rattle.std.specs.List.{position_from, AllByRecursion}
 use Rattle.std.specs.Cmp.Lexicographic.{same_text, nat_list_eq_equiv}
@@ -98,3 +98,21 @@ has_timeline-place ts name k place =
     (λ t us is. rw is refl)
     (λ t us j isnt after rest. rw isnt rest)
     ts k place
+
+-- the name of the context at that place
+pub name-place : (ts : List Timeline) (name : List ℕ) (k : ℕ) → IsPlace ts name k → option_map (λ (t : Timeline). t.name) (slice_get ts k) ≡ Some name
+name-place ts name k place =
+    at_place name (λ us j. option_map (λ (t : Timeline). t.name) (slice_get us j) ≡ Some name)
+    (λ t us is. ap Some (same_text t.name name (sym is)))
+    (λ t us j isnt after rest. rest)
+    ts k place
+
+-- a name that a place has is that of a timeline
+pub has_timeline-name : (ts : List Timeline) (k : ℕ) (name : List ℕ) → option_map (λ (t : Timeline). t.name) (slice_get ts k) ≡ Some name → has_timeline ts name ≡ true
+has_timeline-name [] k name at = absurd (none-some name at)
+has_timeline-name (t ∷ ts) zero name at = rw (← same_Some t.name name at, nat_list_eq_equiv.refl t.name) refl
+has_timeline-name (t ∷ ts) (suc k) name at = or_true (is_named name t) (has_timeline ts name) (has_timeline-name ts k name at)
+  where
+    or_true : (a b : Bool) → b ≡ true → (a || b) ≡ true
+    or_true true b is = refl
+    or_true false b is = is

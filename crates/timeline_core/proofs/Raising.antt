@@ -7,7 +7,8 @@ use Rattle.std.proofs.lemmas.Map.Keys.{IsDistinct-head, IsDistinct-tail}
 use Rattle.point_core.specs.declared.context.TheConstants.{CONTEXTS}
 use Rattle.point_core.specs.Reach.{value_at, with_value, IsAtLeast}
 use Rattle.timeline_core.specs.Timeline.{Timeline, is_named, raised_by, names_of, values_of, has_timeline, context_of, reach_of, value_of, raised, AreTimelines}
-use Rattle.timeline_core.proofs.Places.{IsPlace, at_place, place-within, place_from-has_timeline, context_of-place, value_of-place}
+use Rattle.timeline_core.specs.Run.{missing_to}
+use Rattle.timeline_core.proofs.Places.{IsPlace, at_place, place-within, place_from-has_timeline, context_of-place, value_of-place, has_timeline-place}
 use lib.Pointwise.{pointwise}
 
 name-raised_if : (b : Bool) (n : ℕ) (t : Timeline) → (if b then raised_by n t else t).name ≡ t.name
@@ -79,3 +80,13 @@ raised-stored {values} {values'} {ctx} {value} ts name n is before at sum kept h
     ∙ ap (λ x. with_value (reach_of ts) x (max (value_at (reach_of ts) x) value)) at
     ∙ ap (with_value (reach_of ts) (context_of ts name)) highest
     ∙ sym (reach_of-raised ts name n kept has)
+
+-- the same, of the timeline at a place, by what its value is below another
+pub raised-missing : {values values' : List ℕ} (ctx value : ℕ) (ts : List Timeline) (name : List ℕ) → values' ≡ with_value values ctx (max (value_at values ctx) value) → values ≡ reach_of ts → 1 ≤ ctx → AreTimelines ts → IsPlace ts name (ctx - 1) → values' ≡ reach_of (raised ts name (missing_to ts ctx value))
+raised-missing {values} {values'} ctx value ts name is before low kept place =
+    let n = missing_to ts ctx value in
+    let at : ctx ≡ context_of ts name = omega (arith, context_of-place ts name (ctx - 1) place) in
+    let same : value_of ts name ≡ value_at (reach_of ts) ctx = ap (value_at (reach_of ts)) (sym at) in
+    let stored : value_at values ctx ≡ value_at (reach_of ts) ctx = ap (λ r. value_at r ctx) before in
+    let highest : max (value_at values ctx) value ≡ max (value_at values ctx) (value_of ts name + n) = omega (arith, same, stored) in
+    raised-stored {value = value_of ts name + n} ts name n (is ∙ ap (with_value values ctx) highest) before at refl kept (has_timeline-place ts name (ctx - 1) place)

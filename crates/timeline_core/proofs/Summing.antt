@@ -1,14 +1,14 @@
 -- Values are sums of increments.
-use Rattle.std.proofs.Common.{◌≡◌, ℕ, ◌+◌, Bool, true, false, true≢false, ◌||◌, refl, sym, ap, subst, ◌∙◌, List, [], ◌∷◌, ◌++◌, append_assoc, append-nil, if◌then◌else◌, arith, inl, inr}
+use Rattle.std.proofs.Common.{◌≡◌, ℕ, ◌+◌, ◌-◌, Option, None, Some, Bool, true, false, true≢false, ◌||◌, refl, sym, ap, subst, ◌∙◌, List, [], ◌∷◌, ◌++◌, append_assoc, append-nil, if◌then◌else◌, arith, inl, inr}
 use Rattle.std.specs.Cmp.Lexicographic.{same_text}
 use Rattle.std.proofs.lemmas.Bool.{cases_Bool}
 use Rattle.std.proofs.lemmas.List.Sums.{sum_by-append}
 use Rattle.std.proofs.lemmas.List.Elements.{All-nil, All-cons, All-head, All-tail, All-push}
 use Rattle.point_core.specs.Named.{same_name}
 use Rattle.point_core.proofs.Named.{has_named-same_names, named-All}
-use Rattle.timeline_core.specs.Timeline.{Timeline, timeline_of, new_timeline, is_named, has_timeline, value_of, raised_by, raised}
-use Rattle.timeline_core.specs.Run.{Increment, increment, incremented, AreSums, Call, Create, Inc, Leaves, Step, IsRun, last_timelines, increments_of, accepted_increments, all_increments}
-use Rattle.timeline_core.proofs.Places.{timeline_at-value_of}
+use Rattle.timeline_core.specs.Timeline.{Timeline, timeline_of, new_timeline, is_named, has_timeline, name_at, value_of, raised_by, raised}
+use Rattle.timeline_core.specs.Run.{Increment, increment, incremented, AreSums, Call, Create, Inc, RaiseTo, Leaves, Step, missing_to, increments_if, raised_if, IsRun, last_timelines, increments_of, accepted_increments, all_increments}
+use Rattle.timeline_core.proofs.Places.{timeline_at-value_of, has_timeline-name}
 use Rattle.timeline_core.proofs.Raising.{names_of-raised}
 
 -- values are sums, and where there is no timeline nothing was added
@@ -57,34 +57,45 @@ other_name ts name other has absent = elim (cases_Bool (same_name other name)) [
   | inr isnt ↦ isnt
 ]
 
-IsSummed-Leaves : (call : Call) (accepted : Bool) (old new : List Timeline) (is : List Increment) → Leaves call accepted old new → IsSummed old is → IsSummed new (is ++ (if accepted then increments_of call else []))
+-- one timeline rises
+IsSummed-raised : (ts : List Timeline) (name : List ℕ) (n : ℕ) (is : List Increment) → has_timeline ts name ≡ true → IsSummed ts is → IsSummed (raised ts name n) (is ++ increment name n ∷ [])
+IsSummed-raised ts name n is has before = record {
+  kept = AreSums-raised ts name n is before.kept;
+  none = λ other absent.
+      let before_absent = sym (has_named-same_names (λ (t : Timeline). t.name) (λ (t : Timeline). t.name) (raised ts name n) ts other (names_of-raised ts name n)) ∙ absent in
+      incremented-push is name n other
+      ∙ ap (λ b. incremented is other + (if b then n else 0)) (other_name ts name other has before_absent)
+      ∙ (let none = before.none other before_absent in omega arith);
+}
+
+IsSummed-raised_if : (ts : List Timeline) (ctx n : ℕ) (is : List Increment) (name : Option (List ℕ)) → name_at ts ctx ≡ name → IsSummed ts is → IsSummed (raised_if ts name n) (is ++ increments_if name n)
+IsSummed-raised_if ts ctx n is None at before = subst (IsSummed ts) (sym (append-nil is)) before
+IsSummed-raised_if ts ctx n is (Some name) at before = IsSummed-raised ts name n is (has_timeline-name ts (ctx - 1) name at) before
+
+IsSummed-Leaves : (call : Call) (accepted : Bool) (old new : List Timeline) (is : List Increment) → Leaves call accepted old new → IsSummed old is → IsSummed new (is ++ (if accepted then increments_of call old else []))
 IsSummed-Leaves call false old new is left before = subst (IsSummed new) (sym (append-nil is)) (subst (λ ts. IsSummed ts is) (sym left) before)
 IsSummed-Leaves (Create name) true old new is left before = subst (IsSummed new) (sym (append-nil is)) (subst (λ ts. IsSummed ts is) (sym left.1) (record {
   kept = All-push (IsSum is) old (new_timeline name) before.kept (sym (before.none name left.0.0));
   none = λ other absent. before.none other (has_timeline-before old (new_timeline name) other absent);
 }))
-IsSummed-Leaves (Inc name n) true old new is left before = subst (λ ts. IsSummed ts (is ++ increment name n ∷ [])) (sym left.1) (record {
-  kept = AreSums-raised old name n is before.kept;
-  none = λ other absent.
-      let before_absent = sym (has_named-same_names (λ (t : Timeline). t.name) (λ (t : Timeline). t.name) (raised old name n) old other (names_of-raised old name n)) ∙ absent in
-      incremented-push is name n other
-      ∙ ap (λ b. incremented is other + (if b then n else 0)) (other_name old name other left.0.0 before_absent)
-      ∙ (let none = before.none other before_absent in omega arith);
-})
+IsSummed-Leaves (Inc name n) true old new is left before = subst (λ ts. IsSummed ts (is ++ increment name n ∷ [])) (sym left.1) (IsSummed-raised old name n is left.0.0 before)
+IsSummed-Leaves (RaiseTo ctx value) true old new is left before =
+    let n = missing_to old ctx value in
+    subst (λ ts. IsSummed ts (is ++ increments_if (name_at old ctx) n)) (sym left.1) (IsSummed-raised_if old ctx n is (name_at old ctx) refl before)
 
-IsSummed-run : (old : List Timeline) (is : List Increment) (steps : List Step) → IsSummed old is → IsRun old steps → IsSummed (last_timelines old steps) (is ++ all_increments steps)
+IsSummed-run : (old : List Timeline) (is : List Increment) (steps : List Step) → IsSummed old is → IsRun old steps → IsSummed (last_timelines old steps) (is ++ all_increments old steps)
 IsSummed-run old is [] before run = subst (IsSummed old) (sym (append-nil is)) before
 IsSummed-run old is (step ∷ steps) before run =
-    subst (IsSummed (last_timelines step.left steps)) (append_assoc is (accepted_increments step) (all_increments steps))
-    (IsSummed-run step.left (is ++ accepted_increments step) steps (IsSummed-Leaves step.call step.accepted old step.left is run.0 before) run.1)
+    subst (IsSummed (last_timelines step.left steps)) (append_assoc is (accepted_increments old step) (all_increments step.left steps))
+    (IsSummed-run step.left (is ++ accepted_increments old step) steps (IsSummed-Leaves step.call step.accepted old step.left is run.0 before) run.1)
 
-IsSummed-all : (steps : List Step) → IsRun [] steps → IsSummed (last_timelines [] steps) (all_increments steps)
+IsSummed-all : (steps : List Step) → IsRun [] steps → IsSummed (last_timelines [] steps) (all_increments [] steps)
 IsSummed-all steps run = IsSummed-run [] [] steps (record { kept = All-nil (IsSum []); none = λ name absent. refl }) run
 
-pub AreSums-run : (steps : List Step) → IsRun [] steps → AreSums (last_timelines [] steps) (all_increments steps)
+pub AreSums-run : (steps : List Step) → IsRun [] steps → AreSums (last_timelines [] steps) (all_increments [] steps)
 AreSums-run steps run = (IsSummed-all steps run).kept
 
-pub value_of-run : (steps : List Step) (name : List ℕ) → IsRun [] steps → has_timeline (last_timelines [] steps) name ≡ true → value_of (last_timelines [] steps) name ≡ incremented (all_increments steps) name
+pub value_of-run : (steps : List Step) (name : List ℕ) → IsRun [] steps → has_timeline (last_timelines [] steps) name ≡ true → value_of (last_timelines [] steps) name ≡ incremented (all_increments [] steps) name
 value_of-run steps name run has =
     let ts = last_timelines [] steps in
-    named-All (λ (t : Timeline). t.name) (IsSum (all_increments steps)) ts name (timeline_of name (value_of ts name)) (AreSums-run steps run) (timeline_at-value_of ts name has)
+    named-All (λ (t : Timeline). t.name) (IsSum (all_increments [] steps)) ts name (timeline_of name (value_of ts name)) (AreSums-run steps run) (timeline_at-value_of ts name has)

@@ -1,9 +1,10 @@
 -- Calls on timelines, one after another, and the increments among them.
-use Rattle.std.specs.Prelude.{◌≡◌, ℕ, ◌+◌, ◌^◌, ◌<◌, Bool, true, false, if◌then◌else◌, List, [], ◌∷◌, ◌++◌, length, All, ⊤}
+use Rattle.std.specs.Prelude.{◌≡◌, ℕ, ◌+◌, ◌-◌, ◌^◌, ◌<◌, ◌≤◌, Bool, true, false, if◌then◌else◌, List, [], ◌∷◌, ◌++◌, length, All, Option, None, Some, ⊤}
 use Rattle.std.specs.List.{sum_by}
 use Rattle.point_core.specs.declared.context.TheConstants.{CONTEXTS}
 use Rattle.point_core.specs.Named.{same_name}
-use Rattle.timeline_core.specs.Timeline.{Timeline, new_timeline, has_timeline, value_of, raised}
+use Rattle.point_core.specs.Reach.{value_at}
+use Rattle.timeline_core.specs.Timeline.{Timeline, new_timeline, has_timeline, name_at, reach_of, value_of, raised}
 
 -- an increment of the timeline of that name
 pub record Increment : Type 0 where
@@ -25,16 +26,33 @@ AreSums ts is = All (λ (t : Timeline). t.value ≡ incremented is t.name) ts
 pub data Call : Type 0 where
   Create : List ℕ → Call
   Inc : List ℕ → ℕ → Call
+  RaiseTo : ℕ → ℕ → Call
 
 -- nothing refuses the call
 abbrev pub IsAllowed : Call → List Timeline → Type 0
 IsAllowed (Create name) ts = (has_timeline ts name ≡ false) × (length ts < CONTEXTS)
 IsAllowed (Inc name n) ts = (has_timeline ts name ≡ true) × (value_of ts name + n < 2 ^ 64)
+IsAllowed (RaiseTo ctx value) ts = (1 ≤ ctx) × (ctx ≤ length ts)
+
+-- by how much the value of a context is below another
+abbrev pub missing_to : List Timeline → ℕ → ℕ → ℕ
+missing_to ts ctx value = value - value_at (reach_of ts) ctx
+
+-- an increment of the timeline of that name, where there is one
+abbrev pub increments_if : Option (List ℕ) → ℕ → List Increment
+increments_if None n = []
+increments_if (Some name) n = increment name n ∷ []
+
+-- the timeline of that name, where there is one, rises by n
+abbrev pub raised_if : List Timeline → Option (List ℕ) → ℕ → List Timeline
+raised_if ts None n = ts
+raised_if ts (Some name) n = raised ts name n
 
 -- the timelines after an accepted call
 abbrev pub after : Call → List Timeline → List Timeline
 after (Create name) ts = ts ++ new_timeline name ∷ []
 after (Inc name n) ts = raised ts name n
+after (RaiseTo ctx value) ts = raised_if ts (name_at ts ctx) (missing_to ts ctx value)
 
 -- what a call leaves, that was accepted or refused
 abbrev pub Leaves : Call → Bool → List Timeline → List Timeline → Type 0
@@ -56,15 +74,16 @@ abbrev pub last_timelines : List Timeline → List Step → List Timeline
 last_timelines old [] = old
 last_timelines old (step ∷ steps) = last_timelines step.left steps
 
--- what an accepted call adds
-abbrev pub increments_of : Call → List Increment
-increments_of (Create name) = []
-increments_of (Inc name n) = increment name n ∷ []
+-- what an accepted call adds to these timelines
+abbrev pub increments_of : Call → List Timeline → List Increment
+increments_of (Create name) ts = []
+increments_of (Inc name n) ts = increment name n ∷ []
+increments_of (RaiseTo ctx value) ts = increments_if (name_at ts ctx) (missing_to ts ctx value)
 
-abbrev pub accepted_increments : Step → List Increment
-accepted_increments step = if step.accepted then increments_of step.call else []
+abbrev pub accepted_increments : List Timeline → Step → List Increment
+accepted_increments ts step = if step.accepted then increments_of step.call ts else []
 
 -- the increments of all calls that were accepted
-abbrev pub all_increments : List Step → List Increment
-all_increments [] = []
-all_increments (step ∷ steps) = accepted_increments step ++ all_increments steps
+abbrev pub all_increments : List Timeline → List Step → List Increment
+all_increments old [] = []
+all_increments old (step ∷ steps) = accepted_increments old step ++ all_increments step.left steps

@@ -1,16 +1,17 @@
-// What holds of all timelines that `create` and `inc` leave: each law is the contract of a function with an empty body.
+// What holds of all timelines that `create`, `inc` and `raise_to` leave: each law is the contract of a function with an empty body.
 ghost use Rattle.std.specs.Prelude.{◌≡◌, ℕ, List, [], ◌++◌, IsTrue, IsPermutation};
 ghost use Rattle.timeline_core.specs.Timeline.{Timeline, has_timeline, value_of};
 ghost use Rattle.timeline_core.specs.Run.{AreSums, Increment, IsRun, Step, all_increments, incremented, last_timelines};
 
-/// After any calls of `create` and `inc`, accepted or refused, each value is the sum of the accepted increments of its
-/// timeline. So two runs with the same accepted increments, in whatever order, give a name the same value.
+/// After any calls of `create`, `inc` and `raise_to`, accepted or refused, each value is the sum of the accepted increments of
+/// its timeline, where a raise adds what was missing. So two runs with the same accepted increments, in whatever order, give a
+/// name the same value.
 pub fn a_value_is_the_sum_of_the_accepted_increments()
     ensures kept { (steps : List Step) →
-        IsRun [] steps → AreSums (last_timelines [] steps) (all_increments steps) }
+        IsRun [] steps → AreSums (last_timelines [] steps) (all_increments [] steps) }
     ensures value { (steps : List Step) (name : List ℕ) →
         IsRun [] steps → IsTrue (has_timeline (last_timelines [] steps) name) →
-        value_of (last_timelines [] steps) name ≡ incremented (all_increments steps) name }
+        value_of (last_timelines [] steps) name ≡ incremented (all_increments [] steps) name }
     ensures order { (increments others : List Increment) (name : List ℕ) →
         IsPermutation increments others → incremented increments name ≡ incremented others name }
 {}

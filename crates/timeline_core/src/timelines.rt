@@ -31,7 +31,7 @@ impl Model for Timelines {
 impl Timelines {
     ghost use Rattle.timeline_core.specs.Timeline.{timeline_of, new_timeline, has_timeline, timeline_at, context_of};
     ghost use Rattle.timeline_core.specs.Timeline.{name_at, names_of, reach_of, value_of, raised, rows_of, AreTimelines};
-    ghost use Rattle.timeline_core.specs.Run.{Leaves, Create, Inc};
+    ghost use Rattle.timeline_core.specs.Run.{Leaves, Create, Inc, RaiseTo};
     ghost use Rattle.point_core.specs.Reach.{with_value, value_at, reaching, IsAtLeast};
 
     /// No timelines. It takes no memory yet, so it is never refused.
@@ -103,6 +103,7 @@ impl Timelines {
     /// Takes no memory.
     pub fn raise_to(&mut self, point: Point)
         requires made { point.ctx ≤ length self.old }
+        ensures leaves { Leaves (RaiseTo point.ctx point.value) true self.old self.new }
         ensures reach { reach_of self.new ≡ reaching (reach_of self.old) point }
         ensures names { names_of self.new ≡ names_of self.old }
         ensures raised { (name : List ℕ) (n : ℕ) →
