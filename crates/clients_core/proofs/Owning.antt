@@ -15,7 +15,7 @@ use Rattle.point_core.proofs.Agreement.{raised_to-pending, top-listing}
 use Rattle.point_core.proofs.Latest.{applies-true, put_if, put_if-above, raised_to-if}
 use Rattle.words_core.specs.Seat.{SeatModel, raised_to}
 use Rattle.words_core.specs.Words.{WordsModel}
-use Rattle.clients_core.specs.Board.{HasLooked, IsRaisedBy, Place, place_of, place_to, places_at, places_to, word_at}
+use Rattle.clients_core.specs.Board.{HasLooked, IsNoLess, IsRaisedBy, Place, place_of, place_to, places_at, places_to, word_at}
 use Rattle.clients_core.specs.Looks.{shows_all}
 use Rattle.clients_core.proofs.Looking.{entry-shown, shown_at}
 use Rattle.clients_core.proofs.Showing.{place_to-within, places_to-more}
@@ -84,7 +84,7 @@ own-late words buffer level before after l e h raised from to low =
     let n = usage_number level in
     let P = IsWithinLatest words buffer before n h.entries in
     let value = value_at l.floor e.point.ctx in
-    let within = of-places_to P level e.usage words.contexts e.point.ctx low from raised.0 (subst (All P) h.at (all-within words buffer before n h.entries h.own)) value low in
+    let within = of-places_to P level e.usage words.contexts e.point.ctx low from raised.0 (subst (All P) h.at (all-within words buffer before n h.entries (All-weaker (IsNoLess words buffer before) (λ (f : Entry). raised_to before (word_at words buffer (place_of f)) ≤ f.point.value) (λ f own. own.raised) h.entries h.own))) value low in
     let shown : shown_at l e.point.ctx ≡ latest_of value (top h.entries n e.point.ctx) =
     ap (λ ps. latest_of value (top (as_entries ps) 0 e.point.ctx)) h.points
     ∙ ap (latest_of value) (top-listing h.entries n l.floor 0 e.point.ctx from to)

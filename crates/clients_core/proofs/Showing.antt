@@ -1,5 +1,5 @@
 -- Looks at the places of a board, one after another.
-use Rattle.std.proofs.Common.{◌≡◌, ◌≢◌, ℕ, zero, suc, ◌+◌, ◌-◌, ◌<◌, ◌≤◌, ◌==◌, Bool, if◌then◌else◌, max, nat_lt, Option, None, Some, All, List, [], ◌∷◌, ◌++◌, map, refl, sym, ap, ◌∙◌, subst, inl, inr, append_assoc, append-nil, arith, Result, Ok, Err, IfOk}
+use Rattle.std.proofs.Common.{◌≡◌, ◌≢◌, ℕ, zero, suc, ◌+◌, ◌-◌, ◌<◌, ◌≤◌, ◌==◌, Bool, if◌then◌else◌, max, nat_lt, Option, None, Some, All, List, [], ◌∷◌, ◌++◌, map, refl, sym, ap, ◌∙◌, subst, inl, inr, append_assoc, append-nil, le_trans, arith, Result, Ok, Err, IfOk}
 use Rattle.std.specs.Prelude.{option_map}
 use Rattle.std.specs.List.{cons_option, filter_map, flat_map, range_with_len}
 use Rattle.std.proofs.lemmas.Bool.{cases_Bool, cases_lt, le-leb, le-ltb, lt-ltb}
@@ -21,14 +21,16 @@ use Rattle.point_core.proofs.Agreement.{listing-contexts}
 use Rattle.point_core.proofs.Latest.{applies-true, raised_to-top-append}
 use Rattle.point_core.proofs.Listings.{filter_map-contexts, filter_map-range_more, filter_map-range_same}
 use Rattle.words_core.specs.declared.trace.Step.{Step}
-use Rattle.words_core.specs.Seat.{SeatModel, loads_of, raised_to, with_step, with_steps}
+use Rattle.words_core.specs.Loads.{HasLoadedAll}
+use Rattle.words_core.specs.Seat.{SeatModel, loads_of, raised_to, seen, with_step, with_steps}
 use Rattle.words_core.specs.Trace.{load, on, raised, shown, total}
 use Rattle.words_core.specs.Layout.{value_word}
 use Rattle.words_core.specs.Words.{WordsModel}
+use Rattle.words_core.proofs.Seen.{seen_stays}
 use Rattle.words_core.proofs.Traces.{on-append, raised-append}
 use Rattle.resv_core.specs.Shared.{HasLoadedOnce, is_load}
 use Rattle.clients_core.proofs.Gathering.{raised-load, raised-steps}
-use Rattle.clients_core.specs.Board.{Place, HasListed, HasLooked, HasShown, look_at, pending_point, place_of, place_to, places_at, places_to, word_at}
+use Rattle.clients_core.specs.Board.{Place, HasListed, HasLooked, HasShown, IsNoLess, look_at, pending_point, place_of, place_to, places_at, places_to, word_at}
 use Rattle.clients_core.proofs.Apart.{filter_map-range_rest, top-after, top-before, top-past}
 
 pub place_to-within : (level usage : Usage) (ctx : ℕ) → usage_number usage ≤ usage_number level → place_to level ctx usage ≡ (ctx, usage) ∷ []
@@ -56,6 +58,16 @@ raised_to-looks words buffer w seat es =
     let none = raised-looks words buffer w es in
     ap raised (on-append w seat.trace looks) ∙ raised-append (on w seat.trace) (on w looks) ∙ (omega (arith, none))
 
+-- a seat that has made more steps, none of them a raise of the place, knows no less of it
+IsNoLess-before : (words : WordsModel) (buffer : ℕ) (first middle : SeatModel) (steps : List Step) (e : Entry) → middle ≡ with_steps first steps → raised_to middle (word_at words buffer (place_of e)) ≡ raised_to first (word_at words buffer (place_of e)) → IsNoLess words buffer middle e → IsNoLess words buffer first e
+IsNoLess-before words buffer first middle steps e entered same own =
+    let w = word_at words buffer (place_of e) in
+    let stays : seen first w ≤ seen middle w = subst (λ (s : SeatModel). seen first w ≤ seen s w) (sym entered) (seen_stays first w steps) in
+    record {
+      seen_there = le_trans stays own.seen_there;
+      raised = subst (λ n. n ≤ e.point.value) same own.raised;
+    }
+
 -- no place, one place, and one list of places after another
 
 pub HasShown-none : (words : WordsModel) (buffer level ctx : ℕ) (seat : SeatModel) (value : ℕ) → HasShown words buffer level ctx [] seat seat value value
@@ -65,25 +77,26 @@ HasShown-none words buffer level ctx seat value = record {
   steps = ap (λ (steps : List Step). record seat { trace = steps }) (sym (append-nil seat.trace));
   contexts = All-nil (λ (e : Entry). e.point.ctx ≡ ctx);
   latest = refl;
-  own = All-nil (λ (e : Entry). raised_to seat (word_at words buffer (place_of e)) ≤ e.point.value);
+  own = All-nil (IsNoLess words buffer seat);
 }
 
-pub HasShown-one : (words : WordsModel) (buffer level : ℕ) (e : Entry) (before after : SeatModel) (old new : ℕ) → after ≡ with_step before (look_at words buffer e) → usage_number e.usage ≤ level → new ≡ max old e.point.value → raised_to before (word_at words buffer (place_of e)) ≤ e.point.value → HasShown words buffer level e.point.ctx (place_of e ∷ []) before after old new
+pub HasShown-one : (words : WordsModel) (buffer level : ℕ) (e : Entry) (before after : SeatModel) (old new : ℕ) → after ≡ with_step before (look_at words buffer e) → usage_number e.usage ≤ level → new ≡ max old e.point.value → IsNoLess words buffer before e → HasShown words buffer level e.point.ctx (place_of e ∷ []) before after old new
 HasShown-one words buffer level e before after old new step low later own = record {
   entries = e ∷ [];
   at = refl;
   steps = step;
   contexts = All-cons (λ (f : Entry). f.point.ctx ≡ e.point.ctx) e [] refl (All-nil (λ (f : Entry). f.point.ctx ≡ e.point.ctx));
   latest = later ∙ ap (λ (b : Bool). later_value old (if b then Some e.point.value else None)) (sym (applies-true e level e.point.ctx low refl));
-  own = All-cons (λ (f : Entry). raised_to before (word_at words buffer (place_of f)) ≤ f.point.value) e [] own (All-nil (λ (f : Entry). raised_to before (word_at words buffer (place_of f)) ≤ f.point.value));
+  own = All-cons (IsNoLess words buffer before) e [] own (All-nil (IsNoLess words buffer before));
 }
 
--- what a place shows is no less than what the seat had raised there, also by a seat that has looked since
-own-later : (words : WordsModel) (buffer : ℕ) (first middle : SeatModel) (es fs : List Entry) → middle ≡ with_steps first (map (look_at words buffer) es) → All (λ (e : Entry). raised_to middle (word_at words buffer (place_of e)) ≤ e.point.value) fs → All (λ (e : Entry). raised_to first (word_at words buffer (place_of e)) ≤ e.point.value) fs
+-- what a place shows is no less than what the seat knew of it, also by a seat that has looked since
+own-later : (words : WordsModel) (buffer : ℕ) (first middle : SeatModel) (es fs : List Entry) → middle ≡ with_steps first (map (look_at words buffer) es) → All (IsNoLess words buffer middle) fs → All (IsNoLess words buffer first) fs
 own-later words buffer first middle es fs steps own =
-    let Own = λ (seat : SeatModel) (e : Entry). raised_to seat (word_at words buffer (place_of e)) ≤ e.point.value in
-    All-weaker (Own middle) (Own first)
-    (λ e own. subst (λ n. n ≤ e.point.value) (ap (λ (s : SeatModel). raised_to s (word_at words buffer (place_of e))) steps ∙ raised_to-looks words buffer (word_at words buffer (place_of e)) first es) own)
+    All-weaker (IsNoLess words buffer middle) (IsNoLess words buffer first)
+    (λ e own.
+    let w = word_at words buffer (place_of e) in
+    IsNoLess-before words buffer first middle (map (look_at words buffer) es) e steps (ap (λ (s : SeatModel). raised_to s w) steps ∙ raised_to-looks words buffer w first es) own)
     fs
     own
 
@@ -105,7 +118,7 @@ HasShown-append {words} {buffer} {level} {ctx} {ps} {qs} {first} {middle} {last}
   steps = steps-append words buffer first middle last h.entries k.entries h.steps k.steps;
   contexts = All-append (λ (e : Entry). e.point.ctx ≡ ctx) h.entries k.entries h.contexts k.contexts;
   latest = k.latest ∙ ap (λ (v : ℕ). later_value v (top k.entries level ctx)) h.latest ∙ sym (raised_to-top-append old h.entries k.entries level ctx);
-  own = All-append (λ (e : Entry). raised_to first (word_at words buffer (place_of e)) ≤ e.point.value) h.entries k.entries h.own (own-later words buffer first middle h.entries k.entries h.steps k.own);
+  own = All-append (IsNoLess words buffer first) h.entries k.entries h.own (own-later words buffer first middle h.entries k.entries h.steps k.own);
 }
 
 -- the places of one more context
@@ -140,7 +153,7 @@ HasListed-none words buffer level seat reach = record {
   steps = ap (λ (steps : List Step). record seat { trace = steps }) (sym (append-nil seat.trace));
   within = All-nil (λ (e : Entry). e.point.ctx ≤ 0);
   pending = refl;
-  own = All-nil (λ (e : Entry). raised_to seat (word_at words buffer (place_of e)) ≤ e.point.value);
+  own = All-nil (IsNoLess words buffer seat);
 }
 
 -- the point of a context, if it is above the value
@@ -183,7 +196,7 @@ HasListed-more {words} {buffer} {level} {n} {ctx} {first} {middle} {last} {reach
   pending =
       ap (λ (ps : List Point). ps ++ cons_option (point_if_above (value_at reach ctx) ctx value) []) h.pending
       ∙ pending-more reach (usage_number level) n ctx value h.entries k.entries is h.within k.contexts k.latest;
-  own = All-append (λ (e : Entry). raised_to first (word_at words buffer (place_of e)) ≤ e.point.value) h.entries k.entries h.own (own-later words buffer first middle h.entries k.entries h.steps k.own);
+  own = All-append (IsNoLess words buffer first) h.entries k.entries h.own (own-later words buffer first middle h.entries k.entries h.steps k.own);
 }
 
 -- a later point is pushed, and none is where it is not later
@@ -206,18 +219,20 @@ listing-within reach level n es few within =
     ∙ filter_map-contexts (pending_point reach es level) (n + (CONTEXTS - n)) all
 
 -- the loads, then the looks, and the listing of what these showed
-pub HasLooked-listed : (words : WordsModel) (buffer : ℕ) (level : Usage) (first middle last : SeatModel) (listed : Listing) → words.contexts ≤ CONTEXTS → middle ≡ with_steps first (loads_of listed.floor words.contexts) → HasListed words buffer level words.contexts middle last listed.floor listed.points → HasLooked words buffer level first last listed
+pub HasLooked-listed : (words : WordsModel) (buffer : ℕ) (level : Usage) (first middle last : SeatModel) (listed : Listing) → words.contexts ≤ CONTEXTS → HasLoadedAll first middle listed.floor → HasListed words buffer level words.contexts middle last listed.floor listed.points → HasLooked words buffer level first last listed
 HasLooked-listed words buffer level first middle last listed few loaded h = record {
+  seat = middle;
+  loaded = loaded;
   entries = h.entries;
   at = h.at;
-  steps =
-      h.steps
-      ∙ ap (λ (s : SeatModel). with_steps s (map (look_at words buffer) h.entries)) loaded
-      ∙ ap (λ (steps : List Step). record first { trace = steps }) (append_assoc first.trace (loads_of listed.floor words.contexts) (map (look_at words buffer) h.entries));
+  steps = h.steps;
   points = h.pending ∙ listing-within listed.floor (usage_number level) words.contexts h.entries few h.within;
   own =
-      All-weaker (λ (e : Entry). raised_to middle (word_at words buffer (place_of e)) ≤ e.point.value) (λ (e : Entry). raised_to first (word_at words buffer (place_of e)) ≤ e.point.value)
-      (λ e own. subst (λ n. n ≤ e.point.value) (ap (λ (s : SeatModel). raised_to s (word_at words buffer (place_of e))) loaded ∙ raised_to-loads first (word_at words buffer (place_of e)) listed.floor words.contexts) own)
+      All-weaker (IsNoLess words buffer middle) (IsNoLess words buffer first)
+      (λ e own.
+      let w = word_at words buffer (place_of e) in
+      let n = first.words.contexts in
+      IsNoLess-before words buffer first middle (loads_of listed.floor n) e loaded.entered (ap (λ (s : SeatModel). raised_to s w) loaded.entered ∙ raised_to-loads first w listed.floor n) own)
       h.entries
       h.own;
 }
@@ -238,13 +253,15 @@ no-loads words buffer [] = refl
 no-loads words buffer (e ∷ es) = let rest = no-loads words buffer es in omega (arith, rest)
 
 -- of every answer: each value was loaded once
-pub HasLoadedOnce-looked : (words : WordsModel) (buffer : ℕ) (level : Usage) (before after : SeatModel) (answer : Result Listing Refusal) → before.words ≡ words → IfOk answer (λ l. HasLooked words buffer level before after l) → IfOk answer (λ l. HasLoadedOnce l.floor before after)
-HasLoadedOnce-looked words buffer level before after (Ok l) own h = (
-  map (look_at words buffer) h.entries,
-  h.steps ∙ ap (λ (w : WordsModel). with_steps before (loads_of l.floor w.contexts ++ map (look_at words buffer) h.entries)) (sym own),
-  no-loads words buffer h.entries,
-)
-HasLoadedOnce-looked words buffer level before after (Err e) own h = tt
+pub HasLoadedOnce-looked : (words : WordsModel) (buffer : ℕ) (level : Usage) (before after : SeatModel) (answer : Result Listing Refusal) → IfOk answer (λ l. HasLooked words buffer level before after l) → IfOk answer (λ l. HasLoadedOnce l.floor before after)
+HasLoadedOnce-looked words buffer level before after (Ok l) h = record {
+  seat = h.seat;
+  loaded = h.loaded;
+  steps = map (look_at words buffer) h.entries;
+  entered = h.steps;
+  none = no-loads words buffer h.entries;
+}
+HasLoadedOnce-looked words buffer level before after (Err e) h = tt
 
 -- what is listed rises by context
 pub HasRisingContexts-looked : (words : WordsModel) (buffer : ℕ) (level : Usage) (before after : SeatModel) (answer : Result Listing Refusal) → IfOk answer (λ l. HasLooked words buffer level before after l) → IfOk answer (λ l. HasRisingContexts l.points)

@@ -11,7 +11,8 @@ use Rattle.point_core.specs.Latest.{raised_to as later_value}
 use Rattle.point_core.specs.Usage.{usage_number}
 use Rattle.words_core.specs.declared.trace.Step.{Step}
 use Rattle.words_core.specs.Layout.{board_word}
-use Rattle.words_core.specs.Seat.{SeatModel, loads_of, raised_to, with_step, with_steps}
+use Rattle.words_core.specs.Loads.{HasLoadedAll}
+use Rattle.words_core.specs.Seat.{SeatModel, raised_to, seen, with_step, with_steps}
 use Rattle.words_core.specs.Trace.{raise, shown}
 use Rattle.words_core.specs.Words.{WordsModel}
 use Rattle.resv_core.specs.declared.plan.Act.{Act}
@@ -43,10 +44,18 @@ places_at level ctx = flat_map (place_to level ctx) (Kernel ∷ Write ∷ Read �
 abbrev pub places_to : Usage → ℕ → List Place
 places_to level contexts = flat_map (places_at level) (range_with_len 1 contexts)
 
--- the fence was put by one raise of its place
-abbrev pub HasRaised : WordsModel → ℕ → Entry → SeatModel → SeatModel → Type 0
-HasRaised words buffer e before after =
-    (value : ℕ) × (after ≡ with_step before (raise (word_at words buffer (place_of e)) e.point.value value))
+-- the fence was put by one raise of its place, which left a value that is no less than its point, nor than what the seat
+-- had seen there
+pub record HasRaised (words : WordsModel) (buffer : ℕ) (e : Entry) (before after : SeatModel) : Type 0 where
+  pub value : ℕ
+  pub step : after ≡ with_step before (raise (word_at words buffer (place_of e)) e.point.value value)
+  pub point : e.point.value ≤ value
+  pub later : seen before (word_at words buffer (place_of e)) ≤ value
+
+-- the entry's point is no less than what the seat had seen at its place, nor than what it had raised it to
+pub record IsNoLess (words : WordsModel) (buffer : ℕ) (seat : SeatModel) (e : Entry) : Type 0 where
+  pub seen_there : seen seat (word_at words buffer (place_of e)) ≤ e.point.value
+  pub raised : raised_to seat (word_at words buffer (place_of e)) ≤ e.point.value
 
 -- the look at a place that showed the entry's point
 abbrev pub look_at : WordsModel → ℕ → Entry → Step
@@ -56,8 +65,8 @@ look_at words buffer e = shown (word_at words buffer (place_of e)) e.point.value
 abbrev pub pending_point : List ℕ → List Entry → ℕ → ℕ → Option Point
 pending_point reach es level ctx = option_map (point_of ctx) (pending_top reach es level ctx)
 
--- one look at each of these places of a context, in order: the entries that these showed, none below what the seat had
--- raised there, and a value, which becomes the latest of itself and them
+-- one look at each of these places of a context, in order: the entries that these showed, none below what the seat knew
+-- of its place, and a value, which becomes the latest of itself and them
 pub record HasShown (words : WordsModel) (buffer level ctx : ℕ) (places : List Place)
     (before after : SeatModel) (old new : ℕ) : Type 0 where
   pub entries : List Entry
@@ -65,7 +74,7 @@ pub record HasShown (words : WordsModel) (buffer level ctx : ℕ) (places : List
   pub steps : after ≡ with_steps before (map (look_at words buffer) entries)
   pub contexts : All (λ e. e.point.ctx ≡ ctx) entries
   pub latest : new ≡ later_value old (top entries level ctx)
-  pub own : All (λ e. raised_to before (word_at words buffer (place_of e)) ≤ e.point.value) entries
+  pub own : All (IsNoLess words buffer before) entries
 
 -- one look at each place of the first contexts up to the level, in order: the same, and their pending points
 pub record HasListed (words : WordsModel) (buffer : ℕ) (level : Usage) (contexts : ℕ)
@@ -75,16 +84,18 @@ pub record HasListed (words : WordsModel) (buffer : ℕ) (level : Usage) (contex
   pub steps : after ≡ with_steps before (map (look_at words buffer) entries)
   pub within : All (λ e. e.point.ctx ≤ contexts) entries
   pub pending : points ≡ filter_map (pending_point reach entries (usage_number level)) (range_with_len 1 contexts)
-  pub own : All (λ e. raised_to before (word_at words buffer (place_of e)) ≤ e.point.value) entries
+  pub own : All (IsNoLess words buffer before) entries
 
 -- one load of each value, then one look at each place of the buffer up to the level: the entries that these showed, none
--- below what the seat had raised there, and their listing
+-- below what the seat knew of its place, and their listing
 pub record HasLooked (words : WordsModel) (buffer : ℕ) (level : Usage) (before after : SeatModel) (listed : Listing) : Type 0 where
+  pub seat : SeatModel
+  pub loaded : HasLoadedAll before seat listed.floor
   pub entries : List Entry
   pub at : map place_of entries ≡ places_to level words.contexts
-  pub steps : after ≡ with_steps before (loads_of listed.floor words.contexts ++ map (look_at words buffer) entries)
+  pub steps : after ≡ with_steps seat (map (look_at words buffer) entries)
   pub points : listed.points ≡ listing entries (usage_number level) listed.floor
-  pub own : All (λ e. raised_to before (word_at words buffer (place_of e)) ≤ e.point.value) entries
+  pub own : All (IsNoLess words buffer before) entries
 
 -- the seat has raised the entry's place to its point or a later one
 abbrev pub IsRaisedBy : WordsModel → ℕ → SeatModel → Entry → Type 0

@@ -5,7 +5,7 @@ use Rattle.point_core.specs.declared.entry.Point.{Point}
 use Rattle.words_core.specs.declared.trace.Step.{Step}
 use Rattle.words_core.specs.Layout.{value_word, flag_word}
 use Rattle.words_core.specs.Trace.{load}
-use Rattle.words_core.specs.Seat.{SeatModel, with_steps}
+use Rattle.words_core.specs.Seat.{SeatModel, seen, with_steps}
 use Rattle.words_core.specs.Won.{WonModel}
 use Rattle.fence_core.specs.SharedFence.{SharedFenceModel}
 use Rattle.fence_core.specs.declared.shared_fence.Signal.{Signal}
@@ -30,24 +30,31 @@ IfAlready Already P = P
 abbrev pub loads_on : List Point → List ℕ → List Step
 loads_on points values = map (λ (both : Point × ℕ). load (value_word both.0.ctx) both.1) (zip points values)
 
--- each point was reached by the value that was found
-abbrev pub AllFound : List Point → List ℕ → Type 0
-AllFound points values = AllZip (λ (p : Point) v. p.value ≤ v) points values
+-- the point was reached by the value that was found, which is no less than what the seat had seen
+pub record IsFound (before : SeatModel) (p : Point) (value : ℕ) : Type 0 where
+  pub reached : p.value ≤ value
+  pub later : seen before (value_word p.ctx) ≤ value
 
--- the first points were found reached, one load each, and the next, of this context, was not by this value
+-- each of the points was
+abbrev pub AllFound : SeatModel → List Point → List ℕ → Type 0
+AllFound before points values = AllZip (IsFound before) points values
+
+-- the first points were found reached, one load each, and the next, of this context, was not by this value, which is no less
+-- than what the seat had seen
 pub record IsPendingAt (points : List Point) (before after : SeatModel) (ctx value : ℕ) : Type 0 where
   pub reached : List Point
   pub values : List ℕ
   pub point : Point
   pub rest : List Point
   pub points_are : points ≡ reached ++ point ∷ rest
-  pub found : AllFound reached values
+  pub found : AllFound before reached values
   pub is_of : point.ctx ≡ ctx
   pub is_pending : value < point.value
+  pub later : seen before (value_word ctx) ≤ value
   pub entered : after ≡ with_steps before (loads_on reached values ++ load (value_word ctx) value ∷ [])
 
 -- every point was found reached, one load each, and then one test-and-set of the flag was entered
 pub record SetsFlag (f : SharedFenceModel) (before after : SeatModel) (told : ℕ → Step) : Type 0 where
   pub values : List ℕ
-  pub found : AllFound f.points values
+  pub found : AllFound before f.points values
   pub entered : after ≡ with_steps before (loads_on f.points values ++ told (flag_word f.words f.flag) ∷ [])

@@ -6,7 +6,8 @@ ghost use Rattle.point_core.specs.declared.status.Status.TheVariants.{Signalled}
 ghost use Rattle.point_core.specs.Agreement.{merged, IsReached};
 ghost use Rattle.syncfile_core.specs.SyncFile.{file_of, StandsFor};
 ghost use Rattle.syncfile_core.specs.Status.{status_of};
-ghost use Rattle.syncfile_core.specs.Running.{reach_seen, HasLoadedAll, IsBorneOutAt, IsBorneOut, HasPolled, HasRunOut};
+ghost use Rattle.words_core.specs.Loads.{reach_seen, HasLoadedAll};
+ghost use Rattle.syncfile_core.specs.Running.{IsBorneOutAt, IsBorneOut, HasPolled, HasRunOut};
 
 use crate::status;
 use crate::sync_file::SyncFile;
@@ -32,7 +33,7 @@ impl SyncFile {
     ) -> Result<SyncFile, Refusal>
         requires own { seat.old.words ≡ words.now }
         ensures kept { (seat.new.words ≡ seat.old.words) × (seat.new.parts ≡ seat.old.parts) }
-        ensures loaded { HasLoadedAll seat.old seat.new }
+        ensures loaded { HasLoadedAll seat.old seat.new (reach_seen seat.new) }
         ensures file { IfOk result (λ f.
             f ≡ file_of name (merged (reach_seen seat.new) a.now.points b.now.points) (reach_seen seat.new)) }
         ensures borne_out { OnOk result (IsBorneOut seat.new a.now × IsBorneOut seat.new b.now) }
@@ -42,7 +43,7 @@ impl SyncFile {
             ((e ≡ refusal.Foreign) × (¬ (IsBorneOut seat.new a.now × IsBorneOut seat.new b.now)))
             ⊎ ((e ≡ refusal.Memory) × (IsBorneOut seat.new a.now × IsBorneOut seat.new b.now))) }
     {
-        let reach = load_all(words, seat);
+        let reach = words.load_all(seat);
         bear_out(a, words.contexts(), &reach)?;
         bear_out(b, words.contexts(), &reach)?;
         let mut latest = LatestPoints::above(&reach);
@@ -63,14 +64,14 @@ impl SyncFile {
     pub fn poll(&self, words: &Words, seat: &mut Seat) -> Result<Status, Refusal>
         requires own { seat.old.words ≡ words.now }
         ensures kept { (seat.new.words ≡ seat.old.words) × (seat.new.parts ≡ seat.old.parts) }
-        ensures loaded { HasLoadedAll seat.old seat.new }
+        ensures loaded { HasLoadedAll seat.old seat.new (reach_seen seat.new) }
         ensures status { IfOk result (λ status. status ≡ status_of self.now.points (reach_seen seat.new)) }
         ensures borne_out { OnOk result (IsBorneOut seat.new self.now) }
         ensures stands { IfOk result (λ status. (set : List Entry) →
             StandsFor self.now set → ((status ≡ Signalled) ↔ IsReached set 0 (reach_seen seat.new))) }
         ensures foreign { IfErr result (λ e. (e ≡ refusal.Foreign) × (¬ IsBorneOut seat.new self.now)) }
     {
-        let reach = load_all(words, seat);
+        let reach = words.load_all(seat);
         bear_out(self, words.contexts(), &reach)?;
         Ok(status::status_of(self.points.as_slice(), &reach))
     }
@@ -100,17 +101,6 @@ impl SyncFile {
         }
         Err(Refusal::TimedOut)
     }
-}
-
-/// Loads the value of each context once, by rising number.
-fn load_all(words: &Words, seat: &mut Seat) -> Reach
-    requires own { seat.old.words ≡ words.now }
-    ensures kept { (seat.new.words ≡ seat.old.words) × (seat.new.parts ≡ seat.old.parts) }
-    ensures loaded { HasLoadedAll seat.old seat.new }
-    ensures seen { result ≡ reach_seen seat.new }
-    ensures contexts { seat.new.words.contexts ≡ words.now.contexts }
-{
-    words.load_all(seat)
 }
 
 /// Refuses a file as `Foreign` unless words of so many contexts bear it out, whose values were loaded.

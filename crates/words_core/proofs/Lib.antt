@@ -17,3 +17,4 @@ mod LoadingAll
 pub mod Seen
 pub mod Knowing
 pub mod Laying
+pub mod Loads

@@ -1,14 +1,22 @@
 -- One load after another.
-use Rattle.std.proofs.Common.{◌≡◌, ℕ, zero, suc, ◌+◌, ◌<◌, ◌≤◌, max, List, [], ◌∷◌, ◌++◌, length, refl, sym, ap, ◌∙◌, subst, arith}
+use Rattle.std.proofs.Common.{◌≡◌, ℕ, zero, suc, ◌+◌, ◌-◌, ◌<◌, ◌≤◌, max, List, [], ◌∷◌, ◌++◌, length, get_or, map, refl, sym, ap, ◌∙◌, subst, inl, inr, arith}
+use Rattle.std.specs.List.{range_with_len}
+use Rattle.std.proofs.lemmas.Bool.{le-leb, lt-leb, cases_lt}
+use Rattle.std.proofs.lemmas.Grind.{same_number_lists}
+use Rattle.std.proofs.lemmas.List.FromFn.{length-map-range_with_len, get_or-map-range_with_len}
 use mathlib.Core.Logic.{dite}
 use native.Mathlib.Decide.{ℕ_discrete}
 use Rattle.std.proofs.lemmas.List.{append_assoc}
-use Rattle.point_core.specs.Reach.{value_at, with_value}
-use Rattle.point_core.proofs.Values.{value_at-with_value_same, value_at-with_value_other}
+use Rattle.point_core.specs.declared.context.TheConstants.{CONTEXTS}
+use Rattle.point_core.specs.Agreement.{contexts}
+use Rattle.point_core.specs.Reach.{value_at, with_value, IsAtLeast}
+use Rattle.point_core.proofs.Values.{value_at-with_value_same, value_at-with_value_other, IsAtLeast-below}
 use Rattle.words_core.specs.declared.trace.Step.{Step}
 use Rattle.words_core.specs.Layout.{value_word}
 use Rattle.words_core.specs.Trace.{load, on, greatest}
+use Rattle.words_core.specs.Words.{WordsModel}
 use Rattle.words_core.specs.Seat.{SeatModel, seen, with_step, with_steps, loads_of}
+use Rattle.words_core.specs.Loads.{value_seen, reach_seen, HasLoadedAll}
 use Rattle.words_core.proofs.Traces.{on-append_here, on-append_other, greatest-append}
 use Rattle.words_core.proofs.Seen.{seen-with_steps, seen_stays}
 
@@ -74,3 +82,62 @@ past-more reach n ctx value is before c low = value_at-with_value_other reach ct
 -- a value of 0 is raised to any value
 pub raised_from_zero : (reach : List ℕ) (ctx value : ℕ) → value_at reach ctx ≡ 0 → with_value reach ctx (max (value_at reach ctx) value) ≡ with_value reach ctx value
 raised_from_zero reach ctx value none = let e : max (value_at reach ctx) value ≡ value = omega arith in ap (with_value reach ctx) e
+
+-- the values of all contexts, as a list
+
+map-contexts : (f : ℕ → ℕ) (n : ℕ) → n ≡ CONTEXTS → map f (range_with_len 1 n) ≡ map f contexts
+unfolding contexts
+map-contexts f n is = ap (λ k. map f (range_with_len 1 k)) is
+
+length-contexts : (f : ℕ → ℕ) (n : ℕ) → n ≡ CONTEXTS → length (map f contexts) ≡ n
+length-contexts f n is = ap length (sym (map-contexts f n is)) ∙ length-map-range_with_len f 1 n
+
+at-contexts : (f : ℕ → ℕ) (n k : ℕ) → n ≡ CONTEXTS → k < n → get_or (map f contexts) k 0 ≡ f (k + 1)
+at-contexts f n k is low = ap (λ l. get_or l k 0) (sym (map-contexts f n is)) ∙ get_or-map-range_with_len f 1 n k (k + 1) 0 low (omega arith)
+
+value_at-next : (reach : List ℕ) (k : ℕ) → value_at reach (k + 1) ≡ get_or reach k 0
+value_at-next reach k = let back : k + 1 - 1 ≡ k = omega arith in ap (λ i. get_or reach i 0) back
+
+-- what was loaded is what the seat has seen since, and no less than what it had seen
+
+value_seen-found : (seat : SeatModel) (reach : List ℕ) → ((ctx : ℕ) → 1 ≤ ctx → ctx ≤ seat.words.contexts → seen seat (value_word ctx) ≡ value_at reach ctx) → ((ctx : ℕ) → seat.words.contexts < ctx → value_at reach ctx ≡ 0) → (ctx : ℕ) → 1 ≤ ctx → value_seen seat ctx ≡ value_at reach ctx
+value_seen-found seat reach found past ctx low = elim (cases_lt seat.words.contexts ctx) [
+  | inl after ↦ rw (lt-leb ctx seat.words.contexts after) (sym (past ctx after))
+  | inr within ↦ rw (le-leb ctx seat.words.contexts within) (found ctx low within)
+]
+
+value_seen-before : (seat : SeatModel) (reach : List ℕ) → ((ctx : ℕ) → 1 ≤ ctx → ctx ≤ seat.words.contexts → seen seat (value_word ctx) ≤ value_at reach ctx) → (ctx : ℕ) → 1 ≤ ctx → value_seen seat ctx ≤ value_at reach ctx
+value_seen-before seat reach later ctx low = elim (cases_lt seat.words.contexts ctx) [
+  | inl after ↦ rw (lt-leb ctx seat.words.contexts after) (omega arith)
+  | inr within ↦ rw (le-leb ctx seat.words.contexts within) (later ctx low within)
+]
+
+reach_seen-found : (seat : SeatModel) (reach : List ℕ) → length reach ≡ CONTEXTS → ((ctx : ℕ) → 1 ≤ ctx → value_seen seat ctx ≡ value_at reach ctx) → reach ≡ reach_seen seat
+reach_seen-found seat reach full found =
+    let len : length reach ≡ length (reach_seen seat) = sym (length-contexts (value_seen seat) (length reach) full) in
+    same_number_lists reach (reach_seen seat) len
+    (λ k low. sym (at-contexts (value_seen seat) (length reach) k full low ∙ found (k + 1) (omega arith) ∙ value_at-next reach k))
+
+reach_seen-before : (seat : SeatModel) (reach : List ℕ) → length reach ≡ CONTEXTS → ((ctx : ℕ) → 1 ≤ ctx → value_seen seat ctx ≤ value_at reach ctx) → IsAtLeast reach (reach_seen seat)
+reach_seen-before seat reach full later =
+    let len = length-contexts (value_seen seat) (length reach) full in
+    IsAtLeast-below reach (reach_seen seat) (length reach) (omega arith) (omega (arith, len))
+    (λ k low.
+    let first = at-contexts (value_seen seat) (length reach) k full low in
+    let second = later (k + 1) (omega arith) in
+    let third = value_at-next reach k in
+    omega (arith, first, second, third))
+
+pub HasLoadedAll-loaded : (words : WordsModel) (before after : SeatModel) (reach : List ℕ) → before.words ≡ words → after ≡ with_steps before (loads_of reach words.contexts) → length reach ≡ CONTEXTS
+    → ((ctx : ℕ) → 1 ≤ ctx → ctx ≤ words.contexts → seen before (value_word ctx) ≤ value_at reach ctx) → ((ctx : ℕ) → words.contexts < ctx → value_at reach ctx ≡ 0) → HasLoadedAll before after reach
+HasLoadedAll-loaded words before after reach own entered full later past =
+    let contexts : before.words.contexts ≡ words.contexts = ap (λ (w : WordsModel). w.contexts) own in
+    let contexts' : after.words.contexts ≡ words.contexts = ap (λ (s : SeatModel). s.words.contexts) entered ∙ contexts in
+    record {
+      entered = subst (λ n. after ≡ with_steps before (loads_of reach n)) (sym contexts) entered;
+      found = reach_seen-found after reach full (value_seen-found after reach
+          (λ ctx low high. subst (λ (s : SeatModel). seen s (value_word ctx) ≡ value_at reach ctx) (sym entered)
+          (seen-loads_of before reach words.contexts ctx low (omega arith) (later ctx low (omega arith))))
+          (λ ctx after. past ctx (omega arith)));
+      later = reach_seen-before before reach full (value_seen-before before reach (λ ctx low high. later ctx low (omega arith)));
+    }

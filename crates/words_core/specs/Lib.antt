@@ -1,5 +1,6 @@
 pub mod Driver
 pub mod Layout
+pub mod Loads
 pub mod Once
 pub mod Plays
 pub mod Rule

@@ -1,11 +1,11 @@
 // The steps on the claims and values of contexts.
-ghost use Rattle.std.specs.Prelude.{◌≡◌, ℕ, ◌+◌, ◌^◌, ◌<◌, ◌≤◌, true, length, replicate, IfOk, IfErr, MatchBool};
+ghost use Rattle.std.specs.Prelude.{◌≡◌, ◌+◌, ◌^◌, ◌<◌, ◌≤◌, true, replicate, IfOk, IfErr, MatchBool};
 ghost use Rattle.point_core.specs.declared.context.TheConstants.{CONTEXTS};
 ghost use Rattle.point_core.specs.declared.refusal.Refusal.TheVariants as refusal;
-ghost use Rattle.point_core.specs.Reach.{value_at};
 ghost use Rattle.words_core.specs.declared.seat.TheConstants.{PARTS};
 ghost use Rattle.words_core.specs.Layout.{value_word, claim_word};
-ghost use Rattle.words_core.specs.Seat.{seen, added_to, tests_of, with_step, with_steps, loads_of};
+ghost use Rattle.words_core.specs.Loads.{HasLoadedAll};
+ghost use Rattle.words_core.specs.Seat.{seen, added_to, tests_of, with_step};
 ghost use Rattle.words_core.specs.Trace.{load, add, won, lost, wins_of, LoadsWereLeft, IsDecided};
 
 use crate::driver::Driver;
@@ -86,11 +86,7 @@ impl Words {
     /// the last context are 0.
     pub fn load_all(&self, seat: &mut Seat) -> Reach
         requires own { seat.old.words ≡ self.now }
-        ensures entered { seat.new ≡ with_steps seat.old (loads_of result self.now.contexts) }
-        ensures later { (ctx : ℕ) → 1 ≤ ctx → ctx ≤ self.now.contexts → seen seat.old (value_word ctx) ≤ value_at result ctx }
-        ensures seen { (ctx : ℕ) → 1 ≤ ctx → ctx ≤ self.now.contexts → seen seat.new (value_word ctx) ≡ value_at result ctx }
-        ensures past { (ctx : ℕ) → self.now.contexts < ctx → value_at result ctx ≡ 0 }
-        ensures full { length result ≡ CONTEXTS }
+        ensures loaded { HasLoadedAll seat.old seat.new result }
     {
         let mut reach = Reach::zero();
         self.load_all_into(seat, &mut reach);
@@ -101,13 +97,7 @@ impl Words {
     pub fn load_all_into(&self, seat: &mut Seat, reach: &mut Reach)
         requires own { seat.old.words ≡ self.now }
         requires zero { reach.old ≡ replicate CONTEXTS 0 }
-        ensures entered { seat.new ≡ with_steps seat.old (loads_of reach.new self.now.contexts) }
-        ensures later { (ctx : ℕ) → 1 ≤ ctx → ctx ≤ self.now.contexts →
-            seen seat.old (value_word ctx) ≤ value_at reach.new ctx }
-        ensures seen { (ctx : ℕ) → 1 ≤ ctx → ctx ≤ self.now.contexts →
-            seen seat.new (value_word ctx) ≡ value_at reach.new ctx }
-        ensures past { (ctx : ℕ) → self.now.contexts < ctx → value_at reach.new ctx ≡ 0 }
-        ensures full { length reach.new ≡ CONTEXTS }
+        ensures loaded { HasLoadedAll seat.old seat.new reach.new }
     {
         for index in 0..self.sizes.contexts {
             let ctx = Context::at(index);

@@ -12,5 +12,5 @@ returns-then-number c =
     let e : Entry = entry_of (point_of c.args.ctx c.shown.result) c.args.usage in
     let low : usage_number c.args.usage ≤ level = omega (arith, c.number.ensures, c.number-2.ensures, c.if-number.true) in
     let later : c.max.result ≡ max c.args.value c.shown.result = omega arith in
-    let shown = HasShown-one c.args.words.now c.args.buffer level e c.args.seat.now c.shown.new.seat c.args.value c.max.result c.shown.ensures.entered low later c.shown.ensures.raises in
+    let shown = HasShown-one c.args.words.now c.args.buffer level e c.args.seat.now c.shown.new.seat c.args.value c.max.result c.shown.ensures.entered low later (record { seen_there = c.shown.ensures.later; raised = c.shown.ensures.raises }) in
     record { shown = rw (place_to-within c.args.level c.args.usage c.args.ctx low) shown }

@@ -5,7 +5,7 @@ use Rattle.clients_core.proofs.board.BoardSharedTable.export.Goals as goal
 pub returns-clause-floor : goal.returns-clause-floor
 returns-clause-floor g c =
     let looked = HasLooked-same c.look.new.floor c.of.ensures c.in_ok-points.ensures.looked in
-    HasLoadedOnce-looked c.args.words.now c.args.buffer c.args.usage c.args.seat.now c.look.new.seat (Ok (record { points = c.of.result; floor = c.look.new.floor })) c.requires.own.0 looked
+    HasLoadedOnce-looked c.args.words.now c.args.buffer c.args.usage c.args.seat.now c.look.new.seat (Ok (record { points = c.of.result; floor = c.look.new.floor })) looked
 
 pub returns-clause-rising : goal.returns-clause-rising
 returns-clause-rising g c =

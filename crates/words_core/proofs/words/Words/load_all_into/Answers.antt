@@ -5,9 +5,9 @@ use Rattle.point_core.proofs.Values.{value_at-replicate}
 use Rattle.point_core.specs.declared.context.TheConstants.{CONTEXTS}
 use Rattle.words_core.specs.declared.trace.Step.{Step}
 use Rattle.words_core.specs.Layout.{value_word}
-use Rattle.words_core.specs.Seat.{SeatModel, seen, with_steps, loads_of}
+use Rattle.words_core.specs.Seat.{seen, with_steps, loads_of}
 use Rattle.words_core.specs.Words.{WordsModel}
-use Rattle.words_core.proofs.LoadingAll.{loads_of-more, later-more, past-more, raised_from_zero, seen-loads_of}
+use Rattle.words_core.proofs.LoadingAll.{loads_of-more, later-more, past-more, raised_from_zero, HasLoadedAll-loaded}
 use Rattle.words_core.proofs.words.Words.load_all_into.Goals as goal
 
 pub loop-index-init : goal.loop-index-init
@@ -37,12 +37,15 @@ loop-index-preserved c =
       full = ap (λ (r : List ℕ). length r) after ∙ (length-set reach (ctx - 1) value ∙ before.full);
     }
 
-pub returns-clause-seen : goal.returns-clause-seen
-returns-clause-seen c =
-    let first = c.args.seat.now in
-    let reach = c.loop-index.reach in
-    let n = c.loop-index.index in
+pub returns : goal.returns
+returns c =
     let after = c.loop-index.invariant in
     let contexts = ap (λ (w : WordsModel). w.contexts) c.self.view_is in
-    λ ctx low high.
-    subst (λ (s : SeatModel). seen s (value_word ctx) ≡ value_at reach ctx) (sym after.entered) (seen-loads_of first reach n ctx low (omega arith) (after.later ctx low (omega arith)))
+    let all : c.loop-index.index ≡ c.args.self.now.contexts = omega arith in
+    record {
+      loaded = HasLoadedAll-loaded c.args.self.now c.args.seat.now c.loop-index.seat c.loop-index.reach c.requires.own
+          (subst (λ n. c.loop-index.seat ≡ with_steps c.args.seat.now (loads_of c.loop-index.reach n)) all after.entered)
+          after.full
+          (λ ctx low high. after.later ctx low (omega arith))
+          (λ ctx past. after.past ctx (omega arith));
+    }
