@@ -1,3 +1,4 @@
+pub mod Acting
 pub mod Board
 pub mod Clients
 pub mod LockedBuffer

@@ -1,5 +1,5 @@
 // Buffers that clients share, of words alone.
-ghost use Rattle.std.specs.Prelude.{◌≡◌, ◌<◌, ◌≤◌, ◌⊎◌, ◌↔◌, true, All, Err, IfErr, IfOk, IsOk, List, OnErr, replicate};
+ghost use Rattle.std.specs.Prelude.{◌≡◌, ◌<◌, ◌≤◌, ◌⊎◌, ◌↔◌, true, All, Ok, Err, IfErr, IfOk, IsOk, List, OnErr, replicate};
 ghost use Rattle.point_core.specs.declared.context.TheConstants.{CONTEXTS};
 ghost use Rattle.point_core.specs.declared.entry.Entry.{Entry};
 ghost use Rattle.point_core.specs.Agreement.{HasContexts};
@@ -117,6 +117,11 @@ impl Board {
 
 impl SharedTable for Board {
     ghost made_for = { λ board. board };
+
+    ghost puts = { λ board buffer e before after answer. HasRaised board buffer e before after × (answer ≡ Ok tt) };
+
+    ghost exports = { λ board buffer usage before after answer.
+        IfOk answer (λ listed. HasLooked board buffer usage before after listed) × IfErr answer (λ e. e ≡ refusal.Memory) };
 
     fn empty(_alloc: Global, words: &Words) -> Result<Board, Refusal> {
         Ok(Board { words: words.id() })

@@ -1,5 +1,13 @@
 // What one client does.
-ghost use Rattle.std.specs.Prelude.{◌≡◌, ◌+◌, ◌^◌, ◌<◌, ◌≤◌, length, All, IfErr, OnOk};
+ghost use Rattle.std.specs.Prelude.{◌≡◌, ◌+◌, ◌^◌, ◌<◌, ◌≤◌, ◌⊎◌, ◌++◌, ◌∷◌, [], length, All, IfErr, OnOk, List, Result};
+ghost use Rattle.point_core.specs.declared.entry.Entry.{Entry};
+ghost use Rattle.point_core.specs.declared.listing.Listing.{Listing};
+ghost use Rattle.point_core.specs.declared.refusal.Refusal.{Refusal};
+ghost use Rattle.point_core.specs.declared.refusal.Refusal.TheVariants as refusal;
+ghost use Rattle.point_core.specs.Usage.{usage_number};
+ghost use Rattle.resv_core.specs.declared.plan.Act.{Act};
+ghost use Rattle.clients_core.specs.Acting.{KnowPuts, HasActed, HaveActed, HasStopped, client_of, judged};
+ghost use Rattle.clients_core.specs.OwnPuts.{AreOwnPuts};
 ghost use Rattle.clients_core.specs.Clients.{IsClientRefusal, IsSinglePart, IsDriving};
 ghost use Rattle.resv_core.specs.Rounds.{acts_of_rounds};
 ghost use Rattle.resv_core.specs.Settled.{IsWithin, increment_by, increments_of};
@@ -37,6 +45,12 @@ pub(crate) fn act_all<R: Wait, T: SharedTable, G: Gate>(
     requires within { All (IsWithin shared.now.words.now.contexts shared.now.words.now.buffers) plan.now }
     requires fits { driver.old.value + increments_of plan.now < 2 ^ 64 }
     ensures seats { IsSinglePart shared.now.words.now seat.new × IsDriving shared.now.words.now driver.new }
+    ensures acted { OnOk result (HaveActed (T.puts shared.now.table.now) (T.exports shared.now.table.now) []
+        plan.now (client_of driver.old seat.old) (client_of driver.new seat.new)) }
+    ensures stopped { IfErr result (λ e.
+        ((e ≡ refusal.Memory) × (client_of driver.new seat.new ≡ client_of driver.old seat.old))
+        ⊎ HasStopped (T.puts shared.now.table.now) (T.exports shared.now.table.now) []
+        plan.now (client_of driver.old seat.old) (client_of driver.new seat.new) e) }
     ensures refusals { IfErr result IsClientRefusal }
 {
     let mut own = no_puts(shared.alloc, shared.words.buffers())?;
@@ -67,7 +81,12 @@ fn act_rounds<R: Wait, T: SharedTable, G: Gate>(
     requires within { All (IsWithin shared.now.words.now.contexts shared.now.words.now.buffers) (acts_of_rounds rounds.now) }
     requires fits { driver.old.value + increments_of (acts_of_rounds rounds.now) < 2 ^ 64 }
     requires buffers { length own.old ≡ shared.now.words.now.buffers }
+    requires none { KnowPuts own.old [] }
     ensures seats { IsSinglePart shared.now.words.now seat.new × IsDriving shared.now.words.now driver.new }
+    ensures acted { OnOk result (HaveActed (T.puts shared.now.table.now) (T.exports shared.now.table.now) []
+        (acts_of_rounds rounds.now) (client_of driver.old seat.old) (client_of driver.new seat.new)) }
+    ensures stopped { IfErr result (λ e. HasStopped (T.puts shared.now.table.now) (T.exports shared.now.table.now) []
+        (acts_of_rounds rounds.now) (client_of driver.old seat.old) (client_of driver.new seat.new) e) }
     ensures refusals { IfErr result IsClientRefusal }
 {
     for index in 0..rounds.count {
@@ -102,6 +121,15 @@ fn act_listed<R: Wait, T: SharedTable, G: Gate>(
     requires places { first + length acts.now < 2 ^ 64 }
     requires buffers { length own.old ≡ shared.now.words.now.buffers }
     ensures seats { IsSinglePart shared.now.words.now seat.new × IsDriving shared.now.words.now driver.new }
+    ensures acted { OnOk result ((done : List Act) → KnowPuts own.old done →
+        All (IsWithin shared.now.words.now.contexts shared.now.words.now.buffers) done →
+        HaveActed (T.puts shared.now.table.now) (T.exports shared.now.table.now) done
+        acts.now (client_of driver.old seat.old) (client_of driver.new seat.new)) }
+    ensures known { OnOk result ((done : List Act) → KnowPuts own.old done → KnowPuts own.new (done ++ acts.now)) }
+    ensures stopped { IfErr result (λ e. (done : List Act) → KnowPuts own.old done →
+        All (IsWithin shared.now.words.now.contexts shared.now.words.now.buffers) done →
+        HasStopped (T.puts shared.now.table.now) (T.exports shared.now.table.now) done
+        acts.now (client_of driver.old seat.old) (client_of driver.new seat.new) e) }
     ensures advanced { OnOk result (driver.new.value ≡ driver.old.value + increments_of acts.now) }
     ensures buffers { length own.new ≡ length own.old }
     ensures refusals { IfErr result IsClientRefusal }
@@ -132,6 +160,12 @@ fn act_once<R: Wait, T: SharedTable, G: Gate>(
     requires fits { driver.old.value + increment_by act.now < 2 ^ 64 }
     requires buffers { length own.old ≡ shared.now.words.now.buffers }
     ensures seats { IsSinglePart shared.now.words.now seat.new × IsDriving shared.now.words.now driver.new }
+    ensures acted { (done : List Act) → KnowPuts own.old done →
+        All (IsWithin shared.now.words.now.contexts shared.now.words.now.buffers) done →
+        HasActed (T.puts shared.now.table.now) (T.exports shared.now.table.now) done
+        act.now (client_of driver.old seat.old) (client_of driver.new seat.new) result }
+    ensures known { OnOk result ((done : List Act) → KnowPuts own.old done → KnowPuts own.new (done ++ act.now ∷ [])) }
+    ensures buffers { length own.new ≡ length own.old }
     ensures advanced { OnOk result (driver.new.value ≡ driver.old.value + increment_by act.now) }
     ensures refusals { IfErr result IsClientRefusal }
 {
@@ -169,6 +203,9 @@ fn look<R: Wait, T: SharedTable, G: Gate>(
     requires own { (T.made_for shared.now.table.now ≡ shared.now.words.now) × IsSinglePart shared.now.words.now seat.old }
     requires buffer { buffer < shared.now.words.now.buffers }
     ensures seat { IsSinglePart shared.now.words.now seat.new }
+    ensures judged { (es : List Entry) → AreOwnPuts own.now es → All (λ e. e.point.ctx ≤ shared.now.words.now.contexts) es →
+        (listed : Result Listing Refusal) × T.exports shared.now.table.now buffer usage seat.old seat.new listed
+        × (result ≡ judged (usage_number usage) es listed) }
     ensures refusals { IfErr result IsClientRefusal }
 {
     let Shared {

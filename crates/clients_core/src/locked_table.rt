@@ -1,6 +1,7 @@
 // Buffers that clients share, each under a lock of its own.
 ghost use Rattle.std.specs.Prelude.{◌≡◌, vec_len, IfErr, IfOk};
 ghost use Rattle.point_core.specs.declared.refusal.Refusal.TheVariants as refusal;
+ghost use Rattle.words_core.specs.Loads.{reach_seen, HasLoadedAll};
 
 use crate::expected::expected_in;
 use crate::gathered::{gathered, listed};
@@ -35,6 +36,11 @@ impl Model for LockedTable {
 
 impl SharedTable for LockedTable {
     ghost made_for = { λ table. table };
+
+    // What happens under a lock is no step on words: the one load of all values is all that the seat's trace has of it.
+    ghost puts = { λ table buffer e before after answer. HasLoadedAll before after (reach_seen after) };
+
+    ghost exports = { λ table buffer usage before after answer. HasLoadedAll before after (reach_seen after) };
 
     fn empty(alloc: Global, words: &Words) -> Result<LockedTable, Refusal> {
         let buffers = empty_buffers(alloc, words.buffers())?;

@@ -8,6 +8,7 @@ ghost use Rattle.point_core.specs.Agreement.{point_of};
 ghost use Rattle.point_core.specs.Latest.{IsLatest};
 ghost use Rattle.point_core.specs.Reach.{value_at};
 ghost use Rattle.point_core.specs.Usage.{usage_number};
+ghost use Rattle.clients_core.specs.Acting.{KnowPuts};
 ghost use Rattle.clients_core.specs.Looks.{is_as_late, shows_all, shows_point};
 ghost use Rattle.clients_core.specs.OwnPuts.{AreOwnPuts, no_points};
 
@@ -104,6 +105,7 @@ fn is_as_late(point: &Point, listed: &Point) -> bool
 /// Refuses as `Memory` alone.
 pub(crate) fn no_puts(alloc: Global, buffers: usize) -> Result<Vec<OwnPuts>, Refusal>
     ensures buffers { IfOk result (λ own. length own.items ≡ buffers) }
+    ensures none { IfOk result (λ own. KnowPuts own.items []) }
     ensures memory { IfErr result (λ e. e ≡ refusal.Memory) }
 {
     let mut own = Vec::with_capacity(alloc, buffers)?;

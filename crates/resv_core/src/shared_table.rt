@@ -1,8 +1,14 @@
 // Buffers that clients on threads share.
-ghost use Rattle.std.specs.Prelude.{◌≡◌, ◌<◌, ◌≤◌, ◌⊎◌, length, IfErr, IfOk};
+ghost use Rattle.std.specs.Prelude.{◌≡◌, ℕ, ◌<◌, ◌≤◌, ◌⊎◌, length, IfErr, IfOk, Result};
+ghost use Rattle.point_core.specs.declared.entry.Entry.{Entry};
+ghost use Rattle.point_core.specs.declared.entry.Usage.{Usage};
+ghost use Rattle.point_core.specs.declared.listing.Listing.{Listing};
+ghost use Rattle.point_core.specs.declared.refusal.Refusal.{Refusal};
 ghost use Rattle.point_core.specs.declared.refusal.Refusal.TheVariants as refusal;
 ghost use Rattle.point_core.specs.Agreement.{AllAbove, HasRisingContexts};
+ghost use Rattle.words_core.specs.Seat.{SeatModel};
 ghost use Rattle.words_core.specs.Words.{WordsModel};
+ghost use Rattle.resv_core.specs.Resv.{entry_of};
 ghost use Rattle.resv_core.specs.Settled.{ArePlansWithin, gathered_values, tables_of};
 ghost use Rattle.resv_core.specs.Shared.{HasLoadedOnce, HasStepped};
 
@@ -15,9 +21,17 @@ use words_core::{Seat, Whole, Words};
 /// Buffers that clients share by reference, beside the words of their timelines. Each call is made with the caller's
 /// seat, whose words and parts it keeps; the seat's trace only grows.
 ///
-/// Every table is made for one set of words, by `empty`, and is used with these words and their seats alone.
+/// Every table is made for one set of words, by `empty`, and is used with these words and their seats alone. What it says of a
+/// put and of an export, beside what all tables do, is its own: a board, which is words alone, has a step for each in the
+/// seat's trace.
 pub trait SharedTable: Sync + Sized + Drop {
     ghost made_for: { Self → WordsModel };
+
+    // What it says of a put into a buffer, by the seat before it and after it, and the answer.
+    ghost puts: { Self → ℕ → Entry → SeatModel → SeatModel → Result (Unit {0}) Refusal → Type 0 };
+
+    // The same of an export at a usage.
+    ghost exports: { Self → ℕ → Usage → SeatModel → SeatModel → Result Listing Refusal → Type 0 };
 
     /// The table of as many buffers as the words have. Nothing was put.
     ///
@@ -42,6 +56,7 @@ pub trait SharedTable: Sync + Sized + Drop {
         requires own { (seat.old.words ≡ words.now) × (made_for self.now ≡ words.now) }
         requires within { (buffer < words.now.buffers) × (point.ctx ≤ words.now.contexts) }
         ensures stepped { HasStepped seat.old seat.new }
+        ensures put { puts self.now buffer (entry_of point usage) seat.old seat.new result }
         ensures refusals { IfErr result (λ e. (e ≡ refusal.Torn) ⊎ (e ≡ refusal.Memory)) };
 
     /// The pending points of a buffer at the usage or a stronger one, by rising context, above values that are loaded
@@ -60,6 +75,7 @@ pub trait SharedTable: Sync + Sized + Drop {
         requires own { (seat.old.words ≡ words.now) × (made_for self.now ≡ words.now) }
         requires within { buffer < words.now.buffers }
         ensures stepped { HasStepped seat.old seat.new }
+        ensures exported { exports self.now buffer usage seat.old seat.new result }
         ensures floor { IfOk result (λ listing. HasLoadedOnce listing.floor seat.old seat.new) }
         ensures rising { IfOk result (λ listing. HasRisingContexts listing.points) }
         ensures above { IfOk result (λ listing. AllAbove listing.floor listing.points) }

@@ -22,6 +22,10 @@ struct RecordingTable {
 impl SharedTable for RecordingTable {
     ghost made_for = { λ recording. recording.table };
 
+    ghost puts = { λ recording buffer e before after answer. Unit {0} };
+
+    ghost exports = { λ recording buffer usage before after answer. Unit {0} };
+
     fn empty(alloc: Global, words: &Words) -> Result<RecordingTable, Refusal> {
         Ok(RecordingTable {
             table: LockedTable::empty(alloc, words)?,
@@ -86,6 +90,10 @@ struct TornTable {
 impl SharedTable for TornTable {
     ghost made_for = { λ torn. torn.table };
 
+    ghost puts = { λ torn buffer e before after answer. Unit {0} };
+
+    ghost exports = { λ torn buffer usage before after answer. Unit {0} };
+
     fn empty(alloc: Global, words: &Words) -> Result<TornTable, Refusal> {
         Ok(TornTable {
             table: LockedTable::empty(alloc, words)?,
@@ -138,6 +146,10 @@ struct BlindTable {
 
 impl SharedTable for BlindTable {
     ghost made_for = { λ blind. blind.table };
+
+    ghost puts = { λ blind buffer e before after answer. Unit {0} };
+
+    ghost exports = { λ blind buffer usage before after answer. Unit {0} };
 
     fn empty(alloc: Global, words: &Words) -> Result<BlindTable, Refusal> {
         Ok(BlindTable {

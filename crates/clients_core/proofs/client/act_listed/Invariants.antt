@@ -1,5 +1,7 @@
-use Rattle.std.proofs.Common.{◌≡◌, ◌+◌, length, take}
-use Rattle.resv_core.specs.Settled.{increments_of}
+use Rattle.std.proofs.Common.{◌≡◌, ◌+◌, ◌++◌, All, List, length, take}
+use Rattle.resv_core.specs.declared.plan.Act.{Act}
+use Rattle.resv_core.specs.Settled.{IsWithin, increments_of}
+use Rattle.clients_core.specs.Acting.{KnowPuts, HaveActed, client_of}
 use Rattle.clients_core.specs.Clients.{IsSinglePart, IsDriving}
 use Rattle.clients_core.proofs.client.act_listed.Given as goal
 
@@ -9,4 +11,6 @@ invariant-loop-index g l = record {
   driving : IsDriving l.shared.words.now l.driver;
   value : l.driver.value ≡ l.initial.driver.value + increments_of (take l.index l.acts);
   buffers : length l.own ≡ l.shared.words.now.buffers;
+  acted : (done : List Act) → KnowPuts l.initial.own done → All (IsWithin l.shared.words.now.contexts l.shared.words.now.buffers) done → HaveActed (g.T.SharedTable.puts l.shared.table.now) (g.T.SharedTable.exports l.shared.table.now) done (take l.index l.acts) (client_of l.initial.driver l.initial.seat) (client_of l.driver l.seat);
+  known : (done : List Act) → KnowPuts l.initial.own done → KnowPuts l.own (done ++ take l.index l.acts);
 }
