@@ -1,7 +1,8 @@
 // The callbacks of one fence.
-ghost use Rattle.std.specs.Prelude.{◌≡◌, nat_eq, [], Ok, OnOk, OnErr};
+ghost use Rattle.std.specs.Prelude.{◌≡◌, ◌≤◌, nat_eq, vec_len, [], Ok, OnOk, OnErr};
 ghost use Rattle.std.specs.List.{IsDistinct, list_any};
 ghost use Rattle.point_core.specs.Refusal.{IsRefusedFor};
+ghost use Rattle.fence_core.specs.declared.callback_list.TheConstants.{CALLBACKS};
 ghost use Rattle.fence_core.specs.Callbacks.{cause_to_refuse_callback, with_callback, cookies_in};
 ghost use Rattle.fence_core.specs.Callbacks.Callbacks.{Held, Taken};
 
@@ -71,6 +72,7 @@ impl CallbackList {
     pub fn take(&mut self) -> Vec<u64>
         ensures given { result.items ≡ cookies_in self.old }
         ensures distinct { IsDistinct nat_eq result.items }
+        ensures few { vec_len result ≤ CALLBACKS }
         ensures taken { self.new ≡ Taken }
     {
         let none = Vec::new(*self.cookies.allocator());

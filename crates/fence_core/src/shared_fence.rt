@@ -1,5 +1,6 @@
 // A fence that threads share.
-ghost use Rattle.std.specs.Prelude.{◌≡◌, ◌<◌, nat_eq, IfOk, IfErr};
+ghost use Rattle.std.specs.Prelude.{◌≡◌, ◌<◌, ◌≤◌, nat_eq, vec_len, IfOk, IfErr};
+ghost use Rattle.fence_core.specs.declared.callback_list.TheConstants.{CALLBACKS};
 ghost use Rattle.std.specs.List.{IsDistinct};
 ghost use Rattle.point_core.specs.Agreement.{HasRisingContexts};
 ghost use Rattle.point_core.specs.Refusal.{IsRefusedFor};
@@ -31,13 +32,15 @@ pub struct SharedFence {
 impl Model for SharedFence {
     ghost use Rattle.fence_core.specs.Fence.{members_of};
     ghost use Rattle.fence_core.specs.SharedFence.{SharedFenceModel, shared_fence_of, AreWithin};
+    ghost use Rattle.point_core.specs.Agreement.{HasRisingContexts};
     ghost use Rattle.std.specs.Prelude.{◌<◌};
 
     ghost Value = { SharedFenceModel };
 
     ghost view = { λ f. shared_fence_of f.words f.flag (members_of f.fence) };
 
-    ghost invariant = { λ f. AreWithin f.words.contexts (members_of f.fence) × (f.flag < f.words.flags) };
+    ghost invariant = { λ f.
+        AreWithin f.words.contexts (members_of f.fence) × (f.flag < f.words.flags) × HasRisingContexts (members_of f.fence) };
 }
 
 /// What a call of `signal` found: the first context whose point is pending, with the value that was loaded; or that it
@@ -86,6 +89,7 @@ impl SharedFence {
         ensures first { IfFirst result (λ token. (token ≡ token_of self.now) × SetsFlag self.now seat.old seat.new won) }
         ensures once { IfFirst result (λ _. wins_of (flag_word self.now.words self.now.flag) seat.new.trace ≡ 1) }
         ensures same { (seat.new.words ≡ seat.old.words) × (seat.new.parts ≡ seat.old.parts) }
+        ensures rising { HasRisingContexts self.now.points }
         ensures already { IfAlready result (SetsFlag self.now seat.old seat.new lost) }
     {
         for point in self.fence.members() {
@@ -120,6 +124,7 @@ impl SharedFence {
     pub fn hand_out(&self, rt: &impl Wait, token: Won) -> Vec<u64>
         requires own { token ≡ token_of self.now }
         ensures distinct { IsDistinct nat_eq result.items }
+        ensures few { vec_len result ≤ CALLBACKS }
     {
         drop(token);
         self.callbacks.lock(rt).take()
