@@ -1,12 +1,12 @@
 // Gates that hold clients back.
 use crate::plans::{WRITTEN, check_one_table, check_refused, plans_of, point};
-use clients_core::{Board, Gate, LockedTable, run_clients};
+use clients_core::{Board, Gate, LockedTable, ROUND_BUFFERS, plans_of_rounds, run_clients};
 use point_core::{Context, Point, Refusal, Usage};
-use resv_core::{Act, Plan, SharedTable};
+use resv_core::{Act, Plan, ROUND_ACTS, SharedTable};
 use std::alloc::Global;
 use std::process::Abort;
 use std::sync::Wait;
-use std::sync::atomic::{AtomicBool, Ordering};
+use std::sync::atomic::{AtomicBool, AtomicUsize, Ordering};
 use std::thread::Threads;
 
 /// Holds a client's first act back until another client's first act has ended.
@@ -47,6 +47,54 @@ impl Gate for ClosedGate {
     }
 
     fn leave(&self, _client: usize, _act: usize) {}
+}
+
+/// Opens to one client alone, whose acts have to come in order, each between its two calls.
+#[derive(Drop)]
+struct CountingGate {
+    next: AtomicUsize,
+    inside: AtomicBool,
+}
+
+impl Gate for CountingGate {
+    fn enter(&self, client: usize, act: usize) -> bool {
+        client == 1
+            && act == self.next.load(Ordering::SeqCst)
+            && !self.inside.swap(true, Ordering::SeqCst)
+    }
+
+    fn leave(&self, _client: usize, act: usize) {
+        self.next.store(act.wrapping_add(1), Ordering::SeqCst);
+        self.inside.store(false, Ordering::SeqCst);
+    }
+}
+
+/// Runs one client through rounds, and checks that each act of them was entered and left.
+fn run_counted<R: Threads + Wait + Abort + Sync>(rt: &R, alloc: Global) {
+    let plans = plans_of_rounds(alloc, 1, 3).expect(rt, "a plan");
+    let gate = CountingGate {
+        next: AtomicUsize::new(0),
+        inside: AtomicBool::new(false),
+    };
+    let ended = run_clients::<R, Board, CountingGate>(
+        rt,
+        alloc,
+        ROUND_BUFFERS,
+        plans.as_slice(),
+        &gate,
+    );
+    assert!(rt; ended.is_ok());
+    check_counted(rt, &gate, 3 * ROUND_ACTS);
+}
+
+fn check_counted(rt: &impl Abort, gate: &CountingGate, acts: usize) {
+    assert!(rt; gate.next.load(Ordering::SeqCst) == acts);
+    assert!(rt; !gate.inside.load(Ordering::SeqCst));
+}
+
+#[test]
+fn each_act_of_rounds_is_entered_and_left(rt: HostRuntime) {
+    run_counted(&rt, rt.alloc());
 }
 
 /// Runs two clients that both end, though one of them waits for the other's put.

@@ -152,6 +152,15 @@ fn run_accepted<R: Threads + Wait + Abort + Sync, T: SharedTable>(rt: &R, alloc:
     check_one_table(rt, &settled, &[3], &READ, 4);
 }
 
+/// Runs two clients that advance unlike.
+fn run_unlike<R: Threads + Wait + Abort + Sync, T: SharedTable>(rt: &R, alloc: Global) {
+    let settled = settled_by::<R, T>(rt, alloc, &[&[Act::Inc(1)], &[Act::Inc(2)]]).expect(
+        rt,
+        "a settled table",
+    );
+    check_one_table(rt, &settled, &[1, 2], &[], 0);
+}
+
 /// Runs plans of one buffer.
 fn run_plans<R: Threads + Wait + Abort + Sync, T: SharedTable>(rt: &R, alloc: Global) {
     run_refused::<R, T>(rt, alloc);
@@ -159,6 +168,7 @@ fn run_plans<R: Threads + Wait + Abort + Sync, T: SharedTable>(rt: &R, alloc: Gl
     run_idle::<R, T>(rt, alloc, CLIENTS + 1);
     run_too_long::<R, T>(rt, alloc);
     run_accepted::<R, T>(rt, alloc);
+    run_unlike::<R, T>(rt, alloc);
 }
 
 #[test]

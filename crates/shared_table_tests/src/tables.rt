@@ -1,5 +1,5 @@
 // One buffer of each table, and what lies under a lock.
-ghost use Rattle.std.specs.Prelude.{◌≡◌, length};
+ghost use Rattle.std.specs.Prelude.{◌≡◌, ◌<◌, length};
 ghost use Rattle.resv_core.specs.Settled.{ArePlansWithin};
 
 use crate::plans::{check_refused, plan_of_a_put, point};
@@ -67,22 +67,23 @@ fn locked_buffer_rows(rt: HostRuntime) {
     check_buffer(&rt, &mut buffer);
 }
 
-/// Checks a look at a table of one buffer, which lists these points. Nothing is signalled.
+/// Checks a look at a buffer of a table, which lists these points. Nothing is signalled.
 fn check_export<R: Wait + Abort, T: SharedTable>(
     rt: &R,
     alloc: Global,
     table: &T,
     words: &Words,
     seat: &mut Seat,
+    buffer: usize,
     usage: Usage,
     points: &[Point],
 )
     requires own { (seat.old.words ≡ words.now) × (T.made_for table.now ≡ words.now) }
-    requires buffers { words.now.buffers ≡ 1 }
+    requires buffer { buffer < words.now.buffers }
     ensures same { (seat.new.words ≡ seat.old.words) × (seat.new.parts ≡ seat.old.parts) }
 {
     let listing = table
-        .export(rt, alloc, words, seat, 0, usage)
+        .export(rt, alloc, words, seat, buffer, usage)
         .expect(rt, "a look");
     check_listing(rt, &listing, &Reach::zero(), points);
 }
@@ -102,8 +103,8 @@ fn check_table<R: Wait + Abort, T: SharedTable>(
     table
         .put(rt, alloc, words, seat, 0, point(4), Usage::Read)
         .expect(rt, "a put");
-    check_export::<R, T>(rt, alloc, table, words, seat, Usage::Write, &[]);
-    check_export::<R, T>(rt, alloc, table, words, seat, Usage::Read, &[point(4)]);
+    check_export::<R, T>(rt, alloc, table, words, seat, 0, Usage::Write, &[]);
+    check_export::<R, T>(rt, alloc, table, words, seat, 0, Usage::Read, &[point(4)]);
 }
 
 /// The seat with all parts.
@@ -204,4 +205,36 @@ fn a_board_of_one_buffer(rt: HostRuntime) {
 fn tables_of_one_buffer(rt: HostRuntime) {
     check_tables::<HostRuntime, LockedTable>(&rt, rt.alloc());
     check_tables::<HostRuntime, Board>(&rt, rt.alloc());
+}
+
+/// Checks a put into the second buffer of an empty table, which shows there alone.
+fn check_second<R: Wait + Abort, T: SharedTable>(
+    rt: &R,
+    alloc: Global,
+    table: &T,
+    words: &Words,
+    seat: &mut Seat,
+)
+    requires own { (seat.old.words ≡ words.now) × (T.made_for table.now ≡ words.now) }
+    requires sizes { (words.now.contexts ≡ 1) × (words.now.buffers ≡ 2) }
+{
+    table
+        .put(rt, alloc, words, seat, 1, point(4), Usage::Read)
+        .expect(rt, "a put");
+    check_export::<R, T>(rt, alloc, table, words, seat, 1, Usage::Read, &[point(4)]);
+    check_export::<R, T>(rt, alloc, table, words, seat, 1, Usage::Write, &[]);
+    check_export::<R, T>(rt, alloc, table, words, seat, 0, Usage::Bookkeep, &[]);
+}
+
+/// Checks a table of two buffers.
+fn check_two<R: Wait + Abort, T: SharedTable>(rt: &R, alloc: Global) {
+    let (words, mut seat) = Words::new(alloc, 1, 2, 0).expect(rt, "words");
+    let table = T::empty(alloc, &words).expect(rt, "a table");
+    check_second::<R, T>(rt, alloc, &table, &words, &mut seat);
+}
+
+#[test]
+fn tables_of_two_buffers(rt: HostRuntime) {
+    check_two::<HostRuntime, LockedTable>(&rt, rt.alloc());
+    check_two::<HostRuntime, Board>(&rt, rt.alloc());
 }

@@ -3,11 +3,12 @@ ghost use Rattle.std.specs.Prelude.{◌≡◌, ◌<◌, IfErr};
 ghost use Rattle.point_core.specs.declared.refusal.Refusal.TheVariants as refusal;
 
 use crate::plans::{check_refused, plans_of};
-use clients_core::{LockedTable, OpenGate, run_clients};
+use clients_core::{Gate, LockedTable, OpenGate, run_clients};
 use point_core::{Context, Entry, Items, Listing, Point, Refusal, Usage};
 use resv_core::{Act, Plan, Settled, SharedTable};
 use std::alloc::Global;
 use std::process::Abort;
+use std::sync::atomic::{AtomicUsize, Ordering};
 use std::sync::{Mutex, Wait};
 use std::thread::Threads;
 use words_core::{Seat, Whole, Words};
@@ -254,4 +255,46 @@ fn check_torn<R: Threads + Wait + Abort + Sync, T: SharedTable>(rt: &R, alloc: G
 fn tables_that_never_settle_or_list_nothing(rt: HostRuntime) {
     check_torn::<HostRuntime, TornTable>(&rt, rt.alloc());
     check_torn::<HostRuntime, BlindTable>(&rt, rt.alloc());
+}
+
+/// Closed to one client, and counts the acts that were left.
+#[derive(Drop)]
+struct ClosedTo {
+    client: usize,
+    left: AtomicUsize,
+}
+
+impl Gate for ClosedTo {
+    fn enter(&self, client: usize, _act: usize) -> bool {
+        client != self.client
+    }
+
+    fn leave(&self, _client: usize, _act: usize) {
+        self.left.fetch_add(1, Ordering::SeqCst);
+    }
+}
+
+/// Checks as what two clients are refused, of which one finds the gate closed, and the other looks at a table that lists
+/// nothing; and that both acts of the other are left.
+fn check_least<R: Threads + Wait + Abort + Sync>(
+    rt: &R,
+    alloc: Global,
+    plans: &[Plan],
+    closed: usize,
+    wanted: Refusal,
+) {
+    let gate = ClosedTo {
+        client: closed,
+        left: AtomicUsize::new(0),
+    };
+    let refused = run_clients::<R, BlindTable, ClosedTo>(rt, alloc, 1, plans, &gate);
+    check_refused(rt, refused, wanted);
+    assert!(rt; gate.left.load(Ordering::SeqCst) == 2);
+}
+
+#[test]
+fn the_client_of_the_least_number_is_refused(rt: HostRuntime) {
+    let plans = plans_of(&rt, rt.alloc(), &[&acts_of(0), &acts_of(1)]);
+    check_least(&rt, rt.alloc(), plans.as_slice(), 1, Refusal::TimedOut);
+    check_least(&rt, rt.alloc(), plans.as_slice(), 2, Refusal::Torn);
 }
