@@ -36,7 +36,7 @@ values_after history = reach_of (world_of history).timelines
 abbrev pub put_into_file : List Command → List ℕ → List Entry
 put_into_file history name = put_set (world_of history).files name
 
--- every point that was put into the file of that name is reached
+-- every point that was put into the file of that name is reached; of a name without a file none was put
 abbrev pub IsFileReached : List Command → List ℕ → Type 0
 IsFileReached history name = IsReached (put_into_file history name) 0 (values_after history)
 
@@ -69,7 +69,8 @@ pub record TellsWhatWasPut (desk : DeskState) (history : List Command) : Type 0 
 abbrev pub put_into_buffer : List Command → List ℕ → List Entry
 put_into_buffer history name = buffer_put_set (world_of history).buffers name
 
--- every point that was put into the buffer of that name, at the usage or a stronger one, is reached
+-- every point that was put into the buffer of that name, at the usage or a stronger one, is reached; of a name without a
+-- buffer none was put
 abbrev pub IsBufferReached : List Command → List ℕ → Usage → Type 0
 IsBufferReached history name usage = IsReached (put_into_buffer history name) (usage_number usage) (values_after history)
 
