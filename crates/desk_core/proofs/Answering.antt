@@ -28,7 +28,7 @@ is_refused-info : (w : World) (name : List ℕ) (o : Option MadeFile) → is_ref
 is_refused-info w name None = refl
 is_refused-info w name (Some f) = refl
 
-is_refused-told : (w : World) (c : Command) → is_refused (told w c) ≡ false
+pub is_refused-told : (w : World) (c : Command) → is_refused (told w c) ≡ false
 is_refused-told w (command.Timeline t) = refl
 is_refused-told w (command.Inc t n) = refl
 is_refused-told w (command.Value t) = refl
@@ -52,7 +52,7 @@ is_refused-told w (command.Unwatch cookie) = refl
 pub Keeps-stands : {desk : DeskState} {history : List Command} → HasHistory desk history → Keeps desk (world_of history)
 Keeps-stands {desk} {history} stands = record { holds = stands.holds; sound = IsSound-history history stands.accepted }
 
-AreAccepted-push : (w : World) (history : List Command) (c : Command) → AreAccepted w history → is_refused (answer_to (world_from w history) c) ≡ false → AreAccepted w (history ++ c ∷ [])
+pub AreAccepted-push : (w : World) (history : List Command) (c : Command) → AreAccepted w history → is_refused (answer_to (world_from w history) c) ≡ false → AreAccepted w (history ++ c ∷ [])
 AreAccepted-push w [] c accepted is = (is, tt)
 AreAccepted-push w (d ∷ history) c accepted is = (accepted.0, AreAccepted-push (after w d) history c accepted.1 is)
 

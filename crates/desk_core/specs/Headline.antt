@@ -22,6 +22,7 @@ use Rattle.desk_core.specs.Answer.{listed_points}
 use Rattle.desk_core.specs.History.{world_of, increments_in}
 use Rattle.desk_core.specs.Fired.{fired_along, pending_after}
 use Rattle.desk_core.specs.Desk.{DeskState, Answers}
+use Rattle.desk_core.specs.Times.{times_registered, times_removed, times_fired, times_pending}
 
 -- both have the same entries, in whatever order and however often
 pub record HasSameEntries (es fs : List Entry) : Type 0 where
@@ -118,3 +119,13 @@ pub record TellsWhatFires (desk : DeskState) (history : List Command) : Type 0 w
       ↔ (Contains (pending_after history) x × IsReached x.put 0 (values_after (history ++ command.Inc name n ∷ []))))
   -- each registration has fired at most once
   pub once : (number : ℕ) → count_by (nat_eq number) (fired_along history) ≤ 1
+
+-- over a run, each watch that was registered has fired, or was removed, or is pending at the end, and only one of these
+pub record TellsEachWatch (desk : DeskState) (commands : List Command) (given : List Answer) : Type 0 where
+  -- of each cookie: how often it was registered, and what became of that
+  pub each : (cookie : ℕ)
+      → times_registered cookie commands given ≡ times_fired cookie given + times_removed cookie commands given + times_pending cookie desk
+  -- so it is told at most as often as it was registered
+  pub fired : (cookie : ℕ) → times_fired cookie given ≤ times_registered cookie commands given
+  -- and is pending at most once
+  pub pending : (cookie : ℕ) → times_pending cookie desk ≤ 1
