@@ -1,5 +1,5 @@
 -- Answers, and the histories after them.
-use Rattle.std.proofs.Common.{◌≡◌, ◌≢◌, false, refl, sym, ap, subst, ◌∙◌, List, [], ◌∷◌, ◌++◌, length, Option, None, Some, inl, inr, arith, length-append}
+use Rattle.std.proofs.Common.{◌≡◌, ◌≢◌, ℕ, false, refl, sym, ap, subst, ◌∙◌, List, [], ◌∷◌, ◌++◌, length, Option, None, Some, inl, inr, arith, length-append}
 use Rattle.std.specs.Prelude.{Result, Ok, Err, IfOk, IfErr, OnErr}
 use Rattle.std.proofs.lemmas.Bool.{cases_Bool}
 use Rattle.point_core.specs.declared.refusal.Refusal.TheVariants.{Memory}
@@ -9,8 +9,8 @@ use Rattle.command_core.specs.declared.command.Command.TheVariants as command
 use Rattle.command_core.specs.declared.answer.Answer.{Answer}
 use Rattle.command_core.specs.declared.answer.Answer.TheVariants as answer
 use Rattle.syncfile_core.specs.Files.{IsRefusedFor}
-use Rattle.desk_core.specs.World.{World, empty_world, after, fires_some}
-use Rattle.desk_core.specs.Answer.{first_of, causes, told, answer_to, refused_or, is_refused, takes_memory, OnRefused}
+use Rattle.desk_core.specs.World.{World, MadeFile, file_named, empty_world, after, fires_some}
+use Rattle.desk_core.specs.Answer.{first_of, causes, told, info_told, answer_to, refused_or, is_refused, takes_memory, OnRefused}
 use Rattle.desk_core.specs.History.{world_from, world_of, AreAccepted, IsAnswer, history_after, history_of, AreAnswers}
 use Rattle.desk_core.specs.Desk.{DeskState, Holds, HasHistory, Answers}
 use Rattle.desk_core.specs.Keeping.{Keeps, cause_of, fires_kept, IsDone, answer_of}
@@ -24,7 +24,11 @@ pub world_from-push : (w : World) (history : List Command) (c : Command) → wor
 world_from-push w [] c = refl
 world_from-push w (d ∷ history) c = world_from-push (after w d) history c
 
-is_refused-told : (w : World) (c : Command) → is_refused (told w c) ≡ false
+is_refused-info : (w : World) (name : List ℕ) (o : Option MadeFile) → is_refused (info_told w name o) ≡ false
+is_refused-info w name None = refl
+is_refused-info w name (Some f) = refl
+
+pub is_refused-told : (w : World) (c : Command) → is_refused (told w c) ≡ false
 is_refused-told w (command.Timeline t) = refl
 is_refused-told w (command.Inc t n) = refl
 is_refused-told w (command.Value t) = refl
@@ -32,7 +36,7 @@ is_refused-told w (command.Fence f t p) = refl
 is_refused-told w (command.Merge f a b) = refl
 is_refused-told w (command.Close f) = refl
 is_refused-told w (command.Wait f) = refl
-is_refused-told w (command.Info f) = refl
+is_refused-told w (command.Info f) = is_refused-info w f (file_named w.files f)
 is_refused-told w (command.Buffer b) = refl
 is_refused-told w (command.Add b t p u) = refl
 is_refused-told w (command.Import b f flags) = refl
@@ -48,7 +52,7 @@ is_refused-told w (command.Unwatch cookie) = refl
 pub Keeps-stands : {desk : DeskState} {history : List Command} → HasHistory desk history → Keeps desk (world_of history)
 Keeps-stands {desk} {history} stands = record { holds = stands.holds; sound = IsSound-history history stands.accepted }
 
-AreAccepted-push : (w : World) (history : List Command) (c : Command) → AreAccepted w history → is_refused (answer_to (world_from w history) c) ≡ false → AreAccepted w (history ++ c ∷ [])
+pub AreAccepted-push : (w : World) (history : List Command) (c : Command) → AreAccepted w history → is_refused (answer_to (world_from w history) c) ≡ false → AreAccepted w (history ++ c ∷ [])
 AreAccepted-push w [] c accepted is = (is, tt)
 AreAccepted-push w (d ∷ history) c accepted is = (accepted.0, AreAccepted-push (after w d) history c accepted.1 is)
 

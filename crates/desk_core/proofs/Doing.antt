@@ -17,7 +17,7 @@ use Rattle.syncfile_core.specs.SyncFile.{File, plain_file, file_of}
 use Rattle.syncfile_core.specs.Files.{file_at as sync_file_at, without_file}
 use Rattle.syncfile_core.specs.Merge.{merge_of}
 use Rattle.desk_core.specs.World.{World, MadeFile, file_named, put_set, buffer_put_set}
-use Rattle.desk_core.specs.Answer.{listed_points, fence_row, or_stub, info_of, number_if}
+use Rattle.desk_core.specs.Answer.{listed_points, fence_row, or_stub, info_told, number_if}
 use Rattle.desk_core.specs.Desk.{DeskState}
 use Rattle.desk_core.specs.Keeping.{points_at, Keeps, IsDone, AreMade, HaveTimelines, info_at}
 use Rattle.desk_core.proofs.Keeping.{points_of-files_at, sync_file_at-points, sync_file_at-All, AgreesAbove-keeps}
@@ -170,7 +170,7 @@ IsDone-unwatch desk cookie removed watches is without = record {
 abbrev info_with : List ℕ → Bool → List FenceRow → Info
 info_with name signalled rows = record { name = name; status = status_if signalled; fences = rows }
 
-info-found : {desk : DeskState} {world : World} → Keeps desk world → (name : List ℕ) (f : File) (o : Option MadeFile) → file_named world.files name ≡ o → sync_file_at desk.files name ≡ Some f → info_at desk.timelines name f.points ≡ info_of world name o
+info-found : {desk : DeskState} {world : World} → Keeps desk world → (name : List ℕ) (f : File) (o : Option MadeFile) → file_named world.files name ≡ o → sync_file_at desk.files name ≡ Some f → answer.Info (info_at desk.timelines name f.points) ≡ info_told world name o
 info-found {desk} {world} k name f None missing is =
     let both = sync_file_at-points desk.files world.files name k.holds.names k.holds.points in
     let none : Some f.points ≡ None = ap (option_map (λ (g : File). g.points)) (sym is) ∙ both ∙ ap (option_map listed_points) missing in
@@ -182,14 +182,16 @@ info-found {desk} {world} k name f (Some g) found is =
     let listed : points_at desk.files name ≡ f.points = ap (λ o. unwrap_or (option_map (λ (g : File). g.points) o) []) is in
     let put : put_set world.files name ≡ g.put = ap (λ o. unwrap_or (option_map (λ (g : MadeFile). g.put) o) []) found in
     let reached = ap (λ ps. all_reached (reach_of world.timelines) 0 (as_entries ps)) (sym listed) ∙ all_reached-keeps k name ∙ ap (all_reached (reach_of world.timelines) 0) put in
+    ap answer.Info (
     ap (λ ts. info_at ts name f.points) k.holds.timelines
     ∙ ap (λ b. info_with name b (or_stub (map (fence_row world.timelines) f.points))) reached
     ∙ ap (λ ps. info_with name (all_reached (reach_of world.timelines) 0 g.put) (or_stub (map (fence_row world.timelines) ps))) same
+    )
 
 pub IsDone-info : (desk : DeskState) (name : List ℕ) (f : File) (info : Info) → sync_file_at desk.files name ≡ Some f → info ≡ info_at desk.timelines name f.points → IsDone desk (command.Info name) (answer.Info info) desk
 IsDone-info desk name f info is told = record {
   accepted = refl;
-  told = λ world k. ap answer.Info (told ∙ info-found k name f (file_named world.files name) refl is);
+  told = λ world k. ap answer.Info told ∙ info-found k name f (file_named world.files name) refl is;
   held = λ world k. k.holds;
 }
 

@@ -1,5 +1,5 @@
 -- A file is signalled where all that was put into it is, and so is a buffer.
-use Rattle.std.proofs.Common.{◌≡◌, ℕ, List}
+use Rattle.std.proofs.Common.{◌≡◌, ℕ, List, Bool}
 use Rattle.std.specs.Prelude.{◌↔◌}
 use Rattle.point_core.specs.Agreement.{as_entries, IsReached, all_reached}
 use Rattle.point_core.proofs.Agreement.{AgreesAbove-sym}
@@ -13,6 +13,10 @@ use Rattle.desk_core.proofs.Keeping.{AgreesAbove-keeps}
 
 pub IsReached-keeps : {desk : DeskState} {world : World} → Keeps desk world → (name : List ℕ) → IsReached (as_entries (points_at desk.files name)) 0 (reach_of world.timelines) ↔ IsReached (put_set world.files name) 0 (reach_of world.timelines)
 IsReached-keeps {desk} {world} k name = (IsReached-AgreesAbove 0 (AgreesAbove-keeps k name), IsReached-AgreesAbove 0 (AgreesAbove-sym (AgreesAbove-keeps k name)))
+
+-- all that was put into the file of that name is reached
+abbrev pub put_reached : World → List ℕ → Bool
+put_reached world name = all_reached (reach_of world.timelines) 0 (put_set world.files name)
 
 pub all_reached-keeps : {desk : DeskState} {world : World} → Keeps desk world → (name : List ℕ) → all_reached (reach_of world.timelines) 0 (as_entries (points_at desk.files name)) ≡ all_reached (reach_of world.timelines) 0 (put_set world.files name)
 all_reached-keeps {desk} {world} k name = all_reached-AgreesAbove 0 (AgreesAbove-keeps k name) (AgreesAbove-sym (AgreesAbove-keeps k name))

@@ -15,10 +15,10 @@ use Rattle.syncfile_core.specs.SyncFile.{File, plain_file, file_of}
 use Rattle.syncfile_core.specs.Files.{has_file as has_sync_file, without_file, cause_to_refuse}
 use Rattle.syncfile_core.specs.Merge.{merge_of}
 use Rattle.desk_core.specs.World.{World, MadeFile, has_file, after, has_made_buffer, buffer_of, MadeBuffer, with_put, has_made_watch, raised_reach, left_watches}
-use Rattle.desk_core.specs.Answer.{first_of, is_signalled, is_full, causes, making_file, listed_points}
+use Rattle.desk_core.specs.Answer.{first_of, is_full, causes, making_file, listed_points}
 use Rattle.desk_core.specs.Desk.{DeskState, AreWatchesOf, Holds}
 use Rattle.desk_core.specs.Keeping.{points_at, Keeps, cause_of}
-use Rattle.desk_core.proofs.Signalling.{all_reached-keeps}
+use Rattle.desk_core.proofs.Signalling.{all_reached-keeps, put_reached}
 use Rattle.desk_core.proofs.Keeping.{points_of-files_at, has_sync_file-names, length-names, without_file-names, without_file-points, listing-keeps, AgreesAbove-keeps}
 use Rattle.std.proofs.lemmas.List.{map-append}
 use Rattle.point_core.specs.declared.entry.Point.{Point}
@@ -63,6 +63,11 @@ and-true : (b : Bool) → (b && true) ≡ b
 and-true true = refl
 and-true false = refl
 
+-- where there is a file, it is signalled where all that was put into it is reached
+with_file : {X : Type 0} (has reached : Bool) (of : Bool → X) (none : X) → (if not has then none else of (has && reached)) ≡ (if has then of reached else none)
+with_file true reached of none = refl
+with_file false reached of none = refl
+
 without_both : (b t : Bool) → (if not (b && t) then Some NoEntry else None) ≡ (if t then (if b then None else Some NoEntry) else Some NoEntry)
 without_both true true = refl
 without_both true false = refl
@@ -106,8 +111,8 @@ causes-keeps {desk} {world} k (command.Close f) =
     ∙ ap (λ h. if h then None else Some NoEntry) (sym (has_sync_file-names desk.files world.files f k.holds.names))
 causes-keeps {desk} {world} k (command.Wait f) =
     let listed = ap (λ ts. all_reached (reach_of ts) 0 (as_entries (points_at desk.files f))) k.holds.timelines ∙ all_reached-keeps k f in
-    if-not (has_file world.files f) (Some NoEntry) (if not (is_signalled world f) then Some TimedOut else None)
-    ∙ ap (λ o. if has_file world.files f then o else Some NoEntry) (if-not (is_signalled world f) (Some TimedOut) None ∙ ap (λ b. if b then None else Some TimedOut) (sym listed))
+    with_file (has_file world.files f) (put_reached world f) (λ reached. if not reached then Some TimedOut else None) (Some NoEntry)
+    ∙ ap (λ o. if has_file world.files f then o else Some NoEntry) (if-not (put_reached world f) (Some TimedOut) None ∙ ap (λ b. if b then None else Some TimedOut) (sym listed))
     ∙ ap (λ h. if h then (if all_reached (reach_of desk.timelines) 0 (as_entries (points_at desk.files f)) then None else Some TimedOut) else Some NoEntry) (sym (has_sync_file-names desk.files world.files f k.holds.names))
 causes-keeps {desk} {world} k (command.Info f) =
     if-not (has_file world.files f) (Some NoEntry) None
@@ -133,7 +138,7 @@ causes-keeps {desk} {world} k (command.Trim b) = cause_without-keeps k b
 causes-keeps {desk} {world} k (command.Show b) = cause_without-keeps k b
 causes-keeps {desk} {world} k command.Report = refl
 causes-keeps {desk} {world} k (command.Watch f cookie) =
-    if-not (has_file world.files f) (Some NoEntry) (watch_cause (has_made_watch world.watches cookie) (is_full world) (is_signalled world f))
+    with_file (has_file world.files f) (put_reached world f) (watch_cause (has_made_watch world.watches cookie) (is_full world)) (Some NoEntry)
     ∙ ap (λ o. if has_file world.files f then o else Some NoEntry) (watch_cause-keeps k f cookie)
     ∙ ap (λ h. if h then cause_to_refuse_watch desk.watches cookie (points_at desk.files f) (reach_of desk.timelines) else Some NoEntry) (sym (has_sync_file-names desk.files world.files f k.holds.names))
 causes-keeps {desk} {world} k (command.Unwatch cookie) = refl

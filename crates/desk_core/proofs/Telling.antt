@@ -1,5 +1,5 @@
 -- A desk that keeps a world tells what was put into its files.
-use Rattle.std.proofs.Common.{◌≡◌, ℕ, Bool, true, false, not, refl, sym, ap, ◌∙◌, List, [], ◌∷◌, Option, None, Some, option_map, unwrap_or, arith, inl, inr, All, ◌≤◌, length}
+use Rattle.std.proofs.Common.{◌≡◌, ℕ, Bool, true, false, not, ◌&&◌, refl, sym, ap, ◌∙◌, List, [], ◌∷◌, Option, None, Some, option_map, unwrap_or, arith, inl, inr, All, ◌≤◌, length}
 use Rattle.std.specs.Prelude.{◌↔◌, if◌then◌else◌, is_some}
 use Rattle.std.proofs.lemmas.Bool.{false≢true, cases_Bool}
 use Rattle.point_core.specs.declared.refusal.Refusal.TheVariants.{NoEntry, TimedOut}
@@ -15,7 +15,7 @@ use Rattle.timeline_core.specs.Timeline.{reach_of}
 use Rattle.syncfile_core.specs.SyncFile.{File}
 use Rattle.syncfile_core.specs.Files.{file_at as sync_file_at}
 use Rattle.desk_core.specs.World.{World, MadeFile, has_file, file_named, put_set, has_made_buffer}
-use Rattle.desk_core.specs.Answer.{refused_or, is_signalled, listed_points, info_of, number_if}
+use Rattle.desk_core.specs.Answer.{refused_or, listed_points, info_of, info_told, number_if}
 use Rattle.desk_core.specs.Desk.{DeskState, HasHistory, Answers}
 use Rattle.desk_core.specs.History.{world_of}
 use Rattle.desk_core.specs.Keeping.{points_at, Keeps}
@@ -23,7 +23,7 @@ use Rattle.desk_core.specs.Headline.{TellsWhatWasPut, values_after, put_into_fil
 use Rattle.desk_core.proofs.Answering.{Keeps-stands}
 use Rattle.desk_core.proofs.Finding.{has_sync_file-found}
 use Rattle.desk_core.proofs.Keeping.{sync_file_at-points, has_sync_file-names, AgreesAbove-keeps}
-use Rattle.desk_core.proofs.Signalling.{IsReached-keeps}
+use Rattle.desk_core.proofs.Signalling.{IsReached-keeps, put_reached}
 use Rattle.std.specs.Map.{values_of}
 use Rattle.std.proofs.lemmas.List.Elements.{All-head, All-tail}
 use Rattle.std.proofs.lemmas.Map.Entries.{lookup_head, lookup_tail}
@@ -42,16 +42,18 @@ listed fs name f is = ap (λ o. unwrap_or (option_map (λ (g : File). g.points) 
 agrees : {desk : DeskState} {world : World} → Keeps desk world → (name : List ℕ) (f : File) → sync_file_at desk.files name ≡ Some f → AgreesAbove (reach_of world.timelines) (as_entries f.points) (put_set world.files name)
 agrees {desk} {world} k name f is = rw (listed desk.files name f is) at (AgreesAbove-keeps k name)
 
-told_info : (b : Bool) (i told : Info) → answer.Info told ≡ refused_or (if not b then Some NoEntry else None) (answer.Info i) → i ≡ told
-told_info true i told is = cc
-told_info false i told is = absurd (cc)
+same_Info : (a b : Info) → answer.Info a ≡ answer.Info b → a ≡ b
+same_Info a b is = cc
 
-told_status : (world : World) (name : List ℕ) (o : Option MadeFile) → ((info_of world name o).status ≡ Signalled) ↔ IsReached (unwrap_or (option_map (λ (f : MadeFile). f.put) o) []) 0 (reach_of world.timelines)
-told_status world name None = (λ _ e among. absurd (omega (arith, among.1)), λ _. refl)
-told_status world name (Some f) = status_if-Signalled (all_reached (reach_of world.timelines) 0 f.put) (IsReached f.put 0 (reach_of world.timelines)) (all_reached-IsReached (reach_of world.timelines) 0 f.put)
+told_status : (world : World) (name : List ℕ) (b : Bool) (o : Option MadeFile) (told : Info) → answer.Info told ≡ refused_or (if not b then Some NoEntry else None) (info_told world name o) → (told.status ≡ Signalled) ↔ IsReached (unwrap_or (option_map (λ (f : MadeFile). f.put) o) []) 0 (reach_of world.timelines)
+told_status world name false o told is = absurd (cc)
+told_status world name true None told is = absurd (cc)
+told_status world name true (Some f) told is =
+    let same = same_Info told (info_of world name f) is in
+    rw same (status_if-Signalled (all_reached (reach_of world.timelines) 0 f.put) (IsReached f.put 0 (reach_of world.timelines)) (all_reached-IsReached (reach_of world.timelines) 0 f.put))
 
 -- what a check answers of a file that is there
-waited : (b reached : Bool) (given : Answer) → b ≡ true → given ≡ refused_or (if not b then Some NoEntry else (if not reached then Some TimedOut else None)) answer.Done → given ≡ (if reached then answer.Done else answer.Refused TimedOut)
+waited : (b reached : Bool) (given : Answer) → b ≡ true → given ≡ refused_or (if not b then Some NoEntry else (if not (b && reached) then Some TimedOut else None)) answer.Done → given ≡ (if reached then answer.Done else answer.Refused TimedOut)
 waited true true given has is = is
 waited true false given has is = is
 waited false reached given has is = absurd (cc)
@@ -64,11 +66,11 @@ timed_out_if : (reached : Bool) (given : Answer) (P : Type 0) → given ≡ (if 
 timed_out_if true given P is h = (λ out. absurd (cc), λ none. absurd (none (h.0 refl)))
 timed_out_if false given P is h = (λ _ p. absurd (false≢true (h.1 p)), λ _. is)
 
-waited-stands : {desk : DeskState} {history : List Command} → HasHistory desk history → (name : List ℕ) (f : File) (given : Answer) → sync_file_at desk.files name ≡ Some f → Answers desk (command.Wait name) given → given ≡ (if is_signalled (world_of history) name then answer.Done else answer.Refused TimedOut)
+waited-stands : {desk : DeskState} {history : List Command} → HasHistory desk history → (name : List ℕ) (f : File) (given : Answer) → sync_file_at desk.files name ≡ Some f → Answers desk (command.Wait name) given → given ≡ (if put_reached (world_of history) name then answer.Done else answer.Refused TimedOut)
 waited-stands {desk} {history} stands name f given is answers =
     let has : has_file (world_of history).files name ≡ true = sym (has_sync_file-names desk.files (world_of history).files name stands.holds.names) ∙ has_sync_file-found desk.files name ∙ ap is_some is in
     elim ((answers history stands).told) [
-      | inl told ↦ waited (has_file (world_of history).files name) (is_signalled (world_of history) name) given has told
+      | inl told ↦ waited (has_file (world_of history).files name) (put_reached (world_of history) name) given has told
       | inr none ↦ absurd (false≢true none.1)
     ]
 
@@ -76,17 +78,17 @@ pub TellsWhatWasPut-stands : (desk : DeskState) (history : List Command) → Has
 TellsWhatWasPut-stands desk history stands =
     let k = Keeps-stands stands in
     let world : World = world_of history in
-    let put_reached = λ (name : List ℕ). all_reached-IsReached (values_after history) 0 (put_into_file history name) in
+    let reached_by = λ (name : List ℕ). all_reached-IsReached (values_after history) 0 (put_into_file history name) in
     record {
       agrees = agrees k;
       same_put = λ a b f g is is' same. AgreesAbove-trans (agrees k a f is) (AgreesAbove-trans (AgreesAbove-same_entries (values_after history) (put_into_file history a) (put_into_file history b) same.there same.back) (AgreesAbove-sym (agrees k b g is')));
       reached = λ name f is. rw (listed desk.files name f is) at (IsReached-keeps k name);
       signalled = λ name told given. elim ((given history stands).told) [
-        | inl is ↦ rw (told_info (has_file world.files name) (info_of world name (file_named world.files name)) told is) at (told_status world name (file_named world.files name))
+        | inl is ↦ told_status world name (has_file world.files name) (file_named world.files name) told is
         | inr none ↦ absurd (cc (none.0))
       ];
-      waited = λ name f given is answers. done_if (is_signalled world name) given (IsFileReached history name) (waited-stands stands name f given is answers) (put_reached name);
-      timed_out = λ name f given is answers. timed_out_if (is_signalled world name) given (IsFileReached history name) (waited-stands stands name f given is answers) (put_reached name);
+      waited = λ name f given is answers. done_if (put_reached world name) given (IsFileReached history name) (waited-stands stands name f given is answers) (reached_by name);
+      timed_out = λ name f given is answers. timed_out_if (put_reached world name) given (IsFileReached history name) (waited-stands stands name f given is answers) (reached_by name);
       listed = λ name f made is is'.
           let both = sync_file_at-points desk.files world.files name k.holds.names k.holds.points in
           let some : Some f.points ≡ Some (listed_points made) = ap (option_map (λ (g : File). g.points)) (sym is) ∙ both ∙ ap (option_map listed_points) is' in
@@ -137,12 +139,12 @@ pub TellsWhatIsInBuffers-stands : (desk : DeskState) (history : List Command) �
 TellsWhatIsInBuffers-stands desk history stands =
     let k = Keeps-stands stands in
     let tables = stands.holds.tables in
-    let put_reached = λ (name : List ℕ) (usage : Usage). all_reached-IsReached (values_after history) (usage_number usage) (put_into_buffer history name) in
+    let reached_by = λ (name : List ℕ) (usage : Usage). all_reached-IsReached (values_after history) (usage_number usage) (put_into_buffer history name) in
     record {
       agrees = tables;
       same_put = λ a b same. AgreesAbove-trans (tables a) (AgreesAbove-trans (AgreesAbove-same_entries (values_after history) (put_into_buffer history a) (put_into_buffer history b) same.there same.back) (AgreesAbove-sym (tables b)));
       same_as_file = λ name b f is same. AgreesAbove-trans (agrees k name f is) (AgreesAbove-trans (AgreesAbove-same_entries (values_after history) (put_into_file history name) (put_into_buffer history b) same.there same.back) (AgreesAbove-sym (tables b)));
-      tested = λ name usage given has answers. one_if _ given (IsBufferReached history name usage) (tested-stands stands name usage given has answers) (put_reached name usage);
-      tested_pending = λ name usage given has answers. zero_if _ given (IsBufferReached history name usage) (tested-stands stands name usage given has answers) (put_reached name usage);
+      tested = λ name usage given has answers. one_if _ given (IsBufferReached history name usage) (tested-stands stands name usage given has answers) (reached_by name usage);
+      tested_pending = λ name usage given has answers. zero_if _ given (IsBufferReached history name usage) (tested-stands stands name usage given has answers) (reached_by name usage);
       places = λ name. places-found desk.buffers name stands.holds.kept.tables;
     }

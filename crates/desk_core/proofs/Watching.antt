@@ -27,12 +27,12 @@ use Rattle.fence_core.specs.Watch.{IsWatchOf}
 use Rattle.fence_core.specs.Watches.{has_watch, has_room, fires, fired_by, cause_to_refuse, cause_to_refuse_watch, if_none}
 use Rattle.fence_core.proofs.Firing.{AllZip-later, fired-none, cookies_of-fires, list_any-fires, list_any-is_for}
 use Rattle.desk_core.specs.World.{World, MadeWatch, has_made_watch, raised_reach, fired_watches, fires_some, cookies_of}
-use Rattle.desk_core.specs.Answer.{is_signalled, is_full}
+use Rattle.desk_core.specs.Answer.{is_full}
 use Rattle.desk_core.specs.Desk.{DeskState, AreWatchesOf, Holds}
 use Rattle.desk_core.specs.Keeping.{points_at, Keeps, cause_of, fires_kept}
 use Rattle.command_core.specs.declared.command.Command.TheVariants as command
 use Rattle.desk_core.proofs.Finding.{has_sync_file-found}
-use Rattle.desk_core.proofs.Signalling.{all_reached-keeps}
+use Rattle.desk_core.proofs.Signalling.{all_reached-keeps, put_reached}
 use Rattle.desk_core.proofs.Sound.{IsAtLeast-raised}
 
 abbrev pub cookie_of : MadeWatch → ℕ
@@ -97,15 +97,15 @@ watch_cause-by true full reached = refl
 watch_cause-by false true reached = refl
 watch_cause-by false false reached = refl
 
-pub watch_cause-keeps : {desk : DeskState} {world : World} → Keeps desk world → (f : List ℕ) (cookie : ℕ) → watch_cause (has_made_watch world.watches cookie) (is_full world) (is_signalled world f) ≡ cause_to_refuse_watch desk.watches cookie (points_at desk.files f) (reach_of desk.timelines)
+pub watch_cause-keeps : {desk : DeskState} {world : World} → Keeps desk world → (f : List ℕ) (cookie : ℕ) → watch_cause (has_made_watch world.watches cookie) (is_full world) (put_reached world f) ≡ cause_to_refuse_watch desk.watches cookie (points_at desk.files f) (reach_of desk.timelines)
 watch_cause-keeps {desk} {world} k f cookie =
-    let reached : is_signalled world f ≡ are_reached (reach_of desk.timelines) (points_at desk.files f) =
+    let reached : put_reached world f ≡ are_reached (reach_of desk.timelines) (points_at desk.files f) =
     sym (all_reached-keeps k f) ∙ all_reached-points (reach_of world.timelines) (points_at desk.files f)
     ∙ ap (λ ts. are_reached (reach_of ts) (points_at desk.files f)) (sym k.holds.timelines)
     in
-    watch_cause-by (has_made_watch world.watches cookie) (is_full world) (is_signalled world f)
-    ∙ ap (λ b. cause_by b (not (is_full world)) (is_signalled world f)) (sym (has_watch-holds k.holds cookie))
-    ∙ ap (λ b. cause_by (has_watch desk.watches cookie) b (is_signalled world f)) (sym (has_room-holds k.holds))
+    watch_cause-by (has_made_watch world.watches cookie) (is_full world) (put_reached world f)
+    ∙ ap (λ b. cause_by b (not (is_full world)) (put_reached world f)) (sym (has_watch-holds k.holds cookie))
+    ∙ ap (λ b. cause_by (has_watch desk.watches cookie) b (put_reached world f)) (sym (has_room-holds k.holds))
     ∙ ap (cause_by (has_watch desk.watches cookie) (has_room desk.watches)) reached
 
 -- what the desk asks before it registers a watch

@@ -44,9 +44,9 @@ cause holds refusal = (holds, refusal)
 abbrev pub making_file : World → List ℕ → List (Bool × Refusal)
 making_file w name = cause (has_file w.files name) Exists ∷ cause (nat_le FILES (length w.files)) (Limit Files) ∷ []
 
--- all that was put into the file of that name is reached
+-- there is a file of that name, and all that was put into it is reached
 abbrev pub is_signalled : World → List ℕ → Bool
-is_signalled w name = all_reached (reach_of w.timelines) 0 (put_set w.files name)
+is_signalled w name = has_file w.files name && all_reached (reach_of w.timelines) 0 (put_set w.files name)
 
 -- no more watches can be pending, or registered
 abbrev pub is_full : World → Bool
@@ -92,7 +92,7 @@ file_status w f = status_if (all_reached (reach_of w.timelines) 0 f.put)
 abbrev pub listed_points : MadeFile → List Point
 listed_points f = if f.is_one_point then map (λ e. e.point) f.put else listing f.put 0 f.made_at
 
--- the name of a context that was made
+-- the name of a context that a timeline was made of
 abbrev pub name_of : List Timeline → ℕ → List ℕ
 name_of ts ctx = unwrap_or (name_at ts ctx) []
 
@@ -112,10 +112,14 @@ abbrev pub or_stub : List FenceRow → List FenceRow
 or_stub [] = stub_row ∷ []
 or_stub (r ∷ rs) = r ∷ rs
 
-abbrev pub info_of : World → List ℕ → Option MadeFile → Info
-info_of w name None = record { name = name; status = Signalled; fences = [] }
-info_of w name (Some f) =
+abbrev pub info_of : World → List ℕ → MadeFile → Info
+info_of w name f =
     record { name = name; status = file_status w f; fences = or_stub (map (fence_row w.timelines) (listed_points f)) }
+
+-- what is told of the file of a name: of no file nothing, though there always is one where this is asked
+abbrev pub info_told : World → List ℕ → Option MadeFile → Answer
+info_told w name None = answer.Done
+info_told w name (Some f) = answer.Info (info_of w name f)
 
 -- the row of a pending top, with the name of its timeline
 abbrev pub show_row : List Timeline → TopRow → ShowRow
@@ -145,7 +149,7 @@ report_of w = record {
   buffers = map (buffer_rows w) w.buffers;
 }
 
--- what the accepted command tells
+-- what the command tells where it is accepted, which is where none of its causes holds: what it names is there
 abbrev pub told : World → Command → Answer
 told w (command.Timeline t) = answer.Value (length w.timelines + 1)
 told w (command.Inc t n) = answer.Raised (value_of w.timelines t + n) (cookies_of (fired_watches w t n))
@@ -154,7 +158,7 @@ told w (command.Fence f t p) = answer.Done
 told w (command.Merge f a b) = answer.Done
 told w (command.Close f) = answer.Done
 told w (command.Wait f) = answer.Done
-told w (command.Info f) = answer.Info (info_of w f (file_named w.files f))
+told w (command.Info f) = info_told w f (file_named w.files f)
 told w (command.Buffer b) = answer.Done
 told w (command.Add b t p u) = answer.Done
 told w (command.Import b f flags) = answer.Done

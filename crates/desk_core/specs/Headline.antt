@@ -22,6 +22,7 @@ use Rattle.desk_core.specs.Answer.{listed_points}
 use Rattle.desk_core.specs.History.{world_of, increments_in}
 use Rattle.desk_core.specs.Fired.{fired_along, pending_after}
 use Rattle.desk_core.specs.Desk.{DeskState, Answers}
+use Rattle.desk_core.specs.Times.{times_registered, times_removed, times_fired, times_pending}
 
 -- both have the same entries, in whatever order and however often
 pub record HasSameEntries (es fs : List Entry) : Type 0 where
@@ -36,7 +37,7 @@ values_after history = reach_of (world_of history).timelines
 abbrev pub put_into_file : List Command → List ℕ → List Entry
 put_into_file history name = put_set (world_of history).files name
 
--- every point that was put into the file of that name is reached
+-- every point that was put into the file of that name is reached; of a name without a file none was put
 abbrev pub IsFileReached : List Command → List ℕ → Type 0
 IsFileReached history name = IsReached (put_into_file history name) 0 (values_after history)
 
@@ -69,7 +70,8 @@ pub record TellsWhatWasPut (desk : DeskState) (history : List Command) : Type 0 
 abbrev pub put_into_buffer : List Command → List ℕ → List Entry
 put_into_buffer history name = buffer_put_set (world_of history).buffers name
 
--- every point that was put into the buffer of that name, at the usage or a stronger one, is reached
+-- every point that was put into the buffer of that name, at the usage or a stronger one, is reached; of a name without a
+-- buffer none was put
 abbrev pub IsBufferReached : List Command → List ℕ → Usage → Type 0
 IsBufferReached history name usage = IsReached (put_into_buffer history name) (usage_number usage) (values_after history)
 
@@ -117,3 +119,13 @@ pub record TellsWhatFires (desk : DeskState) (history : List Command) : Type 0 w
       ↔ (Contains (pending_after history) x × IsReached x.put 0 (values_after (history ++ command.Inc name n ∷ []))))
   -- each registration has fired at most once
   pub once : (number : ℕ) → count_by (nat_eq number) (fired_along history) ≤ 1
+
+-- over a run, each watch that was registered has fired, or was removed, or is pending at the end, and only one of these
+pub record TellsEachWatch (desk : DeskState) (commands : List Command) (given : List Answer) : Type 0 where
+  -- of each cookie: how often it was registered, and what became of that
+  pub each : (cookie : ℕ)
+      → times_registered cookie commands given ≡ times_fired cookie given + times_removed cookie commands given + times_pending cookie desk
+  -- so it is told at most as often as it was registered
+  pub fired : (cookie : ℕ) → times_fired cookie given ≤ times_registered cookie commands given
+  -- and is pending at most once
+  pub pending : (cookie : ℕ) → times_pending cookie desk ≤ 1

@@ -95,7 +95,8 @@ report_at ts fs bs = record {
   buffers = map (buffer_rows_at ts bs) (names_of bs);
 }
 
--- why the desk refuses a command, by what it keeps
+-- Why the desk refuses a command, by what it keeps. It is the first of the `causes` that hold in the world of its history:
+-- so says the law `a_desk_refuses_for_the_first_cause`.
 abbrev pub cause_of : DeskState → Command → Option Refusal
 cause_of d (command.Timeline t) =
     if has_timeline d.timelines t then Some Exists else if nat_lt (length d.timelines) CONTEXTS then None else Some (Limit Timelines)

@@ -5,6 +5,7 @@ pub mod Headline
 pub mod History
 pub mod Keeping
 pub mod Sound
+pub mod Times
 pub mod World
 pub use Rattle.dmabuf_core.specs.Buffers
 pub use Rattle.dmabuf_core.specs.Flags

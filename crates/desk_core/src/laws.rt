@@ -2,13 +2,16 @@
 // empty body.
 ghost use Rattle.std.specs.Prelude.{◌≡◌, ℕ, ◌≤◌, nat_eq, count_by, List, [], ◌∷◌, ◌++◌, Contains};
 ghost use Rattle.command_core.specs.declared.command.Command.{Command};
+ghost use Rattle.command_core.specs.declared.answer.Answer.{Answer};
 ghost use Rattle.timeline_core.specs.Run.{AreSums};
-ghost use Rattle.desk_core.specs.History.{world_of, IsHistory, increments_in};
+ghost use Rattle.desk_core.specs.Answer.{causes, first_of};
+ghost use Rattle.desk_core.specs.History.{world_of, IsHistory, increments_in, history_of, AreAnswers};
 ghost use Rattle.desk_core.specs.Sound.{IsSound};
 ghost use Rattle.desk_core.specs.Desk.{DeskState, HasHistory};
+ghost use Rattle.desk_core.specs.Keeping.{cause_of};
 ghost use Rattle.desk_core.specs.World.{MadeWatch, watch_made};
 ghost use Rattle.desk_core.specs.Fired.{fired_along, pending_after, IsLeftBy};
-ghost use Rattle.desk_core.specs.Headline.{TellsSums, TellsWhatWasPut, TellsWhatIsInBuffers, TellsWhatFires, put_into_file};
+ghost use Rattle.desk_core.specs.Headline.{TellsSums, TellsWhatWasPut, TellsWhatIsInBuffers, TellsWhatFires, TellsEachWatch, put_into_file};
 
 /// What was put into files and buffers is of timelines that were made, and no value has fallen since; there are no more
 /// timelines than contexts.
@@ -45,4 +48,19 @@ pub fn a_desk_tells_its_history()
     ensures buffers { (desk : DeskState) (history : List Command) →
         HasHistory desk history → TellsWhatIsInBuffers desk history }
     ensures watches { (desk : DeskState) (history : List Command) → HasHistory desk history → TellsWhatFires desk history }
+{}
+
+/// By the answers of a run, from its first command on, each watch that was registered has fired, was removed, or is
+/// pending at the end.
+pub fn each_watch_fires_or_is_removed_or_pending()
+    ensures { (desk : DeskState) (commands : List Command) (given : List Answer) →
+        AreAnswers [] commands given → HasHistory desk (history_of [] commands given) →
+        TellsEachWatch desk commands given }
+{}
+
+/// A desk, which keeps less than all that was put into it, refuses each command for the first cause that holds in the world
+/// of its history.
+pub fn a_desk_refuses_for_the_first_cause()
+    ensures { (desk : DeskState) (history : List Command) (c : Command) →
+        HasHistory desk history → cause_of desk c ≡ first_of (causes (world_of history) c) }
 {}

@@ -14,6 +14,8 @@ use std::mem;
 /// How many callbacks a fence that threads share can have.
 pub const CALLBACKS: usize = 4096;
 
+const _: () = prove!(CALLBACKS == 4096);
+
 /// The callbacks of one fence, as the list `cb_list` of Linux's `struct dma_fence`: held by registration, until they are
 /// taken, once and for good.
 #[derive(Drop)]

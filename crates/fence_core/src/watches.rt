@@ -26,8 +26,12 @@ use std::marker::Model;
 /// How many watches can be pending at a time.
 pub const WATCHES: usize = 4096;
 
+const _: () = prove!(WATCHES == 4096);
+
 /// How many watches can ever be registered.
 pub const WATCHES_EVER: u64 = u64::MAX;
+
+const _: () = prove!(WATCHES_EVER == 18_446_744_073_709_551_615);
 
 /// Callbacks on fences, by registration. Each fires once, at the first rise after which all of its points are
 /// signalled.

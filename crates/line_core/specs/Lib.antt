@@ -1,5 +1,5 @@
 pub mod Cutting
-pub mod Kind
+pub mod Following
 pub mod Line
 pub mod Lines
 pub mod Number

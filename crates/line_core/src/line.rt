@@ -10,6 +10,8 @@ use point_core::Refusal;
 /// The most bytes of a line, without its line feed.
 pub const LINE_BYTES: usize = 256;
 
+const _: () = prove!(LINE_BYTES == 256);
+
 /// A line of a script that has an answer.
 #[derive(Clone, Copy, Debug)]
 pub struct Line {

@@ -5,6 +5,8 @@ ghost use Rattle.line_core.specs.Number.{number_of};
 /// The most digits of a number.
 pub const DIGITS: usize = 20;
 
+const _: () = prove!(DIGITS == 20);
+
 /// The number that the word spells: 1 to `DIGITS` decimal digits, leading zeros allowed, of at most 64 bits.
 pub(crate) fn number(word: &[u8]) -> Option<u64>
     ensures value { result ≡ number_of word.now }

@@ -11,6 +11,8 @@ use std::alloc::Global;
 /// The most bytes of a script.
 pub const SCRIPT_BYTES: usize = 1_048_576;
 
+const _: () = prove!(SCRIPT_BYTES == 1_048_576);
+
 /// The lines of a script that have an answer, in order.
 ///
 /// Of a script of more than `SCRIPT_BYTES` bytes, the lines whose line feed is among the first so many, and behind them a

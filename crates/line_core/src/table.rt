@@ -1,12 +1,10 @@
 // The table of commands.
-ghost use Rattle.std.specs.Prelude.{◌≡◌, ℕ, List, None, Some, if◌then◌else◌, option_map};
+ghost use Rattle.std.specs.Prelude.{◌≡◌, None, Some, drop, if◌then◌else◌, option_map};
 ghost use Rattle.line_core.specs.Words.{words_of};
-ghost use Rattle.line_core.specs.Table.{one_name, one_number, name_and_number, two_names_and_number};
-ghost use Rattle.line_core.specs.Table.{three_names, two_names_number_and_usage, two_names_and_flags, name_and_usage};
-ghost use Rattle.line_core.specs.Table.{command_from, file_command_from, buffer_command_from, watch_command_from};
-ghost use Rattle.line_core.specs.Table.{table_command_from};
+ghost use Rattle.line_core.specs.Following.{one_name, one_number, name_and_number, two_names_and_number};
+ghost use Rattle.line_core.specs.Following.{three_names, two_names_number_and_usage, two_names_and_flags, name_and_usage};
+ghost use Rattle.line_core.specs.Table.{command_from, kind_at, kinds};
 ghost use Rattle.line_core.specs.Words.{are_none};
-ghost use Rattle.line_core.specs.Kind.{command_by};
 
 use crate::number::number;
 use crate::usages::{flags, usage};
@@ -66,7 +64,7 @@ enum Kind {
 }
 
 fn kind_of(word: &[u8]) -> Option<Kind>
-    ensures kind { (words : List (List ℕ)) → command_from word.now words ≡ command_by result words }
+    ensures kind { result ≡ kind_at kinds word.now }
 {
     if is(word, "timeline") {
         Some(Kind::Timeline)
@@ -80,7 +78,7 @@ fn kind_of(word: &[u8]) -> Option<Kind>
 }
 
 fn file_kind_of(word: &[u8]) -> Option<Kind>
-    ensures kind { (words : List (List ℕ)) → file_command_from word.now words ≡ command_by result words }
+    ensures kind { result ≡ kind_at (drop 3 kinds) word.now }
 {
     if is(word, "fence") {
         Some(Kind::Fence)
@@ -98,7 +96,7 @@ fn file_kind_of(word: &[u8]) -> Option<Kind>
 }
 
 fn buffer_kind_of(word: &[u8]) -> Option<Kind>
-    ensures kind { (words : List (List ℕ)) → buffer_command_from word.now words ≡ command_by result words }
+    ensures kind { result ≡ kind_at (drop 8 kinds) word.now }
 {
     if is(word, "buffer") {
         Some(Kind::Buffer)
@@ -118,7 +116,7 @@ fn buffer_kind_of(word: &[u8]) -> Option<Kind>
 }
 
 fn watch_kind_of(word: &[u8]) -> Option<Kind>
-    ensures kind { (words : List (List ℕ)) → watch_command_from word.now words ≡ command_by result words }
+    ensures kind { result ≡ kind_at (drop 14 kinds) word.now }
 {
     if is(word, "watch") {
         Some(Kind::Watch)
@@ -130,7 +128,7 @@ fn watch_kind_of(word: &[u8]) -> Option<Kind>
 }
 
 fn table_kind_of(word: &[u8]) -> Option<Kind>
-    ensures kind { (words : List (List ℕ)) → table_command_from word.now words ≡ command_by result words }
+    ensures kind { result ≡ kind_at (drop 16 kinds) word.now }
 {
     if is(word, "show") {
         Some(Kind::Show)

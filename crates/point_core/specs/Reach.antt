@@ -3,11 +3,12 @@ use Rattle.std.specs.Prelude.{ℕ, ◌-◌, ◌≤◌, Bool, nat_le, max, map, L
 use Rattle.std.specs.List.{zip}
 use Rattle.point_core.specs.declared.entry.Point.{Point}
 
--- the value of a context, which is numbered from 1
+-- The value of a context that there can be. They are numbered from 1 to CONTEXTS: past them this is 0, and 0, which is no
+-- context, would have the value of context 1.
 abbrev pub value_at : List ℕ → ℕ → ℕ
 value_at reach ctx = slice_index reach (ctx - 1)
 
--- the reach with one value changed
+-- the reach with the value of such a context changed
 abbrev pub with_value : List ℕ → ℕ → ℕ → List ℕ
 with_value reach ctx value = slice_set reach (ctx - 1) value
 

@@ -32,7 +32,7 @@ impl Model for ContextValues {
 impl ContextValues {
     ghost use Rattle.std.specs.Prelude.{replicate, slice_set};
     ghost use Rattle.point_core.specs.Reach.{later_values, IsAtLeast};
-    ghost use Rattle.point_core.specs.Used.{padded, AreInUse};
+    ghost use Rattle.point_core.specs.Used.{padded, used_of, AreInUse};
 
     /// Every value is 0.
     pub(crate) fn zero() -> ContextValues
@@ -55,6 +55,7 @@ impl ContextValues {
 
     /// How many values there are up to the last that is not 0.
     pub(crate) fn used(&self) -> usize
+        ensures last { result ≡ used_of self.now }
         ensures within { result ≤ CONTEXTS }
         ensures past { (index : ℕ) → result ≤ index → slice_index self.now index ≡ 0 }
     {

@@ -6,6 +6,7 @@ ghost use Rattle.point_core.specs.Agreement.{as_entries, HasContexts};
 ghost use Rattle.point_core.specs.Latest.{IsLatest, points_above};
 ghost use Rattle.point_core.specs.Reach.{value_at, with_value};
 ghost use Rattle.point_core.specs.Usage.{usage_number};
+ghost use Rattle.point_core.specs.Used.{used_of};
 
 use crate::context::Context;
 use crate::context_values::ContextValues;
@@ -56,6 +57,7 @@ impl LatestPoints {
 
     /// How many contexts there are up to the last that has a point or a value.
     pub fn used(&self) -> usize
+        ensures last { result ≡ used_of self.now }
         ensures within { result ≤ CONTEXTS }
         ensures past { (ctx : ℕ) → result < ctx → value_at self.now ctx ≡ 0 }
     {

@@ -32,6 +32,7 @@ impl Model for Reach {
 impl Reach {
     ghost use Rattle.std.specs.Prelude.{replicate, slice_set, ◌-◌};
     ghost use Rattle.point_core.specs.Reach.{with_value, reaching, later_values, IsAtLeast};
+    ghost use Rattle.point_core.specs.Used.{used_of};
 
     /// Every value is 0.
     pub fn zero() -> Reach
@@ -82,6 +83,7 @@ impl Reach {
 
     /// How many contexts there are up to the last whose value is not 0. A loop over what is reached can end there.
     pub fn used(&self) -> usize
+        ensures last { result ≡ used_of self.now }
         ensures within { result ≤ CONTEXTS }
         ensures past { (ctx : ℕ) → result < ctx → value_at self.now ctx ≡ 0 }
     {

@@ -3,7 +3,7 @@ ghost use Rattle.std.specs.Prelude.{◌≡◌, ℕ, ◌+◌, ◌≤◌, ◌↔�
 ghost use Rattle.point_core.specs.declared.context.TheConstants.{CONTEXTS};
 ghost use Rattle.point_core.specs.declared.entry.Entry.{Entry};
 ghost use Rattle.point_core.specs.declared.entry.Usage.{Usage};
-ghost use Rattle.point_core.specs.Agreement.{AgreesAbove, HasContexts, IsReached, listing};
+ghost use Rattle.point_core.specs.Agreement.{AgreesAbove, HasContexts, IsReached};
 ghost use Rattle.resv_core.specs.declared.resv.TheConstants.{PLACES, PLACES_PER_CONTEXT};
 ghost use Rattle.resv_core.specs.Resv.{IsTrimmed, is_at, is_of, rows_of};
 ghost use Rattle.resv_core.specs.Run.{IsRun, Step, all_added, last_entries, last_reach};
@@ -25,10 +25,9 @@ pub fn a_table_agrees_with_all_that_was_added()
         AgreesAbove (last_reach reach steps) (last_entries es steps) (put ++ all_added steps) }
 {}
 
-/// What `collect`, `table` and `test` tell of a table depends on nothing else than what it agrees with.
+/// What `table` and `test` tell of a table depends on nothing else than what it agrees with. Of what `collect` lists,
+/// `listings_show_agreement` of `point_core` says so.
 pub fn tables_that_agree_tell_the_same()
-    ensures collect { (reach : List ℕ) (es fs : List Entry) (usage : ℕ) →
-        AgreesAbove reach es fs → listing es usage reach ≡ listing fs usage reach }
     ensures table { (reach : List ℕ) (es fs : List Entry) →
         AgreesAbove reach es fs → rows_of es reach ≡ rows_of fs reach }
     ensures test { (reach : List ℕ) (es fs : List Entry) (usage : ℕ) →

@@ -25,6 +25,8 @@ const READ: usize = 1;
 /// How many acts a round has.
 pub const ROUND_ACTS: usize = 4;
 
+const _: () = prove!(ROUND_ACTS == 4);
+
 /// What a client does in many rounds, which are numbered from 1. In round r it puts point 2 r of its own timeline into
 /// buffer 0 for writing, advances its timeline by 1, puts point 3 r of the next client's timeline into buffer 1 for
 /// reading, and looks at buffer 0 for reading.

@@ -7,6 +7,7 @@ ghost use Rattle.point_core.specs.Agreement.{AgreesAbove, HasContexts, point_of}
 ghost use Rattle.point_core.specs.Latest.{IsLatest, points_above};
 ghost use Rattle.point_core.specs.Reach.{value_at};
 ghost use Rattle.point_core.specs.Usage.{usage_number};
+ghost use Rattle.point_core.specs.Used.{used_of};
 ghost use Rattle.resv_core.specs.declared.tops.TheConstants.{USAGES};
 ghost use Rattle.resv_core.specs.Resv.{IsTrimmed, row_of, rows_of};
 ghost use Rattle.resv_core.specs.Tops.{AreSame, AreSameAt, AreTops, entries_at, entry_above};
@@ -55,6 +56,7 @@ impl Tops {
 
     /// How many contexts there are up to the last that has a point or a value: the weakest usage has those of all.
     fn used(&self) -> usize
+        ensures last { result ≡ used_of self.now.bookkeep }
         ensures within { result ≤ CONTEXTS }
         ensures past { (ctx : ℕ) → result < ctx → value_at self.now.bookkeep ctx ≡ 0 }
     {

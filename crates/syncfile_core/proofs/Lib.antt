@@ -4,5 +4,6 @@ pub mod Merging
 pub mod Polling
 pub mod Reached
 pub mod Reversed
+pub mod Standing
 pub mod Statuses
 pub mod Unions

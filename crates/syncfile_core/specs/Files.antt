@@ -1,5 +1,5 @@
 -- The files by name, in the order of making.
-use Rattle.std.specs.Prelude.{ℕ, ◌≤◌, ◌<◌, Bool, nat_lt, if◌then◌else◌, List, [], map, length, reverse, Option, None, Some}
+use Rattle.std.specs.Prelude.{ℕ, ◌≤◌, ◌<◌, Bool, nat_lt, if◌then◌else◌, List, [], map, length, reverse, Option, None, Some, MatchOption}
 use Rattle.std.specs.List.{IsDistinct}
 use Rattle.std.specs.Map.{keys_of}
 use Rattle.lru.specs.LruCache.{LruCache}
@@ -8,8 +8,9 @@ use Rattle.point_core.specs.declared.refusal.Refusal.TheVariants.{Exists, Limit}
 use Rattle.point_core.specs.declared.refusal.LimitKind.TheVariants.{Files as FilesKind}
 use Rattle.point_core.specs.Named.{same_name, is_named as has_the_name, has_named, named, without_named, HasDistinctNames as HaveDistinctNames, things_in, IsKeyed}
 pub use Rattle.point_core.specs.Refusal.{IsRefusedFor}
+use Rattle.point_core.specs.declared.entry.Entry.{Entry}
 use Rattle.syncfile_core.specs.declared.files.TheConstants.{FILES}
-use Rattle.syncfile_core.specs.SyncFile.{File}
+use Rattle.syncfile_core.specs.SyncFile.{File, StandsFor}
 
 abbrev pub file_name : File → List ℕ
 file_name f = f.name
@@ -31,6 +32,10 @@ names_of fs = map file_name fs
 
 abbrev pub HasDistinctNames : List File → Type 0
 HasDistinctNames fs = HaveDistinctNames file_name fs
+
+-- there is a file of that name, and it stands for the set
+abbrev pub HasStanding : List File → List ℕ → List Entry → Type 0
+HasStanding fs name set = MatchOption (file_at fs name) ⊥ (λ f. StandsFor f set)
 
 -- why no file of that name may be made
 abbrev pub cause_to_refuse : List File → List ℕ → Option Refusal

@@ -11,7 +11,7 @@ use Rattle.point_core.specs.Reach.{later_values}
 use Rattle.syncfile_core.specs.SyncFile.{File, file_of, StandsFor}
 use Rattle.syncfile_core.specs.Files.{has_file, file_at, cause_to_refuse}
 
--- the files of these names, by the order of the names
+-- the files of these names that there are, by the order of the names; a merge is refused where there is none of a name
 abbrev pub files_at : List File → List (List ℕ) → List File
 files_at fs names = filter_map (file_at fs) names
 

@@ -2,11 +2,11 @@
 ghost use Rattle.std.specs.Prelude.{◌≡◌, ◌++◌, [], ◌∷◌, length, OnOk, OnErr, IfOk, IfErr, IsOk, None, option_copied, MatchOption, MatchBool, MatchResult, IfSome, Some, Ok, Err};
 ghost use Rattle.point_core.specs.declared.refusal.Refusal.TheVariants.{Memory, NoEntry};
 ghost use Rattle.syncfile_core.specs.declared.files.TheConstants.{FILES};
-ghost use Rattle.syncfile_core.specs.SyncFile.{file_of, plain_file, StandsFor};
+ghost use Rattle.syncfile_core.specs.SyncFile.{file_of, plain_file};
 ghost use Rattle.syncfile_core.specs.Merge.{files_at, merge_of, cause_to_refuse_merge, StandsForUnion};
 ghost use Rattle.point_core.specs.Agreement.{as_entry, HasRisingContexts};
 ghost use Rattle.syncfile_core.specs.Status.{status_of, info_of, TellsSetsOf};
-ghost use Rattle.syncfile_core.specs.Files.{has_file, file_at, without_file, names_of, HasDistinctNames, cause_to_refuse, IsRefusedFor};
+ghost use Rattle.syncfile_core.specs.Files.{has_file, file_at, without_file, names_of, HasDistinctNames, HasStanding, cause_to_refuse, IsRefusedFor};
 
 use crate::by_making::ByMaking;
 use crate::merge::{self, Gathered};
@@ -126,7 +126,7 @@ impl Files {
     pub fn create(&mut self, name: Name, point: Point) -> Result<(), Refusal>
         ensures refused { IsRefusedFor (cause_to_refuse self.old name) result }
         ensures last { OnOk result (self.new ≡ self.old ++ plain_file name point ∷ []) }
-        ensures stands { StandsFor (plain_file name point) (as_entry point ∷ []) }
+        ensures stands { OnOk result (HasStanding self.new name (as_entry point ∷ [])) }
         ensures unchanged { OnErr result (self.new ≡ self.old) }
     {
         self.free(&name)?;

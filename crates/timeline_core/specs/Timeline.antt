@@ -42,7 +42,7 @@ timeline_at ts name = named (λ (t : Timeline). t.name) ts name
 abbrev pub context_of : List Timeline → List ℕ → ℕ
 context_of ts name = unwrap_or (position_from (is_named name) 1 ts) 0
 
--- the name of a context
+-- the name of a context that there can be, which are numbered from 1; none where no timeline was made of it
 abbrev pub name_at : List Timeline → ℕ → Option (List ℕ)
 name_at ts ctx = option_map (λ t. t.name) (slice_get ts (ctx - 1))
 
@@ -50,7 +50,8 @@ name_at ts ctx = option_map (λ t. t.name) (slice_get ts (ctx - 1))
 abbrev pub reach_of : List Timeline → List ℕ
 reach_of ts = values_of ts ++ replicate (CONTEXTS - length ts) 0
 
--- the value that the reach has for the timeline of that name
+-- The value that the reach has for the timeline of that name, of a name that there is. Clauses speak of it only where
+-- `has_timeline` holds: of any other name, this would be the value of context 1.
 abbrev pub value_of : List Timeline → List ℕ → ℕ
 value_of ts name = value_at (reach_of ts) (context_of ts name)
 

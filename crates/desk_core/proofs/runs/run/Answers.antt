@@ -3,6 +3,7 @@ use Rattle.std.proofs.lemmas.List.{take_more, take_all}
 use Rattle.desk_core.proofs.Answering.{HasRun-push}
 use Rattle.desk_core.proofs.Telling.{TellsWhatWasPut-stands, TellsWhatIsInBuffers-stands}
 use Rattle.desk_core.proofs.Firing.{TellsWhatFires-stands}
+use Rattle.desk_core.proofs.Accounting.{TellsEachWatch-stands}
 use Rattle.desk_core.proofs.Sums.{TellsSums-stands}
 use Rattle.desk_core.proofs.runs.run.Goals as goal
 
@@ -38,3 +39,8 @@ pub returns-clause-watches : goal.returns-clause-watches
 returns-clause-watches c =
     let all = take_all c.loop-command.command-index c.args.commands.now c.loop-command-test.false in
     TellsWhatFires-stands _ _ (rw all at c.loop-command.invariant.0.stands)
+
+pub returns-clause-each_watch : goal.returns-clause-each_watch
+returns-clause-each_watch c =
+    let all = take_all c.loop-command.command-index c.args.commands.now c.loop-command-test.false in
+    TellsEachWatch-stands _ _ _ (rw all at c.loop-command.invariant.0.answers) (rw all at c.loop-command.invariant.0.stands)

@@ -1,10 +1,7 @@
-use Rattle.point_core.proofs.Agreement.{AgreesAbove-sym, listing-AgreesAbove}
+use Rattle.point_core.proofs.Agreement.{AgreesAbove-sym}
 use Rattle.point_core.proofs.Reached.{IsReached-AgreesAbove}
 use Rattle.resv_core.proofs.Runs.{rows_of-AgreesAbove}
 use Rattle.resv_core.proofs.laws.tables_that_agree_tell_the_same.Goals as goal
-
-pub returns-clause-collect : goal.returns-clause-collect
-returns-clause-collect c = λ reach es fs usage same. listing-AgreesAbove usage same
 
 pub returns-clause-table : goal.returns-clause-table
 returns-clause-table c = λ reach es fs same. rows_of-AgreesAbove same

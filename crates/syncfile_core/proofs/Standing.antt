@@ -1,0 +1,37 @@
+-- What a new file stands for.
+use Rattle.std.proofs.Common.{◌≡◌, false, refl, ap, ◌∙◌, List, ℕ, [], ◌∷◌, ◌++◌, Option, Some, None, cond, Ok, Err, Result}
+use Rattle.std.specs.Prelude.{OnOk, IsOk, MatchOption}
+use Rattle.std.specs.Option.{option_or}
+use Rattle.std.specs.Cmp.Lexicographic.{nat_list_eq_equiv}
+use Rattle.std.proofs.lemmas.List.Folds.{find-append}
+use Rattle.point_core.specs.declared.entry.Point.{Point}
+use Rattle.point_core.specs.declared.refusal.Refusal.{Refusal}
+use Rattle.point_core.specs.Agreement.{as_entry}
+use Rattle.point_core.proofs.Agreement.{AgreesAbove-refl}
+use Rattle.point_core.proofs.Named.{is_some-named}
+use Rattle.syncfile_core.specs.SyncFile.{File, plain_file, StandsFor}
+use Rattle.syncfile_core.specs.Files.{file_name, is_named, has_file, file_at, HasStanding}
+use Rattle.syncfile_core.proofs.Causes.{is_none, MatchOption-Some}
+
+-- a new file is found by its name, behind files that lack it
+file_at-last : (fs : List File) (f : File) → has_file fs f.name ≡ false → file_at (fs ++ f ∷ []) f.name ≡ Some f
+file_at-last fs f absent =
+    find-append (is_named f.name) fs (f ∷ [])
+    ∙ ap (λ o. option_or o (file_at (f ∷ []) f.name)) (is_none (file_at fs f.name) (is_some-named file_name fs f.name ∙ absent))
+    ∙ ap (λ b. cond b (Some f) None) (nat_list_eq_equiv.refl f.name)
+
+-- a file of one point that was put last stands for it
+pub HasStanding-plain : (fs new : List File) (name : List ℕ) (point : Point) → has_file fs name ≡ false → new ≡ fs ++ plain_file name point ∷ [] → HasStanding new name (as_entry point ∷ [])
+HasStanding-plain fs new name point absent is =
+    MatchOption-Some _ (λ f. StandsFor f (as_entry point ∷ [])) (file_at new name) (plain_file name point)
+    (ap (λ gs. file_at gs name) is ∙ file_at-last fs (plain_file name point) absent)
+    (AgreesAbove-refl (plain_file name point).floor (as_entry point ∷ []))
+
+pub OnOk-from : {T E : Type 0} (r : Result T E) (P Q : Type 0) → (P → Q) → OnOk r P → OnOk r Q
+OnOk-from (Ok v) P Q from h = from h
+OnOk-from (Err e) P Q from h = tt
+
+-- what was accepted had no cause to be refused
+pub uncaused : (o : Option Refusal) (r : Result (Unit {0}) Refusal) (v : Unit {0}) → r ≡ Ok v → MatchOption o (IsOk r) (λ cause. r ≡ Err cause) → o ≡ None
+uncaused None r v ok told = refl
+uncaused (Some cause) r v ok told = absurd (cc)
