@@ -8,18 +8,19 @@ use point_core::{Name, Refusal};
 use std::alloc::Global;
 use std::collections::HashMap;
 
-/// So many cookies more than twice those of pending watches are kept at most.
+/// The book may have so many cookies more than twice those that stand for a watch.
 const SPARE_COOKIES: usize = 64;
 
-/// The lines that made the names and cookies that stand for something. A cookie whose watch has fired is taken out later, or is
-/// overwritten when it is registered again: the book never has more than about twice as many cookies as once were pending.
+/// The lines that made the names and cookies that stand for something. A cookie stays for a while once its watch has fired or
+/// was removed, and gets the line of its new watch when it is registered again. Whenever the book has more than twice as many
+/// cookies as stood for a watch when it last went through them, and `SPARE_COOKIES` more, it takes out those that stand for none.
 #[derive(Drop)]
 pub struct Book {
     timelines: HashMap<Name, u32>,
     files: HashMap<Name, u32>,
     buffers: HashMap<Name, u32>,
     cookies: HashMap<u64, u32>,
-    // With so many cookies, those of fired watches are taken out first.
+    // With so many cookies, the book first takes out those that stand for no watch.
     room: usize,
 }
 
@@ -43,7 +44,6 @@ impl Book {
     {
         match command {
             Command::Close(file) => self.forget_file(file),
-            Command::Unwatch(cookie) => self.forget_cookie(*cookie),
             Command::Watch(_, cookie) => self.enter_cookie(line, *cookie, desk)?,
             _ => self.enter_name(line, command)?,
         }
@@ -69,13 +69,14 @@ impl Book {
         ensures refusals { IfErr result (λ refusal. refusal ≡ Memory) }
     {
         if self.cookies.len() >= self.room {
-            self.forget_fired(desk);
+            self.forget_cookies(desk);
         }
         self.cookies.insert(cookie, line).map_err(|_| Refusal::Memory)?;
         Ok(())
     }
 
-    fn forget_fired(&mut self, desk: &Desk) {
+    /// Takes out the cookies that stand for no watch any more.
+    fn forget_cookies(&mut self, desk: &Desk) {
         self.cookies.retain(|cookie, _| desk.has_watch(*cookie));
         let pending = self.cookies.len();
         self.room = pending.saturating_mul(2).saturating_add(SPARE_COOKIES);
@@ -83,10 +84,6 @@ impl Book {
 
     fn forget_file(&mut self, file: &Name) {
         self.files.remove(file);
-    }
-
-    fn forget_cookie(&mut self, cookie: u64) {
-        self.cookies.remove(&cookie);
     }
 
     /// The line that made the name.
