@@ -71,7 +71,8 @@ impl Book {
         if self.cookies.len() >= self.room {
             self.forget_cookies(desk);
         }
-        self.cookies.insert(cookie, line).map_err(|_| Refusal::Memory)?;
+        let entered = self.cookies.insert(cookie, line);
+        entered.map_err(|_| Refusal::Memory)?;
         Ok(())
     }
 

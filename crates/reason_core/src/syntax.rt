@@ -76,11 +76,7 @@ pub fn explain_bad_line<N: Write>(
     }
 }
 
-fn explain_long_line<N: Write>(
-    place: &Place,
-    length: usize,
-    notes: &mut N,
-) -> Result<(), Refusal>
+fn explain_long_line<N: Write>(place: &Place, length: usize, notes: &mut N) -> Result<(), Refusal>
     ensures refusals { IfErr result (λ refusal. refusal ≡ WriteFault) }
 {
     begin(place, notes)?;
