@@ -1,12 +1,12 @@
 // One command in, one answer out.
-ghost use Rattle.std.specs.Prelude.{◌≡◌, ◌≢◌, false, List, [], IsOk, IfOk, IfErr, OnErr};
+ghost use Rattle.std.specs.Prelude.{◌≡◌, ◌≢◌, ◌↔◌, false, List, [], option_copied, option_map, IsTrue, IsSome, IfSome, IsOk, IfOk, IfErr, OnErr};
 ghost use Rattle.command_core.specs.declared.command.Command.{Command};
 
 use crate::{info, report};
 use command_core::{Answer, Command};
 use dmabuf_core::{Buffers, SyncFlags};
 use fence_core::{Fence, Watches};
-use point_core::{Items, Name, Point, Refusal, Usage};
+use point_core::{Context, Items, Name, Point, Refusal, Usage};
 use std::alloc::Global;
 use std::marker::Model;
 use syncfile_core::{Files, Status};
@@ -38,7 +38,11 @@ impl Model for Desk {
 
 impl Desk {
     ghost use Rattle.desk_core.specs.Answer.{OnRefused, takes_memory};
-    ghost use Rattle.syncfile_core.specs.Files.{IsRefusedFor};
+    ghost use Rattle.timeline_core.specs.Timeline.{has_timeline, name_at, value_of};
+    ghost use Rattle.syncfile_core.specs.SyncFile.{File};
+    ghost use Rattle.syncfile_core.specs.Files.{IsRefusedFor, file_at};
+    ghost use Rattle.dmabuf_core.specs.Buffers.{has_buffer};
+    ghost use Rattle.fence_core.specs.Watches.{has_watch};
     ghost use Rattle.desk_core.specs.History.{history_after};
     ghost use Rattle.desk_core.specs.Desk.{HasHistory, Answers};
     ghost use Rattle.desk_core.specs.Keeping.{cause_of, fires_kept, IsDone};
@@ -100,6 +104,53 @@ impl Desk {
             Command::Show(name) => self.show(name),
             Command::Report => self.report(),
         }
+    }
+
+    /// The value of the timeline of that name.
+    ///
+    /// Takes no memory.
+    pub fn timeline_value(&self, timeline: &Name) -> Option<u64>
+        ensures found { IsSome result ↔ IsTrue (has_timeline self.now.timelines timeline.now) }
+        ensures value { IfSome result (λ value. value ≡ value_of self.now.timelines timeline.now) }
+    {
+        self.timelines.value(timeline).ok()
+    }
+
+    /// The name of the timeline of that context.
+    ///
+    /// Takes no memory.
+    pub fn timeline_name(&self, ctx: Context) -> Option<Name>
+        ensures { result ≡ name_at self.now.timelines ctx }
+    {
+        self.timelines.name(ctx)
+    }
+
+    /// The points that the file of that name lists.
+    ///
+    /// Takes no memory.
+    pub fn file_points(&self, file: &Name) -> Option<&[Point]>
+        ensures points { option_copied result ≡ option_map (λ (f : File). f.points) (file_at self.now.files file.now) }
+    {
+        let file = self.files.get(file)?;
+        Some(file.points.as_slice())
+    }
+
+    /// Whether there is a buffer of that name.
+    ///
+    /// Takes no memory.
+    pub fn has_buffer(&self, buffer: &Name) -> bool
+        ensures { result ≡ has_buffer self.now.buffers buffer.now }
+    {
+        self.buffers.has(buffer)
+    }
+
+    /// Whether a watch of that cookie is pending.
+    ///
+    /// Takes no memory.
+    pub fn has_watch(&self, cookie: u64) -> bool
+        ensures { result ≡ has_watch self.now.watches cookie }
+    {
+        matches!(self.watches.free(cookie), Err(Refusal::Exists))
     }
 
     // A function pays at its start for the locals of all that is inlined into it. So the commands with many of them, and the rare

@@ -6,45 +6,35 @@ ghost use Rattle.script_core.specs.Output.{WritesFront};
 ghost use Rattle.line_core.specs.Script.{answered};
 ghost use Rattle.line_core.specs.declared.line.Line.{Line};
 
-use crate::book::Book;
-use crate::look::{Look, Place};
-use crate::refused::explain_command;
-use crate::syntax::{explain_long_line, explain_long_script, explain_syntax};
-use desk_core::{Answer, Desk};
 use line_core::{Body, RawLine};
-use point_core::{LimitKind, Refusal};
-use script_core::{Answers, answer_line};
+use point_core::Refusal;
+use reason_core::{Book, Look, Place, explain_bad_line, explain_command};
+use script_core::Answers;
 use std::alloc::Global;
 use std::io::Write;
 
-/// Has the lines of a script answered and explains them, one after another. What it keeps is what a desk of its own holds, which
-/// answers each line again and may be asked, and the lines that made what stands for something.
+/// Has the lines of a script answered and explains them, one after another. It keeps the lines that made what stands for
+/// something, and asks the desk of the answers for everything else.
 #[derive(Drop)]
 pub(crate) struct Explainer {
     alloc: Global,
     look: Look,
-    desk: Desk,
     book: Book,
 }
 
 impl Explainer {
     /// Of no line.
-    ///
-    /// Refused as Memory alone.
-    pub(crate) fn new(alloc: Global, look: Look) -> Result<Explainer, Refusal>
-        ensures refusals { IfErr result (λ refusal. refusal ≡ Memory) }
-    {
-        Ok(Explainer {
+    pub(crate) fn new(alloc: Global, look: Look) -> Explainer {
+        Explainer {
             alloc,
             look,
-            desk: Desk::new(alloc)?,
             book: Book::new(alloc),
-        })
+        }
     }
 
-    /// Answers a line, where it has an answer, and where it is refused writes its answer, and behind it why.
+    /// Answers a line that has an answer. Of one that is refused, writes its answer and after that why.
     ///
-    /// Refused as Write where a write failed or took no byte, and as Memory where a growth was refused: then a front of the
+    /// Fails with `Write` where a write failed or took no byte, and with `Memory` where a growth was refused: then a prefix of the
     /// answers is written.
     pub(crate) fn explain<W: Write, N: Write>(
         &mut self,
@@ -88,30 +78,33 @@ impl Explainer {
         ensures lines { answers.new.totals.lines ≤ answers.old.totals.lines + 1 }
         ensures refusals { IfErr result (λ refusal. (refusal ≡ WriteFault) ⊎ (refusal ≡ Memory)) }
     {
-        answers.answer(line.number, Some(body), writer)?;
-        if let Some(refusal) = self.refusal_of(line.number, body)? {
-            answers.write(writer)?;
-            self.tell(answers, line, &body, refusal, notes)?;
-        }
+        let refused = answers.answer(line.number, Some(body), writer)?;
+        let Some(refusal) = refused else {
+            self.enter(answers, line.number, &body)?;
+            return Ok(());
+        };
+        answers.write(writer)?;
+        self.tell(answers, line, &body, refusal, notes)?;
         Ok(())
     }
 
-    /// Answers the line of that number on its own desk, and gives the refusal where it is refused.
+    /// Enters what an accepted line made or unmade, the last that was answered.
     ///
-    /// Refused as Memory alone.
-    fn refusal_of(&mut self, number: u32, body: Body) -> Result<Option<Refusal>, Refusal>
+    /// Fails with `Memory` alone.
+    fn enter(&mut self, answers: &Answers, number: u32, body: &Body) -> Result<(), Refusal>
         ensures refusals { IfErr result (λ refusal. refusal ≡ Memory) }
     {
-        let answer = answer_line(&mut self.desk, body);
-        refusal_or_enter(&mut self.book, number, &body, &answer)
+        match body {
+            Body::Cmd(command) => self.book.enter(number, command, answers.desk()),
+            Body::Bad(_) => Ok(()),
+        }
     }
 
-    /// Tells why a line was refused, the last that was answered, once its answer is written. The desk is asked, but only by
-    /// commands that change nothing.
+    /// Writes why a line was refused, the last that was answered, once its answer is written.
     ///
-    /// Refused as Write where a write failed, and as Memory.
+    /// Fails with `Write` where a write failed, and with `Memory`.
     fn tell<N: Write>(
-        &mut self,
+        &self,
         answers: &Answers,
         line: &RawLine<'_>,
         body: &Body,
@@ -127,30 +120,9 @@ impl Explainer {
         };
         match body {
             Body::Cmd(command) => {
-                explain_command(&mut self.desk, &self.book, &place, command, refusal, notes)
+                explain_command(answers.desk(), &self.book, &place, command, refusal, notes)
             }
-            Body::Bad(Refusal::LongLine) => explain_long_line(&place, line.length, notes),
-            Body::Bad(Refusal::Limit(LimitKind::Script)) => explain_long_script(&place, notes),
-            Body::Bad(_) => explain_syntax(self.alloc, &place, line.bytes, notes),
+            Body::Bad(fault) => explain_bad_line(self.alloc, &place, line, *fault, notes),
         }
     }
-}
-
-/// The refusal of a line; of one that was accepted, what it made is entered.
-///
-/// Refused as Memory alone.
-fn refusal_or_enter(
-    book: &mut Book,
-    number: u32,
-    body: &Body,
-    answer: &Answer,
-) -> Result<Option<Refusal>, Refusal>
-    ensures refusals { IfErr result (λ refusal. refusal ≡ Memory) }
-{
-    match (body, answer) {
-        (_, Answer::Refused(refusal)) => return Ok(Some(*refusal)),
-        (Body::Cmd(command), _) => book.enter(number, command, answer)?,
-        (Body::Bad(_), _) => (),
-    }
-    Ok(None)
 }

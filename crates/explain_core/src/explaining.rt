@@ -9,9 +9,9 @@ ghost use Rattle.line_core.specs.Script.{script_of};
 ghost use Rattle.line_core.specs.declared.script.TheConstants.{SCRIPT_BYTES};
 
 use crate::explainer::Explainer;
-use crate::look::Look;
 use line_core::{Ending, ScriptLines, body_of, last_body};
 use point_core::Refusal;
+use reason_core::Look;
 use script_core::{Answers, Totals};
 use std::alloc::Global;
 use std::io::{Read, Write};
@@ -20,7 +20,7 @@ use std::io::{Read, Write};
 /// number, the word that is at fault and a sentence; of a wait each point that is not reached. The answer of a line is written
 /// before its explanation, and both before the next read.
 ///
-/// Its memory does not grow with the script: of the lines it keeps what two desks hold, and of each name and cookie that stands
+/// Its memory does not grow with the script: of the lines it keeps what the desk holds, and of each name and cookie that stands
 /// for something the line that made it.
 ///
 /// Refused as Read where a read failed: then the lines whose line feed was read are answered. Refused as Write where a write
@@ -58,7 +58,7 @@ pub fn explain<R: Read, W: Write, N: Write>(
     explain_answers(alloc, look, &mut answers, reader, writer, notes)
 }
 
-/// Runs the script with an explainer. Its desk and that of the answers are owned by a function each.
+/// Runs the script with an explainer. It and the answers are owned by a function each.
 fn explain_answers<R: Read, W: Write, N: Write>(
     alloc: Global,
     look: Look,
@@ -81,7 +81,7 @@ fn explain_answers<R: Read, W: Write, N: Write>(
     ensures refusals { IfErr result (λ refusal.
         (refusal ≡ ReadFault) ⊎ (refusal ≡ WriteFault) ⊎ (refusal ≡ Memory)) }
 {
-    let mut explainer = Explainer::new(alloc, look)?;
+    let mut explainer = Explainer::new(alloc, look);
     explain_script(&mut explainer, answers, reader, writer, notes)
 }
 

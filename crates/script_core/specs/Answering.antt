@@ -1,6 +1,7 @@
 -- Lines that are answered one after another.
 use Rattle.std.specs.Prelude.{◌≡◌, ℕ, List, [], ◌∷◌, ◌++◌, take, Option}
 use Rattle.std.specs.Io.KnownBytes.{Appends}
+use Rattle.point_core.specs.declared.refusal.Refusal.{Refusal}
 use Rattle.command_core.specs.declared.command.Command.{Command}
 use Rattle.command_core.specs.declared.answer.Answer.{Answer}
 use Rattle.desk_core.specs.Desk.{DeskState, HasHistory}
@@ -9,7 +10,9 @@ use Rattle.line_core.specs.declared.script.Ending.{Ending}
 use Rattle.line_core.specs.declared.script.TheConstants.{SCRIPT_BYTES}
 use Rattle.script_core.specs.declared.totals.Totals.{Totals}
 use Rattle.line_core.specs.Reading.{WasRead}
-use Rattle.script_core.specs.Output.{history_after_line, AreLineAnswers, texts_of, WritesAnswers, Counts}
+use Rattle.script_core.specs.Bytes.{PassesOn}
+use Rattle.script_core.specs.Text.{text_of}
+use Rattle.script_core.specs.Output.{history_after_line, IsLineAnswer, AreLineAnswers, refusal_of, texts_of, WritesAnswers, Counts}
 use Rattle.line_core.specs.Script.{lines_until}
 
 -- the history after lines that were answered so
@@ -37,6 +40,16 @@ pub record AnswersState : Type 0 where
 -- the lines `done` are answered
 abbrev pub HasAnswered : List Line → AnswersState → Option (List ℕ) → Option (List ℕ) → Type 0
 HasAnswered done s old new = Progress done s.desk s.out s.totals old new
+
+-- One line was answered: the text of its answer was put behind what was not yet written, and the answer is that refusal, or
+-- none.
+pub record AnswersLine (l : Line) (refused : Option Refusal) (before after : AnswersState) (old new : Option (List ℕ)) : Type 0 where
+  pub given : Answer
+  pub is : (history : List Command) → HasHistory before.desk history → IsLineAnswer history l.body given
+  pub stands : (history : List Command) → HasHistory before.desk history
+      → HasHistory after.desk (history_after_line history l.body given)
+  pub passed : PassesOn before.out after.out (text_of l.number given) old new
+  pub refusal : refusal_of given ≡ refused
 
 -- the lines were answered, and so many answers were written
 pub record AnswersLines (lines : List Line) (totals : Totals) (old new : Option (List ℕ)) : Type 0 where

@@ -1,7 +1,8 @@
 -- What is written for a script.
-use Rattle.std.specs.Prelude.{◌≡◌, ◌≢◌, ◌≤◌, ℕ, List, [], ◌∷◌, ◌++◌, length, Option, count_by}
+use Rattle.std.specs.Prelude.{◌≡◌, ◌≢◌, ◌≤◌, ℕ, List, [], ◌∷◌, ◌++◌, length, Option, None, Some, count_by}
 use Rattle.std.specs.List.{AllByRecursion}
 use Rattle.std.specs.Io.KnownBytes.{Appends, Consumes}
+use Rattle.point_core.specs.declared.refusal.Refusal.{Refusal}
 use Rattle.point_core.specs.declared.refusal.Refusal.TheVariants.{Memory}
 use Rattle.command_core.specs.declared.command.Command.{Command}
 use Rattle.command_core.specs.declared.answer.Answer.{Answer}
@@ -50,6 +51,16 @@ AreLineAnswers history [] (a ∷ rest) = ⊥
 AreLineAnswers history (l ∷ ls) [] = ⊥
 AreLineAnswers history (l ∷ ls) (a ∷ rest) =
     IsLineAnswer history l.body a × AreLineAnswers (history_after_line history l.body a) ls rest
+
+-- the refusal, where the answer is one
+abbrev pub refusal_of : Answer → Option Refusal
+refusal_of (answer.Refused refusal) = Some refusal
+refusal_of answer.Done = None
+refusal_of (answer.Value n) = None
+refusal_of (answer.Raised n fired) = None
+refusal_of (answer.Info i) = None
+refusal_of (answer.Show rows) = None
+refusal_of (answer.Report report) = None
 
 abbrev pub texts_of : List Line → List Answer → List ℕ
 texts_of [] given = []

@@ -1,12 +1,12 @@
 // The answers of lines, on their way to a writer.
-ghost use Rattle.std.specs.Prelude.{◌≡◌, ◌+◌, ◌<◌, ◌≤◌, ◌⊎◌, ◌++◌, ◌∷◌, [], List, ℕ, Option, IfOk, OnOk, OnErr, IfErr};
+ghost use Rattle.std.specs.Prelude.{◌≡◌, ◌+◌, ◌<◌, ◌≤◌, ◌⊎◌, ◌++◌, ◌∷◌, [], List, ℕ, Option, None, MatchOption, IfOk, OnOk, OnErr, IfErr};
 ghost use Rattle.std.specs.Io.KnownBytes.{Keeps};
 ghost use Rattle.point_core.specs.declared.refusal.Refusal.TheVariants.{Write as WriteFault, Memory};
 ghost use Rattle.command_core.specs.declared.command.Command.{Command};
 ghost use Rattle.desk_core.specs.Desk.{HasHistory};
 ghost use Rattle.line_core.specs.declared.line.Line.{Line as LineModel};
 ghost use Rattle.line_core.specs.Script.{answered};
-ghost use Rattle.script_core.specs.Output.{IsLineAnswer, history_after_line, WritesFront};
+ghost use Rattle.script_core.specs.Output.{IsLineAnswer, history_after_line, refusal_of, WritesFront};
 
 use crate::passing::pass_answer;
 use crate::totals::Totals;
@@ -37,7 +37,7 @@ impl Model for Answers {
 }
 
 impl Answers {
-    ghost use Rattle.script_core.specs.Answering.{HasAnswered, AnswersLines};
+    ghost use Rattle.script_core.specs.Answering.{HasAnswered, AnswersLine, AnswersLines};
 
     /// Of no line.
     ///
@@ -53,7 +53,15 @@ impl Answers {
         })
     }
 
-    /// Answers the line of that number, where it has an answer. Texts are written where they are many.
+    /// The desk, as the lines that were answered have left it.
+    pub fn desk(&self) -> &Desk
+        ensures { result.now ≡ self.now.desk }
+    {
+        &self.desk
+    }
+
+    /// Answers the line of that number, where it has an answer, and gives the refusal where the answer is one. Texts are
+    /// written where they are many.
     ///
     /// Refused as Write where a write failed or took no byte, and as Memory where a growth was refused: then a front of the
     /// answers is written.
@@ -62,11 +70,16 @@ impl Answers {
         number: u32,
         body: Option<Body>,
         writer: &mut W,
-    ) -> Result<(), Refusal>
+    ) -> Result<Option<Refusal>, Refusal>
         requires few { self.old.totals.lines < number }
         ensures ok { OnOk result ((done : List LineModel) → (start : Option (List ℕ)) →
             HasAnswered done self.old start (W.contents writer.old)
             → HasAnswered (done ++ answered number body []) self.new start (W.contents writer.new)) }
+
+        // It is the refusal that the line was answered with, or none where that is no refusal.
+        ensures refused { IfOk result (λ refused. MatchOption body (refused ≡ None) (λ said.
+            AnswersLine (record { number = number; body = said }) refused self.old self.new
+            (W.contents writer.old) (W.contents writer.new))) }
         ensures err { OnErr result ((done : List LineModel) → (start : Option (List ℕ)) →
             HasAnswered done self.old start (W.contents writer.old)
             → WritesFront (done ++ answered number body []) start (W.contents writer.new)) }
@@ -75,7 +88,7 @@ impl Answers {
     {
         match body {
             Some(body) => self.answer_body(number, body, writer),
-            None => Ok(()),
+            None => Ok(None),
         }
     }
 
@@ -84,11 +97,13 @@ impl Answers {
         number: u32,
         body: Body,
         writer: &mut W,
-    ) -> Result<(), Refusal>
+    ) -> Result<Option<Refusal>, Refusal>
         requires few { self.old.totals.lines < number }
         ensures ok { OnOk result ((done : List LineModel) → (start : Option (List ℕ)) →
             HasAnswered done self.old start (W.contents writer.old)
             → HasAnswered (done ++ record { number = number; body = body } ∷ []) self.new start (W.contents writer.new)) }
+        ensures refused { IfOk result (λ refused. AnswersLine (record { number = number; body = body }) refused
+            self.old self.new (W.contents writer.old) (W.contents writer.new)) }
         ensures err { OnErr result ((done : List LineModel) → (start : Option (List ℕ)) →
             HasAnswered done self.old start (W.contents writer.old)
             → WritesFront (done ++ record { number = number; body = body } ∷ []) start (W.contents writer.new)) }
@@ -96,9 +111,10 @@ impl Answers {
         ensures refusals { IfErr result (λ refusal. (refusal ≡ WriteFault) ⊎ (refusal ≡ Memory)) }
     {
         let answer = answer_line(&mut self.desk, body);
+        let refused = refusal_of(&answer);
         self.totals = self.totals.with(&answer);
         pass_answer(number, answer, &mut self.out, writer)?;
-        Ok(())
+        Ok(refused)
     }
 
     /// Writes the texts that are not yet written.
@@ -149,6 +165,16 @@ pub fn answer_line(desk: &mut Desk, body: Body) -> Answer
     match body {
         Body::Cmd(command) => desk.step(command),
         Body::Bad(refusal) => Answer::Refused(refusal),
+    }
+}
+
+/// The refusal, where the answer is one.
+fn refusal_of(answer: &Answer) -> Option<Refusal>
+    ensures { result ≡ refusal_of answer.now }
+{
+    match answer {
+        Answer::Refused(refusal) => Some(*refusal),
+        _ => None,
     }
 }
 

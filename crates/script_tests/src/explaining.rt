@@ -1,8 +1,10 @@
 // Explanations of scripts whose reader or one of whose writers fails.
 use crate::answering::assert_totals;
 use crate::pipes::{Source, assert_refusal, failing_source_of, sink_of, source_of};
+use desk_core::{Command, Desk};
 use explain_core::{Look, explain};
 use point_core::Refusal;
+use reason_core::{Book, Place, explain_command};
 use std::alloc::Global;
 use std::process::Abort;
 
@@ -36,7 +38,7 @@ fn assert_explained(rt: &impl Abort, alloc: Global, look: Look, wanted: &[u8]) {
     assert_totals(rt, totals, (3, 0, 3));
     answers.assert_whole(rt);
     notes.assert_whole(rt);
-    assert!(rt; answers.flushes == 1);
+    assert!(rt; answers.flushes == 1 && answers.unflushed == 0);
 }
 
 #[test]
@@ -45,7 +47,8 @@ fn numbers_in_bold(rt: HostRuntime) {
     assert_explained(&rt, rt.alloc(), Look::Bold, NOTES_IN_BOLD);
 }
 
-// So many bytes of the answers and of the notes are written, where there is that much room.
+// So many bytes of the answers and of the notes are written, where there is that much room. Nothing is written after a note
+// that could not be.
 fn assert_ended(
     rt: &impl Abort,
     alloc: Global,
@@ -57,6 +60,7 @@ fn assert_ended(
     let mut answers = sink_of(first(ANSWERS, written.0), 4096, rooms.0);
     let mut notes = sink_of(first(NOTES, written.1), 4096, rooms.1);
     notes.halts = true;
+    notes.recovers = true;
     let result = explain(alloc, Look::Plain, reader, &mut answers, &mut notes);
     assert_refusal(rt, result.err(), refusal);
     answers.assert_whole(rt);
@@ -99,4 +103,27 @@ fn failing_notes(rt: HostRuntime) {
         let rooms = (usize::MAX, room);
         assert_ended(&rt, rt.alloc(), &mut reader, written, rooms, Refusal::Write);
     }
+}
+
+// What is written where a command was refused so.
+fn assert_reason(rt: &impl Abort, alloc: Global, desk: &Desk, refusal: Refusal, wanted: &[u8]) {
+    let book = Book::new(alloc);
+    let place = Place {
+        line: 3,
+        look: Look::Plain,
+    };
+    let mut notes = sink_of(wanted, 7, usize::MAX);
+    let command = Command::Report;
+    let result = explain_command(desk, &book, &place, &command, refusal, &mut notes);
+    result.expect(rt, "notes");
+    notes.assert_whole(rt);
+}
+
+// Refusals that a script's line does not show: there was no memory, or these are no flags.
+#[test]
+fn refusals_beside_scripts(rt: HostRuntime) {
+    let desk = Desk::new(rt.alloc()).expect(&rt, "a desk");
+    let memory = b"line 3: memory was refused\n";
+    assert_reason(&rt, rt.alloc(), &desk, Refusal::Memory, memory);
+    assert_reason(&rt, rt.alloc(), &desk, Refusal::Flags, b"line 3: Flags\n");
 }

@@ -58,7 +58,7 @@ impl<'a> Read for Source<'a> {
 }
 
 /// Compares what is written with a text, and takes at most `piece` bytes a write. Once it has taken `room` bytes it fails, or
-/// takes none where it is to halt.
+/// takes none where it is to halt, and goes on after that where it is to recover.
 #[derive(Drop)]
 pub(crate) struct Sink<'a> {
     // what is still to come of the text
@@ -68,6 +68,7 @@ pub(crate) struct Sink<'a> {
     pub(crate) piece: usize,
     pub(crate) room: usize,
     pub(crate) halts: bool,
+    pub(crate) recovers: bool,
     pub(crate) flush_fails: bool,
     pub(crate) flushes: usize,
     // how many bytes were still to come at the last flush
@@ -81,6 +82,7 @@ pub(crate) fn sink_of(text: &[u8], piece: usize, room: usize) -> Sink<'_> {
         piece,
         room,
         halts: false,
+        recovers: false,
         flush_fails: false,
         flushes: 0,
         unflushed: text.len(),
@@ -98,6 +100,9 @@ impl<'a> Sink<'a> {
 impl<'a> Write for Sink<'a> {
     fn write(&mut self, buf: &[u8]) -> io::Result<usize> {
         let count = self.piece.min(buf.len()).min(self.room);
+        if count == 0 && self.recovers {
+            self.room = usize::MAX;
+        }
         if count == 0 && !self.halts {
             return Err(io::Error::from(io::ErrorKind::Interrupted));
         }

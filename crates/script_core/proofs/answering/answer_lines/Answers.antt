@@ -15,8 +15,8 @@ answer-requires g c =
     let more = c.if-advance.ensures.next (g.R.Read.remaining c.args.reader.now) (g.R.Read.remaining c.loop-lines.reader) at.0 at.1 in
     record { few = omega (arith, at.3, more.number, c.line-line.ensures.number) }
 
-pub loop-lines-preserved-in-Continue-1 : goal.loop-lines-preserved-in-Continue-1
-loop-lines-preserved-in-Continue-1 g c =
+pub loop-lines-preserved-in_ok-answer : goal.loop-lines-preserved-in_ok-answer
+loop-lines-preserved-in_ok-answer g c =
     let at = c.loop-lines.invariant in
     let start = g.W.Write.contents c.args.writer.now in
     let more = c.if-advance.ensures.next (g.R.Read.remaining c.args.reader.now) (g.R.Read.remaining c.loop-lines.reader) at.0 at.1 in

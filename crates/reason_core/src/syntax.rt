@@ -3,8 +3,8 @@ ghost use Rattle.std.specs.Prelude.{◌≡◌, ◌⊎◌, IfErr};
 ghost use Rattle.point_core.specs.declared.refusal.Refusal.TheVariants.{Write as WriteFault, Memory};
 
 use crate::look::{Place, begin, begin_with, begin_word, end};
-use line_core::{DIGITS, LINE_BYTES, SCRIPT_BYTES};
-use point_core::{Name, Refusal};
+use line_core::{DIGITS, LINE_BYTES, RawLine, SCRIPT_BYTES};
+use point_core::{LimitKind, Name, Refusal};
 use std::alloc::Global;
 use std::io::Write;
 use strsim::osa_distance;
@@ -57,12 +57,26 @@ const LETTERS: usize = 3;
 
 const GREATEST_NUMBER: &[u8] = b"18446744073709551615";
 
-/// Tells why a line is too long.
-pub(crate) fn explain_long_line<N: Write>(
+/// Writes to `notes` why a line is no command, by the refusal that it is.
+///
+/// Fails with `Write` or `Memory`.
+pub fn explain_bad_line<N: Write>(
+    alloc: Global,
     place: &Place,
-    length: usize,
+    line: &RawLine<'_>,
+    fault: Refusal,
     notes: &mut N,
 ) -> Result<(), Refusal>
+    ensures refusals { IfErr result (λ refusal. (refusal ≡ WriteFault) ⊎ (refusal ≡ Memory)) }
+{
+    match fault {
+        Refusal::LongLine => explain_long_line(place, line.length, notes),
+        Refusal::Limit(LimitKind::Script) => explain_long_script(place, notes),
+        _ => explain_syntax(alloc, place, line.bytes, notes),
+    }
+}
+
+fn explain_long_line<N: Write>(place: &Place, length: usize, notes: &mut N) -> Result<(), Refusal>
     ensures refusals { IfErr result (λ refusal. refusal ≡ WriteFault) }
 {
     begin(place, notes)?;
@@ -73,8 +87,7 @@ pub(crate) fn explain_long_line<N: Write>(
     .map_err(|_| Refusal::Write)
 }
 
-/// Tells why a script is too long.
-pub(crate) fn explain_long_script<N: Write>(place: &Place, notes: &mut N) -> Result<(), Refusal>
+fn explain_long_script<N: Write>(place: &Place, notes: &mut N) -> Result<(), Refusal>
     ensures refusals { IfErr result (λ refusal. refusal ≡ WriteFault) }
 {
     begin(place, notes)?;
@@ -87,7 +100,7 @@ pub(crate) fn explain_long_script<N: Write>(place: &Place, notes: &mut N) -> Res
 
 /// Tells which word of a line that is no command is at fault: the first that has a byte no word of a command has; else the
 /// first word, where it is no command; else the first that is none of its kind, or that the number of words is wrong.
-pub(crate) fn explain_syntax<N: Write>(
+fn explain_syntax<N: Write>(
     alloc: Global,
     place: &Place,
     line: &[u8],

@@ -15,9 +15,9 @@ pub enum Look {
 
 /// The line that is explained.
 #[derive(Clone, Copy)]
-pub(crate) struct Place {
-    pub(crate) line: u32,
-    pub(crate) look: Look,
+pub struct Place {
+    pub line: u32,
+    pub look: Look,
 }
 
 /// Writes `line N: `.

@@ -5,15 +5,17 @@ ghost use Rattle.point_core.specs.declared.refusal.Refusal.TheVariants.{Write as
 use crate::book::Book;
 use crate::look::{Place, begin, begin_with, tell};
 use crate::names::{Space, is_there, looked_up, made_by};
-use desk_core::{Answer, Command, Desk, FenceRow};
-use point_core::{LimitKind, Name, Refusal, Status};
+use desk_core::{Command, Desk};
+use point_core::{LimitKind, Name, Point, Refusal};
 use std::io::Write;
 
 const UNSIGNALLED: &str = "the file is not signalled";
 
-/// Tells why a command was refused. The desk is asked, but only by commands that change nothing.
-pub(crate) fn explain_command<N: Write>(
-    desk: &mut Desk,
+/// Writes to `notes` why the desk refused a command, which it has just done.
+///
+/// Fails with `Write` alone.
+pub fn explain_command<N: Write>(
+    desk: &Desk,
     book: &Book,
     place: &Place,
     command: &Command,
@@ -49,7 +51,7 @@ fn explain_limit<N: Write>(place: &Place, kind: LimitKind, notes: &mut N) -> Res
 }
 
 fn explain_missing<N: Write>(
-    desk: &mut Desk,
+    desk: &Desk,
     place: &Place,
     command: &Command,
     notes: &mut N,
@@ -67,9 +69,9 @@ fn explain_missing<N: Write>(
 }
 
 /// The first name that the command looks up and that stands for nothing.
-fn first_missing(desk: &mut Desk, command: &Command) -> Option<(Space, Name)> {
+fn first_missing(desk: &Desk, command: &Command) -> Option<(Space, Name)> {
     for (space, name) in looked_up(command).into_iter().flatten() {
-        if !is_there(desk, space, name) {
+        if !is_there(desk, space, &name) {
             return Some((space, name));
         }
     }
@@ -124,7 +126,7 @@ fn explain_made<N: Write>(
 }
 
 fn explain_overflow<N: Write>(
-    desk: &mut Desk,
+    desk: &Desk,
     place: &Place,
     command: &Command,
     notes: &mut N,
@@ -133,7 +135,7 @@ fn explain_overflow<N: Write>(
 {
     match command {
         Command::Inc(timeline, count) => {
-            let value = value_of(desk, *timeline);
+            let value = desk.timeline_value(timeline).unwrap_or(0);
             explain_increment(place, timeline, value, *count, notes)
         }
         _ => tell(place, "the value would be too great", notes),
@@ -158,22 +160,9 @@ fn explain_increment<N: Write>(
     .map_err(|_| Refusal::Write)
 }
 
-/// The value of a timeline, or 0 where there is none.
-fn value_of(desk: &mut Desk, timeline: Name) -> u64 {
-    let answer = desk.step(Command::Value(timeline));
-    value_in(&answer)
-}
-
-fn value_in(answer: &Answer) -> u64 {
-    match answer {
-        Answer::Value(value) => *value,
-        _ => 0,
-    }
-}
-
-/// Tells each point of the file that is not reached.
+/// Reports each point of the file that is not reached.
 fn explain_pending<N: Write>(
-    desk: &mut Desk,
+    desk: &Desk,
     place: &Place,
     command: &Command,
     notes: &mut N,
@@ -183,50 +172,57 @@ fn explain_pending<N: Write>(
     let Command::Wait(file) = command else {
         return tell(place, UNSIGNALLED, notes);
     };
-    let answer = desk.step(Command::Info(*file));
-    explain_info(desk, place, file, &answer, notes)
-}
-
-/// Tells each point that is not reached of what the file waits for.
-fn explain_info<N: Write>(
-    desk: &mut Desk,
-    place: &Place,
-    file: &Name,
-    info: &Answer,
-    notes: &mut N,
-) -> Result<(), Refusal>
-    ensures refusals { IfErr result (λ refusal. refusal ≡ WriteFault) }
-{
-    match info {
-        Answer::Info(info) => { explain_fences(desk, place, file, info.fences.as_slice(), notes) }
-        _ => tell(place, UNSIGNALLED, notes),
+    match desk.file_points(file) {
+        Some(points) => explain_points(desk, place, file, points, notes),
+        None => tell(place, UNSIGNALLED, notes),
     }
 }
 
-fn explain_fences<N: Write>(
-    desk: &mut Desk,
+fn explain_points<N: Write>(
+    desk: &Desk,
     place: &Place,
     file: &Name,
-    fences: &[FenceRow],
+    points: &[Point],
     notes: &mut N,
 ) -> Result<(), Refusal>
     ensures refusals { IfErr result (λ refusal. refusal ≡ WriteFault) }
 {
-    for fence in fences {
-        if let Status::Active = fence.status {
-            begin_with(place, file.as_bytes(), notes)?;
-            let value = value_of(desk, fence.timeline);
-            explain_fence(fence, value, notes)?;
-        }
+    for point in points {
+        explain_point(desk, place, file, point, notes)?;
     }
     Ok(())
 }
 
-fn explain_fence<N: Write>(fence: &FenceRow, value: u64, notes: &mut N) -> Result<(), Refusal>
+/// Reports how far a point is from being reached, and nothing of one that is.
+fn explain_point<N: Write>(
+    desk: &Desk,
+    place: &Place,
+    file: &Name,
+    point: &Point,
+    notes: &mut N,
+) -> Result<(), Refusal>
     ensures refusals { IfErr result (λ refusal. refusal ≡ WriteFault) }
 {
-    let timeline = fence.timeline.as_bytes().escape_ascii();
-    let point = fence.point;
+    let Some(timeline) = desk.timeline_name(point.ctx) else {
+        return Ok(());
+    };
+    let value = desk.timeline_value(&timeline).unwrap_or(0);
+    if value >= point.value {
+        return Ok(());
+    }
+    begin_with(place, file.as_bytes(), notes)?;
+    explain_distance(&timeline, value, point.value, notes)
+}
+
+fn explain_distance<N: Write>(
+    timeline: &Name,
+    value: u64,
+    point: u64,
+    notes: &mut N,
+) -> Result<(), Refusal>
+    ensures refusals { IfErr result (λ refusal. refusal ≡ WriteFault) }
+{
+    let timeline = timeline.as_bytes().escape_ascii();
     let left = point.saturating_sub(value);
     writeln!(
         notes,

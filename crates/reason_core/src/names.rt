@@ -1,7 +1,7 @@
 // The names of a command.
 
-use desk_core::{Answer, Command, Desk};
-use point_core::{Name, Refusal, Usage};
+use desk_core::{Command, Desk};
+use point_core::Name;
 
 /// What a name stands for: each has a name space of its own.
 #[derive(Clone, Copy, Debug, PartialEq, Eq)]
@@ -65,12 +65,11 @@ pub(crate) fn looked_up(command: &Command) -> [Option<(Space, Name)>; 2] {
     }
 }
 
-/// Whether the name stands for something. It asks the desk by a command that changes nothing.
-pub(crate) fn is_there(desk: &mut Desk, space: Space, name: Name) -> bool {
-    let answer = desk.step(match space {
-        Space::Timeline => Command::Value(name),
-        Space::File => Command::Wait(name),
-        Space::Buffer => Command::Test(name, Usage::Kernel),
-    });
-    !matches!(&answer, Answer::Refused(Refusal::NoEntry))
+/// Whether the name stands for something.
+pub(crate) fn is_there(desk: &Desk, space: Space, name: &Name) -> bool {
+    match space {
+        Space::Timeline => desk.timeline_value(name).is_some(),
+        Space::File => desk.file_points(name).is_some(),
+        Space::Buffer => desk.has_buffer(name),
+    }
 }

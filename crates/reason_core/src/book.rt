@@ -1,0 +1,104 @@
+// Where names and cookies were made.
+ghost use Rattle.std.specs.Prelude.{◌≡◌, IfErr};
+ghost use Rattle.point_core.specs.declared.refusal.Refusal.TheVariants.{Memory};
+
+use crate::names::{Space, made_by};
+use desk_core::{Command, Desk};
+use point_core::{Name, Refusal};
+use std::alloc::Global;
+use std::collections::HashMap;
+
+/// The book may have so many cookies more than twice those that stand for a watch.
+const SPARE_COOKIES: usize = 64;
+
+/// The lines that made the names and cookies that stand for something. A cookie stays for a while once its watch has fired or
+/// was removed, and gets the line of its new watch when it is registered again. Whenever the book has more than twice as many
+/// cookies as stood for a watch when it last went through them, and `SPARE_COOKIES` more, it takes out those that stand for none.
+#[derive(Drop)]
+pub struct Book {
+    timelines: HashMap<Name, u32>,
+    files: HashMap<Name, u32>,
+    buffers: HashMap<Name, u32>,
+    cookies: HashMap<u64, u32>,
+    // With so many cookies, the book first takes out those that stand for no watch.
+    room: usize,
+}
+
+impl Book {
+    /// A book without lines. It takes no memory yet.
+    pub fn new(alloc: Global) -> Book {
+        Book {
+            timelines: HashMap::new(alloc),
+            files: HashMap::new(alloc),
+            buffers: HashMap::new(alloc),
+            cookies: HashMap::new(alloc),
+            room: SPARE_COOKIES,
+        }
+    }
+
+    /// Enters what an accepted command made, and takes out what it unmade. The desk is the one that has just taken the command.
+    ///
+    /// Fails with `Memory` alone.
+    pub fn enter(&mut self, line: u32, command: &Command, desk: &Desk) -> Result<(), Refusal>
+        ensures refusals { IfErr result (λ refusal. refusal ≡ Memory) }
+    {
+        match command {
+            Command::Close(file) => self.forget_file(file),
+            Command::Watch(_, cookie) => self.enter_cookie(line, *cookie, desk)?,
+            _ => self.enter_name(line, command)?,
+        }
+        Ok(())
+    }
+
+    fn enter_name(&mut self, line: u32, command: &Command) -> Result<(), Refusal>
+        ensures refusals { IfErr result (λ refusal. refusal ≡ Memory) }
+    {
+        let Some((space, name)) = made_by(command) else {
+            return Ok(());
+        };
+        match space {
+            Space::Timeline => self.timelines.insert(name, line),
+            Space::File => self.files.insert(name, line),
+            Space::Buffer => self.buffers.insert(name, line),
+        }
+        .map_err(|_| Refusal::Memory)?;
+        Ok(())
+    }
+
+    fn enter_cookie(&mut self, line: u32, cookie: u64, desk: &Desk) -> Result<(), Refusal>
+        ensures refusals { IfErr result (λ refusal. refusal ≡ Memory) }
+    {
+        if self.cookies.len() >= self.room {
+            self.forget_cookies(desk);
+        }
+        let entered = self.cookies.insert(cookie, line);
+        entered.map_err(|_| Refusal::Memory)?;
+        Ok(())
+    }
+
+    /// Takes out the cookies that stand for no watch any more.
+    fn forget_cookies(&mut self, desk: &Desk) {
+        self.cookies.retain(|cookie, _| desk.has_watch(*cookie));
+        let pending = self.cookies.len();
+        self.room = pending.saturating_mul(2).saturating_add(SPARE_COOKIES);
+    }
+
+    fn forget_file(&mut self, file: &Name) {
+        self.files.remove(file);
+    }
+
+    /// The line that made the name.
+    pub(crate) fn line_of(&self, space: Space, name: &Name) -> Option<u32> {
+        let lines = match space {
+            Space::Timeline => &self.timelines,
+            Space::File => &self.files,
+            Space::Buffer => &self.buffers,
+        };
+        lines.get(name).copied()
+    }
+
+    /// The line that registered the cookie last.
+    pub(crate) fn line_of_cookie(&self, cookie: u64) -> Option<u32> {
+        self.cookies.get(&cookie).copied()
+    }
+}
