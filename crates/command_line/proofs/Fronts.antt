@@ -3,7 +3,7 @@ use Rattle.std.proofs.Common.{ℕ, List, [], ◌++◌, Option, OnErr, Ok, Err, R
 use Rattle.std.specs.Io.KnownBytes.{Appends, Keeps}
 use Rattle.std.proofs.KnownBytes.{Appends-trans, Appends-kept}
 use Rattle.std.proofs.lemmas.List.{append-nil}
-use Rattle.script_core.specs.Bytes.{AppendsFront}
+use Rattle.report_core.specs.Bytes.{AppendsFront}
 
 pub AppendsFront-more : (old new : Option (List ℕ)) (bytes more : List ℕ) → AppendsFront old new bytes → AppendsFront old new (bytes ++ more)
 AppendsFront-more old new bytes more f = record {

@@ -5,14 +5,13 @@ ghost use Rattle.point_core.specs.declared.refusal.Refusal.TheVariants as refusa
 ghost use Rattle.clients_core.specs.Clients.{IsClientRefusal};
 ghost use Rattle.clients_core.specs.declared.plans.TheConstants.{CLIENTS};
 ghost use Rattle.clients_core.specs.declared.rounds.TheConstants.{ROUNDS};
-ghost use Rattle.script_core.specs.Bytes.{AppendsFront};
+ghost use Rattle.report_core.specs.Bytes.{AppendsFront};
 ghost use Rattle.command_line.specs.Clients.{clients_text};
 
 use clients_core::{Board, CLIENTS, OpenGate, ROUND_BUFFERS, ROUNDS, plans_of_rounds, run_clients};
 use point_core::Refusal;
-use report_core::settled_text;
+use report_core::{settled_text, write_whole};
 use resv_core::SharedTable;
-use script_core::write_whole;
 use std::alloc::Global;
 use std::io::Write;
 use std::sync::Wait;

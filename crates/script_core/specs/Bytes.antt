@@ -1,13 +1,7 @@
 -- What is written of the bytes of answers.
 use Rattle.std.specs.Prelude.{◌≡◌, ℕ, List, ◌++◌, Option}
 use Rattle.std.specs.Io.KnownBytes.{Appends}
-
--- a front of the bytes was written
-pub record AppendsFront (old new : Option (List ℕ)) (bytes : List ℕ) : Type 0 where
-  pub front : List ℕ
-  pub rest : List ℕ
-  pub whole : bytes ≡ front ++ rest
-  pub appended : Appends old new front
+pub use Rattle.report_core.specs.Bytes.{AppendsFront}
 
 -- the bytes went behind those that waited to be written: a front of all of them was written, and the others wait
 pub record PassesOn (waiting left bytes : List ℕ) (old new : Option (List ℕ)) : Type 0 where

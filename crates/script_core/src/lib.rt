@@ -14,6 +14,6 @@ mod writing;
 pub use answering::engine;
 pub use answers::{Answers, answer_line};
 pub use line_core::{Body, DIGITS, LINE_BYTES, Line, LineCutter, SCRIPT_BYTES, read_script};
+pub use report_core::write_whole;
 pub use text::print;
 pub use totals::Totals;
-pub use writing::write_whole;

@@ -5,6 +5,7 @@ ghost use Rattle.point_core.specs.declared.refusal.Refusal.TheVariants.{Write};
 ghost use Rattle.script_core.specs.Bytes.{AppendsFront};
 
 use point_core::Refusal;
+use report_core::write_whole;
 use std::io::Write;
 
 /// Texts are gathered up to so many bytes before they are written.
@@ -37,24 +38,5 @@ pub(crate) fn write_out<W: Write>(writer: &mut W, out: &mut Vec<u8>) -> Result<(
 {
     write_whole(writer, out)?;
     out.clear();
-    Ok(())
-}
-
-/// Writes all of the bytes.
-///
-/// Refused as Write, where a front of the bytes was written: a write failed or took no byte. An interrupted write
-/// counts as failed.
-pub fn write_whole<W: Write>(writer: &mut W, bytes: &[u8]) -> Result<(), Refusal>
-    ensures ok { OnOk result (Appends (W.contents writer.old) (W.contents writer.new) bytes.now) }
-    ensures refused { OnErr result (result ≡ Err Write) }
-    ensures err { OnErr result (AppendsFront (W.contents writer.old) (W.contents writer.new) bytes.now) }
-{
-    let mut rest = bytes;
-    while !rest.is_empty() {
-        match writer.write(rest) {
-            Ok(0) | Err(_) => return Err(Refusal::Write),
-            Ok(count) => rest = &rest[count..],
-        }
-    }
     Ok(())
 }
