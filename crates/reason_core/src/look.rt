@@ -20,46 +20,76 @@ pub struct Place {
     pub look: Look,
 }
 
-/// Writes `line N: `.
-pub(crate) fn begin<N: Write>(place: &Place, notes: &mut N) -> Result<(), Refusal>
+/// A part of an explanation.
+#[derive(Clone, Copy)]
+pub(crate) enum Part<'a> {
+    Text(&'a str),
+    Number(u64),
+    /// Bytes that do not print are written as in a Rust literal.
+    Bytes(&'a [u8]),
+}
+
+/// Writes `line N: ` and the parts, and ends the line.
+pub(crate) fn tell<N: Write>(
+    place: &Place,
+    parts: &[Part<'_>],
+    notes: &mut N,
+) -> Result<(), Refusal>
     ensures refusals { IfErr result (λ refusal. refusal ≡ WriteFault) }
 {
-    let line = place.line;
+    begin(place, notes)?;
+    write_parts(parts, notes)?;
+    write_part(&Part::Text("\n"), notes)
+}
+
+/// Writes `line N: "WORD"` and the parts, and ends the line.
+pub(crate) fn tell_of<N: Write>(
+    place: &Place,
+    word: &[u8],
+    parts: &[Part<'_>],
+    notes: &mut N,
+) -> Result<(), Refusal>
+    ensures refusals { IfErr result (λ refusal. refusal ≡ WriteFault) }
+{
+    begin(place, notes)?;
+    let quoted = [Part::Text("\""), Part::Bytes(word), Part::Text("\"")];
+    write_parts(&quoted, notes)?;
+    write_parts(parts, notes)?;
+    write_part(&Part::Text("\n"), notes)
+}
+
+fn begin<N: Write>(place: &Place, notes: &mut N) -> Result<(), Refusal>
+    ensures refusals { IfErr result (λ refusal. refusal ≡ WriteFault) }
+{
+    let line = Part::Number(u64::from(place.line));
     match place.look {
-        Look::Plain => write!(notes, "line {line}: "),
-        Look::Bold => write!(notes, "\x1b[1mline {line}:\x1b[0m "),
+        Look::Plain => write_parts(&[Part::Text("line "), line, Part::Text(": ")], notes),
+        Look::Bold => {
+            let parts = [Part::Text("\x1b[1mline "), line, Part::Text(":\x1b[0m ")];
+            write_parts(&parts, notes)
+        }
+    }
+}
+
+fn write_parts<N: Write>(parts: &[Part<'_>], notes: &mut N) -> Result<(), Refusal>
+    ensures refusals { IfErr result (λ refusal. refusal ≡ WriteFault) }
+{
+    for part in parts {
+        write_part(part, notes)?;
+    }
+    Ok(())
+}
+
+fn write_part<N: Write>(part: &Part<'_>, notes: &mut N) -> Result<(), Refusal>
+    ensures refusals { IfErr result (λ refusal. refusal ≡ WriteFault) }
+{
+    match part {
+        Part::Text(text) => write!(notes, "{text}"),
+        Part::Number(number) => write!(notes, "{number}"),
+        Part::Bytes(bytes) => {
+            let bytes = bytes.escape_ascii();
+            write!(notes, "{bytes}")
+        }
     }
     .map_err(|_| Refusal::Write)
-}
-
-/// Writes `line N: "WORD"`. Bytes of the word that do not print are written as in a Rust literal.
-pub(crate) fn begin_word<N: Write>(place: &Place, word: &[u8], notes: &mut N) -> Result<(), Refusal>
-    ensures refusals { IfErr result (λ refusal. refusal ≡ WriteFault) }
-{
-    begin(place, notes)?;
-    let word = word.escape_ascii();
-    write!(notes, "\"{word}\"").map_err(|_| Refusal::Write)
-}
-
-/// Writes `line N: "WORD": `.
-pub(crate) fn begin_with<N: Write>(place: &Place, word: &[u8], notes: &mut N) -> Result<(), Refusal>
-    ensures refusals { IfErr result (λ refusal. refusal ≡ WriteFault) }
-{
-    begin_word(place, word, notes)?;
-    write!(notes, ": ").map_err(|_| Refusal::Write)
-}
-
-/// Writes a sentence, and ends the line.
-pub(crate) fn end<N: Write>(sentence: &str, notes: &mut N) -> Result<(), Refusal>
-    ensures refusals { IfErr result (λ refusal. refusal ≡ WriteFault) }
-{
-    writeln!(notes, "{sentence}").map_err(|_| Refusal::Write)
-}
-
-/// Writes `line N: ` and a sentence, and ends the line.
-pub(crate) fn tell<N: Write>(place: &Place, sentence: &str, notes: &mut N) -> Result<(), Refusal>
-    ensures refusals { IfErr result (λ refusal. refusal ≡ WriteFault) }
-{
-    begin(place, notes)?;
-    end(sentence, notes)
 }

@@ -3,13 +3,15 @@ ghost use Rattle.std.specs.Prelude.{◌≡◌, IfErr};
 ghost use Rattle.point_core.specs.declared.refusal.Refusal.TheVariants.{Write as WriteFault};
 
 use crate::book::Book;
-use crate::look::{Place, begin, begin_with, tell};
+use crate::look::{Part, Place, tell, tell_of};
 use crate::names::{Space, is_there, looked_up, made_by};
 use desk_core::{Command, Desk};
 use point_core::{LimitKind, Name, Point, Refusal};
 use std::io::Write;
 
-const UNSIGNALLED: &str = "the file is not signalled";
+const UNSIGNALLED: Part<'static> = Part::Text("the file is not signalled");
+
+const NOTHING_TO_WATCH: &str = "every point of the file is reached, so there is nothing to watch";
 
 /// Writes to `notes` why the desk refused a command, which it has just done.
 ///
@@ -30,24 +32,21 @@ pub fn explain_command<N: Write>(
         Refusal::Overflow => explain_overflow(desk, place, command, notes),
         Refusal::TimedOut => explain_pending(desk, place, command, notes),
         Refusal::Limit(kind) => explain_limit(place, kind, notes),
-        Refusal::Signalled => {
-            tell(
-                place,
-                "every point of the file is reached, so there is nothing to watch",
-                notes,
-            )
-        }
-        Refusal::Memory => tell(place, "memory was refused", notes),
-        _ => tell(place, refusal.name(), notes),
+        Refusal::Signalled => tell(place, &[Part::Text(NOTHING_TO_WATCH)], notes),
+        Refusal::Memory => tell(place, &[Part::Text("memory was refused")], notes),
+        _ => tell(place, &[Part::Text(refusal.name())], notes),
     }
 }
 
 fn explain_limit<N: Write>(place: &Place, kind: LimitKind, notes: &mut N) -> Result<(), Refusal>
     ensures refusals { IfErr result (λ refusal. refusal ≡ WriteFault) }
 {
-    begin(place, notes)?;
-    let kind = kind.word();
-    writeln!(notes, "there are as many {kind} as there can be").map_err(|_| Refusal::Write)
+    let parts = [
+        Part::Text("there are as many "),
+        Part::Text(kind.word()),
+        Part::Text(" as there can be"),
+    ];
+    tell(place, &parts, notes)
 }
 
 fn explain_missing<N: Write>(
@@ -59,13 +58,25 @@ fn explain_missing<N: Write>(
     ensures refusals { IfErr result (λ refusal. refusal ≡ WriteFault) }
 {
     match first_missing(desk, command) {
-        Some((space, name)) => {
-            begin_with(place, name.as_bytes(), notes)?;
-            let kind = space.word();
-            writeln!(notes, "there is no {kind} of that name").map_err(|_| Refusal::Write)
-        }
-        None => tell(place, "there is none of that name", notes),
+        Some((space, name)) => explain_none(place, space, &name, notes),
+        None => tell(place, &[Part::Text("there is none of that name")], notes),
     }
+}
+
+fn explain_none<N: Write>(
+    place: &Place,
+    space: Space,
+    name: &Name,
+    notes: &mut N,
+) -> Result<(), Refusal>
+    ensures refusals { IfErr result (λ refusal. refusal ≡ WriteFault) }
+{
+    let parts = [
+        Part::Text(": there is no "),
+        Part::Text(space.word()),
+        Part::Text(" of that name"),
+    ];
+    tell_of(place, name.as_bytes(), &parts, notes)
 }
 
 /// The first name that the command looks up and that stands for nothing.
@@ -91,7 +102,7 @@ fn explain_exists<N: Write>(
     }
     match made_by(command) {
         Some((space, name)) => explain_made(book, place, space, &name, notes),
-        None => tell(place, "there is one of that name", notes),
+        None => tell(place, &[Part::Text("there is one of that name")], notes),
     }
 }
 
@@ -103,11 +114,14 @@ fn explain_watched<N: Write>(
 ) -> Result<(), Refusal>
     ensures refusals { IfErr result (λ refusal. refusal ≡ WriteFault) }
 {
-    begin(place, notes)?;
     let line = book.line_of_cookie(cookie).unwrap_or(0);
-    writeln!(notes, "a watch of cookie {cookie} was made on line {line}").map_err(
-        |_| Refusal::Write,
-    )
+    let parts = [
+        Part::Text("a watch of cookie "),
+        Part::Number(cookie),
+        Part::Text(" was made on line "),
+        Part::Number(u64::from(line)),
+    ];
+    tell(place, &parts, notes)
 }
 
 fn explain_made<N: Write>(
@@ -119,10 +133,14 @@ fn explain_made<N: Write>(
 ) -> Result<(), Refusal>
     ensures refusals { IfErr result (λ refusal. refusal ≡ WriteFault) }
 {
-    begin_with(place, name.as_bytes(), notes)?;
-    let kind = space.word();
     let line = book.line_of(space, name).unwrap_or(0);
-    writeln!(notes, "a {kind} of that name was made on line {line}").map_err(|_| Refusal::Write)
+    let parts = [
+        Part::Text(": a "),
+        Part::Text(space.word()),
+        Part::Text(" of that name was made on line "),
+        Part::Number(u64::from(line)),
+    ];
+    tell_of(place, name.as_bytes(), &parts, notes)
 }
 
 fn explain_overflow<N: Write>(
@@ -138,7 +156,7 @@ fn explain_overflow<N: Write>(
             let value = desk.timeline_value(timeline).unwrap_or(0);
             explain_increment(place, timeline, value, *count, notes)
         }
-        _ => tell(place, "the value would be too great", notes),
+        _ => tell(place, &[Part::Text("the value would be too great")], notes),
     }
 }
 
@@ -151,13 +169,15 @@ fn explain_increment<N: Write>(
 ) -> Result<(), Refusal>
     ensures refusals { IfErr result (λ refusal. refusal ≡ WriteFault) }
 {
-    begin_with(place, timeline.as_bytes(), notes)?;
-    let most = u64::MAX;
-    writeln!(
-        notes,
-        "its value is {value}, and {count} more would pass {most}"
-    )
-    .map_err(|_| Refusal::Write)
+    let parts = [
+        Part::Text(": its value is "),
+        Part::Number(value),
+        Part::Text(", and "),
+        Part::Number(count),
+        Part::Text(" more would pass "),
+        Part::Number(u64::MAX),
+    ];
+    tell_of(place, timeline.as_bytes(), &parts, notes)
 }
 
 /// Reports each point of the file that is not reached.
@@ -170,11 +190,11 @@ fn explain_pending<N: Write>(
     ensures refusals { IfErr result (λ refusal. refusal ≡ WriteFault) }
 {
     let Command::Wait(file) = command else {
-        return tell(place, UNSIGNALLED, notes);
+        return tell(place, &[UNSIGNALLED], notes);
     };
     match desk.file_points(file) {
         Some(points) => explain_points(desk, place, file, points, notes),
-        None => tell(place, UNSIGNALLED, notes),
+        None => tell(place, &[UNSIGNALLED], notes),
     }
 }
 
@@ -210,23 +230,17 @@ fn explain_point<N: Write>(
     if value >= point.value {
         return Ok(());
     }
-    begin_with(place, file.as_bytes(), notes)?;
-    explain_distance(&timeline, value, point.value, notes)
-}
-
-fn explain_distance<N: Write>(
-    timeline: &Name,
-    value: u64,
-    point: u64,
-    notes: &mut N,
-) -> Result<(), Refusal>
-    ensures refusals { IfErr result (λ refusal. refusal ≡ WriteFault) }
-{
-    let timeline = timeline.as_bytes().escape_ascii();
-    let left = point.saturating_sub(value);
-    writeln!(
-        notes,
-        "it waits for point {point} of {timeline}, whose value is {value}: {left} to go"
-    )
-    .map_err(|_| Refusal::Write)
+    let left = point.value - value;
+    let parts = [
+        Part::Text(": it waits for point "),
+        Part::Number(point.value),
+        Part::Text(" of "),
+        Part::Bytes(timeline.as_bytes()),
+        Part::Text(", whose value is "),
+        Part::Number(value),
+        Part::Text(": "),
+        Part::Number(left),
+        Part::Text(" to go"),
+    ];
+    tell_of(place, file.as_bytes(), &parts, notes)
 }

@@ -2,7 +2,7 @@
 ghost use Rattle.std.specs.Prelude.{◌≡◌, ◌⊎◌, IfErr};
 ghost use Rattle.point_core.specs.declared.refusal.Refusal.TheVariants.{Write as WriteFault, Memory};
 
-use crate::look::{Place, begin, begin_with, begin_word, end};
+use crate::look::{Part, Place, tell, tell_of};
 use line_core::{DIGITS, LINE_BYTES, RawLine, SCRIPT_BYTES};
 use point_core::{LimitKind, Name, Refusal};
 use std::alloc::Global;
@@ -79,23 +79,24 @@ pub fn explain_bad_line<N: Write>(
 fn explain_long_line<N: Write>(place: &Place, length: usize, notes: &mut N) -> Result<(), Refusal>
     ensures refusals { IfErr result (λ refusal. refusal ≡ WriteFault) }
 {
-    begin(place, notes)?;
-    writeln!(
-        notes,
-        "it has {length} bytes, and a line has at most {LINE_BYTES}"
-    )
-    .map_err(|_| Refusal::Write)
+    let parts = [
+        Part::Text("it has "),
+        Part::Number(length as u64),
+        Part::Text(" bytes, and a line has at most "),
+        Part::Number(LINE_BYTES as u64),
+    ];
+    tell(place, &parts, notes)
 }
 
 fn explain_long_script<N: Write>(place: &Place, notes: &mut N) -> Result<(), Refusal>
     ensures refusals { IfErr result (λ refusal. refusal ≡ WriteFault) }
 {
-    begin(place, notes)?;
-    writeln!(
-        notes,
-        "the script goes on, and a script has at most {SCRIPT_BYTES} bytes"
-    )
-    .map_err(|_| Refusal::Write)
+    let parts = [
+        Part::Text("the script goes on, and a script has at most "),
+        Part::Number(SCRIPT_BYTES as u64),
+        Part::Text(" bytes"),
+    ];
+    tell(place, &parts, notes)
 }
 
 /// Tells which word of a line that is no command is at fault: the first that has a byte no word of a command has; else the
@@ -110,8 +111,7 @@ fn explain_syntax<N: Write>(
 {
     for word in line.split(|byte| *byte == b' ') {
         if let Some(reason) = strange_byte(word) {
-            begin_with(place, word, notes)?;
-            return end(reason, notes);
+            return explain_word(place, word, reason, notes);
         }
     }
     let (word, rest) = first_word(line);
@@ -119,6 +119,18 @@ fn explain_syntax<N: Write>(
         Some(kinds) => explain_words(place, word, kinds, rest, notes),
         None => explain_no_command(alloc, place, word, notes),
     }
+}
+
+/// Writes what is wrong with a word.
+fn explain_word<N: Write>(
+    place: &Place,
+    word: &[u8],
+    reason: &str,
+    notes: &mut N,
+) -> Result<(), Refusal>
+    ensures refusals { IfErr result (λ refusal. refusal ≡ WriteFault) }
+{
+    tell_of(place, word, &[Part::Text(": "), Part::Text(reason)], notes)
 }
 
 /// What is wrong with a word that has a byte which words never have.
@@ -158,16 +170,26 @@ fn explain_no_command<N: Write>(
 ) -> Result<(), Refusal>
     ensures refusals { IfErr result (λ refusal. (refusal ≡ WriteFault) ⊎ (refusal ≡ Memory)) }
 {
-    let nearest = nearest(alloc, word)?;
-    begin_word(place, word, notes)?;
-    match nearest {
-        Some(command) => {
-            writeln!(notes, " is no command; did you mean \"{command}\"?").map_err(
-                |_| Refusal::Write,
-            )
-        }
-        None => end(" is no command", notes),
+    match nearest(alloc, word)? {
+        Some(command) => suggest(place, word, command, notes),
+        None => tell_of(place, word, &[Part::Text(" is no command")], notes),
     }
+}
+
+fn suggest<N: Write>(
+    place: &Place,
+    word: &[u8],
+    command: &str,
+    notes: &mut N,
+) -> Result<(), Refusal>
+    ensures refusals { IfErr result (λ refusal. refusal ≡ WriteFault) }
+{
+    let parts = [
+        Part::Text(" is no command; did you mean \""),
+        Part::Text(command),
+        Part::Text("\"?"),
+    ];
+    tell_of(place, word, &parts, notes)
 }
 
 /// The command that differs in the fewest letters, where these are few; two letters in each other's place count as one.
@@ -206,12 +228,10 @@ fn explain_words<N: Write>(
             continue;
         }
         if let Some(reason) = wrong_for(word, kinds.next()) {
-            begin_with(place, word, notes)?;
-            return end(reason, notes);
+            return explain_word(place, word, reason, notes);
         }
     }
-    begin_with(place, command, notes)?;
-    end("a word is missing behind it", notes)
+    explain_word(place, command, "a word is missing behind it", notes)
 }
 
 /// What is wrong with a word in the place of that kind, or behind the last one.
