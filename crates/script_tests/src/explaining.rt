@@ -127,3 +127,37 @@ fn refusals_beside_scripts(rt: HostRuntime) {
     assert_reason(&rt, rt.alloc(), &desk, Refusal::Memory, memory);
     assert_reason(&rt, rt.alloc(), &desk, Refusal::Flags, b"line 3: Flags\n");
 }
+
+// The first line has eleven bytes. It is accepted, and its answer is written before the next read.
+#[test]
+fn answered_before_the_next_read(rt: HostRuntime) {
+    let mut reader = source_of(b"timeline a\nvalue a\n", 1);
+    let mut answers = sink_of(b"", 4096, 0);
+    let mut notes = sink_of(b"", 4096, 0);
+    let result = explain(
+        rt.alloc(),
+        Look::Plain,
+        &mut reader,
+        &mut answers,
+        &mut notes,
+    );
+    assert_refusal(&rt, result.err(), Refusal::Write);
+    assert!(rt; reader.reads == 11);
+}
+
+// The answer of a last line without a line feed is flushed too.
+#[test]
+fn flushed_at_the_end(rt: HostRuntime) {
+    let mut reader = source_of(b"timeline a", 4096);
+    let mut answers = sink_of(b"ok 1\n", 4096, usize::MAX);
+    let mut notes = sink_of(b"", 4096, 0);
+    let result = explain(
+        rt.alloc(),
+        Look::Plain,
+        &mut reader,
+        &mut answers,
+        &mut notes,
+    );
+    assert_totals(&rt, result.expect(&rt, "answers"), (1, 1, 0));
+    assert!(rt; answers.flushes == 1 && answers.unflushed == 0);
+}
