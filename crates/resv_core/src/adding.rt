@@ -1,23 +1,27 @@
 // Several fences of one usage, added together.
-ghost use Rattle.std.specs.Prelude.{◌≡◌, ◌+◌, ◌≤◌, ◌++◌, ◌∷◌, [], length, vec_len};
+ghost use Rattle.std.specs.Prelude.{◌≡◌, ◌+◌, ◌<◌, ◌≤◌, ◌++◌, ◌∷◌, [], length, vec_len};
 ghost use Rattle.std.specs.Vec.{vec_capacity};
 ghost use Rattle.point_core.specs.Agreement.{AgreesAbove, HasContexts};
 ghost use Rattle.point_core.specs.Latest.{IsLatest};
 ghost use Rattle.point_core.specs.Usage.{usage_number};
-ghost use Rattle.resv_core.specs.Resv.{entries_as, entry_of, gives_way_to_any};
+ghost use Rattle.resv_core.specs.Resv.{dropped_for, entries_as, entry_of, gives_way_to_any};
 
 use point_core::{Entry, LatestPoints, Point, Reach, Usage, is_signalled};
 
-/// So many entries are few: to look through them costs little.
-pub(crate) const SCANNED: usize = 32;
+/// A table of fewer entries is looked through for each fence that is put into it, which costs little.
+pub const SCANNED: usize = 32;
+
+const _: () = prove!(SCANNED == 32);
 
 /// Puts the points behind the entries, of which those that give way may go out. Takes no memory.
 pub(crate) fn add_all(entries: &mut Vec<Entry>, points: &[Point], usage: Usage, reach: &Reach)
     requires places { vec_len entries.old + length points.now ≤ vec_capacity entries.old }
     requires contexts { HasContexts entries.old.items }
+    requires some { 0 < length points.now }
     ensures agrees { AgreesAbove reach.now entries.new.items (entries.old.items ++ entries_as usage points.now) }
     ensures contexts { HasContexts entries.new.items }
-    ensures few { vec_len entries.new ≤ vec_len entries.old + length points.now }
+    ensures dropped { vec_len entries.new + dropped_for reach.now points.now usage entries.old.items ≡
+        vec_len entries.old + length points.now }
     ensures places { vec_capacity entries.new ≡ vec_capacity entries.old }
 {
     make_way(entries, points, usage, reach);
@@ -36,10 +40,11 @@ fn entry_of(point: Point, usage: Usage) -> Entry
 /// Drops the entries that give way to one of the points, in one pass, where there are few entries or many points.
 fn make_way(entries: &mut Vec<Entry>, points: &[Point], usage: Usage, reach: &Reach)
     requires contexts { HasContexts entries.old.items }
+    requires some { 0 < length points.now }
     ensures agrees { AgreesAbove reach.now (entries.new.items ++ entries_as usage points.now)
         (entries.old.items ++ entries_as usage points.now) }
     ensures contexts { HasContexts entries.new.items }
-    ensures fewer { vec_len entries.new ≤ vec_len entries.old }
+    ensures dropped { vec_len entries.new + dropped_for reach.now points.now usage entries.old.items ≡ vec_len entries.old }
     ensures places { vec_capacity entries.new ≡ vec_capacity entries.old }
 {
     if entries.len() >= SCANNED && points.len() < SCANNED {

@@ -11,6 +11,7 @@ mod shared_table;
 mod table_rows;
 mod tops;
 
+pub use adding::SCANNED;
 pub use laws::{
     a_table_agrees_with_all_that_was_added, a_trimmed_table_has_one_entry_of_each_usage,
     tables_that_agree_tell_the_same,

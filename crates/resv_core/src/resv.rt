@@ -1,12 +1,12 @@
 // The reservation of a buffer.
-ghost use Rattle.std.specs.Prelude.{◌≡◌, ◌+◌, ◌-◌, ◌<◌, ◌≤◌, ◌↔◌, ◌++◌, ◌||◌, [], Ok, if◌then◌else◌, length, vec_len, IfErr, IfOk, IsTrue, OnErr, OnOk};
+ghost use Rattle.std.specs.Prelude.{◌≡◌, ◌+◌, ◌-◌, ◌<◌, ◌≤◌, ◌↔◌, ◌++◌, ◌&&◌, [], Ok, if◌then◌else◌, length, vec_len, IfErr, IfOk, IsTrue, OnErr, OnOk};
 ghost use Rattle.std.specs.List.{list_any};
 ghost use Rattle.std.specs.Vec.{vec_capacity};
 ghost use Rattle.point_core.specs.declared.context.TheConstants.{CONTEXTS};
-ghost use Rattle.point_core.specs.Agreement.{covers, AgreesAbove, IsReached, listing};
+ghost use Rattle.point_core.specs.Agreement.{AgreesAbove, IsReached, listing};
 ghost use Rattle.point_core.specs.Usage.{usage_number};
 ghost use Rattle.resv_core.specs.declared.resv.TheConstants.{PLACES};
-ghost use Rattle.resv_core.specs.Resv.{IsTable, IsTrimmed, empty, entries_as, entry_of, gives_way, rows_of};
+ghost use Rattle.resv_core.specs.Resv.{IsTable, IsTrimmed, are_few, dropped_for, empty, entries_as, entry_of, gives_way, is_met, rows_of};
 ghost use Rattle.resv_core.specs.Run.{Leaves, Reserve, Add, AddAll, Trim};
 
 use crate::adding::{SCANNED, add_all};
@@ -130,15 +130,17 @@ impl Resv {
         }
     }
 
-    /// Adds fences of one usage together, once there is room for all of them. Where the table has few entries, or the fences
-    /// are many, the entries that are signalled or covered by one of them go out in one pass; else they stay until the table
-    /// is trimmed. Without fences nothing changes. Takes no memory.
+    /// Adds fences of one usage together, once there is room for all of them. Where the table has less than `SCANNED` entries,
+    /// or there are at least so many fences, the entries that are signalled or covered by one of them go out in one pass; else
+    /// they stay until the table is trimmed. Without fences nothing changes. Takes no memory.
     ///
     /// The kernel adds the fences of an imported sync file one after another.
     pub fn add_all(&mut self, points: &[Point], usage: Usage, reach: &Reach)
         requires room { length points.now ≤ self.old.room }
         ensures table { IsTable self.new }
         ensures agrees { Leaves (AddAll (entries_as usage points.now)) reach.now self.old.entries self.new.entries }
+        ensures room { self.new.room + length points.now ≡
+            self.old.room + dropped_for reach.now points.now usage self.old.entries }
         ensures falls { self.old.room ≤ self.new.room + length points.now }
         ensures places { length self.new.entries + self.new.room ≡ length self.old.entries + self.old.room }
         ensures nothing { points.now ≡ [] → self.new ≡ self.old }
@@ -148,13 +150,17 @@ impl Resv {
         }
     }
 
-    /// Adds a fence, so `reserve` first. In a table of few entries it takes no place where one of them covers the fence, and
-    /// else replaces as `add` does. In a larger one it takes a free place without a look at the others, and what it covers
-    /// stays until the table is trimmed. Takes no memory.
+    /// Adds a fence, so `reserve` first. In a table of less than `SCANNED` entries it takes no place where one of them covers
+    /// the fence, and else replaces as `add` does. In a larger one it takes a free place without a look at the others, and
+    /// what it covers stays until the table is trimmed. Takes no memory.
     pub fn put(&mut self, point: Point, usage: Usage, reach: &Reach)
         requires room { 1 ≤ self.old.room }
         ensures table { IsTable self.new }
         ensures agrees { Leaves (Add (entry_of point usage)) reach.now self.old.entries self.new.entries }
+        ensures room { self.new.room ≡
+            (if are_few self.old.entries && list_any (is_met reach.now (entry_of point usage)) self.old.entries
+            then self.old.room
+            else self.old.room - 1) }
         ensures falls { self.old.room ≤ self.new.room + 1 }
         ensures places { length self.new.entries + self.new.room ≡ length self.old.entries + self.old.room }
     {
@@ -163,11 +169,7 @@ impl Resv {
             self.entries.push_reserved(new);
             return;
         }
-        match self
-            .entries
-            .iter()
-            .position(|old| is_met_by(&new, old, reach))
-        {
+        match self.entries.iter().position(|old| is_met(&new, old, reach)) {
             Some(index) if covers(self.entries[index], new) => {}
             Some(index) => self.entries[index] = new,
             None => self.entries.push_reserved(new),
@@ -229,8 +231,8 @@ impl Resv {
 }
 
 /// Whether the new entry needs no place beside the old one: the old one covers it, or may be replaced by it.
-fn is_met_by(new: &Entry, old: &Entry, reach: &Reach) -> bool
-    ensures { result ≡ (covers old.now new.now || gives_way reach.now new.now old.now) }
+fn is_met(new: &Entry, old: &Entry, reach: &Reach) -> bool
+    ensures { result ≡ is_met reach.now new.now old.now }
 {
     covers(*old, *new) || gives_way(new, old, reach)
 }

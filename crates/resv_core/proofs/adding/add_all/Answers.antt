@@ -12,8 +12,8 @@ pub loop-point-init : goal.loop-point-init
 loop-point-init c = record {
   items = sym (append-nil c.make_way.new.entries.items);
   contexts = c.make_way.ensures.contexts;
-  room = omega (arith, c.make_way.ensures.fewer, c.make_way.ensures.places, c.requires.places);
-  few = omega arith;
+  room = omega (arith, c.make_way.ensures.dropped, c.make_way.ensures.places, c.requires.places);
+  many = omega arith;
   places = refl;
 }
 
@@ -30,7 +30,7 @@ loop-point-preserved c =
       contexts = subst HasContexts (sym c.push_reserved.ensures.items)
           (All-append (λ (e : Entry). (1 ≤ e.point.ctx) × (e.point.ctx ≤ CONTEXTS)) c.loop-point.entries.items (c.entry_of.result ∷ []) c.loop-point.invariant.contexts c.entry_of.ensures.context);
       room = omega arith;
-      few = omega arith;
+      many = omega arith;
       places = omega arith;
     }
 

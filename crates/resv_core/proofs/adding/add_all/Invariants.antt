@@ -9,6 +9,6 @@ invariant-loop-point l = record {
   items : l.entries.items ≡ l.initial.entries.items ++ entries_as l.fn.usage (take l.point-index l.points);
   contexts : HasContexts l.entries.items;
   room : vec_len l.entries + length l.points ≤ vec_capacity l.entries + l.point-index;
-  few : vec_len l.entries ≤ vec_len l.initial.entries + l.point-index;
+  many : vec_len l.entries ≡ vec_len l.initial.entries + l.point-index;
   places : vec_capacity l.entries ≡ vec_capacity l.initial.entries;
 }
