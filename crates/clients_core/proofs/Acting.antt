@@ -34,7 +34,7 @@ OnOk-weaker (Err e) f h = tt
 puts_of-more : (buffer : ℕ) (done : List Act) (act : Act) → puts_of buffer (done ++ act ∷ []) ≡ puts_of buffer done ++ put_by buffer act
 puts_of-more buffer done act = flat_map-append (put_by buffer) done (act ∷ []) ∙ ap (λ es. puts_of buffer done ++ es) (append-nil (put_by buffer act))
 
-All-get : {X : Type 0} (P : X → Type 0) (xs : List X) (k : ℕ) (x : X) → All P xs → slice_get xs k ≡ Some x → P x
+pub All-get : {X : Type 0} (P : X → Type 0) (xs : List X) (k : ℕ) (x : X) → All P xs → slice_get xs k ≡ Some x → P x
 All-get P [] k x all at = absurd (none-some x at)
 All-get P (y ∷ ys) zero x all at = subst P (same_Some y x at) (All-head P y ys all)
 All-get P (y ∷ ys) (suc k) x all at = All-get P ys k x (All-tail P y ys all) at

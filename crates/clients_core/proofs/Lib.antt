@@ -12,3 +12,4 @@ pub mod SettledRounds
 pub mod Settling
 pub mod Showing
 pub mod Topping
+pub mod Working

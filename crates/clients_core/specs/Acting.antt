@@ -43,10 +43,16 @@ abbrev pub judged : ℕ → List Entry → Result Listing Refusal → Result (Un
 judged level own (Ok listed) = if shows_all listed level own then Ok tt else Err Torn
 judged level own (Err refusal) = Err refusal
 
--- one act, after these, and its answer: `puts` and `exports` are what the table says of a put and of a look
-abbrev pub HasActed : (ℕ → Entry → SeatModel → SeatModel → Result (Unit {0}) Refusal → Type 0)
-    → (ℕ → Usage → SeatModel → SeatModel → Result Listing Refusal → Type 0)
-    → List Act → Act → ClientModel → ClientModel → Result (Unit {0}) Refusal → Type 0
+-- what a table says of a put into a buffer, by the seat before it and after it, and the answer
+abbrev pub Puts : Type 1
+Puts = ℕ → Entry → SeatModel → SeatModel → Result (Unit {0}) Refusal → Type 0
+
+-- the same of a look at a usage
+abbrev pub Exports : Type 1
+Exports = ℕ → Usage → SeatModel → SeatModel → Result Listing Refusal → Type 0
+
+-- one act, after these, and its answer
+abbrev pub HasActed : Puts → Exports → List Act → Act → ClientModel → ClientModel → Result (Unit {0}) Refusal → Type 0
 HasActed puts exports done (Inc n) before after answer =
     (answer ≡ Ok tt) × (after ≡ client_of (advanced before.driver n) before.seat)
 HasActed puts exports done (Put buffer point usage) before after answer =
@@ -58,9 +64,7 @@ HasActed puts exports done (Look buffer usage) before after answer =
     × (answer ≡ judged (usage_number usage) (puts_of buffer done) listed))
 
 -- these acts in order, after others, each of them accepted
-abbrev pub HaveActed : (ℕ → Entry → SeatModel → SeatModel → Result (Unit {0}) Refusal → Type 0)
-    → (ℕ → Usage → SeatModel → SeatModel → Result Listing Refusal → Type 0)
-    → List Act → List Act → ClientModel → ClientModel → Type 0
+abbrev pub HaveActed : Puts → Exports → List Act → List Act → ClientModel → ClientModel → Type 0
 HaveActed puts exports done [] before after = after ≡ before
 HaveActed puts exports done (act ∷ acts) before after =
     (middle : ClientModel)
@@ -68,9 +72,8 @@ HaveActed puts exports done (act ∷ acts) before after =
     × HaveActed puts exports (done ++ act ∷ []) acts middle after
 
 -- some of these acts were accepted, and at the next the gate gave up, or it was refused
-pub record HasStopped (puts : ℕ → Entry → SeatModel → SeatModel → Result (Unit {0}) Refusal → Type 0)
-    (exports : ℕ → Usage → SeatModel → SeatModel → Result Listing Refusal → Type 0)
-    (done acts : List Act) (before after : ClientModel) (refusal : Refusal) : Type 0 where
+pub record HasStopped (puts : Puts) (exports : Exports) (done acts : List Act) (before after : ClientModel)
+    (refusal : Refusal) : Type 0 where
   pub accepted : List Act
   pub act : Act
   pub rest : List Act

@@ -1,6 +1,5 @@
 -- What clients on threads are given, and what they give back.
 use Rattle.std.specs.Prelude.{◌≡◌, ◌⊎◌, ◌^◌, ◌<◌, ◌≤◌, List, length, All, IfErr}
-use Rattle.std.specs.declared.thread.PromisedHandle.{PromisedHandle}
 use Rattle.point_core.specs.declared.context.TheConstants.{CONTEXTS}
 use Rattle.point_core.specs.declared.refusal.Refusal.{Refusal}
 use Rattle.point_core.specs.declared.refusal.Refusal.TheVariants.{Exists, TimedOut, Torn, Memory}
@@ -10,7 +9,6 @@ use Rattle.words_core.specs.Words.{WordsModel}
 use Rattle.resv_core.specs.declared.plan.Act.{Act}
 use Rattle.resv_core.specs.Settled.{IsWithin, increments_of}
 use Rattle.clients_core.specs.declared.workers.Ended.{Ended}
-use Rattle.clients_core.specs.declared.workers.Loan.{Loan}
 
 -- a client's acts are refused as one of these alone
 abbrev pub IsClientRefusal : Refusal → Type 0
@@ -35,7 +33,3 @@ IsGivenBack words ended = IsSinglePart words ended.driving × IsSinglePart words
 -- there is one for each timeline of these words
 abbrev pub ArePlans : WordsModel → List (List Act) → Type 0
 ArePlans words plans = (length plans ≡ words.contexts) × (words.contexts ≤ CONTEXTS) × All (IsPlan words) plans
-
--- a thread that has promised to give seats of these words back
-abbrev pub IsWorkerOf : WordsModel → PromisedHandle Ended Loan → Type 0
-IsWorkerOf words worker = worker.promise.words.now ≡ words

@@ -6,6 +6,7 @@ pub mod Looks
 pub mod OwnPuts
 pub mod Plans
 pub mod Rounds
+pub mod Working
 pub use Rattle.resv_core.specs.Resv
 pub use Rattle.resv_core.specs.Settled
 pub use Rattle.resv_core.specs.Shared

@@ -7,6 +7,7 @@ ghost use Rattle.words_core.specs.declared.seat.TheConstants.{PARTS};
 ghost use Rattle.resv_core.specs.Settled.{increments_of, values_of};
 ghost use Rattle.clients_core.specs.Clients.{IsClientRefusal, ArePlans};
 ghost use Rattle.clients_core.specs.Plans.{cause_to_refuse_plans, settled_of};
+ghost use Rattle.clients_core.specs.Working.{AreWorkedOff};
 
 use crate::gate::Gate;
 use crate::gathered::gathered;
@@ -24,7 +25,7 @@ use words_core::{Seat, Words};
 /// calls of the gate; a look is refused as `Torn` where it does not show a put of its own client before it.
 ///
 /// What comes back is the settled table of the plans, whatever the number of clients and the schedule, and the table
-/// itself, to be read.
+/// itself, to be read, on which each client has worked its plan off.
 ///
 /// Refuses, before any thread starts, as `NoEntry` where a plan has a point of a context past the number of plans or a
 /// buffer that is not below `buffers`; as `Limit` of the clients, which are 1 to `CLIENTS`, of the buffers, at most
@@ -40,6 +41,9 @@ pub fn run_clients<R: Threads + Wait + Sync, T: SharedTable, G: Gate>(
     gate: &G,
 ) -> Result<(Settled, T), Refusal>
     ensures settled { IfOk result (λ r. r.0 ≡ settled_of buffers plans.now) }
+    ensures made { IfOk result (λ r.
+        ((T.made_for r.1).contexts ≡ length plans.now) × ((T.made_for r.1).buffers ≡ buffers)) }
+    ensures worked { IfOk result (λ r. AreWorkedOff (T.puts r.1) (T.exports r.1) (T.made_for r.1) plans.now) }
     ensures refused { IfSome (cause_to_refuse_plans buffers plans.now) (λ e. result ≡ Err e) }
     ensures started { cause_to_refuse_plans buffers plans.now ≡ None → IfErr result IsClientRefusal }
 {

@@ -1,7 +1,8 @@
 // A thread for each plan.
 ghost use Rattle.std.specs.Prelude.{◌≡◌, ◌+◌, ◌*◌, ◌^◌, ◌<◌, ◌≤◌, length, All, IfErr, IfOk, OnOk, vec_len, vec_capacity};
 ghost use Rattle.point_core.specs.declared.context.TheConstants.{CONTEXTS};
-ghost use Rattle.clients_core.specs.Clients.{IsClientRefusal, IsSinglePart, IsGivenBack, IsPlan, ArePlans, IsWorkerOf};
+ghost use Rattle.clients_core.specs.Clients.{IsClientRefusal, IsSinglePart, IsGivenBack, IsPlan, ArePlans};
+ghost use Rattle.clients_core.specs.Working.{AreWorkedOff, AreWorkers, HasEnded, HasWorkedOff, IsWorkerOf};
 ghost use Rattle.resv_core.specs.Settled.{IsWithin, increments_of};
 
 use crate::client::{Shared, act_all};
@@ -22,16 +23,22 @@ pub(crate) struct Ended {
     pub answer: Result<(), Refusal>,
 }
 
-/// A worker's promise: it gives both seats of these words back.
-#[derive(Clone, Copy)]
-pub(crate) struct Loan<'a> {
+/// A worker's promise: it gives both seats of these words back, and where it answers Ok, it has worked this plan off on this
+/// table, as the client of the plan at that place.
+#[derive(Drop)]
+pub(crate) struct Loan<'a, T> {
     pub words: &'a Words,
+    pub table: &'a T,
+    pub index: usize,
+    pub plan: &'a Plan,
 }
 
-impl<'a> Promise<Ended> for Loan<'a> {
-    ghost use Rattle.clients_core.specs.Clients.{IsGivenBack};
+impl<'a, T: SharedTable> Promise<Ended> for Loan<'a, T> {
+    ghost use Rattle.std.specs.Prelude.{◌+◌};
+    ghost use Rattle.clients_core.specs.Working.{HasEnded};
 
-    ghost kept_by = { λ loan ended. IsGivenBack loan.words.now ended };
+    ghost kept_by = { λ loan ended.
+        HasEnded (T.puts loan.table.now) (T.exports loan.table.now) loan.words.now (loan.index + 1) loan.plan.now ended };
 }
 
 /// A client's acts, with two seats: its driver has one, and its puts and looks are made with the other. Wherever it
@@ -47,7 +54,8 @@ fn work<R: Wait, T: SharedTable, G: Gate>(
     requires seats { IsSinglePart shared.now.words.now driving × IsSinglePart shared.now.words.now looking }
     requires client { (index < shared.now.words.now.contexts) × (index < CONTEXTS) }
     requires plan { IsPlan shared.now.words.now plan.now }
-    ensures { IsGivenBack shared.now.words.now result }
+    ensures { HasEnded (T.puts shared.now.table.now) (T.exports shared.now.table.now)
+        shared.now.words.now (index + 1) plan.now result }
 {
     let mut driver = match shared.words.driver(driving, Context::at(index)) {
         Ok(driver) => driver,
@@ -77,12 +85,14 @@ fn start<'s, E, R: Wait + Sync, T: SharedTable, G: Gate>(
     plan: &'s Plan,
     driving: Seat,
     looking: Seat,
-) -> Result<PromisedHandle<Ended, Loan<'s>>, Refusal>
+) -> Result<PromisedHandle<Ended, Loan<'s, T>>, Refusal>
     requires own { T.made_for shared.now.table.now ≡ shared.now.words.now }
     requires seats { IsSinglePart shared.now.words.now driving × IsSinglePart shared.now.words.now looking }
     requires client { (index < shared.now.words.now.contexts) × (index < CONTEXTS) }
     requires plan { IsPlan shared.now.words.now plan.now }
     ensures promise { IfOk result (λ worker. worker.promise.words.now ≡ shared.now.words.now) }
+    ensures table { IfOk result (λ worker. worker.promise.table.now ≡ shared.now.table.now) }
+    ensures plan { IfOk result (λ worker. (worker.promise.index ≡ index) × (worker.promise.plan.now ≡ plan.now)) }
     ensures refusals { IfErr result IsClientRefusal }
 {
     let Shared {
@@ -93,13 +103,19 @@ fn start<'s, E, R: Wait + Sync, T: SharedTable, G: Gate>(
         gate,
     } = *shared;
     let started = scope.spawn_with(
-        Loan { words },
+        Loan {
+            words,
+            table,
+            index,
+            plan,
+        },
         move || -> Ended
             requires own { T.made_for table.now ≡ words.now }
             requires seats { IsSinglePart words.now driving × IsSinglePart words.now looking }
             requires client { (index < words.now.contexts) × (index < CONTEXTS) }
             requires plan { IsPlan words.now plan.now }
-            ensures { IsGivenBack words.entry.now result }
+            ensures { HasEnded (T.puts table.entry.now) (T.exports table.entry.now)
+                words.entry.now (index + 1) plan.entry.now result }
         {
             let shared = Shared {
                 rt,
@@ -125,7 +141,7 @@ fn start_all<'s, E, R: Wait + Sync, T: SharedTable, G: Gate>(
     shared: &Shared<'s, R, T, G>,
     plans: &'s [Plan],
     all: &mut Seat,
-    workers: &mut Vec<PromisedHandle<Ended, Loan<'s>>>,
+    workers: &mut Vec<PromisedHandle<Ended, Loan<'s, T>>>,
 ) -> Result<(), Refusal>
     requires own { (T.made_for shared.now.table.now ≡ shared.now.words.now) × (all.old.words ≡ shared.now.words.now) }
     requires plans { ArePlans shared.now.words.now plans.now }
@@ -133,6 +149,8 @@ fn start_all<'s, E, R: Wait + Sync, T: SharedTable, G: Gate>(
     requires room { (vec_len workers.old ≡ 0) × (vec_capacity workers.old ≡ length plans.now) }
     ensures words { all.new.words ≡ all.old.words }
     ensures promises { All (IsWorkerOf shared.now.words.now) workers.new.items }
+    ensures plans { AreWorkers shared.now.table.now plans.now workers.new.items }
+    ensures all { OnOk result (length workers.new.items ≡ length plans.now) }
     ensures parts { OnOk result (all.new.parts + 2 * vec_len workers.new ≡ all.old.parts) }
     ensures refusals { IfErr result IsClientRefusal }
 {
@@ -146,16 +164,17 @@ fn start_all<'s, E, R: Wait + Sync, T: SharedTable, G: Gate>(
 }
 
 /// Joins the workers and takes their seats in. The refusal is that of the first that was refused.
-fn join_all<R: Threads>(
+fn join_all<R: Threads, T: SharedTable>(
     rt: &R,
     words: &Words,
-    workers: Vec<PromisedHandle<Ended, Loan<'_>>>,
+    workers: Vec<PromisedHandle<Ended, Loan<'_, T>>>,
     all: &mut Seat,
 ) -> Result<(), Refusal>
     requires own { all.old.words ≡ words.now }
     requires promises { All (IsWorkerOf words.now) workers.items }
     ensures words { all.new.words ≡ all.old.words }
     ensures parts { all.new.parts ≡ all.old.parts + 2 * vec_len workers.entry }
+    ensures worked { OnOk result (All (HasWorkedOff T.puts T.exports) workers.entry.items) }
     ensures refusals { IfErr result IsClientRefusal }
 {
     let mut answer = Ok(());
@@ -194,6 +213,8 @@ fn work_in<'s, E, R: Threads + Wait + Sync, T: SharedTable, G: Gate>(
     requires plans { ArePlans shared.now.words.now plans.now }
     requires parts { 2 * CONTEXTS < all.parts }
     ensures whole { IfOk result (λ seat. (seat.words ≡ all.words) × (seat.parts ≡ all.parts)) }
+    ensures worked { OnOk result (AreWorkedOff (T.puts shared.now.table.now) (T.exports shared.now.table.now)
+        shared.now.words.now plans.now) }
     ensures refusals { IfErr result IsClientRefusal }
 {
     let mut workers = Vec::with_capacity(shared.alloc, plans.len())?;
@@ -220,6 +241,7 @@ pub(crate) fn work_all<R: Threads + Wait + Sync, T: SharedTable, G: Gate>(
     requires plans { ArePlans words.now plans.now }
     requires parts { 2 * CONTEXTS < all.parts }
     ensures whole { IfOk result (λ seat. (seat.words ≡ all.words) × (seat.parts ≡ all.parts)) }
+    ensures worked { OnOk result (AreWorkedOff (T.puts table.now) (T.exports table.now) words.now plans.now) }
     ensures refusals { IfErr result IsClientRefusal }
 {
     thread::scope(
@@ -230,6 +252,8 @@ pub(crate) fn work_all<R: Threads + Wait + Sync, T: SharedTable, G: Gate>(
             requires plans { ArePlans words.now plans.now }
             requires parts { 2 * CONTEXTS < all.parts }
             ensures whole { IfOk result (λ seat. (seat.words ≡ all.words) × (seat.parts ≡ all.parts)) }
+            ensures worked { OnOk result (AreWorkedOff (T.puts table.entry.now) (T.exports table.entry.now)
+                words.entry.now plans.entry.now) }
             ensures refusals { IfErr result IsClientRefusal }
         {
             let shared = Shared {

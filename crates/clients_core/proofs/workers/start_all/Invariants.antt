@@ -1,5 +1,5 @@
 use Rattle.std.proofs.Common.{◌≡◌, ◌+◌, ◌*◌, All, length, vec_len, vec_capacity}
-use Rattle.clients_core.specs.Clients.{IsWorkerOf}
+use Rattle.clients_core.specs.Working.{AreWorkers, IsWorkerOf}
 use Rattle.clients_core.proofs.workers.start_all.Given as goal
 
 abbrev pub invariant-loop-index : goal.invariant-loop-index
@@ -9,4 +9,5 @@ invariant-loop-index g l = record {
   len : vec_len l.workers ≡ l.index;
   places : vec_capacity l.workers ≡ length l.plans;
   promises : All (IsWorkerOf l.shared.words.now) l.workers.items;
+  plans : AreWorkers l.shared.table.now l.plans l.workers.items;
 }
