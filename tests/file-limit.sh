@@ -21,6 +21,8 @@ merge f1 f1 z
 #= err 2 NoEntry
 merge f1 z f1
 #= err 2 NoEntry
+merge g f1 z
+#= err 2 NoEntry
 merge f1 f1 f2
 #= err 3 Exists
 buffer B
@@ -39,4 +41,17 @@ fence g a 1
 #= ok
 fence h a 1
 #= err 6 Limit files
+export h B read
+#= err 6 Limit files
+report
+#= ok $((files + 2))
 END
+row() {
+    printf '#= %-8s %-31s %20d%s\n' "$@"
+}
+row timeline a 0 ""
+for number in $(seq "$files"); do
+    [ "$number" -eq 5 ] || row file "f$number" 0 "   1"
+done
+row file g 0 "   1"
+row buffer B 0 ""

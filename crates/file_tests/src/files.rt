@@ -1,9 +1,9 @@
-// Sync files that are made, merged, adopted, reported and closed.
-use crate::values::{context, holds, name, numbered, point, reach_at};
-use point_core::{Items, LimitKind, Listing, Name, Point, Reach, Refusal};
+// Sync files that are made, merged, adopted and reported. What their commands show is in the scripts of tests/.
+use crate::values::{context, holds, name, point, reach_at};
+use point_core::{Items, Listing, Name, Point, Reach, Refusal};
 use std::alloc::Global;
 use std::process::Abort;
-use syncfile_core::{FILES, FenceInfo, Files, Status, SyncFile};
+use syncfile_core::{FenceInfo, Files, Status, SyncFile};
 
 const ACTIVE: Status = Status::Active;
 
@@ -30,10 +30,9 @@ fn create(rt: &impl Abort, files: &mut Files, bytes: &[u8], number: u16, value: 
         .expect(rt, "a new file");
 }
 
-/// Makes the files d, e, f and h at 2, 3, 5 and 7 of the first context, and g at 2 of the second.
-fn create_five(rt: &impl Abort, files: &mut Files) {
+/// Makes the files d, f and h at 2, 5 and 7 of the first context, and g at 2 of the second.
+fn create_four(rt: &impl Abort, files: &mut Files) {
     create(rt, files, b"d", 1, 2);
-    create(rt, files, b"e", 1, 3);
     create(rt, files, b"f", 1, 5);
     create(rt, files, b"g", 2, 2);
     create(rt, files, b"h", 1, 7);
@@ -42,19 +41,6 @@ fn create_five(rt: &impl Abort, files: &mut Files) {
 fn merge(rt: &impl Abort, files: &mut Files, made: &[u8], [a, b]: [&[u8]; 2], reach: &Reach) {
     let merged = files.merge(name(rt, made), &name(rt, a), &name(rt, b), reach);
     merged.expect(rt, "a merge");
-}
-
-fn refuses_merge(
-    rt: &impl Abort,
-    files: &mut Files,
-    made: Name,
-    [a, b]: [Name; 2],
-    refusal: Refusal,
-) {
-    holds(
-        rt,
-        files.merge(made, &a, &b, &Reach::zero()) == Err(refusal),
-    );
 }
 
 fn file<'a>(rt: &impl Abort, files: &'a Files, bytes: &[u8]) -> &'a SyncFile {
@@ -124,24 +110,6 @@ fn a_plain_file_has_one_point(rt: HostRuntime) {
     is_the_plain_file(&rt, &plain.expect(&rt, "memory"));
 }
 
-// Inputs that are not there are refused before the name.
-fn refuses_merges(rt: &impl Abort, files: &mut Files) {
-    let [f, g, x] = [name(rt, b"f"), name(rt, b"g"), name(rt, b"x")];
-    refuses_merge(rt, files, f, [g, x], Refusal::NoEntry);
-    refuses_merge(rt, files, f, [x, g], Refusal::NoEntry);
-    refuses_merge(rt, files, f, [g, f], Refusal::Exists);
-    has_names(rt, files, b"defgh");
-}
-
-fn merges_in_both_orders(rt: &impl Abort, files: &mut Files) {
-    let zero = Reach::zero();
-    let five = [fence(rt, 1, 5, ACTIVE)];
-    merge(rt, files, b"fe", [b"f", b"e"], &zero);
-    merge(rt, files, b"ef", [b"e", b"f"], &zero);
-    is_active(rt, files, b"fe", &zero, &five);
-    is_active(rt, files, b"ef", &zero, &five);
-}
-
 fn merges_to_the_stub(rt: &impl Abort, files: &mut Files) {
     let two = reach_at(rt, 2);
     merge(rt, files, b"dd", [b"d", b"d"], &two);
@@ -191,9 +159,7 @@ fn merges_many(rt: &impl Abort, files: &mut Files) {
 }
 
 fn merges(rt: &impl Abort, files: &mut Files) {
-    create_five(rt, files);
-    refuses_merges(rt, files);
-    merges_in_both_orders(rt, files);
+    create_four(rt, files);
     merges_to_the_stub(rt, files);
     merges_before_and_after(rt, files);
     merges_many(rt, files);
@@ -229,97 +195,10 @@ fn has_the_listing(rt: &impl Abort, files: &Files) {
     has_names(rt, files, b"fm");
 }
 
-fn has_status(rt: &impl Abort, files: &Files, name: &Name, value: u64, status: Status) {
-    holds(rt, files.status(name, &reach_at(rt, value)) == Ok(status));
-}
-
-fn has_no_status(rt: &impl Abort, files: &Files, name: &Name) {
-    holds(
-        rt,
-        files.status(name, &Reach::zero()) == Err(Refusal::NoEntry),
-    );
-}
-
-fn close(rt: &impl Abort, files: &mut Files, name: &Name) {
-    files.close(name).expect(rt, "a closed file");
-}
-
-fn is_not_free(rt: &impl Abort, files: &Files, name: &Name, refusal: Refusal) {
-    holds(rt, files.free(name) == Err(refusal));
-}
-
-fn is_signalled_and_closed(rt: &impl Abort, files: &mut Files) {
-    let m = name(rt, b"m");
-    is_not_free(rt, files, &m, Refusal::Exists);
-    has_status(rt, files, &m, 4, ACTIVE);
-    has_status(rt, files, &m, 5, SIGNALLED);
-    close(rt, files, &m);
-    files.free(&m).expect(rt, "a free name");
-    has_no_status(rt, files, &m);
-}
-
 #[test]
 fn files_are_created_and_adopted(rt: HostRuntime) {
     let mut files = Files::new(rt.alloc()).expect(&rt, "files");
     has_one_point(&rt, &mut files);
     adopt(&rt, rt.alloc(), &mut files);
     has_the_listing(&rt, &files);
-    is_signalled_and_closed(&rt, &mut files);
-}
-
-fn is_closed(rt: &impl Abort, files: &mut Files, name: &Name) {
-    holds(rt, files.close(name) == Err(Refusal::NoEntry));
-    holds(rt, files.get(name).is_none());
-}
-
-fn makes_again(rt: &impl Abort, files: &mut Files) {
-    let g = name(rt, b"g");
-    close(rt, files, &g);
-    has_names(rt, files, b"defh");
-    is_closed(rt, files, &g);
-    create(rt, files, b"g", 2, 9);
-    has_names(rt, files, b"defhg");
-    has_points(rt, files, b"g", &[point(rt, 2, 9)]);
-}
-
-#[test]
-fn a_name_closed_in_the_middle_goes_last_when_made_again(rt: HostRuntime) {
-    let mut files = Files::new(rt.alloc()).expect(&rt, "files");
-    create_five(&rt, &mut files);
-    makes_again(&rt, &mut files);
-}
-
-fn create_numbered(rt: &impl Abort, files: &mut Files, number: usize) {
-    let created = files.create(numbered(rt, number), point(rt, 1, 1));
-    created.expect(rt, "a new file");
-}
-
-fn creates_all(rt: &impl Abort, files: &mut Files) {
-    for number in 0..FILES {
-        create_numbered(rt, files, number);
-    }
-}
-
-fn is_full(rt: &impl Abort, files: &mut Files) {
-    let [first, second, new] = [numbered(rt, 0), numbered(rt, 1), name(rt, b"new")];
-    let full = Refusal::Limit(LimitKind::Files);
-    is_not_free(rt, files, &new, full);
-    refuses_merge(rt, files, new, [first, second], full);
-    refuses_merge(rt, files, new, [first, new], Refusal::NoEntry);
-    refuses_merge(rt, files, first, [first, second], Refusal::Exists);
-    close(rt, files, &second);
-    create(rt, files, b"new", 1, 1);
-    is_not_free(rt, files, &second, full);
-}
-
-fn number_of(rt: &impl Abort, files: &Files) -> usize {
-    files.names().expect(rt, "memory").len()
-}
-
-#[test]
-fn file_limit(rt: HostRuntime) {
-    let mut files = Files::new(rt.alloc()).expect(&rt, "files");
-    creates_all(&rt, &mut files);
-    is_full(&rt, &mut files);
-    holds(&rt, number_of(&rt, &files) == FILES);
 }

@@ -11,21 +11,6 @@ pub(crate) fn name(rt: &impl Abort, bytes: &[u8]) -> Name {
     Name::read(bytes).expect(rt, "a name")
 }
 
-fn digit(number: usize) -> u8 {
-    b'0' + (number % 10) as u8
-}
-
-/// The name of that number below 10000, in four digits.
-pub(crate) fn numbered(rt: &impl Abort, number: usize) -> Name {
-    let digits = [
-        digit(number / 1000),
-        digit(number / 100),
-        digit(number / 10),
-        digit(number),
-    ];
-    name(rt, &digits)
-}
-
 pub(crate) fn context(rt: &impl Abort, number: u16) -> Context {
     Context::new(number).expect(rt, "a context")
 }

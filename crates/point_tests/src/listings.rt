@@ -6,8 +6,10 @@ use std::process::Abort;
 
 type Rows = &'static [(u16, u64)];
 
+type Listed = (Rows, Rows, Rows);
+
 /// A reach, points, and what `canon` lists of them.
-const LISTED: [(Rows, Rows, Rows); 4] = [
+static LISTED: [Listed; 4] = [
     (&[], &[(1, 5), (1, 3), (2, 2)], &[(1, 5), (2, 2)]),
     (&[(1, 5)], &[(1, 5), (1, 3), (2, 2)], &[(2, 2)]),
     (&[], &[], &[]),
@@ -18,9 +20,13 @@ const LISTED: [(Rows, Rows, Rows); 4] = [
     ),
 ];
 
+fn listed() -> &'static [Listed] {
+    &LISTED
+}
+
 #[test]
 fn points_are_listed(rt: HostRuntime) {
-    for (reached, rows, listed) in LISTED {
+    for (reached, rows, listed) in listed() {
         let reach = reach_of(&rt, reached);
         lists(&rt, rt.alloc(), &reach, rows, listed);
     }

@@ -21,22 +21,28 @@ fn contexts_are_from_one_to_the_limit(rt: HostRuntime) {
     is_context(&rt, Context::at(CONTEXTS - 1), LAST_CONTEXT, CONTEXTS - 1);
 }
 
-fn is_reached(rt: &impl Abort, reach: &Reach, number: u16, value: u64) {
-    holds(rt, is_signalled(point(rt, number, value), reach));
-}
+type Signalled = (u16, u64, bool);
 
-fn is_pending(rt: &impl Abort, reach: &Reach, number: u16, value: u64) {
-    holds(rt, !is_signalled(point(rt, number, value), reach));
+/// Points beside the value 5 of the first context, and whether they are signalled.
+static SIGNALLED: [Signalled; 5] = [
+    (1, 0, true),
+    (1, 5, true),
+    (2, 0, true),
+    (1, 6, false),
+    (2, 1, false),
+];
+
+fn signalled() -> &'static [Signalled] {
+    &SIGNALLED
 }
 
 #[test]
 fn a_point_is_signalled_from_its_value_on(rt: HostRuntime) {
     let reach = reach_of(&rt, &[(1, 5)]);
-    is_reached(&rt, &reach, 1, 0);
-    is_reached(&rt, &reach, 1, 5);
-    is_reached(&rt, &reach, 2, 0);
-    is_pending(&rt, &reach, 1, 6);
-    is_pending(&rt, &reach, 2, 1);
+    for (number, value, wanted) in signalled() {
+        let is_signalled = is_signalled(point(&rt, *number, *value), &reach);
+        holds(&rt, is_signalled == *wanted);
+    }
 }
 
 /// Whether a writer's point 5 of the first context covers that entry.
@@ -49,43 +55,41 @@ fn is_covered(rt: &impl Abort, number: u16, value: u64, usage: Usage) -> bool {
     covers(by, Entry { point, usage })
 }
 
-fn covered(rt: &impl Abort, number: u16, value: u64, usage: Usage) {
-    holds(rt, is_covered(rt, number, value, usage));
-}
+type Covered = (u16, u64, Usage, bool);
 
-fn not_covered(rt: &impl Abort, number: u16, value: u64, usage: Usage) {
-    holds(rt, !is_covered(rt, number, value, usage));
+/// Entries, and whether that one covers them.
+static COVERED: [Covered; 6] = [
+    (1, 5, Usage::Write, true),
+    (1, 4, Usage::Bookkeep, true),
+    (1, 0, Usage::Read, true),
+    (1, 6, Usage::Read, false),
+    (1, 5, Usage::Kernel, false),
+    (2, 5, Usage::Write, false),
+];
+
+fn covered() -> &'static [Covered] {
+    &COVERED
 }
 
 #[test]
 fn covering_entries(rt: HostRuntime) {
-    covered(&rt, 1, 5, Usage::Write);
-    covered(&rt, 1, 4, Usage::Bookkeep);
-    covered(&rt, 1, 0, Usage::Read);
-    not_covered(&rt, 1, 6, Usage::Read);
-    not_covered(&rt, 1, 5, Usage::Kernel);
-    not_covered(&rt, 2, 5, Usage::Write);
-}
-
-fn has_number(rt: &impl Abort, usage: Usage, number: u8) {
-    holds(rt, usage.number() == number);
+    for (number, value, usage, wanted) in covered() {
+        holds(&rt, is_covered(&rt, *number, *value, *usage) == *wanted);
+    }
 }
 
 #[test]
 fn usages_have_the_kernels_numbers(rt: HostRuntime) {
-    has_number(&rt, Usage::Kernel, 0);
-    has_number(&rt, Usage::Write, 1);
-    has_number(&rt, Usage::Read, 2);
-    has_number(&rt, Usage::Bookkeep, 3);
+    for (usage, number) in [(Usage::Kernel, 0), (Usage::Write, 1), (Usage::Read, 2), (Usage::Bookkeep, 3)] {
+        holds(&rt, usage.number() == number);
+    }
 }
 
-fn is_status(rt: &impl Abort, is_signalled: bool, status: Status, number: u8) {
-    holds(rt, Status::of(is_signalled) == status);
-    holds(rt, status.number() == number);
+fn is_status(is_signalled: bool, status: Status, number: u8) -> bool {
+    Status::of(is_signalled) == status && status.number() == number
 }
 
 #[test]
 fn statuses_have_the_kernels_numbers(rt: HostRuntime) {
-    is_status(&rt, false, Status::Active, 0);
-    is_status(&rt, true, Status::Signalled, 1);
+    holds(&rt, is_status(false, Status::Active, 0) && is_status(true, Status::Signalled, 1));
 }

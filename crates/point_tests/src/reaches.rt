@@ -27,12 +27,13 @@ fn reaches_do_not_wrap(rt: HostRuntime) {
     would_wrap(&rt, &top, 1);
 }
 
-fn is_at_least(rt: &impl Abort, reach: &Reach, other: &Reach) {
-    holds(rt, reach.at_least(other));
-}
-
-fn falls_short_of(rt: &impl Abort, reach: &Reach, other: &Reach) {
-    holds(rt, !reach.at_least(other));
+/// Both are at least the one and the other, of which neither is at least the other.
+fn are_apart_below(both: &Reach, one: &Reach, other: &Reach) -> bool {
+    both.at_least(one)
+        && both.at_least(other)
+        && both.at_least(both)
+        && !one.at_least(other)
+        && !other.at_least(one)
 }
 
 #[test]
@@ -42,11 +43,7 @@ fn reaches_join(rt: HostRuntime) {
     let both = left.joined(&right);
     has_value(&rt, &both, 1, 5);
     has_value(&rt, &both, 2, 2);
-    is_at_least(&rt, &both, &left);
-    is_at_least(&rt, &both, &right);
-    is_at_least(&rt, &both, &both);
-    falls_short_of(&rt, &left, &right);
-    falls_short_of(&rt, &right, &left);
+    holds(&rt, are_apart_below(&both, &left, &right));
 }
 
 #[test]
@@ -58,25 +55,16 @@ fn a_reach_never_falls(rt: HostRuntime) {
     has_value(&rt, &reach, 2, 2);
 }
 
-fn goes_as_far_as(rt: &impl Abort, reach: &Reach, used: usize) {
-    holds(rt, reach.used() == used);
-}
-
 #[test]
 fn a_reach_goes_as_far_as_the_last_context_in_use(rt: HostRuntime) {
+    let none = Reach::zero();
     let reach = reach_of(&rt, &[(7, 1), (3, 9), (9, 0)]);
-    goes_as_far_as(&rt, &Reach::zero(), 0);
-    goes_as_far_as(&rt, &reach, 7);
-    goes_as_far_as(&rt, &Reach::zero().joined(&reach), 7);
-    holds(&rt, reach.joined(&Reach::zero()) == reach);
+    holds(&rt, none.used() == 0 && reach.used() == 7 && none.joined(&reach).used() == 7);
+    holds(&rt, reach.joined(&none) == reach);
 }
 
-fn is_floor_of(rt: &impl Abort, floor: &Floor, reach: &Reach) {
-    holds(rt, floor.to_reach() == *reach);
-    holds(
-        rt,
-        reach.at_least_floor(floor) && !Reach::zero().at_least_floor(floor),
-    );
+fn is_floor_of(floor: &Floor, reach: &Reach) -> bool {
+    floor.to_reach() == *reach && reach.at_least_floor(floor) && !Reach::zero().at_least_floor(floor)
 }
 
 fn joins_a_floor(rt: &impl Abort, floor: &Floor) {
@@ -90,7 +78,11 @@ fn joins_a_floor(rt: &impl Abort, floor: &Floor) {
 fn a_floor_is_the_reach_that_it_was_made_of(rt: HostRuntime) {
     let reach = reach_of(&rt, &[(7, 4)]);
     let floor = Floor::of(rt.alloc(), &reach).expect(&rt, "memory");
-    is_floor_of(&rt, &floor, &reach);
+    holds(&rt, is_floor_of(&floor, &reach));
     joins_a_floor(&rt, &floor);
+}
+
+#[test]
+fn a_floor_of_nothing(rt: HostRuntime) {
     holds(&rt, Floor::zero(rt.alloc()).to_reach() == Reach::zero());
 }

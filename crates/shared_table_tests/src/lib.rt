@@ -1,4 +1,4 @@
-//! Tests of the tables that clients share, and of tables that wrap one.
+//! Tests of the tables that clients share, and of a table that wraps one.
 #![tactic(auto)]
 
 #[cfg(test)]

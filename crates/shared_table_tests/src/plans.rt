@@ -27,9 +27,9 @@ pub(crate) fn plans_of(rt: &impl Abort, alloc: Global, clients: &[&[Act]]) -> Ve
     plans
 }
 
-/// The plan of one client, which puts a point into the first buffer.
+/// The plan of one client, which puts a point into the first buffer of two.
 pub(crate) fn plan_of_a_put(rt: &impl Abort, alloc: Global) -> Vec<Plan>
-    ensures within { ArePlansWithin 1 1 result.items }
+    ensures within { ArePlansWithin 1 2 result.items }
     ensures count { vec_len result ≡ 1 }
 {
     let ctx = Context::at(0);

@@ -13,8 +13,7 @@ use words_core::{Seat, Whole, Words};
 
 /// Checks that these points are listed, and above which values.
 fn check_listing(rt: &impl Abort, listing: &Listing, floor: &Reach, points: &[Point]) {
-    assert!(rt; listing.floor == *floor);
-    assert!(rt; listing.points.as_slice() == points);
+    assert!(rt; listing.floor == *floor && listing.points.as_slice() == points);
 }
 
 /// Checks a look at a buffer, which lists these points.
@@ -88,25 +87,6 @@ fn check_export<R: Wait + Abort, T: SharedTable>(
     check_listing(rt, &listing, &Reach::zero(), points);
 }
 
-/// Checks a put into an empty table, and looks for other usages.
-fn check_table<R: Wait + Abort, T: SharedTable>(
-    rt: &R,
-    alloc: Global,
-    table: &T,
-    words: &Words,
-    seat: &mut Seat,
-)
-    requires own { (seat.old.words ≡ words.now) × (T.made_for table.now ≡ words.now) }
-    requires sizes { (words.now.contexts ≡ 1) × (words.now.buffers ≡ 1) }
-    ensures same { (seat.new.words ≡ seat.old.words) × (seat.new.parts ≡ seat.old.parts) }
-{
-    table
-        .put(rt, alloc, words, seat, 0, point(4), Usage::Read)
-        .expect(rt, "a put");
-    check_export::<R, T>(rt, alloc, table, words, seat, 0, Usage::Write, &[]);
-    check_export::<R, T>(rt, alloc, table, words, seat, 0, Usage::Read, &[point(4)]);
-}
-
 /// The seat with all parts.
 fn gathered(rt: &impl Abort, seat: Seat) -> Whole
     ensures words { result.words ≡ seat.words }
@@ -126,8 +106,8 @@ fn check_unsettled<R: Wait + Abort, T: SharedTable>(
     plans: &[Plan],
 )
     requires own { all.old.words ≡ words.now }
-    requires sizes { (words.now.contexts ≡ 1) × (words.now.buffers ≡ 1) }
-    requires within { ArePlansWithin 1 1 plans.now }
+    requires sizes { (words.now.contexts ≡ 1) × (words.now.buffers ≡ 2) }
+    requires within { ArePlansWithin 1 2 plans.now }
     requires count { length plans.now ≡ 1 }
 {
     let table = T::empty(alloc, words).expect(rt, "a table");
@@ -138,7 +118,7 @@ fn check_unsettled<R: Wait + Abort, T: SharedTable>(
     );
 }
 
-/// Checks a put into a new table, and looks.
+/// Checks a put into the second buffer of a new table, which shows there alone.
 fn check_new_table<R: Wait + Abort, T: SharedTable>(
     rt: &R,
     alloc: Global,
@@ -146,20 +126,30 @@ fn check_new_table<R: Wait + Abort, T: SharedTable>(
     seat: &mut Seat,
 )
     requires own { seat.old.words ≡ words.now }
-    requires sizes { (words.now.contexts ≡ 1) × (words.now.buffers ≡ 1) }
+    requires sizes { (words.now.contexts ≡ 1) × (words.now.buffers ≡ 2) }
     ensures same { (seat.new.words ≡ seat.old.words) × (seat.new.parts ≡ seat.old.parts) }
 {
     let table = T::empty(alloc, words).expect(rt, "a table");
-    check_table::<R, T>(rt, alloc, &table, words, seat);
+    let put = table.put(rt, alloc, words, seat, 1, point(4), Usage::Read);
+    put.expect(rt, "a put");
+    check_export::<R, T>(rt, alloc, &table, words, seat, 1, Usage::Read, &[point(4)]);
+    check_export::<R, T>(rt, alloc, &table, words, seat, 1, Usage::Write, &[]);
+    check_export::<R, T>(rt, alloc, &table, words, seat, 0, Usage::Bookkeep, &[]);
 }
 
-/// Checks tables of one buffer and one context.
+/// Checks tables of two buffers and one context.
 fn check_tables<R: Wait + Abort, T: SharedTable>(rt: &R, alloc: Global) {
     let plans = plan_of_a_put(rt, alloc);
-    let (words, mut seat) = Words::new(alloc, 1, 1, 0).expect(rt, "words");
+    let (words, mut seat) = Words::new(alloc, 1, 2, 0).expect(rt, "words");
     check_new_table::<R, T>(rt, alloc, &words, &mut seat);
     let mut all = gathered(rt, seat);
     check_unsettled::<R, T>(rt, alloc, &words, &mut all, plans.as_slice());
+}
+
+#[test]
+fn tables_of_two_buffers(rt: HostRuntime) {
+    check_tables::<HostRuntime, LockedTable>(&rt, rt.alloc());
+    check_tables::<HostRuntime, Board>(&rt, rt.alloc());
 }
 
 /// Checks a look at a board of one buffer, by the board's own call, which lists these points. Nothing is signalled.
@@ -199,42 +189,4 @@ fn check_board(rt: &impl Abort, alloc: Global, words: &Words, seat: &mut Seat)
 fn a_board_of_one_buffer(rt: HostRuntime) {
     let (words, mut seat) = Words::new(rt.alloc(), 1, 1, 0).expect(&rt, "words");
     check_board(&rt, rt.alloc(), &words, &mut seat);
-}
-
-#[test]
-fn tables_of_one_buffer(rt: HostRuntime) {
-    check_tables::<HostRuntime, LockedTable>(&rt, rt.alloc());
-    check_tables::<HostRuntime, Board>(&rt, rt.alloc());
-}
-
-/// Checks a put into the second buffer of an empty table, which shows there alone.
-fn check_second<R: Wait + Abort, T: SharedTable>(
-    rt: &R,
-    alloc: Global,
-    table: &T,
-    words: &Words,
-    seat: &mut Seat,
-)
-    requires own { (seat.old.words ≡ words.now) × (T.made_for table.now ≡ words.now) }
-    requires sizes { (words.now.contexts ≡ 1) × (words.now.buffers ≡ 2) }
-{
-    table
-        .put(rt, alloc, words, seat, 1, point(4), Usage::Read)
-        .expect(rt, "a put");
-    check_export::<R, T>(rt, alloc, table, words, seat, 1, Usage::Read, &[point(4)]);
-    check_export::<R, T>(rt, alloc, table, words, seat, 1, Usage::Write, &[]);
-    check_export::<R, T>(rt, alloc, table, words, seat, 0, Usage::Bookkeep, &[]);
-}
-
-/// Checks a table of two buffers.
-fn check_two<R: Wait + Abort, T: SharedTable>(rt: &R, alloc: Global) {
-    let (words, mut seat) = Words::new(alloc, 1, 2, 0).expect(rt, "words");
-    let table = T::empty(alloc, &words).expect(rt, "a table");
-    check_second::<R, T>(rt, alloc, &table, &words, &mut seat);
-}
-
-#[test]
-fn tables_of_two_buffers(rt: HostRuntime) {
-    check_two::<HostRuntime, LockedTable>(&rt, rt.alloc());
-    check_two::<HostRuntime, Board>(&rt, rt.alloc());
 }

@@ -1,4 +1,4 @@
-// Tables round the one under locks: what a run does with its table.
+// A table round the one under locks: what a run does with its table.
 ghost use Rattle.std.specs.Prelude.{◌≡◌, ◌<◌, IfErr};
 ghost use Rattle.point_core.specs.declared.refusal.Refusal.TheVariants as refusal;
 
@@ -13,22 +13,22 @@ use std::sync::{Mutex, Wait};
 use std::thread::Threads;
 use words_core::{Seat, Whole, Words};
 
-/// Records each put that its table has accepted.
+/// Records each put that its table has accepted. It lists nothing for `Bookkeep`, and never settles the plan of a client alone.
 #[derive(Drop)]
-struct RecordingTable {
+struct OddTable {
     table: LockedTable,
     puts: Mutex<Vec<Entry>>,
 }
 
-impl SharedTable for RecordingTable {
-    ghost made_for = { λ recording. recording.table };
+impl SharedTable for OddTable {
+    ghost made_for = { λ odd. odd.table };
 
-    ghost puts = { λ recording buffer e before after answer. Unit {0} };
+    ghost puts = { λ odd buffer e before after answer. Unit {0} };
 
-    ghost exports = { λ recording buffer usage before after answer. Unit {0} };
+    ghost exports = { λ odd buffer usage before after answer. Unit {0} };
 
-    fn empty(alloc: Global, words: &Words) -> Result<RecordingTable, Refusal> {
-        Ok(RecordingTable {
+    fn empty(alloc: Global, words: &Words) -> Result<OddTable, Refusal> {
+        Ok(OddTable {
             table: LockedTable::empty(alloc, words)?,
             puts: Mutex::new(Vec::new(alloc)),
         })
@@ -59,128 +59,11 @@ impl SharedTable for RecordingTable {
         buffer: usize,
         usage: Usage,
     ) -> Result<Listing, Refusal> {
-        self.table.export(rt, alloc, words, seat, buffer, usage)
-    }
-
-    fn settle<R: Wait>(
-        &self,
-        rt: &R,
-        alloc: Global,
-        words: &Words,
-        all: &mut Whole,
-        plans: &[Plan],
-    ) -> Result<Settled, Refusal> {
-        self.table.settle(rt, alloc, words, all, plans)
-    }
-}
-
-fn record(puts: &mut Vec<Entry>, entry: Entry) -> Result<(), Refusal>
-    ensures { IfErr result (λ e. e ≡ refusal.Memory) }
-{
-    puts.reserve(1)?;
-    puts.push_reserved(entry);
-    Ok(())
-}
-
-/// Never settles.
-#[derive(Drop)]
-struct TornTable {
-    table: LockedTable,
-}
-
-impl SharedTable for TornTable {
-    ghost made_for = { λ torn. torn.table };
-
-    ghost puts = { λ torn buffer e before after answer. Unit {0} };
-
-    ghost exports = { λ torn buffer usage before after answer. Unit {0} };
-
-    fn empty(alloc: Global, words: &Words) -> Result<TornTable, Refusal> {
-        Ok(TornTable {
-            table: LockedTable::empty(alloc, words)?,
-        })
-    }
-
-    fn put<R: Wait>(
-        &self,
-        rt: &R,
-        alloc: Global,
-        words: &Words,
-        seat: &mut Seat,
-        buffer: usize,
-        point: Point,
-        usage: Usage,
-    ) -> Result<(), Refusal> {
-        self.table.put(rt, alloc, words, seat, buffer, point, usage)
-    }
-
-    fn export<R: Wait>(
-        &self,
-        rt: &R,
-        alloc: Global,
-        words: &Words,
-        seat: &mut Seat,
-        buffer: usize,
-        usage: Usage,
-    ) -> Result<Listing, Refusal> {
-        self.table.export(rt, alloc, words, seat, buffer, usage)
-    }
-
-    fn settle<R: Wait>(
-        &self,
-        rt: &R,
-        alloc: Global,
-        words: &Words,
-        all: &mut Whole,
-        plans: &[Plan],
-    ) -> Result<Settled, Refusal> {
-        self.table.settle(rt, alloc, words, all, plans)?;
-        Err(Refusal::Torn)
-    }
-}
-
-/// Lists nothing.
-#[derive(Drop)]
-struct BlindTable {
-    table: LockedTable,
-}
-
-impl SharedTable for BlindTable {
-    ghost made_for = { λ blind. blind.table };
-
-    ghost puts = { λ blind buffer e before after answer. Unit {0} };
-
-    ghost exports = { λ blind buffer usage before after answer. Unit {0} };
-
-    fn empty(alloc: Global, words: &Words) -> Result<BlindTable, Refusal> {
-        Ok(BlindTable {
-            table: LockedTable::empty(alloc, words)?,
-        })
-    }
-
-    fn put<R: Wait>(
-        &self,
-        rt: &R,
-        alloc: Global,
-        words: &Words,
-        seat: &mut Seat,
-        buffer: usize,
-        point: Point,
-        usage: Usage,
-    ) -> Result<(), Refusal> {
-        self.table.put(rt, alloc, words, seat, buffer, point, usage)
-    }
-
-    fn export<R: Wait>(
-        &self,
-        rt: &R,
-        alloc: Global,
-        words: &Words,
-        seat: &mut Seat,
-        buffer: usize,
-        usage: Usage,
-    ) -> Result<Listing, Refusal> {
+        let lists_nothing = matches!(usage, Usage::Bookkeep);
         let listing = self.table.export(rt, alloc, words, seat, buffer, usage)?;
+        if !lists_nothing {
+            return Ok(listing);
+        }
         let Listing { points: _, floor } = listing;
         Ok(Listing {
             points: Items::of(Vec::new(alloc)),
@@ -196,65 +79,84 @@ impl SharedTable for BlindTable {
         all: &mut Whole,
         plans: &[Plan],
     ) -> Result<Settled, Refusal> {
-        self.table.settle(rt, alloc, words, all, plans)
+        let settled = self.table.settle(rt, alloc, words, all, plans)?;
+        if plans.len() == 1 {
+            return Err(Refusal::Torn);
+        }
+        Ok(settled)
     }
 }
 
-/// A client that puts a point of its own timeline, and looks.
-fn acts_of(place: usize) -> [Act; 2]
+fn record(puts: &mut Vec<Entry>, entry: Entry) -> Result<(), Refusal>
+    ensures { IfErr result (λ e. e ≡ refusal.Memory) }
+{
+    puts.reserve(1)?;
+    puts.push_reserved(entry);
+    Ok(())
+}
+
+/// A client that puts a point of its own timeline, and looks at the usage.
+fn acts_of(place: usize, usage: Usage) -> [Act; 2]
     requires few { place < 2 }
 {
     let ctx = Context::at(place);
     [
         Act::Put(0, Point { ctx, value: 4 }, Usage::Read),
-        Act::Look(0, Usage::Read),
+        Act::Look(0, usage),
     ]
 }
 
-/// Checks that these are the puts of two clients, in one order or the other.
-fn check_puts(rt: &impl Abort, puts: &[Entry]) {
-    assert!(rt; puts.len() == 2);
-    for place in 0..2usize {
-        let ctx = Context::at(place);
-        let put = Entry {
-            point: Point { ctx, value: 4 },
-            usage: Usage::Read,
-        };
-        assert!(rt; puts.contains(&put));
+/// The plans of two clients, which look at the usage.
+fn plans_of_two(rt: &impl Abort, alloc: Global, usage: Usage) -> Vec<Plan> {
+    plans_of(rt, alloc, &[&acts_of(0, usage), &acts_of(1, usage)])
+}
+
+/// The put of a client.
+fn put_of(place: usize) -> Entry
+    requires few { place < 2 }
+{
+    let ctx = Context::at(place);
+    Entry {
+        point: Point { ctx, value: 4 },
+        usage: Usage::Read,
     }
 }
 
+/// Whether these are the puts of two clients, in one order or the other.
+fn are_puts_of_two(puts: &[Entry]) -> bool {
+    puts.len() == 2 && puts.contains(&put_of(0)) && puts.contains(&put_of(1))
+}
+
 /// The puts that a table has recorded.
-fn puts_of(table: RecordingTable) -> Vec<Entry> {
-    let RecordingTable { table: _, puts } = table;
+fn puts_of(table: OddTable) -> Vec<Entry> {
+    let OddTable { table: _, puts } = table;
     puts.into_inner()
 }
 
 /// Checks that the table of two clients has recorded the puts of both.
 fn check_recorded<R: Threads + Wait + Abort + Sync>(rt: &R, alloc: Global, plans: &[Plan]) {
-    let (_, table) = run_clients::<R, RecordingTable, OpenGate>(
+    let (_, table) = run_clients::<R, OddTable, OpenGate>(
         rt, alloc, 1, plans, &OpenGate,
     ).expect(rt, "a settled table");
-    check_puts(rt, puts_of(table).as_slice());
+    assert!(rt; are_puts_of_two(puts_of(table).as_slice()));
 }
 
 #[test]
 fn every_put_reaches_the_table(rt: HostRuntime) {
-    let plans = plans_of(&rt, rt.alloc(), &[&acts_of(0), &acts_of(1)]);
+    let plans = plans_of_two(&rt, rt.alloc(), Usage::Read);
     check_recorded(&rt, rt.alloc(), plans.as_slice());
 }
 
-/// Checks that one client against the table is refused as `Torn`.
-fn check_torn<R: Threads + Wait + Abort + Sync, T: SharedTable>(rt: &R, alloc: Global) {
-    let plans = plans_of(rt, alloc, &[&acts_of(0)]);
-    let refused = run_clients::<R, T, OpenGate>(rt, alloc, 1, plans.as_slice(), &OpenGate);
+/// Checks that clients against the table are refused as `Torn`.
+fn check_torn<R: Threads + Wait + Abort + Sync>(rt: &R, alloc: Global, plans: &[Plan]) {
+    let refused = run_clients::<R, OddTable, OpenGate>(rt, alloc, 1, plans, &OpenGate);
     check_refused(rt, refused, Refusal::Torn);
 }
 
 #[test]
-fn tables_that_never_settle_or_list_nothing(rt: HostRuntime) {
-    check_torn::<HostRuntime, TornTable>(&rt, rt.alloc());
-    check_torn::<HostRuntime, BlindTable>(&rt, rt.alloc());
+fn a_table_that_never_settles(rt: HostRuntime) {
+    let plans = plans_of(&rt, rt.alloc(), &[&acts_of(0, Usage::Read)]);
+    check_torn(&rt, rt.alloc(), plans.as_slice());
 }
 
 /// Closed to one client, and counts the acts that were left.
@@ -287,14 +189,15 @@ fn check_least<R: Threads + Wait + Abort + Sync>(
         client: closed,
         left: AtomicUsize::new(0),
     };
-    let refused = run_clients::<R, BlindTable, ClosedTo>(rt, alloc, 1, plans, &gate);
+    let refused = run_clients::<R, OddTable, ClosedTo>(rt, alloc, 1, plans, &gate);
     check_refused(rt, refused, wanted);
     assert!(rt; gate.left.load(Ordering::SeqCst) == 2);
 }
 
 #[test]
-fn the_client_of_the_least_number_is_refused(rt: HostRuntime) {
-    let plans = plans_of(&rt, rt.alloc(), &[&acts_of(0), &acts_of(1)]);
+fn a_table_that_lists_nothing(rt: HostRuntime) {
+    let plans = plans_of_two(&rt, rt.alloc(), Usage::Bookkeep);
+    check_torn(&rt, rt.alloc(), plans.as_slice());
     check_least(&rt, rt.alloc(), plans.as_slice(), 1, Refusal::TimedOut);
     check_least(&rt, rt.alloc(), plans.as_slice(), 2, Refusal::Torn);
 }
