@@ -1,0 +1,32 @@
+-- The command line that the program takes.
+use Rattle.std.specs.Prelude.{ℕ, List, [], ◌∷◌, Some, true, codes, pos}
+use Rattle.clap.specs.Words.{App, Rule, Text, new_app, new_rule, with_rule, with_subcommand}
+use Rattle.clap.specs.declared.builder.ArgAction.TheVariants.{SetTrue}
+use Rattle.clap.specs.declared.builder.value_parser.ValueParser.TheVariants as parser
+use Rattle.clients_core.specs.declared.plans.TheConstants.{CLIENTS}
+use Rattle.clients_core.specs.declared.rounds.TheConstants.{ROUNDS}
+
+abbrev pub file_rule : Rule
+file_rule = record (new_rule (codes "FILE")) { defaults = codes "-" ∷ [] }
+
+abbrev pub number_rule : Text → ℕ → Rule
+number_rule name most = record (new_rule name) { required = true; parser = Some (parser.Signed (pos 1) (pos most)) }
+
+abbrev pub locks_rule : Rule
+locks_rule = record (new_rule (codes "locks")) { long = Some (codes "locks"); action = Some SetTrue }
+
+-- a subcommand that takes a file
+abbrev pub script_app : Text → App
+script_app word = with_rule (new_app word) file_rule
+
+abbrev pub clients_app : App
+clients_app = with_rule (with_rule (with_rule (new_app (codes "clients"))
+    (number_rule (codes "N") CLIENTS)) (number_rule (codes "ROUNDS") ROUNDS)) locks_rule
+
+-- without its subcommands
+abbrev pub program_app : App
+program_app = record (new_app (codes "fencectl")) { top = record (new_app (codes "fencectl")).top { has_version = true } }
+
+abbrev pub fencectl : App
+fencectl = with_subcommand (with_subcommand (with_subcommand (with_subcommand program_app
+    (script_app (codes "run")).top) (script_app (codes "check")).top) (script_app (codes "explain")).top) clients_app.top
