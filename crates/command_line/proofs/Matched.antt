@@ -1,7 +1,7 @@
 -- What is read of a command line's matches.
-use Rattle.std.proofs.Common.{ℕ, List, Option, Some, None, Result, Ok, Err, Bor, ap, ◌∙◌, sym, refl, ◌≡◌, ◌≤◌, option_map, unwrap_or, arith}
+use Rattle.std.proofs.Common.{ℕ, List, Option, Some, None, Result, Ok, Bor, ap, ◌∙◌, refl, ◌≡◌, ◌≤◌, option_map, unwrap_or, arith}
 use Rattle.std.specs.Str.Parse.{ParsesUnsigned}
-use Rattle.clap.specs.Words.{ReadsOne, Text, first_of, first_value, found_of, one_of, one_text, rows_of}
+use Rattle.clap.specs.Words.{ReadsOne, Text, first_of, first_value, one_of, one_text, rows_of}
 use Rattle.clap.specs.declared.parser.matches.Found.{Found}
 use Rattle.clap.proofs.WalkLemmas.{first_value-rows, one_text-rows}
 use Rattle.command_line.specs.Asked.{file_named, number_named}

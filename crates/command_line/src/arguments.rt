@@ -1,4 +1,12 @@
 // The command line.
+ghost use Rattle.std.specs.Prelude.{◌≡◌, IfOk, codes, false, map, string_bytes};
+ghost use Rattle.clap.specs.Words.{rule_of, subcommand_of, subcommand_rows_of};
+ghost use Rattle.clients_core.specs.declared.plans.TheConstants.{CLIENTS};
+ghost use Rattle.clients_core.specs.declared.rounds.TheConstants.{ROUNDS};
+ghost use Rattle.command_line.specs.Words.{
+    Adds, IsApp, clients_app, fencectl, file_rule, locks_rule, number_rule, program_app, script_app,
+};
+
 use clap::{Arg, ArgAction, ArgMatches, Command, Error, value_parser};
 use clients_core::{CLIENTS, ROUNDS};
 use std::alloc::{AllocError, Global};
@@ -100,14 +108,19 @@ pub(crate) const LOCKS: &str = "locks";
 /// What the words of the command line match. The first of them is the program's own.
 ///
 /// The error has its kind where memory was refused.
-pub(crate) fn matches_of<'a>(alloc: Global, words: &'a [String]) -> Result<ArgMatches<'a>, Error> {
+pub(crate) fn matches_of<'a>(alloc: Global, words: &'a [String]) -> Result<ArgMatches<'a>, Error>
+    ensures matches { IfOk result (λ matches. subcommand_rows_of matches
+        ≡ subcommand_of fencectl (map string_bytes words.entry.now)) }
+{
     let command = command(alloc)?;
     command.try_get_matches_from(words)
 }
 
 /// The program's command line: `run`, `check` or `explain`, with a file or without, or nothing to run the script of standard
 /// input; or `clients` with two numbers.
-fn command<'a>(alloc: Global) -> Result<Command<'a>, AllocError> {
+fn command<'a>(alloc: Global) -> Result<Command<'a>, AllocError>
+    ensures { IfOk result (IsApp fencectl) }
+{
     let command = with(program(alloc)?, run(alloc))?;
     let command = with(command, check(alloc))?;
     let command = with(command, explain(alloc))?;
@@ -118,12 +131,16 @@ fn command<'a>(alloc: Global) -> Result<Command<'a>, AllocError> {
 fn with<'a>(
     command: Command<'a>,
     subcommand: Result<Command<'a>, AllocError>,
-) -> Result<Command<'a>, AllocError> {
+) -> Result<Command<'a>, AllocError>
+    ensures { IfOk result (Adds command.entry subcommand.entry) }
+{
     command.subcommand(subcommand?)
 }
 
 /// The program without its subcommands.
-fn program<'a>(alloc: Global) -> Result<Command<'a>, AllocError> {
+fn program<'a>(alloc: Global) -> Result<Command<'a>, AllocError>
+    ensures { IfOk result (IsApp program_app) }
+{
     let command = Command::new(alloc, PROGRAM)
         .version(VERSION)
         .about(ABOUT)
@@ -137,31 +154,42 @@ fn help() -> &'static str {
     HELP
 }
 
-fn run<'a>(alloc: Global) -> Result<Command<'a>, AllocError> {
+fn run<'a>(alloc: Global) -> Result<Command<'a>, AllocError>
+    ensures { IfOk result (IsApp (script_app (codes "run"))) }
+{
     Command::new(alloc, RUN).about(RUN_ABOUT).arg(file(alloc))
 }
 
-fn check<'a>(alloc: Global) -> Result<Command<'a>, AllocError> {
+fn check<'a>(alloc: Global) -> Result<Command<'a>, AllocError>
+    ensures { IfOk result (IsApp (script_app (codes "check"))) }
+{
     Command::new(alloc, CHECK)
         .about(CHECK_ABOUT)
         .arg(file(alloc))
 }
 
-fn explain<'a>(alloc: Global) -> Result<Command<'a>, AllocError> {
+fn explain<'a>(alloc: Global) -> Result<Command<'a>, AllocError>
+    ensures { IfOk result (IsApp (script_app (codes "explain"))) }
+{
     Command::new(alloc, EXPLAIN)
         .about(EXPLAIN_ABOUT)
         .arg(file(alloc))
 }
 
 /// The file of a script.
-fn file<'a>(alloc: Global) -> Arg<'a> {
+fn file<'a>(alloc: Global) -> Arg<'a>
+    ensures rule { rule_of result ≡ file_rule }
+    ensures local { result.global ≡ false }
+{
     Arg::new(alloc, FILE)
         .default_value(STANDARD_INPUT)
         .help("The script's file, or - for standard input")
 }
 
 /// `clients`, its two numbers and its table.
-fn clients<'a>(alloc: Global) -> Result<Command<'a>, AllocError> {
+fn clients<'a>(alloc: Global) -> Result<Command<'a>, AllocError>
+    ensures { IfOk result (IsApp clients_app) }
+{
     let command = Command::new(alloc, CLIENTS_WORD).about(CLIENTS_ABOUT);
     command
         .arg(count(alloc))?
@@ -170,7 +198,10 @@ fn clients<'a>(alloc: Global) -> Result<Command<'a>, AllocError> {
 }
 
 /// The number of clients.
-fn count<'a>(alloc: Global) -> Arg<'a> {
+fn count<'a>(alloc: Global) -> Arg<'a>
+    ensures rule { rule_of result ≡ number_rule (codes "N") CLIENTS }
+    ensures local { result.global ≡ false }
+{
     Arg::new(alloc, COUNT)
         .required(true)
         .value_parser(value_parser!(u16).range(1..=CLIENTS as i64))
@@ -178,7 +209,10 @@ fn count<'a>(alloc: Global) -> Arg<'a> {
 }
 
 /// The number of rounds.
-fn rounds<'a>(alloc: Global) -> Arg<'a> {
+fn rounds<'a>(alloc: Global) -> Arg<'a>
+    ensures rule { rule_of result ≡ number_rule (codes "ROUNDS") ROUNDS }
+    ensures local { result.global ≡ false }
+{
     Arg::new(alloc, ROUNDS_WORD)
         .required(true)
         .value_parser(value_parser!(u16).range(1..=ROUNDS as i64))
@@ -186,7 +220,10 @@ fn rounds<'a>(alloc: Global) -> Arg<'a> {
 }
 
 /// The flag that asks for buffers under locks.
-fn locks<'a>(alloc: Global) -> Arg<'a> {
+fn locks<'a>(alloc: Global) -> Arg<'a>
+    ensures rule { rule_of result ≡ locks_rule }
+    ensures local { result.global ≡ false }
+{
     Arg::new(alloc, LOCKS)
         .long(LOCKS)
         .action(ArgAction::SetTrue)

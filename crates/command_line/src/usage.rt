@@ -1,5 +1,10 @@
 // The words of the command line: what they ask for, and what is printed where they ask for nothing.
 
+ghost use Rattle.std.specs.Prelude.{◌≡◌, IfOk, IfSome, map, string_bytes};
+ghost use Rattle.clap.specs.Words.{subcommand_of};
+ghost use Rattle.command_line.specs.Asked.{asked_by, asked_of};
+ghost use Rattle.command_line.specs.Words.{fencectl};
+
 use crate::action::Action;
 use crate::arguments::matches_of;
 use crate::asked::action_by;
@@ -18,7 +23,10 @@ pub fn action_of<'a>(
     rt: &(impl Print + Eprint),
     alloc: Global,
     words: &'a [String],
-) -> Result<Action<'a>, Refusal> {
+) -> Result<Action<'a>, Refusal>
+    ensures asked { IfOk result (λ action. IfSome (asked_of action) (λ asked. asked
+        ≡ asked_by (subcommand_of fencectl (map string_bytes words.entry.now)))) }
+{
     match matches_of(alloc, words) {
         Ok(matches) => action_by(&matches),
         Err(error) => Ok(Action::End(tell_error(rt, &error)?)),
