@@ -1,2 +1,4 @@
+pub mod Asked
 pub mod Clients
 pub mod Fault
+pub mod Words

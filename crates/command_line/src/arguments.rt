@@ -1,11 +1,14 @@
 // The command line.
-ghost use Rattle.std.specs.Prelude.{◌≤◌, IfOk};
+ghost use Rattle.std.specs.Prelude.{◌≡◌, IfOk, codes, false, map, string_bytes};
+ghost use Rattle.clap.specs.Words.{rule_of, subcommand_of, subcommand_rows_of};
 ghost use Rattle.clients_core.specs.declared.plans.TheConstants.{CLIENTS};
 ghost use Rattle.clients_core.specs.declared.rounds.TheConstants.{ROUNDS};
+ghost use Rattle.command_line.specs.Words.{
+    Adds, IsApp, clients_app, fencectl, file_rule, locks_rule, number_rule, program_app, script_app,
+};
 
 use clap::{Arg, ArgAction, ArgMatches, Command, Error, value_parser};
 use clients_core::{CLIENTS, ROUNDS};
-use point_core::{LimitKind, Refusal};
 use std::alloc::{AllocError, Global};
 
 const PROGRAM: &str = "fencectl";
@@ -71,59 +74,53 @@ Examples:
 ";
 
 /// The word for standard input, in the place of a file's name.
-pub const STANDARD_INPUT: &str = "-";
+pub(crate) const STANDARD_INPUT: &str = "-";
 
-const FILE: &str = "FILE";
+pub(crate) const FILE: &str = "FILE";
 
 const RUN: &str = "run";
 
 const RUN_ABOUT: &str =
     "Runs the script of a file; without one that of standard input, as no word at all does";
 
-const CHECK: &str = "check";
+pub(crate) const CHECK: &str = "check";
 
 const CHECK_ABOUT: &str =
     "Runs a script, and compares its answers with those that its notes expect";
 
-const EXPLAIN: &str = "explain";
+pub(crate) const EXPLAIN: &str = "explain";
 
 const EXPLAIN_ABOUT: &str = "Runs a script, and tells on standard error why lines were refused";
 
 /// The word for a run of clients, and the numbers that follow it.
-const CLIENTS_WORD: &str = "clients";
+pub(crate) const CLIENTS_WORD: &str = "clients";
 
 const CLIENTS_ABOUT: &str =
     "Runs clients on threads against shared buffers, and prints what they settle";
 
-const COUNT: &str = "N";
+pub(crate) const COUNT: &str = "N";
 
-const ROUNDS_WORD: &str = "ROUNDS";
+pub(crate) const ROUNDS_WORD: &str = "ROUNDS";
 
 /// Asks for buffers under locks.
-const LOCKS: &str = "locks";
+pub(crate) const LOCKS: &str = "locks";
 
-/// What the program is to do with the script of a file or of standard input.
-#[derive(Clone, Copy)]
-pub enum Action<'a> {
-    /// Its answers are printed.
-    Run(&'a str),
-    /// Its answers are compared with those that it expects.
-    Check(&'a str),
-    /// Its answers are printed, and why lines were refused.
-    Explain(&'a str),
-}
-
-/// What the words of the command line ask for. The first of them is the program's own.
+/// What the words of the command line match. The first of them is the program's own.
 ///
 /// The error has its kind where memory was refused.
-pub fn matches_of<'a>(alloc: Global, words: &'a [String]) -> Result<ArgMatches<'a>, Error> {
+pub(crate) fn matches_of<'a>(alloc: Global, words: &'a [String]) -> Result<ArgMatches<'a>, Error>
+    ensures matches { IfOk result (λ matches. subcommand_rows_of matches
+        ≡ subcommand_of fencectl (map string_bytes words.entry.now)) }
+{
     let command = command(alloc)?;
     command.try_get_matches_from(words)
 }
 
 /// The program's command line: `run`, `check` or `explain`, with a file or without, or nothing to run the script of standard
 /// input; or `clients` with two numbers.
-fn command<'a>(alloc: Global) -> Result<Command<'a>, AllocError> {
+fn command<'a>(alloc: Global) -> Result<Command<'a>, AllocError>
+    ensures { IfOk result (IsApp fencectl) }
+{
     let command = with(program(alloc)?, run(alloc))?;
     let command = with(command, check(alloc))?;
     let command = with(command, explain(alloc))?;
@@ -134,12 +131,16 @@ fn command<'a>(alloc: Global) -> Result<Command<'a>, AllocError> {
 fn with<'a>(
     command: Command<'a>,
     subcommand: Result<Command<'a>, AllocError>,
-) -> Result<Command<'a>, AllocError> {
+) -> Result<Command<'a>, AllocError>
+    ensures { IfOk result (Adds command.entry subcommand.entry) }
+{
     command.subcommand(subcommand?)
 }
 
 /// The program without its subcommands.
-fn program<'a>(alloc: Global) -> Result<Command<'a>, AllocError> {
+fn program<'a>(alloc: Global) -> Result<Command<'a>, AllocError>
+    ensures { IfOk result (IsApp program_app) }
+{
     let command = Command::new(alloc, PROGRAM)
         .version(VERSION)
         .about(ABOUT)
@@ -153,31 +154,42 @@ fn help() -> &'static str {
     HELP
 }
 
-fn run<'a>(alloc: Global) -> Result<Command<'a>, AllocError> {
+fn run<'a>(alloc: Global) -> Result<Command<'a>, AllocError>
+    ensures { IfOk result (IsApp (script_app (codes "run"))) }
+{
     Command::new(alloc, RUN).about(RUN_ABOUT).arg(file(alloc))
 }
 
-fn check<'a>(alloc: Global) -> Result<Command<'a>, AllocError> {
+fn check<'a>(alloc: Global) -> Result<Command<'a>, AllocError>
+    ensures { IfOk result (IsApp (script_app (codes "check"))) }
+{
     Command::new(alloc, CHECK)
         .about(CHECK_ABOUT)
         .arg(file(alloc))
 }
 
-fn explain<'a>(alloc: Global) -> Result<Command<'a>, AllocError> {
+fn explain<'a>(alloc: Global) -> Result<Command<'a>, AllocError>
+    ensures { IfOk result (IsApp (script_app (codes "explain"))) }
+{
     Command::new(alloc, EXPLAIN)
         .about(EXPLAIN_ABOUT)
         .arg(file(alloc))
 }
 
 /// The file of a script.
-fn file<'a>(alloc: Global) -> Arg<'a> {
+fn file<'a>(alloc: Global) -> Arg<'a>
+    ensures rule { rule_of result ≡ file_rule }
+    ensures local { result.global ≡ false }
+{
     Arg::new(alloc, FILE)
         .default_value(STANDARD_INPUT)
         .help("The script's file, or - for standard input")
 }
 
 /// `clients`, its two numbers and its table.
-fn clients<'a>(alloc: Global) -> Result<Command<'a>, AllocError> {
+fn clients<'a>(alloc: Global) -> Result<Command<'a>, AllocError>
+    ensures { IfOk result (IsApp clients_app) }
+{
     let command = Command::new(alloc, CLIENTS_WORD).about(CLIENTS_ABOUT);
     command
         .arg(count(alloc))?
@@ -186,7 +198,10 @@ fn clients<'a>(alloc: Global) -> Result<Command<'a>, AllocError> {
 }
 
 /// The number of clients.
-fn count<'a>(alloc: Global) -> Arg<'a> {
+fn count<'a>(alloc: Global) -> Arg<'a>
+    ensures rule { rule_of result ≡ number_rule (codes "N") CLIENTS }
+    ensures local { result.global ≡ false }
+{
     Arg::new(alloc, COUNT)
         .required(true)
         .value_parser(value_parser!(u16).range(1..=CLIENTS as i64))
@@ -194,7 +209,10 @@ fn count<'a>(alloc: Global) -> Arg<'a> {
 }
 
 /// The number of rounds.
-fn rounds<'a>(alloc: Global) -> Arg<'a> {
+fn rounds<'a>(alloc: Global) -> Arg<'a>
+    ensures rule { rule_of result ≡ number_rule (codes "ROUNDS") ROUNDS }
+    ensures local { result.global ≡ false }
+{
     Arg::new(alloc, ROUNDS_WORD)
         .required(true)
         .value_parser(value_parser!(u16).range(1..=ROUNDS as i64))
@@ -202,55 +220,12 @@ fn rounds<'a>(alloc: Global) -> Arg<'a> {
 }
 
 /// The flag that asks for buffers under locks.
-fn locks<'a>(alloc: Global) -> Arg<'a> {
+fn locks<'a>(alloc: Global) -> Arg<'a>
+    ensures rule { rule_of result ≡ locks_rule }
+    ensures local { result.global ≡ false }
+{
     Arg::new(alloc, LOCKS)
         .long(LOCKS)
         .action(ArgAction::SetTrue)
         .help("Shares buffers under locks, in the place of a lock-free board")
-}
-
-/// What the command line asks for.
-pub fn action_of<'a>(matches: &ArgMatches<'a>) -> Action<'a> {
-    if let Some(check) = matches.subcommand_matches(CHECK) {
-        return Action::Check(file_of(check));
-    }
-    if let Some(explain) = matches.subcommand_matches(EXPLAIN) {
-        return Action::Explain(file_of(explain));
-    }
-    match matches.subcommand_matches(RUN) {
-        Some(run) => Action::Run(file_of(run)),
-        None => Action::Run(STANDARD_INPUT),
-    }
-}
-
-fn file_of<'a>(matches: &ArgMatches<'a>) -> &'a str {
-    matches.get_str(FILE).unwrap_or(STANDARD_INPUT)
-}
-
-/// What stands behind `clients`, if that is the word.
-pub fn clients_of<'m, 'a>(matches: &'m ArgMatches<'a>) -> Option<&'m ArgMatches<'a>> {
-    matches.subcommand_matches(CLIENTS_WORD)
-}
-
-/// Whether the clients are to share buffers under locks.
-pub fn asks_for_locks(matches: &ArgMatches<'_>) -> bool {
-    matches.get_flag(LOCKS)
-}
-
-/// The number of clients and the number of rounds.
-///
-/// Refuses as `Limit` of the clients or of the plan where one is not in its range, which the command line refuses before.
-pub fn counts_of(matches: &ArgMatches<'_>) -> Result<(usize, u64), Refusal>
-    ensures clients { IfOk result (λ counts. (1 ≤ counts.0) × (counts.0 ≤ CLIENTS)) }
-    ensures rounds { IfOk result (λ counts. (1 ≤ counts.1) × (counts.1 ≤ ROUNDS)) }
-{
-    let clients = matches.get_one::<u16>(COUNT).map_or(0, usize::from);
-    if !(1..=CLIENTS).contains(&clients) {
-        return Err(Refusal::Limit(LimitKind::Clients));
-    }
-    let rounds = matches.get_one::<u16>(ROUNDS_WORD).map_or(0, u64::from);
-    if !(1..=ROUNDS).contains(&rounds) {
-        return Err(Refusal::Limit(LimitKind::Plan));
-    }
-    Ok((clients, rounds))
 }

@@ -8,7 +8,10 @@ ghost use Rattle.clients_core.specs.declared.rounds.TheConstants.{ROUNDS};
 ghost use Rattle.report_core.specs.Bytes.{AppendsFront};
 ghost use Rattle.command_line.specs.Clients.{clients_text};
 
-use clients_core::{Board, CLIENTS, OpenGate, ROUND_BUFFERS, ROUNDS, plans_of_rounds, run_clients};
+use crate::action::{Clients, Table};
+use clients_core::{
+    Board, CLIENTS, LockedTable, OpenGate, ROUND_BUFFERS, ROUNDS, plans_of_rounds, run_clients,
+};
 use point_core::Refusal;
 use report_core::{settled_text, write_whole};
 use resv_core::SharedTable;
@@ -17,30 +20,31 @@ use std::io::Write;
 use std::sync::Wait;
 use std::thread::Threads;
 
-/// Runs so many clients of so many rounds, each in a thread of its own, over a board of words, and writes the text of what
-/// they settle. That is the text of the plans' settled table, whatever the schedule.
+/// Runs clients, each in a thread of its own, over the table that they ask for, and writes the text of what they settle. That
+/// is the text of the plans' settled table, whatever the schedule.
 ///
 /// Refused as `run_clients`, which refuses none of these plans before its threads start, and as Write where a write
 /// failed or took no byte, or the flush failed. Then a front of the text is written.
 pub fn clients_report<R: Threads + Wait + Sync, W: Write>(
     rt: &R,
     alloc: Global,
-    clients: usize,
-    rounds: u64,
+    clients: &Clients,
     writer: &mut W,
 ) -> Result<(), Refusal>
-    requires clients { (1 ≤ clients) × (clients ≤ CLIENTS) }
-    requires rounds { (1 ≤ rounds) × (rounds ≤ ROUNDS) }
-    ensures ok { OnOk result (Appends (W.contents writer.old) (W.contents writer.new) (clients_text clients rounds)) }
+    ensures ok { OnOk result
+        (Appends (W.contents writer.old) (W.contents writer.new) (clients_text clients.now.count clients.now.rounds)) }
     ensures err { OnErr result
-        (AppendsFront (W.contents writer.old) (W.contents writer.new) (clients_text clients rounds)) }
+        (AppendsFront (W.contents writer.old) (W.contents writer.new) (clients_text clients.now.count clients.now.rounds)) }
     ensures refusals { IfErr result (λ e. (e ≡ refusal.Write) ⊎ IsClientRefusal e) }
 {
-    report_over::<R, Board, W>(rt, alloc, clients, rounds, writer)
+    let Clients { count, rounds, table } = *clients;
+    match table {
+        Table::Board => report_over::<R, Board, W>(rt, alloc, count, rounds, writer),
+        Table::Locks => report_over::<R, LockedTable, W>(rt, alloc, count, rounds, writer),
+    }
 }
 
-/// The same over a table of any kind.
-pub fn report_over<R: Threads + Wait + Sync, T: SharedTable, W: Write>(
+fn report_over<R: Threads + Wait + Sync, T: SharedTable, W: Write>(
     rt: &R,
     alloc: Global,
     clients: usize,

@@ -2,16 +2,16 @@
 //! usage answers, and where a script comes from.
 #![tactic(auto)]
 
+mod action;
 mod arguments;
+mod asked;
 mod clients;
 mod fault;
 mod source;
 mod usage;
 
-pub use arguments::{
-    Action, STANDARD_INPUT, action_of, asks_for_locks, clients_of, counts_of, matches_of,
-};
-pub use clients::{clients_report, report_over};
+pub use action::{Action, Clients, Script, Table};
+pub use clients::clients_report;
 pub use fault::{FAULT, tell_fault};
 pub use source::Source;
-pub use usage::{tell_error, tell_unread_word};
+pub use usage::{action_of, tell_unread_word};

@@ -1,36 +1,58 @@
-// Where a script comes from.
+// Where a script is read from.
+ghost use Rattle.std.specs.Prelude.{◌≡◌};
 
-use std::io;
+use crate::action::Script;
+use point_core::Refusal;
 use std::io::Read;
+use std::rt::Files;
+use std::{fs, io};
 
-/// A reader that keeps why its last read failed.
+/// A script's reader. Why a file can't be opened or read is reported on standard error, with its name.
 #[derive(Drop)]
-pub struct Source<R> {
-    reader: R,
-    failed: Option<io::Error>,
+pub enum Source<'r, 'a, R: Files, S> {
+    StandardInput(S),
+    File {
+        rt: &'r R,
+        name: &'a str,
+        file: R::File,
+    },
 }
 
-impl<R: Read + Drop> Source<R> {
-    /// A reader none of whose reads has failed.
-    pub fn of(reader: R) -> Source<R> {
-        Source {
-            reader,
-            failed: None,
+impl<'r, 'a, R: Files + Eprint, S: Read + Drop> Source<'r, 'a, R, S> {
+    /// Opens a script.
+    ///
+    /// Refuses as `Read` where it can't be opened.
+    pub fn open(
+        rt: &'r R,
+        script: Script<'a>,
+        standard_input: S,
+    ) -> Result<Source<'r, 'a, R, S>, Refusal> {
+        match script {
+            Script::StandardInput => Ok(Source::StandardInput(standard_input)),
+            Script::File(name) => match reported(rt, name, fs::open(rt, name)) {
+                Ok(file) => Ok(Source::File { rt, name, file }),
+                Err(_) => Err(Refusal::Read),
+            },
         }
     }
-
-    /// Why the last read that failed did so.
-    pub fn failed(&self) -> Option<io::Error> {
-        self.failed
-    }
 }
 
-impl<R: Read + Drop> Read for Source<R> {
+impl<'r, 'a, R: Files + Eprint, S: Read + Drop> Read for Source<'r, 'a, R, S> {
     fn read(&mut self, buf: &mut [u8]) -> io::Result<usize> {
-        let read = self.reader.read(buf);
-        if let Err(error) = &read {
-            self.failed = Some(*error);
+        match self {
+            Source::StandardInput(reader) => reader.read(buf),
+            Source::File { rt, name, file } => reported(*rt, *name, file.read(buf)),
         }
-        read
     }
+}
+
+/// What a call on a file of that name gave. Where it failed, the name and the system's reason are reported.
+fn reported<T: Drop>(rt: &impl Eprint, name: &str, given: io::Result<T>) -> io::Result<T>
+    ensures same { result ≡ given }
+{
+    if let Err(error) = &given {
+        // Whether this could be written changes nothing: the line of the fault follows.
+        let _ = eprintln!(rt; "fencectl: {name}: {error}");
+    }
+    given
 }

@@ -1,16 +1,43 @@
-// Wrong usage, and what help and version answer.
+// The words of the command line: what they ask for, and what is printed where they ask for nothing.
 
+ghost use Rattle.std.specs.Prelude.{◌≡◌, IfOk, IfSome, map, string_bytes};
+ghost use Rattle.clap.specs.Words.{subcommand_of};
+ghost use Rattle.command_line.specs.Asked.{asked_by, asked_of};
+ghost use Rattle.command_line.specs.Words.{fencectl};
+
+use crate::action::Action;
+use crate::arguments::matches_of;
+use crate::asked::action_by;
 use crate::fault::FAULT;
 use clap::Error;
 use clap::error::ErrorKind;
 use point_core::Refusal;
+use std::alloc::Global;
 use std::io;
+
+/// What the words of the command line ask for; the first of them is the program's own. Help and the version are printed here,
+/// and wrong usage is reported.
+///
+/// Refuses as `Write` where that could not be printed, as `Memory` where memory was refused, and as `Limit` as `clients_of`.
+pub fn action_of<'a>(
+    rt: &(impl Print + Eprint),
+    alloc: Global,
+    words: &'a [String],
+) -> Result<Action<'a>, Refusal>
+    ensures asked { IfOk result (λ action. IfSome (asked_of action) (λ asked. asked
+        ≡ asked_by (subcommand_of fencectl (map string_bytes words.entry.now)))) }
+{
+    match matches_of(alloc, words) {
+        Ok(matches) => action_by(&matches),
+        Err(error) => Ok(Action::End(tell_error(rt, &error)?)),
+    }
+}
 
 /// Prints what clap says, and gives its status: 0 for help and version, 2 for wrong usage. Where a word is no
 /// subcommand, it tells how a script in a file is run.
 ///
 /// Refuses as `Write` where that could not be printed, and as `Memory` where clap had none.
-pub fn tell_error(rt: &(impl Print + Eprint), error: &Error) -> Result<u8, Refusal> {
+fn tell_error(rt: &(impl Print + Eprint), error: &Error) -> Result<u8, Refusal> {
     if error.kind() == ErrorKind::OutOfMemory {
         return Err(Refusal::Memory);
     }

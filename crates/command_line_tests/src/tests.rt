@@ -1,5 +1,4 @@
-use clients_core::LockedTable;
-use command_line::{FAULT, clients_report, report_over, tell_fault};
+use command_line::{Clients, FAULT, Table, clients_report, tell_fault};
 use point_core::Refusal;
 use std::io;
 use std::io::Write;
@@ -67,23 +66,26 @@ bookkeep c1                                               300\n\
 bookkeep c2                                               300\n\
 ";
 
+/// Two clients of a hundred rounds.
+fn two_clients(table: Table) -> Clients {
+    Clients {
+        count: 2,
+        rounds: 100,
+        table,
+    }
+}
+
 #[test]
 fn two_clients_settle(rt: HostRuntime) {
     let mut printed = Vec::new(rt.alloc());
-    let ended = clients_report(&rt, rt.alloc(), 2, 100, &mut printed);
+    let ended = clients_report(&rt, rt.alloc(), &two_clients(Table::Board), &mut printed);
     assert!(rt; are_settled(&ended, &printed));
 }
 
 #[test]
 fn two_clients_settle_under_locks(rt: HostRuntime) {
     let mut printed = Vec::new(rt.alloc());
-    let ended = report_over::<HostRuntime, LockedTable, Vec<u8>>(
-        &rt,
-        rt.alloc(),
-        2,
-        100,
-        &mut printed,
-    );
+    let ended = clients_report(&rt, rt.alloc(), &two_clients(Table::Locks), &mut printed);
     assert!(rt; are_settled(&ended, &printed));
 }
 
@@ -112,7 +114,7 @@ impl Write for Stuck {
 #[test]
 fn a_failed_flush_is_refused(rt: HostRuntime) {
     let mut stuck = Stuck { taken: 0 };
-    let ended = clients_report(&rt, rt.alloc(), 2, 100, &mut stuck);
+    let ended = clients_report(&rt, rt.alloc(), &two_clients(Table::Board), &mut stuck);
     assert_eq!(rt; ended, Err(Refusal::Write));
     assert_eq!(rt; stuck.taken, TWO_CLIENTS.len());
 }

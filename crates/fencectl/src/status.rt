@@ -1,8 +1,6 @@
 // The exit status of a run and of a check.
-ghost use Rattle.std.specs.Prelude.{◌≡◌, ◌==◌, if◌then◌else◌, MatchResult};
-ghost use Rattle.std.specs.Io.KnownBytes.{Keeps};
-ghost use Rattle.script_core.specs.Bytes.{AppendsFront};
-ghost use Rattle.command_line.specs.Fault.{fault_text};
+ghost use Rattle.std.specs.Prelude.{◌≡◌, ◌==◌, if◌then◌else◌};
+ghost use Rattle.fencectl.specs.Ends.{ReportsFault, check_status, run_status};
 
 use check_core::Tally;
 use command_line::tell_fault;
@@ -28,12 +26,8 @@ fn status_of_totals(totals: Totals) -> u8
 
 /// The status of a run that ended so. A fault is told to the writer, and its status is 2.
 pub(crate) fn status_of_run<W: Write>(ended: Result<Totals, Refusal>, writer: &mut W) -> u8
-    ensures status { MatchResult ended
-        (λ totals. result ≡ (if totals.refused == 0 then 0 else 1))
-        (λ _. result ≡ 2) }
-    ensures told { MatchResult ended
-        (λ _. Keeps (W.contents writer.old) (W.contents writer.new))
-        (λ refusal. AppendsFront (W.contents writer.old) (W.contents writer.new) (fault_text refusal)) }
+    ensures status { result ≡ run_status ended }
+    ensures told { ReportsFault ended (W.contents writer.old) (W.contents writer.new) }
 {
     match ended {
         Ok(totals) => status_of_totals(totals),
@@ -54,12 +48,8 @@ fn status_of_tally(tally: Tally) -> u8
 
 /// The status of a check that ended so. A fault is told to the writer, and its status is 2.
 pub(crate) fn status_of_check<W: Write>(ended: Result<Tally, Refusal>, writer: &mut W) -> u8
-    ensures status { MatchResult ended
-        (λ tally. result ≡ (if tally.differing == 0 then 0 else 1))
-        (λ _. result ≡ 2) }
-    ensures told { MatchResult ended
-        (λ _. Keeps (W.contents writer.old) (W.contents writer.new))
-        (λ refusal. AppendsFront (W.contents writer.old) (W.contents writer.new) (fault_text refusal)) }
+    ensures status { result ≡ check_status ended }
+    ensures told { ReportsFault ended (W.contents writer.old) (W.contents writer.new) }
 {
     match ended {
         Ok(tally) => status_of_tally(tally),

@@ -1,0 +1,43 @@
+-- The command line that the program takes.
+use Rattle.std.specs.Prelude.{◌≡◌, Result, IfOk, false, ℕ, [], ◌∷◌, Some, true, codes, pos}
+use Rattle.std.specs.declared.alloc.AllocError.{AllocError}
+use Rattle.clap.specs.declared.builder.command.Command.{Command}
+use Rattle.clap.specs.declared.builder.command.Command.TheViews.{out-Command}
+use Rattle.clap.specs.Words.{App, app_of, Rule, Text, new_app, new_rule, with_rule, with_subcommand}
+use Rattle.clap.specs.declared.builder.ArgAction.TheVariants.{SetTrue}
+use Rattle.clap.specs.declared.builder.value_parser.ValueParser.TheVariants as parser
+use Rattle.clients_core.specs.declared.plans.TheConstants.{CLIENTS}
+use Rattle.clients_core.specs.declared.rounds.TheConstants.{ROUNDS}
+
+abbrev pub file_rule : Rule
+file_rule = record (new_rule (codes "FILE")) { defaults = codes "-" ∷ [] }
+
+abbrev pub number_rule : Text → ℕ → Rule
+number_rule name most = record (new_rule name) { required = true; parser = Some (parser.Signed (pos 1) (pos most)) }
+
+abbrev pub locks_rule : Rule
+locks_rule = record (new_rule (codes "locks")) { long = Some (codes "locks"); action = Some SetTrue }
+
+-- a subcommand that takes a file
+abbrev pub script_app : Text → App
+script_app word = with_rule (new_app word) file_rule
+
+abbrev pub clients_app : App
+clients_app = with_rule (with_rule (with_rule (new_app (codes "clients"))
+    (number_rule (codes "N") CLIENTS)) (number_rule (codes "ROUNDS") ROUNDS)) locks_rule
+
+-- without its subcommands
+abbrev pub program_app : App
+program_app = record (new_app (codes "fencectl")) { top = record (new_app (codes "fencectl")).top { has_version = true } }
+
+abbrev pub fencectl : App
+fencectl = with_subcommand (with_subcommand (with_subcommand (with_subcommand program_app
+    (script_app (codes "run")).top) (script_app (codes "check")).top) (script_app (codes "explain")).top) clients_app.top
+
+-- the command is that one, and none of its arguments is global
+abbrev pub IsApp : App → Command → Type 0
+IsApp app command = (app_of command ≡ app) × ((out-Command command).has_globals ≡ false)
+
+-- a command with one subcommand more
+abbrev pub Adds : Command → Result Command AllocError → Command → Type 0
+Adds old added new = (app more : App) → IsApp app old → IfOk added (IsApp more) → IsApp (with_subcommand app more.top) new

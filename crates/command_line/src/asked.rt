@@ -1,0 +1,104 @@
+// What the matches of a command line ask for.
+ghost use Rattle.std.specs.Prelude.{◌≡◌, ◌≤◌, IfOk, Some, codes};
+ghost use Rattle.clap.specs.Words.{found_of, first_of, one_of, rows_of, subcommand_rows_of};
+ghost use Rattle.command_line.specs.Asked.{asked_after, asked_by, asked_of, asked_on, file_named, file_of, number_named};
+
+use crate::action::{Action, Clients, Script, Table};
+use crate::arguments::{
+    CHECK, CLIENTS_WORD, COUNT, EXPLAIN, FILE, LOCKS, ROUNDS_WORD, STANDARD_INPUT,
+};
+use clap::ArgMatches;
+use clients_core::{CLIENTS, ROUNDS};
+use point_core::{LimitKind, Refusal};
+
+/// What the matches of a command line ask for.
+///
+/// Refuses as `Limit` of the clients or of the plan where one of their numbers is not in its range, which the command line
+/// refuses before.
+pub(crate) fn action_by<'a>(matches: &ArgMatches<'a>) -> Result<Action<'a>, Refusal>
+    ensures asked { IfOk result (λ action. asked_of action ≡ Some (asked_by (subcommand_rows_of matches.now))) }
+{
+    match matches.subcommand() {
+        Some((word, matches)) => action_after(word, matches),
+        None => Ok(Action::Run(Script::StandardInput)),
+    }
+}
+
+/// By the word of a subcommand, and what stands behind it.
+fn action_after<'a>(word: &str, matches: &ArgMatches<'a>) -> Result<Action<'a>, Refusal>
+    ensures asked { IfOk result (λ action. asked_of action
+        ≡ Some (asked_after word.now (rows_of (found_of matches.now)))) }
+{
+    if word == CLIENTS_WORD {
+        return Ok(Action::Clients(clients_of(matches)?));
+    }
+    Ok(action_on(word, script_of(matches)))
+}
+
+/// What a word asks for of a script.
+fn action_on<'a>(word: &str, script: Script<'a>) -> Action<'a>
+    ensures asked { asked_of result ≡ Some (asked_on word.now (file_of script.entry)) }
+{
+    if word == CHECK {
+        Action::Check(script)
+    } else if word == EXPLAIN {
+        Action::Explain(script)
+    } else {
+        Action::Run(script)
+    }
+}
+
+fn script_of<'a>(matches: &ArgMatches<'a>) -> Script<'a>
+    ensures { file_of result ≡ file_named (first_of (codes "FILE") (rows_of (found_of matches.now))) }
+{
+    match matches.get_str(FILE) {
+        Some(name) => script_named(name),
+        None => Script::StandardInput,
+    }
+}
+
+fn script_named<'a>(name: &'a str) -> Script<'a>
+    ensures { file_of result ≡ file_named (Some name.entry.now) }
+{
+    if name == STANDARD_INPUT {
+        Script::StandardInput
+    } else {
+        Script::File(name)
+    }
+}
+
+fn clients_of(matches: &ArgMatches<'_>) -> Result<Clients, Refusal>
+    ensures count { IfOk result (λ clients. clients.count
+        ≡ number_named (one_of (codes "N") (rows_of (found_of matches.now)))) }
+    ensures rounds { IfOk result (λ clients. clients.rounds
+        ≡ number_named (one_of (codes "ROUNDS") (rows_of (found_of matches.now)))) }
+{
+    let count = usize::from(number_of(matches, COUNT));
+    if !(1..=CLIENTS).contains(&count) {
+        return Err(Refusal::Limit(LimitKind::Clients));
+    }
+    let rounds = u64::from(number_of(matches, ROUNDS_WORD));
+    if !(1..=ROUNDS).contains(&rounds) {
+        return Err(Refusal::Limit(LimitKind::Plan));
+    }
+    Ok(Clients {
+        count,
+        rounds,
+        table: table_of(matches),
+    })
+}
+
+/// The number of that name, or 0 where there is none.
+fn number_of(matches: &ArgMatches<'_>, name: &str) -> u16
+    ensures { 1 ≤ result → result ≡ number_named (one_of name.now (rows_of (found_of matches.now))) }
+{
+    matches.get_one(name).unwrap_or(0)
+}
+
+fn table_of(matches: &ArgMatches<'_>) -> Table {
+    if matches.get_flag(LOCKS) {
+        Table::Locks
+    } else {
+        Table::Board
+    }
+}

@@ -1,0 +1,56 @@
+// Runs, checks and explanations of a script, each with its exit status.
+ghost use Rattle.std.specs.Prelude.{◌≡◌, Result};
+ghost use Rattle.point_core.specs.declared.refusal.Refusal.{Refusal};
+ghost use Rattle.script_core.specs.declared.totals.Totals.{Totals};
+ghost use Rattle.check_core.specs.declared.tally.Tally.{Tally};
+ghost use Rattle.fencectl.specs.Ends.{EndsCheck, EndsRun, ReportsFault, check_status, run_status};
+
+use crate::status::{status_of_check, status_of_run};
+use check_core::check;
+use explain_core::{Look, explain};
+use script_core::engine;
+use std::alloc::Global;
+use std::io::{Read, Write};
+
+/// Runs the script of a reader. A fault is reported on `errors`.
+pub(crate) fn run_script<R: Read, W: Write, E: Write>(
+    alloc: Global,
+    reader: &mut R,
+    writer: &mut W,
+    errors: &mut E,
+) -> u8
+    ensures ended { (ended : Result Totals Refusal) × (result ≡ run_status ended)
+        × EndsRun ended (R.remaining reader.old) (R.remaining reader.new) (W.contents writer.old) (W.contents writer.new)
+        × ReportsFault ended (E.contents errors.old) (E.contents errors.new) }
+{
+    let ended = engine(alloc, reader, writer);
+    status_of_run(ended, errors)
+}
+
+/// Checks the script of a reader. What differs is reported on `errors`, and so is a fault.
+pub(crate) fn check_script<R: Read, E: Write>(
+    alloc: Global,
+    reader: &mut R,
+    errors: &mut E,
+) -> u8
+    ensures ended { (ended : Result Tally Refusal) × (result ≡ check_status ended)
+        × EndsCheck ended (R.remaining reader.old) }
+{
+    let ended = check(alloc, reader, errors);
+    status_of_check(ended, errors)
+}
+
+/// Runs the script of a reader, and explains on `errors` why lines were refused. A fault is reported there too.
+pub(crate) fn explain_script<R: Read, W: Write, E: Write>(
+    alloc: Global,
+    look: Look,
+    reader: &mut R,
+    writer: &mut W,
+    errors: &mut E,
+) -> u8
+    ensures ended { (ended : Result Totals Refusal) × (result ≡ run_status ended)
+        × EndsRun ended (R.remaining reader.old) (R.remaining reader.new) (W.contents writer.old) (W.contents writer.new) }
+{
+    let ended = explain(alloc, look, reader, writer, errors);
+    status_of_run(ended, errors)
+}
