@@ -3,3 +3,4 @@ mod Counts
 mod Progress
 mod Stages
 mod Texts
+mod Written

@@ -16,7 +16,7 @@ use Rattle.line_core.specs.declared.script.TheConstants.{SCRIPT_BYTES}
 use Rattle.script_core.specs.Answering.{history_along}
 use Rattle.line_core.specs.Cutting.{cut}
 use Rattle.line_core.specs.Line.{body_from, body_of}
-use Rattle.line_core.specs.Reading.{IsInput}
+use Rattle.line_core.specs.Reading.{IsInput, WasRead, ConsumesAtMost}
 use Rattle.script_core.specs.Output.{AreLineAnswers}
 use Rattle.line_core.specs.Script.{lines_of, lines_until, ending_of, script_of}
 use Rattle.line_core.specs.ScriptLines.{LinesState, HasEnded}
@@ -295,3 +295,13 @@ Checked-input before after ending.Whole tally is c =
     let input = input_from before after c.bytes c.read.consumed in
     let same : c.bytes ≡ input.0 = sym (input.1.whole ∙ ap (λ more. c.bytes ++ more) (input.1.end c.read.ends.1) ∙ append-nil c.bytes) in
     (input.0, input.1.input, subst (λ script. ChecksScript script tally) same (c.checks is))
+
+-- the bytes that were read end so
+pub Checked-read : (before after : Option (List ℕ)) (end wanted : Ending) (tally : Tally) → end ≡ wanted → HasCheckedBytes before after end tally → (bytes : List ℕ) × WasRead before after bytes wanted
+Checked-read before after end wanted tally is c = (c.bytes, subst (WasRead before after c.bytes) is c.read)
+
+-- before a failed read no more was read than a script may have
+pub Checked-few : (before after : Option (List ℕ)) (end : Ending) (tally : Tally) → end ≡ ending.Failed → HasCheckedBytes before after end tally → ConsumesAtMost SCRIPT_BYTES before after
+Checked-few before after end tally is c =
+    let read = Checked-read before after end ending.Failed tally is c in
+    record { bytes = read.0; consumed = read.1.consumed; few = read.1.ends }

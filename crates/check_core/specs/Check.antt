@@ -1,6 +1,6 @@
 -- What a check of a script finds.
 use Rattle.std.specs.Prelude.{◌≡◌, ◌↔◌, ℕ, ◌+◌, ◌<◌, List, [], ◌∷◌, ◌++◌, length, Option, None, Some, option_to_list}
-use Rattle.std.specs.Io.KnownBytes.{Consumes}
+use Rattle.std.specs.Io.KnownBytes.{Consumes, Keeps}
 use Rattle.command_core.specs.declared.answer.Answer.{Answer}
 use Rattle.desk_core.specs.Desk.{HasHistory}
 use Rattle.line_core.specs.declared.line.Body.{Body}
@@ -17,7 +17,7 @@ use Rattle.check_core.specs.declared.stage.Stage.TheVariants.{Unasked}
 use Rattle.check_core.specs.declared.tally.Tally.{Tally}
 use Rattle.check_core.specs.Answering.{AnswersInto}
 use Rattle.check_core.specs.Expected.{expected_of, IsAsExpected, is_asked, differs}
-use Rattle.check_core.specs.Stage.{IsAt}
+use Rattle.check_core.specs.Stage.{is_different, IsAt}
 use Rattle.check_core.specs.Tally.{one_if, IsEmpty}
 
 -- each answer's text is as expected of its line
@@ -72,6 +72,14 @@ pub record IsFresh (c : Checker) : Type 0 where
   pub tally : IsEmpty c.tally
   pub text : c.text.items ≡ []
   pub stage : c.stage ≡ Unasked
+
+-- how many differences were found so far, with that of the last answer
+abbrev pub differences_of : Checker → ℕ
+differences_of c = c.tally.differing + one_if (is_different c.stage)
+
+-- Where this many differences are none, there was none before, and nothing was written since.
+abbrev pub IsQuiet : Checker → ℕ → Option (List ℕ) → Option (List ℕ) → Type 0
+IsQuiet c differences old new = differences ≡ 0 → (differences_of c ≡ 0) × Keeps old new
 
 -- ---- the steps from line to line
 

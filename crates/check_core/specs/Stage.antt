@@ -1,5 +1,5 @@
 -- How far an answer came as expected.
-use Rattle.std.specs.Prelude.{◌≡◌, ℕ, true, List, [], ◌++◌, drop, Option, None, Some}
+use Rattle.std.specs.Prelude.{◌≡◌, ℕ, Bool, true, false, List, [], ◌++◌, drop, Option, None, Some}
 use Rattle.check_core.specs.declared.stage.Stage.{Stage}
 use Rattle.check_core.specs.declared.stage.Stage.TheVariants.{Unasked, Came, Differs}
 use Rattle.check_core.specs.Expected.{output_of_lines, is_asked, differs}
@@ -8,6 +8,11 @@ abbrev pub place_of : Stage → ℕ
 place_of Unasked = 0
 place_of (Came place) = place
 place_of Differs = 0
+
+abbrev pub is_different : Stage → Bool
+is_different Unasked = false
+is_different (Came place) = false
+is_different Differs = true
 
 -- what the next expected line is compared with
 abbrev pub left_of : Stage → List ℕ → Option (List ℕ)

@@ -1,5 +1,5 @@
 -- How many answers of a script were as expected.
-use Rattle.std.specs.Prelude.{◌≡◌, ℕ, ◌+◌, ◌^◌, ◌<◌, ◌≤◌, Bool, if◌then◌else◌}
+use Rattle.std.specs.Prelude.{◌≡◌, ℕ, ◌+◌, ◌^◌, ◌<◌, ◌≤◌, Bool, if◌then◌else◌, List, ◌++◌, codes, decimal}
 use Rattle.check_core.specs.declared.tally.Tally.{Tally}
 
 -- what a line adds to a count
@@ -27,3 +27,14 @@ pub record CountsOne (tally tally' : Tally) : Type 0 where
   pub lines : tally'.lines ≡ tally.lines
   pub checked : tally'.checked ≤ tally.checked + 1
   pub differing : tally'.differing ≤ tally.differing + 1
+
+-- a count, and what was counted
+abbrev pub count_text : ℕ → List ℕ → List ℕ
+count_text count words = decimal count ++ words
+
+-- the line of counts
+abbrev pub tally_text : Tally → List ℕ
+tally_text tally =
+    count_text tally.lines (codes " answered, ")
+    ++ count_text tally.checked (codes " checked, ")
+    ++ count_text tally.differing (codes " differing\n")

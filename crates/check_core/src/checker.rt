@@ -35,7 +35,7 @@ pub(crate) struct Checker {
 }
 
 impl Checker {
-    ghost use Rattle.check_core.specs.Check.{IsFresh, Expects, IsAnswered, IsTaken, IsOpened, IsJudgedAt, IsEnded};
+    ghost use Rattle.check_core.specs.Check.{IsFresh, differences_of, IsQuiet, Expects, IsAnswered, IsTaken, IsOpened, IsJudgedAt, IsEnded};
 
     pub(crate) fn new(alloc: Global) -> Result<Checker, Refusal>
         ensures fresh { IfOk result IsFresh }
@@ -62,6 +62,8 @@ impl Checker {
         requires few { IsBelow self.old.tally number }
         ensures ok { OnOk result (IsTaken self.old self.new number (body_of bytes.now) (expected_text bytes.now)) }
         ensures few { OnOk result (IsBelow self.new.tally (number + 1)) }
+        ensures quiet { OnOk result (IsQuiet self.old (differences_of self.new)
+            (W.contents writer.old) (W.contents writer.new)) }
         ensures refusals { IfErr result (λ refusal. (refusal ≡ WriteFault) ⊎ (refusal ≡ Memory)) }
     {
         match body_of(bytes) {
@@ -81,6 +83,8 @@ impl Checker {
         requires few { IsBelow self.old.tally number }
         ensures ok { OnOk result (ending ≡ Whole
             → IsEnded self.old self.new number (body_of bytes.now) (expected_text bytes.now)) }
+        ensures quiet { OnOk result (ending ≡ Whole → IsQuiet self.old self.new.tally.differing
+            (W.contents writer.old) (W.contents writer.new)) }
         ensures refusals { IfErr result (λ refusal. (refusal ≡ WriteFault) ⊎ (refusal ≡ Memory)) }
     {
         match ending {
@@ -97,6 +101,8 @@ impl Checker {
     ) -> Result<(), Refusal>
         requires few { IsBelow self.old.tally number }
         ensures ok { OnOk result (IsEnded self.old self.new number (body_of bytes.now) (expected_text bytes.now)) }
+        ensures quiet { OnOk result (IsQuiet self.old self.new.tally.differing
+            (W.contents writer.old) (W.contents writer.new)) }
         ensures refusals { IfErr result (λ refusal. (refusal ≡ WriteFault) ⊎ (refusal ≡ Memory)) }
     {
         self.take(number, bytes, writer)?;
@@ -115,6 +121,8 @@ impl Checker {
         requires few { IsBelow self.old.tally number }
         ensures ok { OnOk result (IsAnswered self.old self.new number body) }
         ensures few { OnOk result (IsBelow self.new.tally (number + 1)) }
+        ensures quiet { OnOk result (IsQuiet self.old (differences_of self.new)
+            (W.contents writer.old) (W.contents writer.new)) }
         ensures refusals { IfErr result (λ refusal. (refusal ≡ WriteFault) ⊎ (refusal ≡ Memory)) }
     {
         self.judge(writer)?;
@@ -140,6 +148,8 @@ impl Checker {
     /// A line without an answer, which may expect one of the last answer.
     fn note<W: Write>(&mut self, bytes: &[u8], writer: &mut W) -> Result<(), Refusal>
         ensures expects { Expects self.old self.new (option_to_list (expected_text bytes.now)) }
+        ensures quiet { OnOk result (IsQuiet self.old (differences_of self.new)
+            (W.contents writer.old) (W.contents writer.new)) }
         ensures refusals { IfErr result (λ refusal. refusal ≡ WriteFault) }
     {
         match expected_text(bytes) {
@@ -151,6 +161,8 @@ impl Checker {
     /// One more line is expected of the last answer. It is told where that is the first that differs.
     fn expect<W: Write>(&mut self, line: &[u8], writer: &mut W) -> Result<(), Refusal>
         ensures expects { Expects self.old self.new (line.now ∷ []) }
+        ensures quiet { OnOk result (IsQuiet self.old (differences_of self.new)
+            (W.contents writer.old) (W.contents writer.new)) }
         ensures refusals { IfErr result (λ refusal. refusal ≡ WriteFault) }
     {
         let before = self.stage;
@@ -166,6 +178,8 @@ impl Checker {
         requires room { HasRoom self.old.tally }
         ensures judged { IsJudgedAt self.old self.new }
         ensures counts { CountsOne self.old.tally self.new.tally }
+        ensures quiet { OnOk result (IsQuiet self.old self.new.tally.differing
+            (W.contents writer.old) (W.contents writer.new)) }
         ensures refusals { IfErr result (λ refusal. refusal ≡ WriteFault) }
     {
         let finding = self.stage.finding(&self.text);

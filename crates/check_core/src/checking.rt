@@ -1,10 +1,13 @@
 // A script from a reader, and how its answers differ from what its notes expect to a writer.
 ghost use Rattle.std.specs.Prelude.{◌≡◌, ◌+◌, ◌⊎◌, List, ℕ, Err, IfOk, IfErr};
+ghost use Rattle.std.specs.Io.KnownBytes.{Appends, Keeps};
 ghost use Rattle.point_core.specs.declared.refusal.Refusal.TheVariants.{Limit, Read as ReadFault, Write as WriteFault, Memory};
 ghost use Rattle.point_core.specs.declared.refusal.LimitKind.TheVariants.{Script};
+ghost use Rattle.line_core.specs.declared.script.Ending.TheVariants.{Whole};
 ghost use Rattle.line_core.specs.declared.script.TheConstants.{SCRIPT_BYTES};
-ghost use Rattle.line_core.specs.Reading.{ConsumesAtMost, IsInput};
+ghost use Rattle.line_core.specs.Reading.{ConsumesAtMost, IsInput, WasRead};
 ghost use Rattle.check_core.specs.Check.{ChecksScript, IsTooLong, IsFresh, HasCheckedBytes};
+ghost use Rattle.check_core.specs.Tally.{tally_text};
 
 use crate::checker::Checker;
 use crate::tally::Tally;
@@ -30,7 +33,19 @@ pub fn check<R: Read, W: Write>(
 ) -> Result<Tally, Refusal>
     ensures ok { IfOk result (λ tally. (script : List ℕ) × IsInput (R.remaining reader.old) script
         × ChecksScript script tally) }
+
+    // The whole script is read, which is no longer than one may be.
+    ensures reads { IfOk result (λ _. (script : List ℕ)
+        × WasRead (R.remaining reader.old) (R.remaining reader.new) script Whole) }
+
+    // Where nothing differs, the line of counts is written, and nothing else.
+    ensures told { IfOk result (λ tally. tally.differing ≡ 0
+        → Appends (W.contents writer.old) (W.contents writer.new) (tally_text tally)) }
+
+    // Whatever the result, no byte is read past the one behind a script's limit, and after a failed read not that one.
     ensures within { ConsumesAtMost (SCRIPT_BYTES + 1) (R.remaining reader.old) (R.remaining reader.new) }
+    ensures read { result ≡ Err ReadFault
+        → ConsumesAtMost SCRIPT_BYTES (R.remaining reader.old) (R.remaining reader.new) }
     // A script is too long only where more of it was read than may be.
     ensures limit { result ≡ Err (Limit Script) → IsTooLong (R.remaining reader.old) (R.remaining reader.new) }
     ensures refusals { IfErr result (λ refusal.
@@ -49,7 +64,13 @@ fn check_script<R: Read, W: Write>(
     requires fresh { IsFresh checker.old }
     ensures ok { IfOk result (λ tally. (script : List ℕ) × IsInput (R.remaining reader.old) script
         × ChecksScript script tally) }
+    ensures reads { IfOk result (λ _. (script : List ℕ)
+        × WasRead (R.remaining reader.old) (R.remaining reader.new) script Whole) }
+    ensures told { IfOk result (λ tally. tally.differing ≡ 0
+        → Appends (W.contents writer.old) (W.contents writer.new) (tally_text tally)) }
     ensures within { ConsumesAtMost (SCRIPT_BYTES + 1) (R.remaining reader.old) (R.remaining reader.new) }
+    ensures read { result ≡ Err ReadFault
+        → ConsumesAtMost SCRIPT_BYTES (R.remaining reader.old) (R.remaining reader.new) }
     ensures limit { result ≡ Err (Limit Script) → IsTooLong (R.remaining reader.old) (R.remaining reader.new) }
     ensures refusals { IfErr result (λ refusal.
         (refusal ≡ ReadFault) ⊎ (refusal ≡ Limit Script) ⊎ (refusal ≡ WriteFault) ⊎ (refusal ≡ Memory)) }
@@ -73,6 +94,8 @@ fn check_lines<R: Read, W: Write>(
     requires fresh { IsFresh checker.old }
     ensures ok { IfOk result (λ ending. HasCheckedBytes (R.remaining reader.old) (R.remaining reader.new) ending
         checker.new.tally) }
+    ensures quiet { IfOk result (λ ending. ending ≡ Whole → checker.new.tally.differing ≡ 0
+        → Keeps (W.contents writer.old) (W.contents writer.new)) }
     ensures within { ConsumesAtMost (SCRIPT_BYTES + 1) (R.remaining reader.old) (R.remaining reader.new) }
     ensures refusals { IfErr result (λ refusal. (refusal ≡ WriteFault) ⊎ (refusal ≡ Memory)) }
 {

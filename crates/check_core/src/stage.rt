@@ -2,6 +2,7 @@
 ghost use Rattle.std.specs.Prelude.{◌≡◌, ◌≤◌, ◌++◌, ◌∷◌, [], List, ℕ, length, option_map};
 ghost use Rattle.check_core.specs.Finding.{is_asked_finding, is_difference};
 ghost use Rattle.check_core.specs.Expected.{is_asked, differs};
+ghost use Rattle.check_core.specs.Tally.{one_if};
 
 use crate::finding::Finding;
 use crate::front::strip_line;
@@ -18,7 +19,7 @@ pub(crate) enum Stage {
 }
 
 impl Stage {
-    ghost use Rattle.check_core.specs.Stage.{place_of, left_of, IsAt};
+    ghost use Rattle.check_core.specs.Stage.{place_of, left_of, is_different, IsAt};
 
     /// What of the text the next expected line is compared with; none where that can't matter.
     pub(crate) fn left(self, text: &[u8]) -> Option<&[u8]>
@@ -38,6 +39,7 @@ impl Stage {
         ensures within { place_of result ≤ length text.now }
         ensures next { (expected : List (List ℕ)) → IsAt self expected text.now
             → IsAt result (expected ++ line.now ∷ []) text.now }
+        ensures kept { one_if (is_different self) ≤ one_if (is_different result) }
     {
         let Some(left) = self.left(text) else {
             return Stage::Differs;
@@ -54,6 +56,7 @@ impl Stage {
             → is_asked_finding result ≡ is_asked expected }
         ensures difference { (expected : List (List ℕ)) → IsAt self expected text.now
             → is_difference result ≡ differs expected text.now }
+        ensures counted { one_if (is_different self) ≤ one_if (is_difference result) }
     {
         match self {
             Stage::Unasked => Finding::Unasked,

@@ -1,11 +1,15 @@
 // What a check tells.
-ghost use Rattle.std.specs.Prelude.{◌≡◌, IfErr};
+ghost use Rattle.std.specs.Prelude.{◌≡◌, OnOk, IfErr};
+ghost use Rattle.std.specs.Io.KnownBytes.{Appends, Keeps};
 ghost use Rattle.point_core.specs.declared.refusal.Refusal.TheVariants.{Write as WriteFault};
+ghost use Rattle.check_core.specs.Tally.{count_text, tally_text};
 
 use crate::finding::Difference;
 use crate::tally::Tally;
+use itoa::Buffer;
 use line_core::first_line;
 use point_core::Refusal;
+use report_core::write_whole;
 use std::io::Write;
 
 /// Writes the line's number and bytes, and the first line of its answer that differs. Bytes other than printable ASCII are
@@ -67,19 +71,31 @@ fn tell_word<W: Write>(writer: &mut W, text: &str) -> Result<(), Refusal>
     write!(writer, "{text}").map_err(|_| Refusal::Write)
 }
 
-/// Writes the counts, and flushes.
+/// Writes the line of counts, and flushes.
 pub(crate) fn tell_tally<W: Write>(tally: &Tally, writer: &mut W) -> Result<(), Refusal>
+    ensures ok { OnOk result (Appends (W.contents writer.old) (W.contents writer.new) (tally_text tally.now)) }
     ensures refusals { IfErr result (λ refusal. refusal ≡ WriteFault) }
 {
-    let Tally {
-        lines,
-        checked,
-        differing,
-    } = *tally;
-    writeln!(
-        writer,
-        "{lines} answered, {checked} checked, {differing} differing"
-    )
-    .map_err(|_| Refusal::Write)?;
+    tell_count(writer, tally.lines, " answered, ")?;
+    tell_count(writer, tally.checked, " checked, ")?;
+    tell_count(writer, tally.differing, " differing\n")?;
+    flush(writer)?;
+    Ok(())
+}
+
+fn tell_count<W: Write>(writer: &mut W, count: u64, words: &str) -> Result<(), Refusal>
+    ensures ok { OnOk result (Appends (W.contents writer.old) (W.contents writer.new) (count_text count words.now)) }
+    ensures refusals { IfErr result (λ refusal. refusal ≡ WriteFault) }
+{
+    let mut digits = Buffer::new();
+    write_whole(writer, digits.format(count).as_bytes())?;
+    write_whole(writer, words.as_bytes())?;
+    Ok(())
+}
+
+fn flush<W: Write>(writer: &mut W) -> Result<(), Refusal>
+    ensures bytes { Keeps (W.contents writer.old) (W.contents writer.new) }
+    ensures refusals { IfErr result (λ refusal. refusal ≡ WriteFault) }
+{
     writer.flush().map_err(|_| Refusal::Write)
 }

@@ -10,12 +10,17 @@ timeline a
 #= ok 2
 value a
 #= ok 0
+fence f a 5
+info f
+#= ok f 0 1
 ";
 
 const DIFFERENCES: &[u8] = b"line 2: timeline a: expected \"ok 2\", came \"ok 1\"
-3 answered, 2 checked, 1 differing
+line 7: info f: expected nothing more, came \"fence a sw_sync 5 0\"
+5 answered, 3 checked, 2 differing
 ";
 
+// The counts are flushed with all before them, once.
 #[test]
 fn counts(rt: HostRuntime) {
     for piece in PIECES {
@@ -23,7 +28,8 @@ fn counts(rt: HostRuntime) {
         let mut writer = sink_of(DIFFERENCES, piece, usize::MAX);
         let tally = check(rt.alloc(), &mut reader, &mut writer).expect(&rt, "counts");
         writer.assert_whole(&rt);
-        assert!(rt; tally.lines == 3 && tally.checked == 2 && tally.differing == 1);
+        assert!(rt; writer.flushes == 1 && writer.unflushed == 0);
+        assert!(rt; tally.lines == 5 && tally.checked == 3 && tally.differing == 2);
     }
 }
 
@@ -62,14 +68,26 @@ fn failing_reader(rt: HostRuntime) {
     }
 }
 
+// Nothing is written after a write that failed, though there would be room for it.
 #[test]
 fn failing_writer(rt: HostRuntime) {
     for room in 0..DIFFERENCES.len() {
         let mut reader = source_of(SCRIPT, 4096);
         let mut writer = sink_of(&DIFFERENCES[..room], 4096, room);
         writer.halts = true;
+        writer.recovers = true;
         let result = check(rt.alloc(), &mut reader, &mut writer);
         assert_refusal(&rt, result.err(), Refusal::Write);
         writer.assert_whole(&rt);
     }
+}
+
+#[test]
+fn failing_flush(rt: HostRuntime) {
+    let mut reader = source_of(SCRIPT, 4096);
+    let mut writer = sink_of(DIFFERENCES, 4096, usize::MAX);
+    writer.flush_fails = true;
+    let result = check(rt.alloc(), &mut reader, &mut writer);
+    assert_refusal(&rt, result.err(), Refusal::Write);
+    writer.assert_whole(&rt);
 }

@@ -1,5 +1,6 @@
 -- Each exit is told by the lines that were given, and by how far they are checked.
 use Rattle.std.proofs.Common.{[], ◌∷◌, ◌++◌, refl, sym, subst, ◌∙◌}
+use Rattle.std.proofs.KnownBytes.{Keeps-refl, Keeps-trans}
 use Rattle.check_core.specs.Tally.{IsBelow}
 use Rattle.line_core.proofs.EndedLines.{ended-within}
 use Rattle.check_core.proofs.Progress.{HasChecked-none, HasChecked-line, Checked-last}
@@ -7,7 +8,8 @@ use Rattle.check_core.proofs.checking.check_lines.Goals as goal
 
 pub loop-lines-init : goal.loop-lines-init
 loop-lines-init g c =
-    ([], c.new-lines.ensures.none (g.R.Read.remaining c.args.reader.now), HasChecked-none c.args.checker.now c.requires.fresh)
+    let quiet = Keeps-refl (g.W.Write.contents c.args.writer.now) in
+    ([], c.new-lines.ensures.none (g.R.Read.remaining c.args.reader.now), HasChecked-none c.args.checker.now c.requires.fresh, λ _. quiet)
 
 pub take-requires : goal.take-requires
 take-requires g c =
@@ -25,6 +27,7 @@ loop-lines-preserved-in-Continue-1 g c =
       at.0 ++ more.line ∷ [],
       more.more,
       HasChecked-line at.0 more.line line.bytes.now line.number place held c.loop-lines.checker c.take.new.self at.2 _ refl c.in_ok-take.ensures.ok,
+      λ none. (let step = c.in_ok-take.ensures.quiet none in Keeps-trans _ _ _ (at.3 step.0) step.1),
     )
 
 pub end-requires : goal.end-requires
@@ -57,6 +60,12 @@ returns-in-Some-clause-ok g c =
           Checked-last before left c.read.new.self c.in-Some.ending at.0 ended line.bytes.now line.number c.loop-lines.checker c.end.new.self
           whole c.line-line-in-Some.ensures.number c.line-line-in-Some.ensures.bytes at.2 (c.in_ok-end.ensures.ok whole);
     }
+
+pub returns-in-Some-clause-quiet : goal.returns-in-Some-clause-quiet
+returns-in-Some-clause-quiet g c whole none =
+    let at = c.loop-lines.invariant in
+    let step = c.in_ok-end.ensures.quiet whole none in
+    Keeps-trans _ _ _ (at.3 step.0) step.1
 
 pub returns-in-Some-clause-within : goal.returns-in-Some-clause-within
 returns-in-Some-clause-within g c =

@@ -1,7 +1,8 @@
 -- The script is what was read of it, where the reader is at its end. Each call tells why it was refused.
 use Rattle.std.proofs.Common.{inl, inr, refl}
 use Rattle.std.proofs.lemmas.Result.{err_from_is_err_and}
-use Rattle.check_core.proofs.Progress.{Checked-input}
+use Rattle.check_core.proofs.Progress.{Checked-input, Checked-read, Checked-few}
+use Rattle.check_core.proofs.Written.{Appends-quiet}
 use Rattle.check_core.proofs.checking.check_script.Goals as goal
 
 pub returns-in_err-check_lines-clause-refusals : goal.returns-in_err-check_lines-clause-refusals
@@ -24,3 +25,15 @@ returns-in-Failed-clause-refusals g c = inl refl
 pub returns-in_ok-tell_tally-in-Whole-clause-ok : goal.returns-in_ok-tell_tally-in-Whole-clause-ok
 returns-in_ok-tell_tally-in-Whole-clause-ok g c =
     Checked-input _ _ _ c.check_lines.new.checker.tally c.in-Whole.is c.in_ok-check_lines.ensures.ok
+
+pub returns-in_ok-tell_tally-in-Whole-clause-reads : goal.returns-in_ok-tell_tally-in-Whole-clause-reads
+returns-in_ok-tell_tally-in-Whole-clause-reads g c =
+    Checked-read _ _ _ _ c.check_lines.new.checker.tally c.in-Whole.is c.in_ok-check_lines.ensures.ok
+
+pub returns-in_ok-tell_tally-in-Whole-clause-told : goal.returns-in_ok-tell_tally-in-Whole-clause-told
+returns-in_ok-tell_tally-in-Whole-clause-told g c none =
+    Appends-quiet _ _ _ _ (c.in_ok-check_lines.ensures.quiet c.in-Whole.is none) c.in_ok-tell_tally-in-Whole.ensures.ok
+
+pub returns-in-Failed-clause-read : goal.returns-in-Failed-clause-read
+returns-in-Failed-clause-read g c _ =
+    Checked-few _ _ _ c.check_lines.new.checker.tally c.in-Failed.is c.in_ok-check_lines.ensures.ok
