@@ -80,7 +80,12 @@ fn covering_entries(rt: HostRuntime) {
 
 #[test]
 fn usages_have_the_kernels_numbers(rt: HostRuntime) {
-    for (usage, number) in [(Usage::Kernel, 0), (Usage::Write, 1), (Usage::Read, 2), (Usage::Bookkeep, 3)] {
+    for (usage, number) in [
+        (Usage::Kernel, 0),
+        (Usage::Write, 1),
+        (Usage::Read, 2),
+        (Usage::Bookkeep, 3),
+    ] {
         holds(&rt, usage.number() == number);
     }
 }
@@ -91,5 +96,8 @@ fn is_status(is_signalled: bool, status: Status, number: u8) -> bool {
 
 #[test]
 fn statuses_have_the_kernels_numbers(rt: HostRuntime) {
-    holds(&rt, is_status(false, Status::Active, 0) && is_status(true, Status::Signalled, 1));
+    holds(
+        &rt,
+        is_status(false, Status::Active, 0) && is_status(true, Status::Signalled, 1),
+    );
 }

@@ -59,12 +59,17 @@ fn a_reach_never_falls(rt: HostRuntime) {
 fn a_reach_goes_as_far_as_the_last_context_in_use(rt: HostRuntime) {
     let none = Reach::zero();
     let reach = reach_of(&rt, &[(7, 1), (3, 9), (9, 0)]);
-    holds(&rt, none.used() == 0 && reach.used() == 7 && none.joined(&reach).used() == 7);
+    holds(
+        &rt,
+        none.used() == 0 && reach.used() == 7 && none.joined(&reach).used() == 7,
+    );
     holds(&rt, reach.joined(&none) == reach);
 }
 
 fn is_floor_of(floor: &Floor, reach: &Reach) -> bool {
-    floor.to_reach() == *reach && reach.at_least_floor(floor) && !Reach::zero().at_least_floor(floor)
+    floor.to_reach() == *reach
+        && reach.at_least_floor(floor)
+        && !Reach::zero().at_least_floor(floor)
 }
 
 fn joins_a_floor(rt: &impl Abort, floor: &Floor) {

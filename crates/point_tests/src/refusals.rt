@@ -20,20 +20,60 @@ type Row = (Refusal, u8, &'static str, &'static str);
 /// The refusals, each with its number, its name and its text.
 static REFUSALS: [Row; 16] = [
     (Refusal::Syntax, 1, "Syntax", "the line is no command"),
-    (Refusal::NoEntry, 2, "NoEntry", "there is no such name, buffer or context"),
-    (Refusal::Exists, 3, "Exists", "there is such a name, cookie or driver already"),
-    (Refusal::Overflow, 4, "Overflow", "an increment past the greatest value"),
+    (
+        Refusal::NoEntry,
+        2,
+        "NoEntry",
+        "there is no such name, buffer or context",
+    ),
+    (
+        Refusal::Exists,
+        3,
+        "Exists",
+        "there is such a name, cookie or driver already",
+    ),
+    (
+        Refusal::Overflow,
+        4,
+        "Overflow",
+        "an increment past the greatest value",
+    ),
     (Refusal::Flags, 5, "Flags", "these are no sync flags"),
-    (Refusal::Limit(LimitKind::Files), 6, "Limit", "the limit of files is met"),
-    (Refusal::Signalled, 7, "Signalled", "it is signalled already"),
+    (
+        Refusal::Limit(LimitKind::Files),
+        6,
+        "Limit",
+        "the limit of files is met",
+    ),
+    (
+        Refusal::Signalled,
+        7,
+        "Signalled",
+        "it is signalled already",
+    ),
     (Refusal::TimedOut, 8, "TimedOut", "it is still active"),
-    (Refusal::Foreign, 9, "Foreign", "these words do not bear the file or point out"),
-    (Refusal::Torn, 10, "Torn", "the table or value disagrees with the plans or the words"),
+    (
+        Refusal::Foreign,
+        9,
+        "Foreign",
+        "these words do not bear the file or point out",
+    ),
+    (
+        Refusal::Torn,
+        10,
+        "Torn",
+        "the table or value disagrees with the plans or the words",
+    ),
     (Refusal::NotAll, 11, "NotAll", "parts of seats are missing"),
     (Refusal::LongLine, 12, "LongLine", "the line is too long"),
     (Refusal::Read, 13, "Read", "the reader failed"),
     (Refusal::Write, 14, "Write", "the writer failed"),
-    (Refusal::Cancelled, 15, "Cancelled", "the timeline is closed"),
+    (
+        Refusal::Cancelled,
+        15,
+        "Cancelled",
+        "the timeline is closed",
+    ),
     (Refusal::Memory, 16, "Memory", "out of memory"),
 ];
 
@@ -49,7 +89,10 @@ fn the_table_of_refusals(rt: HostRuntime) {
 }
 
 fn is_called(rt: &impl Abort, alloc: Global, kind: LimitKind, word: &str) {
-    holds(rt, kind.word() == word && is_written(rt, alloc, &kind, word));
+    holds(
+        rt,
+        kind.word() == word && is_written(rt, alloc, &kind, word),
+    );
 }
 
 static LIMITS: [(LimitKind, &'static str); 8] = [

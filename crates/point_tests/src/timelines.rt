@@ -4,7 +4,13 @@ use point_core::{Name, Refusal};
 use std::process::Abort;
 use timeline_core::Timelines;
 
-fn raises(rt: &impl Abort, timelines: &mut Timelines, name: &Name, by: u64, answer: Result<u64, Refusal>) {
+fn raises(
+    rt: &impl Abort,
+    timelines: &mut Timelines,
+    name: &Name,
+    by: u64,
+    answer: Result<u64, Refusal>,
+) {
     holds(rt, timelines.inc(name, by) == answer);
 }
 
@@ -27,7 +33,10 @@ fn misses_one(rt: &impl Abort, timelines: &mut Timelines) {
 /// The timeline a at the greatest value is all that is found.
 fn finds_one(rt: &impl Abort, timelines: &Timelines) {
     let reach = timelines.as_reach();
-    holds(rt, reach.get(context(rt, 1)) == u64::MAX && reach.get(context(rt, 2)) == 0);
+    holds(
+        rt,
+        reach.get(context(rt, 1)) == u64::MAX && reach.get(context(rt, 2)) == 0,
+    );
     holds(rt, timelines.reach() == *reach);
     holds(rt, timelines.name(context(rt, 2)).is_none());
 }

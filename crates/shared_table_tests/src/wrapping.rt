@@ -135,9 +135,10 @@ fn puts_of(table: OddTable) -> Vec<Entry> {
 
 /// Checks that the table of two clients has recorded the puts of both.
 fn check_recorded<R: Threads + Wait + Abort + Sync>(rt: &R, alloc: Global, plans: &[Plan]) {
-    let (_, table) = run_clients::<R, OddTable, OpenGate>(
-        rt, alloc, 1, plans, &OpenGate,
-    ).expect(rt, "a settled table");
+    let (_, table) = run_clients::<R, OddTable, OpenGate>(rt, alloc, 1, plans, &OpenGate).expect(
+        rt,
+        "a settled table",
+    );
     assert!(rt; are_puts_of_two(puts_of(table).as_slice()));
 }
 
