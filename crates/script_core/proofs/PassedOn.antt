@@ -5,14 +5,6 @@ use Rattle.std.proofs.KnownBytes.{Appends-nil, Appends-trans}
 use Rattle.std.proofs.lemmas.List.{flat_map_more, take_more}
 use Rattle.script_core.specs.Bytes.{AppendsFront, PassesOn}
 
--- more bytes that were put behind without a write before them
-pub Passes-behind : (waiting pushed left one two : List ℕ) (old new : Option (List ℕ)) → pushed ≡ waiting ++ one → PassesOn pushed left two old new → PassesOn waiting left (one ++ two) old new
-Passes-behind waiting pushed left one two old new put p = record {
-  written = p.written;
-  whole = sym (append_assoc waiting one two) ∙ ap (λ front. front ++ two) (sym put) ∙ p.whole;
-  appended = p.appended;
-}
-
 -- one after the other
 pub Passes-trans : (waiting middle left one two : List ℕ) (old between new : Option (List ℕ)) → PassesOn waiting middle one old between → PassesOn middle left two between new → PassesOn waiting left (one ++ two) old new
 Passes-trans waiting middle left one two old between new p q = record {
@@ -35,15 +27,6 @@ Front-more bytes more all old new is f = record {
   front = f.front;
   rest = f.rest ++ more;
   whole = is ∙ ap (λ first. first ++ more) f.whole ∙ append_assoc f.front f.rest more;
-  appended = f.appended;
-}
-
--- a front of what waits is one of what was put behind it as well
-pub Front-behind : (waiting pushed one two : List ℕ) (old new : Option (List ℕ)) → pushed ≡ waiting ++ one → AppendsFront old new (pushed ++ two) → AppendsFront old new (waiting ++ (one ++ two))
-Front-behind waiting pushed one two old new put f = record {
-  front = f.front;
-  rest = f.rest;
-  whole = sym (append_assoc waiting one two) ∙ ap (λ front. front ++ two) (sym put) ∙ f.whole;
   appended = f.appended;
 }
 

@@ -2,10 +2,11 @@
 ghost use Rattle.std.specs.Prelude.{◌≡◌, ◌⊎◌, ◌++◌, OnOk, OnErr, IfErr};
 ghost use Rattle.std.specs.List.{flat_map};
 ghost use Rattle.point_core.specs.declared.refusal.Refusal.TheVariants.{Write as WriteFault, Memory};
+ghost use Rattle.command_core.specs.Tables.{row_count};
 ghost use Rattle.report_core.specs.Row.{file_row_text};
-ghost use Rattle.report_core.specs.Tables.{buffer_text};
+ghost use Rattle.report_core.specs.Tables.{timeline_text, buffer_text};
 ghost use Rattle.script_core.specs.Bytes.{AppendsFront, PassesOn};
-ghost use Rattle.script_core.specs.Text.{report_text, text_of};
+ghost use Rattle.script_core.specs.Text.{value_line, report_text, text_of};
 
 use crate::text::{push_owned, push_timelines};
 use crate::writing::write_many;
@@ -15,7 +16,7 @@ use report_core::{buffer_text, file_row};
 use std::io::Write;
 
 /// Puts the text of the answer of the line of that number behind `out`, and writes what waits there where it is much. The
-/// text of a report waits row by row of its files and buffer by buffer, and is never held as a whole.
+/// text of a report waits by its timelines, file by file and buffer by buffer, and is never held as a whole.
 ///
 /// Refused as Write where a write failed or took no byte, and as Memory where a growth was refused: then a front of what
 /// waited and of the text is written.
@@ -64,9 +65,27 @@ fn pass_report<W: Write>(report: &Report, out: &mut Vec<u8>, writer: &mut W) -> 
         (out.old.items ++ report_text report.now)) }
     ensures refusals { IfErr result (λ refusal. (refusal ≡ WriteFault) ⊎ (refusal ≡ Memory)) }
 {
-    push_timelines(report, out)?;
+    pass_timelines(report, out, writer)?;
     pass_files(report.files.as_slice(), out, writer)?;
     pass_buffers(report.buffers.as_slice(), out, writer)?;
+    Ok(())
+}
+
+/// The number of the report's rows, and those of its timelines.
+fn pass_timelines<W: Write>(
+    report: &Report,
+    out: &mut Vec<u8>,
+    writer: &mut W,
+) -> Result<(), Refusal>
+    ensures ok { OnOk result (PassesOn out.old.items out.new.items
+        (value_line (row_count report.now) ++ flat_map timeline_text report.now.timelines)
+        (W.contents writer.old) (W.contents writer.new)) }
+    ensures err { OnErr result (AppendsFront (W.contents writer.old) (W.contents writer.new)
+        (out.old.items ++ (value_line (row_count report.now) ++ flat_map timeline_text report.now.timelines))) }
+    ensures refusals { IfErr result (λ refusal. (refusal ≡ WriteFault) ⊎ (refusal ≡ Memory)) }
+{
+    push_timelines(report, out)?;
+    write_many(writer, out)?;
     Ok(())
 }
 

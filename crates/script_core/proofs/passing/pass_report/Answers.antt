@@ -6,7 +6,7 @@ use Rattle.report_core.specs.Row.{file_row_text}
 use Rattle.report_core.specs.Tables.{timeline_text, buffer_text}
 use Rattle.script_core.specs.Bytes.{AppendsFront, PassesOn}
 use Rattle.script_core.specs.Text.{report_text, value_line}
-use Rattle.script_core.proofs.PassedOn.{Front-none, Front-behind, Front-more, Front-passed, Passes-behind, Passes-trans}
+use Rattle.script_core.proofs.PassedOn.{Front-more, Front-passed, Passes-trans}
 use Rattle.script_core.proofs.passing.pass_report.Goals as goal
 
 -- the parts of a report's text, taken together
@@ -14,10 +14,19 @@ parts : (count timelines files buffers : List ℕ) → ((count ++ timelines) ++ 
 parts count timelines files buffers =
     ap (λ text. text ++ buffers) (append_assoc count timelines files) ∙ append_assoc count (timelines ++ files) buffers
 
-pub returns-in_err-push_timelines-clause-err : goal.returns-in_err-push_timelines-clause-err
-returns-in_err-push_timelines-clause-err g c =
+pub returns-in_err-pass_timelines-clause-err : goal.returns-in_err-pass_timelines-clause-err
+returns-in_err-pass_timelines-clause-err g c =
     let q = err_from_is_err_and c.from_residual.result c.from_residual.ensures.1 in
-    rw q.1 (Front-none _ _)
+    let report = c.args.report.now in
+    let count = value_line (row_count report) in
+    let timelines = flat_map timeline_text report.timelines in
+    let files = flat_map file_row_text report.files in
+    let buffers = flat_map buffer_text report.buffers in
+    let out = c.args.out.now.items in
+    let all : out ++ report_text report ≡ (out ++ (count ++ timelines)) ++ (files ++ buffers) =
+    ap (λ text. out ++ text) (sym (parts count timelines files buffers) ∙ append_assoc (count ++ timelines) files buffers)
+    ∙ sym (append_assoc out (count ++ timelines) (files ++ buffers)) in
+    rw q.1 (Front-more (out ++ (count ++ timelines)) (files ++ buffers) (out ++ report_text report) _ _ all c.in_err-pass_timelines.ensures.err)
 
 pub returns-in_err-pass_files-clause-err : goal.returns-in_err-pass_files-clause-err
 returns-in_err-pass_files-clause-err g c =
@@ -32,7 +41,7 @@ returns-in_err-pass_files-clause-err g c =
     ∙ ap (λ xs. out ++ ((first ++ flat_map file_row_text xs) ++ buffers)) (sym (c.as_slice.ensures ∙ ap (λ (t : Tables). t.files) c.report.view_is))
     ∙ sym (append_assoc out (first ++ files) buffers) in
     rw q.1 (Front-more (out ++ (first ++ files)) buffers (out ++ report_text report) _ _ all
-    (Front-behind out c.push_timelines.new.out.items first files _ _ c.in_ok-push_timelines.ensures.ok c.in_err-pass_files.ensures.err))
+    (Front-passed out c.pass_timelines.new.out.items first files _ _ _ c.in_ok-pass_timelines.ensures.ok c.in_err-pass_files.ensures.err))
 
 pub returns-in_err-pass_buffers-clause-err : goal.returns-in_err-pass_buffers-clause-err
 returns-in_err-pass_buffers-clause-err g c =
@@ -46,7 +55,7 @@ returns-in_err-pass_buffers-clause-err g c =
     ap (λ xs. out ++ ((first ++ flat_map file_row_text xs) ++ buffers)) (c.as_slice.ensures ∙ ap (λ (t : Tables). t.files) c.report.view_is)
     ∙ ap (λ xs. out ++ ((first ++ flat_map file_row_text report.files) ++ flat_map buffer_text xs)) (c.as_slice-2.ensures ∙ ap (λ (t : Tables). t.buffers) c.report.view_is)
     ∙ ap (λ text. out ++ text) (parts (value_line (row_count report)) (flat_map timeline_text report.timelines) (flat_map file_row_text report.files) (flat_map buffer_text report.buffers)) in
-    let passed = Passes-behind out c.push_timelines.new.out.items c.pass_files.new.out.items first files _ _ c.in_ok-push_timelines.ensures.ok c.in_ok-pass_files.ensures.ok in
+    let passed = Passes-trans out c.pass_timelines.new.out.items c.pass_files.new.out.items first files _ _ _ c.in_ok-pass_timelines.ensures.ok c.in_ok-pass_files.ensures.ok in
     rw q.1 (subst (λ text. AppendsFront (g.W.Write.contents c.args.writer.now) (g.W.Write.contents c.pass_buffers.new.writer) text) all
     (Front-passed out c.pass_files.new.out.items (first ++ files) buffers _ _ _ passed c.in_err-pass_buffers.ensures.err))
 
@@ -61,6 +70,6 @@ returns-clause-ok g c =
     ap (λ xs. (first ++ flat_map file_row_text xs) ++ buffers) (c.as_slice.ensures ∙ ap (λ (t : Tables). t.files) c.report.view_is)
     ∙ ap (λ xs. (first ++ flat_map file_row_text report.files) ++ flat_map buffer_text xs) (c.as_slice-2.ensures ∙ ap (λ (t : Tables). t.buffers) c.report.view_is)
     ∙ parts (value_line (row_count report)) (flat_map timeline_text report.timelines) (flat_map file_row_text report.files) (flat_map buffer_text report.buffers) in
-    let passed = Passes-behind out c.push_timelines.new.out.items c.pass_files.new.out.items first files _ _ c.in_ok-push_timelines.ensures.ok c.in_ok-pass_files.ensures.ok in
+    let passed = Passes-trans out c.pass_timelines.new.out.items c.pass_files.new.out.items first files _ _ _ c.in_ok-pass_timelines.ensures.ok c.in_ok-pass_files.ensures.ok in
     subst (λ text. PassesOn out c.pass_buffers.new.out.items text (g.W.Write.contents c.args.writer.now) (g.W.Write.contents c.pass_buffers.new.writer)) all
     (Passes-trans out c.pass_files.new.out.items c.pass_buffers.new.out.items (first ++ files) buffers _ _ _ passed c.in_ok-pass_buffers.ensures.ok)
