@@ -35,7 +35,7 @@ asked_on word file =
 abbrev pub asked_after : Text → List Row → Asked
 asked_after word rows =
     if bytes_eq word (codes "clients") then
-      Clients (number_named (one_of (codes "N") rows)) (number_named (one_of (codes "ROUNDS") rows))
+    Clients (number_named (one_of (codes "N") rows)) (number_named (one_of (codes "ROUNDS") rows))
     else asked_on word (file_named (first_of (codes "FILE") rows))
 
 -- without a subcommand the script of standard input is run

@@ -1,12 +1,21 @@
 // The command line.
-ghost use Rattle.std.specs.Prelude.{◌≡◌, IfOk, codes, false, map, string_bytes};
-ghost use Rattle.clap.specs.Words.{rule_of, subcommand_of, subcommand_rows_of};
+ghost use Rattle.std.specs.Prelude.{◌≡◌, IfErr, IfOk, codes, false, map, string_bytes, true};
+ghost use Rattle.clap.specs.Words.{kind_of, rule_of, subcommand_of, subcommand_rows_of, takes};
 ghost use Rattle.clients_core.specs.declared.plans.TheConstants.{CLIENTS};
 ghost use Rattle.clients_core.specs.declared.rounds.TheConstants.{ROUNDS};
 ghost use Rattle.command_line.specs.Words.{
-    Adds, IsApp, clients_app, fencectl, file_rule, locks_rule, number_rule, program_app, script_app,
+  Adds,
+  IsApp,
+  clients_app,
+  fencectl,
+  file_rule,
+  locks_rule,
+  number_rule,
+  program_app,
+  script_app,
 };
 
+use clap::error::ErrorKind;
 use clap::{Arg, ArgAction, ArgMatches, Command, Error, value_parser};
 use clients_core::{CLIENTS, ROUNDS};
 use std::alloc::{AllocError, Global};
@@ -111,6 +120,8 @@ pub(crate) const LOCKS: &str = "locks";
 pub(crate) fn matches_of<'a>(alloc: Global, words: &'a [String]) -> Result<ArgMatches<'a>, Error>
     ensures matches { IfOk result (λ matches. subcommand_rows_of matches
         ≡ subcommand_of fencectl (map string_bytes words.entry.now)) }
+    ensures taken { IfErr result (λ error. takes fencectl (map string_bytes words.entry.now) ≡ true
+        → kind_of error ≡ ErrorKind.OutOfMemory) }
 {
     let command = command(alloc)?;
     command.try_get_matches_from(words)

@@ -37,7 +37,11 @@ pub fn clients_report<R: Threads + Wait + Sync, W: Write>(
         (AppendsFront (W.contents writer.old) (W.contents writer.new) (clients_text clients.now.count clients.now.rounds)) }
     ensures refusals { IfErr result (λ e. (e ≡ refusal.Write) ⊎ IsClientRefusal e) }
 {
-    let Clients { count, rounds, table } = *clients;
+    let Clients {
+        count,
+        rounds,
+        table,
+    } = *clients;
     match table {
         Table::Board => report_over::<R, Board, W>(rt, alloc, count, rounds, writer),
         Table::Locks => report_over::<R, LockedTable, W>(rt, alloc, count, rounds, writer),

@@ -1,7 +1,7 @@
 // The words of the command line: what they ask for, and what is printed where they ask for nothing.
-
-ghost use Rattle.std.specs.Prelude.{◌≡◌, IfOk, IfSome, map, string_bytes};
-ghost use Rattle.clap.specs.Words.{subcommand_of};
+ghost use Rattle.std.specs.Prelude.{◌≡◌, Err, IfOk, IfSome, IsSome, map, string_bytes, true};
+ghost use Rattle.clap.specs.Words.{kind_of, subcommand_of, takes};
+ghost use Rattle.point_core.specs.declared.refusal.Refusal.TheVariants.{Memory};
 ghost use Rattle.command_line.specs.Asked.{asked_by, asked_of};
 ghost use Rattle.command_line.specs.Words.{fencectl};
 
@@ -26,6 +26,9 @@ pub fn action_of<'a>(
 ) -> Result<Action<'a>, Refusal>
     ensures asked { IfOk result (λ action. IfSome (asked_of action) (λ asked. asked
         ≡ asked_by (subcommand_of fencectl (map string_bytes words.entry.now)))) }
+    // Words that the command line takes are neither help nor wrong usage.
+    ensures taken { takes fencectl (map string_bytes words.entry.now) ≡ true
+        → IfOk result (λ action. IsSome (asked_of action)) }
 {
     match matches_of(alloc, words) {
         Ok(matches) => action_by(&matches),
@@ -37,7 +40,9 @@ pub fn action_of<'a>(
 /// subcommand, it tells how a script in a file is run.
 ///
 /// Refuses as `Write` where that could not be printed, and as `Memory` where clap had none.
-fn tell_error(rt: &(impl Print + Eprint), error: &Error) -> Result<u8, Refusal> {
+fn tell_error(rt: &(impl Print + Eprint), error: &Error) -> Result<u8, Refusal>
+    ensures memory { kind_of error.now ≡ ErrorKind.OutOfMemory → result ≡ Err Memory }
+{
     if error.kind() == ErrorKind::OutOfMemory {
         return Err(Refusal::Memory);
     }

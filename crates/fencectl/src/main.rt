@@ -6,7 +6,9 @@
 mod scripts;
 mod status;
 
-use command_line::{Action, Script, Source, action_of, clients_report, tell_fault, tell_unread_word};
+use command_line::{
+    Action, Script, Source, action_of, clients_report, tell_fault, tell_unread_word,
+};
 use explain_core::Look;
 use point_core::Refusal;
 use scripts::{check_script, explain_script, run_script};
@@ -53,12 +55,7 @@ fn act<T: Threads + Wait + Sync>(
 
 fn run(rt: &HostRuntime, script: Script) -> Result<u8, Refusal> {
     let mut source = Source::open(rt, script, rt.stdin())?;
-    Ok(run_script(
-        rt.alloc(),
-        &mut source,
-        &mut rt.stdout(),
-        &mut rt.stderr(),
-    ))
+    Ok(run_script(rt.alloc(), &mut source, &mut rt.stdout(), &mut rt.stderr()))
 }
 
 fn check(rt: &HostRuntime, script: Script) -> Result<u8, Refusal> {

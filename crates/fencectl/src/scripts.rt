@@ -28,11 +28,7 @@ pub(crate) fn run_script<R: Read, W: Write, E: Write>(
 }
 
 /// Checks the script of a reader. What differs is reported on `errors`, and so is a fault.
-pub(crate) fn check_script<R: Read, E: Write>(
-    alloc: Global,
-    reader: &mut R,
-    errors: &mut E,
-) -> u8
+pub(crate) fn check_script<R: Read, E: Write>(alloc: Global, reader: &mut R, errors: &mut E) -> u8
     ensures ended { (ended : Result Tally Refusal) × (result ≡ check_status ended)
         × EndsCheck ended (R.remaining reader.old) }
 {

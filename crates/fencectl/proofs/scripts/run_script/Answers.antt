@@ -2,8 +2,15 @@
 use Rattle.fencectl.proofs.scripts.run_script.Goals as goal
 
 pub returns : goal.returns
-returns g c = record { ended = (c.engine-ended.result, c.status_of_run.ensures.status, record {
-  ok = c.engine-ended.ensures.ok;
-  read = c.engine-ended.ensures.read;
-  err = c.engine-ended.ensures.err;
-}, c.status_of_run.ensures.told) }
+returns g c = record {
+  ended = (
+    c.engine-ended.result,
+    c.status_of_run.ensures.status,
+    record {
+      ok = c.engine-ended.ensures.ok;
+      read = c.engine-ended.ensures.read;
+      err = c.engine-ended.ensures.err;
+    },
+    c.status_of_run.ensures.told,
+  );
+}
