@@ -1,0 +1,157 @@
+"""What a run may leave in which growths were refused, as the program itself says it of a run without refusals.
+
+The run may end with the fault of memory, after a prefix of what is right. Else commands may be answered that memory was
+refused. Such a command has left nothing behind: all other answers are those of the script in which it is a note.
+"""
+import re
+from dataclasses import replace
+
+from scripts import answers_of
+
+MEMORY = b"err 16 Memory"
+FAULT = b"fencectl: 16 Memory\n"
+# Memory is refused to none of these.
+NEVER = {b"value", b"close", b"wait", b"test", b"trim", b"unwatch"}
+
+
+def text_of(lines):
+    return b"".join(line + b"\n" for line in lines)
+
+
+def number_of(line):
+    """Returns the number of the line that an explanation or a difference is about."""
+    return int(re.match(rb"line (\d+): ", line)[1])
+
+
+def with_lines(text, more):
+    """Returns explanations or differences with some more, all by the numbers of their lines."""
+    return text_of(sorted(text.split(b"\n")[:-1] + more, key=number_of))
+
+
+class Words:
+    """A command line without a script: a run of it leaves what is right, or ends with the fault."""
+
+    def __init__(self, program, words, reading=False):
+        self.program = program
+        self.words = words
+        self.reading = reading
+        self.whole = program.plain(*words)
+
+    def run(self, growths):
+        return self.program.refused(growths, self.reading, *self.words)
+
+    def wrong(self, run, lasts):
+        """Returns what is wrong with a run, or an empty text. Memory may be refused to its end."""
+        if run.status < 0:
+            return f"it ends by signal {-run.status}"
+        if run.threads != run.threads_ended:
+            return f"it leaves {run.threads - run.threads_ended} threads behind"
+        refused = self.refused(run)
+        wrong = self.wrong_answers(run, refused)
+        if not wrong and run.refused == 0 and refused:
+            return "it is answered Memory, which was not refused"
+        return wrong or self.wrong_refusals(run, lasts, refused)
+
+    def wrong_answers(self, run, refused):
+        right = self.right(frozenset(refused))
+        if run.refused > 0 and run.errors.endswith(FAULT):
+            if run.status != 2:
+                return f"its status is {run.status} after a fault"
+            if not right.output.startswith(run.output):
+                return f"it prints {run.output} before the fault, which does not begin {right.output}"
+            if not right.errors.startswith(run.errors.removesuffix(FAULT)):
+                return f"it reports {run.errors}, but {right.errors} was right before the fault"
+            return ""
+        for name in ("status", "output", "errors"):
+            came, wanted = getattr(run, name), getattr(right, name)
+            if came != wanted:
+                return f"its {name} is {came}, not {wanted}"
+        return ""
+
+    def refused(self, run):
+        return []
+
+    def right(self, refused):
+        return self.whole
+
+    def wrong_refusals(self, run, lasts, refused):
+        return ""
+
+
+class Answers(Words):
+    """A run of a script."""
+
+    WORD = "run"
+
+    def __init__(self, program, script, reading):
+        super().__init__(program, [self.WORD, program.file("script", script.without([]))], reading)
+        self.script = script
+        self.known = {}
+        self.answers = dict(zip(script.commands, answers_of(program.plain("run", self.words[1]).output)))
+
+    def refused(self, run):
+        """Returns the commands that are answered Memory."""
+        return [number for number, answer in zip(self.script.commands, answers_of(run.output)) if answer == [MEMORY]]
+
+    def right(self, refused):
+        """Returns what is right where these commands are answered Memory."""
+        if refused not in self.known:
+            noted = self.program.file("noted", self.script.without(refused))
+            self.known[refused] = self.adding(self.program.plain(self.WORD, noted), refused)
+        return self.known[refused]
+
+    def adding(self, run, refused):
+        """Returns a run with these commands, which are answered Memory."""
+        others = [number for number in self.script.commands if number not in refused]
+        answers = dict(zip(others, answers_of(run.output))) | {number: [MEMORY] for number in refused}
+        output = b"".join(text_of(answers[number]) for number in sorted(answers))
+        return replace(run, output=output, status=1 if refused else run.status)
+
+    def wrong_refusals(self, run, lasts, refused):
+        """Memory is refused to a command that would be accepted otherwise, and where it is refused to the end, that is said."""
+        if lasts and self.reading and run.refused > 0 and not refused and not run.errors.endswith(FAULT):
+            return "no answer and no fault says that memory was refused"
+        if not lasts and len(refused) > 1:
+            return f"one refusal is answered on the lines {refused}"
+        for number in refused:
+            word = self.script.line(number).split()[0]
+            if word in NEVER:
+                return f"line {number} is answered Memory"
+        return self.wrong_first(refused[0]) if refused else ""
+
+    def wrong_first(self, number):
+        answer = self.answers[number]
+        if not answer[0].startswith(b"ok"):
+            return f"line {number} is answered Memory, but has the answer {answer[0]}"
+        if self.script.line(number).split()[0] == b"inc" and len(answer) == 1:
+            return f"line {number} is answered Memory, but fires nothing"
+        return ""
+
+
+class Explanations(Answers):
+    """An explanation of a script."""
+
+    WORD = "explain"
+
+    def adding(self, run, refused):
+        more = [b"line %d: memory was refused" % number for number in refused]
+        return replace(super().adding(run, refused), errors=with_lines(run.errors, more))
+
+
+class Differences(Answers):
+    """A check of a script that expects the answers that it has."""
+
+    WORD = "check"
+
+    def refused(self, run):
+        return [number_of(line) for line in run.errors.split(b"\n") if line.endswith(b'came "%s"' % MEMORY)]
+
+    def adding(self, run, refused):
+        differences, counts = re.fullmatch(rb"((?:.*\n)*)(.*)\n", run.errors).groups()
+        more = [self.difference(number) for number in refused]
+        counts = re.sub(rb"\d+", lambda count: b"%d" % (int(count[0]) + len(refused)), counts)
+        return replace(run, errors=with_lines(differences, more) + text_of([counts]), status=1 if refused else run.status)
+
+    def difference(self, number):
+        command, expected = self.script.line(number), self.script.expected(number)
+        return b'line %d: %s: expected "%s", came "%s"' % (number, command, expected, MEMORY)
