@@ -1,5 +1,6 @@
 #!/usr/bin/env bash
-# All watches that there can be at a time, and one more: its other causes of refusal are reported in their order.
+# All watches that there can be at a time, and one more: its other causes of refusal are reported in their order. They fire by
+# registration.
 set -euo pipefail
 source "$(dirname "$0")/shared"
 
@@ -20,6 +21,8 @@ watch f $((watches + 1))
 #= err 6 Limit watches
 watch g 1
 #= err 3 Exists
+watch f $watches
+#= err 3 Exists
 watch g $((watches + 1))
 #= err 6 Limit watches
 watch x 1
@@ -28,6 +31,13 @@ unwatch 7
 #= ok 1
 watch g $((watches + 1))
 #= err 7 Signalled
-watch f 7
+watch f $((watches + 1))
 #= ok
+watch f 7
+#= err 6 Limit watches
+inc a 1
+#= ok 1
 END
+for cookie in $(seq "$((watches + 1))"); do
+    [ "$cookie" -eq 7 ] || printf '#= fired %d\n' "$cookie"
+done

@@ -6,6 +6,11 @@ use point_core::{Context, Point, Reach, Refusal};
 use std::alloc::Global;
 use std::process::Abort;
 
+/// Ends the test unless the condition holds. An `assert!` costs more to prove than a call of this function.
+pub(crate) fn holds(rt: &impl Abort, condition: bool) {
+    assert!(rt; condition);
+}
+
 /// A point of the first context.
 fn first_point(value: u64) -> Point
     ensures context { result.ctx ≡ 1 }
@@ -46,7 +51,7 @@ pub(crate) fn fence_of(alloc: Global, first: u64, second: u64) -> Result<Fence, 
 
 /// Checks whether a fence is signalled at these values of the first two contexts.
 fn check_signalled(rt: &impl Abort, fence: &Fence, first: u64, second: u64, wanted: bool) {
-    assert!(rt; fence.is_signalled(&reach_of(first, second)) == wanted);
+    holds(rt, fence.is_signalled(&reach_of(first, second)) == wanted);
 }
 
 /// How many members a fence of its kind has, where 2 stands for several.
@@ -60,8 +65,10 @@ fn kind_of(fence: &Fence) -> usize {
 
 /// Checks of which kind a fence is, and what it lists.
 fn check_members(rt: &impl Abort, fence: &Fence, members: &[Point]) {
-    assert!(rt; kind_of(fence) == members.len());
-    assert!(rt; fence.members() == members);
+    holds(
+        rt,
+        kind_of(fence) == members.len() && fence.members() == members,
+    );
 }
 
 /// Checks when a fence of these points is signalled.

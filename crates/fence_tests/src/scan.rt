@@ -1,5 +1,5 @@
 // Watches beside a plain list of them, which is gone through at each rise.
-use crate::fences::{fence_of, reach_of};
+use crate::fences::{fence_of, holds, reach_of};
 use crate::watches::Watching;
 use fence_core::Fence;
 use point_core::{Context, Point, Refusal};
@@ -29,16 +29,22 @@ struct Plain {
 }
 
 impl Plain {
-    fn new(rt: &impl Abort, alloc: Global) -> Plain {
+    /// No watches, at that value of both contexts.
+    fn new(rt: &impl Abort, alloc: Global, value: u64) -> Plain {
         Plain {
             pending: Vec::with_capacity(alloc, 64).expect(rt, "memory"),
-            first: 0,
-            second: 0,
+            first: value,
+            second: value,
         }
     }
 
     fn has(&self, cookie: u64) -> bool {
-        self.pending.iter().any(|held| held.cookie == cookie)
+        for held in &self.pending {
+            if held.cookie == cookie {
+                return true;
+            }
+        }
+        false
     }
 
     /// What a registration of the watch has to answer, where memory is not refused.
@@ -59,13 +65,14 @@ impl Plain {
         self.second = second;
     }
 
-    fn remove(&mut self, cookie: u64) {
-        self.pending.retain(|held| held.cookie != cookie);
+    /// Takes out the watches that are reached at those values, and the one of the cookie.
+    fn take_out(&mut self, cookie: Option<u64>, first: u64, second: u64) {
+        self.pending.retain(|held| Some(held.cookie) != cookie && !held.is_reached(first, second));
     }
 
     /// Takes out the watches that fire at those values.
     fn rise_to(&mut self, first: u64, second: u64) {
-        self.pending.retain(|held| !held.is_reached(first, second));
+        self.take_out(None, first, second);
         self.first = first;
         self.second = second;
     }
@@ -86,7 +93,7 @@ fn register_on(
     if answer == Err(Refusal::Memory) {
         return;
     }
-    assert!(rt; answer == wanted);
+    holds(rt, answer == wanted);
     if answer.is_ok() {
         plain.add(rt, watch, first, second);
     }
@@ -110,9 +117,9 @@ fn register(
 /// Takes the watch out of both.
 fn unregister(rt: &impl Abort, watching: &mut Watching, plain: &mut Plain, cookie: u64) {
     let wanted = plain.has(cookie);
-    assert!(rt; watching.free(cookie).is_ok() != wanted);
-    assert!(rt; watching.remove(cookie) == wanted);
-    plain.remove(cookie);
+    holds(rt, watching.free(cookie).is_ok() != wanted);
+    holds(rt, watching.remove(cookie) == wanted);
+    plain.take_out(Some(cookie), 0, 0);
 }
 
 /// Brings both to those values, and compares what fires.
@@ -142,7 +149,7 @@ fn compare(rt: &impl Abort, fired: &[u64], plain: &mut Plain, first: u64, second
             told = after_first(rt, told, watch.cookie);
         }
     }
-    assert!(rt; told.is_empty());
+    holds(rt, told.is_empty());
     plain.rise_to(first, second);
 }
 
@@ -151,7 +158,7 @@ fn after_first<'a>(rt: &impl Abort, told: &'a [u64], cookie: u64) -> &'a [u64] {
     let Some((first, rest)) = told.split_first() else {
         panic!(rt; "a watch has not fired")
     };
-    assert!(rt; *first == cookie);
+    holds(rt, *first == cookie);
     rest
 }
 
@@ -180,7 +187,7 @@ fn step(
 ) {
     let first = plain.first.saturating_add(next(seed) % 8 / 7);
     let second = plain.second.saturating_add(next(seed) % 8 / 7);
-    let cookie = next(seed) % 40;
+    let cookie = (next(seed) % 40).wrapping_sub(20);
     match next(seed) % 8 {
         0 => unregister(rt, watching, plain, cookie),
         1 => rise_both(rt, watching, plain, first, second),
@@ -203,15 +210,16 @@ fn steps(rt: &impl Abort, alloc: Global, watching: &mut Watching, plain: &mut Pl
     }
 }
 
-/// Makes steps of new watches beside the list.
-fn run(rt: &impl Abort, alloc: Global, plain: &mut Plain) {
+/// Makes steps of new watches beside a plain list, from that value of both contexts on.
+fn run(rt: &impl Abort, alloc: Global, value: u64) {
     let mut watching = Watching::new(rt, alloc);
-    steps(rt, alloc, &mut watching, plain);
+    let mut plain = Plain::new(rt, alloc, value);
+    steps(rt, alloc, &mut watching, &mut plain);
 }
 
-// The same watches fire in the same order, and the same are refused.
+// The same watches fire in the same order, and the same are refused, up to the greatest value.
 #[test]
 fn a_plain_list_of_watches(rt: HostRuntime) {
-    let mut plain = Plain::new(&rt, rt.alloc());
-    run(&rt, rt.alloc(), &mut plain);
+    run(&rt, rt.alloc(), 0);
+    run(&rt, rt.alloc(), u64::MAX - 300);
 }

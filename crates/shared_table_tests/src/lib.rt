@@ -1,9 +1,7 @@
-//! Tests of the tables that clients share, and of a table that wraps one.
+//! Tests of the tables that clients share.
 #![tactic(auto)]
 
 #[cfg(test)]
 mod plans;
 #[cfg(test)]
 mod tables;
-#[cfg(test)]
-mod wrapping;

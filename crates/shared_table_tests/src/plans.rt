@@ -1,4 +1,4 @@
-// Points and plans that are put.
+// A point and a plan that are put.
 ghost use Rattle.std.specs.Prelude.{◌≡◌, vec_len};
 ghost use Rattle.resv_core.specs.Settled.{ArePlansWithin};
 
@@ -15,16 +15,6 @@ pub(crate) fn point(value: u64) -> Point
         ctx: Context::at(0),
         value,
     }
-}
-
-/// The plans of these acts, one for each client.
-pub(crate) fn plans_of(rt: &impl Abort, alloc: Global, clients: &[&[Act]]) -> Vec<Plan> {
-    let mut plans = Vec::new(alloc);
-    for acts in clients {
-        let acts = Vec::from_slice(alloc, acts).expect(rt, "acts");
-        plans.push(Plan::of(acts)).expect(rt, "a plan");
-    }
-    plans
 }
 
 /// The plan of one client, which puts a point into the first buffer of two.

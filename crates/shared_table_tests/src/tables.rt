@@ -1,11 +1,10 @@
 // One buffer of each table, and what lies under a lock.
-ghost use Rattle.std.specs.Prelude.{◌≡◌, ◌<◌, length};
-ghost use Rattle.resv_core.specs.Settled.{ArePlansWithin};
+ghost use Rattle.std.specs.Prelude.{◌≡◌, ◌<◌};
 
 use crate::plans::{check_refused, plan_of_a_put, point};
 use clients_core::{Board, LockedBuffer, LockedTable};
 use point_core::{Entry, Listing, Point, Reach, Refusal, Usage};
-use resv_core::{Plan, SharedTable};
+use resv_core::SharedTable;
 use std::alloc::Global;
 use std::process::Abort;
 use std::sync::Wait;
@@ -97,25 +96,20 @@ fn gathered(rt: &impl Abort, seat: Seat) -> Whole
     all
 }
 
-/// Checks that a new table has not settled these plans.
+/// Checks that a new table has not settled the plan of a put.
 fn check_unsettled<R: Wait + Abort, T: SharedTable>(
     rt: &R,
     alloc: Global,
     words: &Words,
     all: &mut Whole,
-    plans: &[Plan],
 )
     requires own { all.old.words ≡ words.now }
     requires sizes { (words.now.contexts ≡ 1) × (words.now.buffers ≡ 2) }
-    requires within { ArePlansWithin 1 2 plans.now }
-    requires count { length plans.now ≡ 1 }
 {
+    let plans = plan_of_a_put(rt, alloc);
     let table = T::empty(alloc, words).expect(rt, "a table");
-    check_refused(
-        rt,
-        table.settle(rt, alloc, words, all, plans),
-        Refusal::Torn,
-    );
+    let refused = table.settle(rt, alloc, words, all, plans.as_slice());
+    check_refused(rt, refused, Refusal::Torn);
 }
 
 /// Checks a put into the second buffer of a new table, which shows there alone.
@@ -139,11 +133,10 @@ fn check_new_table<R: Wait + Abort, T: SharedTable>(
 
 /// Checks tables of two buffers and one context.
 fn check_tables<R: Wait + Abort, T: SharedTable>(rt: &R, alloc: Global) {
-    let plans = plan_of_a_put(rt, alloc);
     let (words, mut seat) = Words::new(alloc, 1, 2, 0).expect(rt, "words");
     check_new_table::<R, T>(rt, alloc, &words, &mut seat);
     let mut all = gathered(rt, seat);
-    check_unsettled::<R, T>(rt, alloc, &words, &mut all, plans.as_slice());
+    check_unsettled::<R, T>(rt, alloc, &words, &mut all);
 }
 
 #[test]

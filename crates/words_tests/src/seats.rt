@@ -7,6 +7,11 @@ use std::alloc::Global;
 use std::process::Abort;
 use words_core::{Driver, Seat, Whole, Words};
 
+/// Ends the test unless the condition holds. An `assert!` costs more to prove than a call of this function.
+pub(crate) fn holds(rt: &impl Abort, condition: bool) {
+    assert!(rt; condition);
+}
+
 /// Words of these numbers of contexts, buffers and flags, and their first seat.
 pub(crate) fn words_of(
     rt: &impl Abort,

@@ -1,7 +1,7 @@
 // Words on two threads.
 ghost use Rattle.std.specs.Prelude.{◌≡◌, ◌+◌, ◌<◌, ◌≤◌};
 
-use crate::seats::{driver_of, whole_of, words_of};
+use crate::seats::{driver_of, holds, whole_of, words_of};
 use point_core::{Context, Usage};
 use std::process::Abort;
 use std::thread::{Threads, join};
@@ -43,7 +43,7 @@ fn drive_beside(
     requires context { other ≤ words.now.contexts }
     ensures own { (driver.new.seat.words ≡ words.now) × (looking.new.words ≡ words.now) }
 {
-    assert!(rt; driver.inc(words, 1) == Ok(1));
+    holds(rt, driver.inc(words, 1) == Ok(1));
     assert!(rt;
         is_advanced(words, looking, other),
         "the threads did not meet"
@@ -151,7 +151,7 @@ fn check_both(rt: &impl Abort, words: &Words, whole: &mut Whole)
     let first = whole.value(words, Context::at(0));
     let second = whole.value(words, Context::at(1));
     let top = whole.top(words, 0, Context::at(0), Usage::Write);
-    assert!(rt; first == 1_001 && second == 1_001 && top == 1_999_999);
+    holds(rt, first == 1_001 && second == 1_001 && top == 1_999_999);
 }
 
 /// Drives and raises on two threads, and checks the entry that both have raised.
@@ -162,7 +162,10 @@ fn drive_and_raise<R: Threads + Abort + Sync>(rt: &R, words: &Words, all: &mut S
 {
     drive_both(rt, words, all);
     raise_by_both(rt, words, all);
-    assert!(rt; words.shown(all, 0, Context::at(0), Usage::Write) == 1_999_999);
+    holds(
+        rt,
+        words.shown(all, 0, Context::at(0), Usage::Write) == 1_999_999,
+    );
 }
 
 #[test]

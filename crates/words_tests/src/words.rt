@@ -3,7 +3,7 @@ ghost use Rattle.std.specs.Prelude.{◌≡◌, ◌<◌, ◌≤◌};
 ghost use Rattle.words_core.specs.declared.flags.Once.TheVariants as once;
 ghost use Rattle.words_core.specs.declared.seat.TheConstants.{PARTS};
 
-use crate::seats::{driver_of, whole_of, words_of};
+use crate::seats::{driver_of, holds, whole_of, words_of};
 use point_core::{BUFFERS, CONTEXTS, Context, LimitKind, Reach, Refusal, Usage};
 use std::alloc::Global;
 use std::process::Abort;
@@ -20,7 +20,7 @@ fn refusal_of(
     match Words::new(alloc, contexts, buffers, flags) {
         Ok((words, seat)) => {
             check_sizes(rt, &words, contexts, buffers, flags);
-            assert!(rt; seat.parts() == PARTS);
+            holds(rt, seat.parts() == PARTS);
             None
         }
         Err(refusal) => Some(refusal),
@@ -28,9 +28,10 @@ fn refusal_of(
 }
 
 fn check_sizes(rt: &impl Abort, words: &Words, contexts: usize, buffers: usize, flags: usize) {
-    assert!(rt; words.contexts() == contexts);
-    assert!(rt; words.buffers() == buffers);
-    assert!(rt; words.flags() == flags);
+    holds(
+        rt,
+        words.contexts() == contexts && words.buffers() == buffers && words.flags() == flags,
+    );
 }
 
 /// Checks which limit words of these sizes are refused by.
@@ -43,24 +44,29 @@ fn check_limit(
     wanted: Option<LimitKind>,
 ) {
     let refusal = refusal_of(rt, alloc, contexts, buffers, flags);
-    assert!(rt; refusal == wanted.map(Refusal::Limit));
+    holds(rt, refusal == wanted.map(Refusal::Limit));
 }
 
-fn check_refused(rt: &impl Abort, alloc: Global) {
-    check_limit(rt, alloc, 0, 0, 0, Some(LimitKind::Timelines));
-    check_limit(rt, alloc, CONTEXTS + 1, 0, 0, Some(LimitKind::Timelines));
-    check_limit(rt, alloc, 1, BUFFERS + 1, 0, Some(LimitKind::Buffers));
-    check_limit(rt, alloc, 1, 0, FLAGS + 1, Some(LimitKind::Flags));
-}
+type Sizes = (usize, usize, usize, Option<LimitKind>);
+
+/// Numbers of contexts, buffers and flags, and the limit that they pass.
+const SIZES: [Sizes; 9] = [
+    (0, 0, 0, Some(LimitKind::Timelines)),
+    (CONTEXTS + 1, 0, 0, Some(LimitKind::Timelines)),
+    (1, BUFFERS + 1, 0, Some(LimitKind::Buffers)),
+    (1, 0, FLAGS + 1, Some(LimitKind::Flags)),
+    (2, 1, 1, None),
+    (CONTEXTS, 0, 0, None),
+    (1, BUFFERS, 0, None),
+    (1, 0, FLAGS, None),
+    (CONTEXTS, BUFFERS, FLAGS, None),
+];
 
 #[test]
 fn sizes_of_words(rt: HostRuntime) {
-    check_refused(&rt, rt.alloc());
-    check_limit(&rt, rt.alloc(), 2, 1, 1, None);
-    check_limit(&rt, rt.alloc(), CONTEXTS, 0, 0, None);
-    check_limit(&rt, rt.alloc(), 1, BUFFERS, 0, None);
-    check_limit(&rt, rt.alloc(), 1, 0, FLAGS, None);
-    check_limit(&rt, rt.alloc(), CONTEXTS, BUFFERS, FLAGS, None);
+    for (contexts, buffers, flags, wanted) in SIZES {
+        check_limit(&rt, rt.alloc(), contexts, buffers, flags, wanted);
+    }
 }
 
 /// Advances a context, and checks the answer.
@@ -74,11 +80,11 @@ fn check_inc(
     requires own { driver.old.seat.words ≡ words.now }
     ensures own { driver.new.seat.words ≡ words.now }
 {
-    assert!(rt; driver.inc(words, n) == wanted);
+    holds(rt, driver.inc(words, n) == wanted);
 }
 
 fn check_value(rt: &impl Abort, reach: &Reach, ctx: Context, wanted: u64) {
-    assert!(rt; reach.get(ctx) == wanted);
+    holds(rt, reach.get(ctx) == wanted);
 }
 
 /// Checks that the second context alone is advanced.
@@ -97,7 +103,7 @@ fn advance_to_seven(rt: &impl Abort, words: &Words, driver: &mut Driver)
     check_inc(rt, words, driver, 5, Ok(5));
     check_inc(rt, words, driver, u64::MAX, Err(Refusal::Overflow));
     check_inc(rt, words, driver, 2, Ok(7));
-    assert!(rt; driver.value() == 7);
+    holds(rt, driver.value() == 7);
 }
 
 /// Advances the second context of three, and loads its value by another seat.
@@ -108,7 +114,7 @@ fn advance(rt: &impl Abort, words: &Words, driver: &mut Driver, looking: &mut Se
     ensures same { (looking.new.words ≡ words.now) × (looking.new.parts ≡ looking.old.parts) }
 {
     advance_to_seven(rt, words, driver);
-    assert!(rt; words.load(looking, Context::at(1)) == 7);
+    holds(rt, words.load(looking, Context::at(1)) == 7);
     check_reach(rt, &words.load_all(looking));
 }
 
@@ -119,7 +125,7 @@ fn drive_apart(rt: &impl Abort, words: &Words, first: &mut Seat)
     ensures own { (first.new.words ≡ words.now) × (1 < first.new.parts) }
 {
     let second = words.part(first, 3);
-    assert!(rt; first.parts() == PARTS - 3 && second.parts() == 3);
+    holds(rt, first.parts() == PARTS - 3 && second.parts() == 3);
     let mut driver = driver_of(rt, words, second, Context::at(1));
     advance(rt, words, &mut driver, first);
     words.join(first, driver.finish());
@@ -141,7 +147,7 @@ fn check_answers(rt: &impl Abort, first: &Once, again: &Once) {
     let Once::First(won) = first else {
         panic!(rt; "the flag was set")
     };
-    assert!(rt; won.flag() == 1 && matches!(again, Once::Already));
+    holds(rt, won.flag() == 1 && matches!(again, Once::Already));
 }
 
 /// Sets the second of three flags.
@@ -162,7 +168,7 @@ fn check_values(rt: &impl Abort, words: &Words, whole: &mut Whole)
     let first = whole.value(words, Context::at(0));
     let second = whole.value(words, Context::at(1));
     let third = whole.value(words, Context::at(2));
-    assert!(rt; first == 0 && second == 7 && third == 0);
+    holds(rt, first == 0 && second == 7 && third == 0);
 }
 
 /// Checks three flags, of which the second is set.
@@ -174,7 +180,7 @@ fn check_flags(rt: &impl Abort, words: &Words, whole: &mut Whole)
     let before = whole.flag(words, 0);
     let is_set = whole.flag(words, 1);
     let after = whole.flag(words, 2);
-    assert!(rt; is_set && !before && !after);
+    holds(rt, is_set && !before && !after);
 }
 
 /// Checks that a context has no second driver, and that a seat of one part is not whole.
@@ -184,7 +190,7 @@ fn check_claimed(rt: &impl Abort, words: &Words, seat: Seat)
     let Err((Refusal::Exists, seat)) = words.driver(seat, Context::at(0)) else {
         panic!(rt; "there were two drivers")
     };
-    assert!(rt; seat.parts() == 1);
+    holds(rt, seat.parts() == 1);
     check_missing(rt, seat);
 }
 
@@ -198,7 +204,7 @@ fn missing_from(seat: Seat) -> u32 {
 
 /// Checks that a seat has one part alone.
 fn check_missing(rt: &impl Abort, seat: Seat) {
-    assert!(rt; missing_from(seat) == PARTS - 1);
+    holds(rt, missing_from(seat) == PARTS - 1);
 }
 
 /// Claims the first context by a seat, which is lost, and then asks for a second driver by another.
@@ -243,7 +249,10 @@ fn raise_entry(
     let raised = words.raise(seat, buffer, ctx, usage, point);
     let kept = words.raise(seat, buffer, ctx, usage, point / 2);
     let after = words.shown(seat, buffer, ctx, usage);
-    assert!(rt; before == 0 && raised == point && kept == point && after == point);
+    holds(
+        rt,
+        before == 0 && raised == point && kept == point && after == point,
+    );
 }
 
 /// Raises the entries of a buffer and a context, each to its point.
@@ -281,7 +290,10 @@ fn check_entries(rt: &impl Abort, words: &Words, whole: &mut Whole, buffer: usiz
 {
     let ctx = Context::at(place);
     for usage in EVERY_USAGE {
-        assert!(rt; whole.top(words, buffer, ctx, usage) == point_for(buffer, place, usage));
+        holds(
+            rt,
+            whole.top(words, buffer, ctx, usage) == point_for(buffer, place, usage),
+        );
     }
 }
 
@@ -306,7 +318,10 @@ fn raise_by_one(rt: &impl Abort, words: &Words, one: &mut Seat)
 {
     let mut other = words.part(one, 1);
     raise_all(rt, words, one);
-    assert!(rt; words.shown(&mut other, 1, Context::at(1), Usage::Write) == 112);
+    holds(
+        rt,
+        words.shown(&mut other, 1, Context::at(1), Usage::Write) == 112,
+    );
     words.join(one, other);
 }
 
@@ -337,5 +352,5 @@ fn steps_of_seats(rt: HostRuntime) {
     make_steps(&rt, &words, &mut seat);
     let mut whole = whole_of(&rt, seat);
     check_steps(&rt, &words, &mut whole);
-    assert!(rt; whole.seat().parts() == PARTS);
+    holds(&rt, whole.seat().parts() == PARTS);
 }

@@ -2,7 +2,6 @@
 ghost use Rattle.std.specs.Prelude.{◌≡◌, ◌<◌, IfErr};
 ghost use Rattle.point_core.specs.declared.refusal.Refusal.TheVariants as refusal;
 
-use crate::plans::{check_refused, plans_of};
 use clients_core::{Gate, LockedTable, OpenGate, run_clients};
 use point_core::{Context, Entry, Items, Listing, Point, Refusal, Usage};
 use resv_core::{Act, Plan, Settled, SharedTable};
@@ -106,6 +105,16 @@ fn acts_of(place: usize, usage: Usage) -> [Act; 2]
     ]
 }
 
+/// The plans of these acts, one for each client.
+fn plans_of(rt: &impl Abort, alloc: Global, clients: &[&[Act]]) -> Vec<Plan> {
+    let mut plans = Vec::new(alloc);
+    for acts in clients {
+        let acts = Vec::from_slice(alloc, acts).expect(rt, "acts");
+        plans.push(Plan::of(acts)).expect(rt, "a plan");
+    }
+    plans
+}
+
 /// The plans of two clients, which look at the usage.
 fn plans_of_two(rt: &impl Abort, alloc: Global, usage: Usage) -> Vec<Plan> {
     plans_of(rt, alloc, &[&acts_of(0, usage), &acts_of(1, usage)])
@@ -146,6 +155,11 @@ fn check_recorded<R: Threads + Wait + Abort + Sync>(rt: &R, alloc: Global, plans
 fn every_put_reaches_the_table(rt: HostRuntime) {
     let plans = plans_of_two(&rt, rt.alloc(), Usage::Read);
     check_recorded(&rt, rt.alloc(), plans.as_slice());
+}
+
+/// Checks that a call is refused for this cause.
+fn check_refused<A: Drop>(rt: &impl Abort, answer: Result<A, Refusal>, wanted: Refusal) {
+    assert!(rt; answer.err() == Some(wanted));
 }
 
 /// Checks that clients against the table are refused as `Torn`.
