@@ -2,8 +2,8 @@
  *
  * Each malloc, calloc, realloc, posix_memalign, aligned_alloc, mmap and pthread_create of the program is a growth, and they are
  * numbered from 1; where REFUSE_READING is 1, from the first read on. Those from REFUSE_FIRST to REFUSE_LAST are refused. The file
- * REFUSE_COUNTS holds a struct counts: how many growths there were, how many of them were refused, and how many threads were
- * started and have ended. A program that does not end within REFUSE_SECONDS is ended by SIGALRM.
+ * COUNTS holds a struct counts: how many growths there were, how many of them were refused, and how many threads were started and
+ * have ended. A program that does not end within SECONDS is ended by SIGALRM.
  */
 #define _GNU_SOURCE
 #include <dlfcn.h>
@@ -38,7 +38,7 @@ static unsigned number_of(const char *name)
 
 __attribute__((constructor)) static void begin(void)
 {
-    const char *path = getenv("REFUSE_COUNTS");
+    const char *path = getenv("COUNTS");
     int file = path ? open(path, O_RDWR | O_CLOEXEC) : -1;
     if (file < 0)
         abort();
@@ -46,7 +46,7 @@ __attribute__((constructor)) static void begin(void)
     if (shared == MAP_FAILED)
         abort();
     close(file);
-    alarm(number_of("REFUSE_SECONDS"));
+    alarm(number_of("SECONDS"));
     first = number_of("REFUSE_FIRST");
     last = number_of("REFUSE_LAST");
     counts = shared;

@@ -1,8 +1,11 @@
-"""Runs of the program, with refused growths (a block of memory, or a thread) or with broken streams."""
+"""Runs of a program, with refused growths (a block of memory, or a thread) or with broken streams."""
 import mmap
 import os
 import resource
+import shutil
 import struct
+import subprocess
+import sys
 from dataclasses import dataclass
 
 FOREVER = 2**32 - 1
@@ -14,22 +17,54 @@ CLOSED = -1
 
 @dataclass(frozen=True)
 class Run:
-    """What a run left: its status, or a signal's number below 0, its output and its errors, and what was counted."""
+    """What a run left: its status, or a signal's number below 0, its output, its errors, and what the library counted."""
 
     status: int
     output: bytes
     errors: bytes
-    growths: int = 0
-    refused: int = 0
-    threads: int = 0
-    threads_ended: int = 0
+    counts: tuple[int, int, int, int]
+
+    # What refuse.c counts.
+
+    @property
+    def refused(self):
+        return self.counts[1]
+
+    @property
+    def threads(self):
+        return self.counts[2]
+
+    @property
+    def threads_ended(self):
+        return self.counts[3]
+
+    # What pieces.c counts.
+
+    @property
+    def reads(self):
+        return self.counts[0]
+
+    @property
+    def read(self):
+        return self.counts[1]
+
+
+def built(name, folder):
+    """Compiles a library to preload, the source of which stands here, and returns its path."""
+    compiler = next(filter(shutil.which, ["cc", "clang", "gcc"]), None)
+    if not compiler:
+        sys.exit("tests/hostile: there is no C compiler, and it takes cc, clang or gcc")
+    source = os.path.join(os.path.dirname(os.path.realpath(__file__)), name)
+    library = f"{folder}/{name}.so"
+    subprocess.run([compiler, "-std=c11", "-O1", "-shared", "-fPIC", "-o", library, source, "-ldl"], check=True)
+    return library
 
 
 class Program:
-    """A program that is run over and over, with files of its own in a folder."""
+    """A program that is run over and over, with files of its own in a folder, and a library to preload."""
 
     def __init__(self, program, library, folder):
-        self.program = program
+        self.program = os.path.abspath(program)
         self.folder = folder
         self.runs = 0
         self.files = [os.open(f"{folder}/{name}", os.O_RDWR | os.O_CREAT) for name in ("output", "errors")]
@@ -37,7 +72,7 @@ class Program:
         with open(f"{folder}/counts", "w+b") as counts:
             counts.truncate(16)
             self.counts = mmap.mmap(counts.fileno(), 16)
-        self.preloading = {"LD_PRELOAD": library, "REFUSE_COUNTS": f"{folder}/counts", "REFUSE_SECONDS": str(SECONDS)}
+        self.preloading = {"LD_PRELOAD": library, "COUNTS": f"{folder}/counts", "SECONDS": str(SECONDS)}
 
     def file(self, name, text):
         """Returns the path of a file with that text."""
@@ -50,11 +85,15 @@ class Program:
         """Runs the program as it is."""
         return self.start(words, {}, **streams)
 
-    def refused(self, growths, reading, *words):
+    def refused(self, growths, reading, *words, **streams):
         """Runs it and refuses growths, the first and the last of which are numbered from the first read on or from the start."""
         first, last = growths
-        refusing = {"REFUSE_FIRST": str(first), "REFUSE_LAST": str(last), "REFUSE_READING": str(int(reading))}
-        return self.start(words, {**self.preloading, **refusing})
+        return self.preloaded(words, {"REFUSE_FIRST": first, "REFUSE_LAST": last, "REFUSE_READING": int(reading)}, **streams)
+
+    def preloaded(self, words, settings, **streams):
+        """Runs it with the library, for which these variables are set."""
+        environment = {name: str(value) for name, value in settings.items()}
+        return self.start(words, {**self.preloading, **environment}, **streams)
 
     def start(self, words, environment, stdin=None, stdout=None, stderr=None):
         self.runs += 1
@@ -67,7 +106,7 @@ class Program:
         child = os.posix_spawn(self.program, [self.program, *words], environment, file_actions=actions_of(streams))
         status = os.waitstatus_to_exitcode(os.waitpid(child, 0)[1])
         output, errors = (os.pread(file, os.fstat(file).st_size, 0) for file in self.files)
-        return Run(status, output, errors, *struct.unpack("4I", self.counts[:]))
+        return Run(status, output, errors, struct.unpack("4I", self.counts[:]))
 
 
 def actions_of(streams):
@@ -76,6 +115,28 @@ def actions_of(streams):
         (os.POSIX_SPAWN_CLOSE, number) if stream == CLOSED else (os.POSIX_SPAWN_DUP2, stream, number)
         for number, stream in enumerate(streams)
     ]
+
+
+def whole_lines(text):
+    """Returns a text up to its last line feed."""
+    return text[: text.rfind(b"\n") + 1]
+
+
+def differs(run, status, output, errors):
+    """Returns what is otherwise than wanted of a run, or an empty text."""
+    for name, wanted in (("status", status), ("output", output), ("errors", errors)):
+        if getattr(run, name) != wanted:
+            return f"its {name} is {getattr(run, name)}, not {wanted}"
+    return ""
+
+
+def tell_trials(program, trials):
+    """Makes trials of a program, each of which gives cases with what is wrong, and prints a line for each trial."""
+    for name, trial in trials:
+        before = program.runs
+        wrong = [f"{case}: {mistake}" for case, mistake in trial(program) if mistake]
+        shown = "; ".join(wrong[:3]) + (f"; and {len(wrong) - 3} more" if len(wrong) > 3 else "")
+        print(f"{name}, {program.runs - before} runs\t{shown}", flush=True)
 
 
 class Room:

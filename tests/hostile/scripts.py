@@ -1,6 +1,21 @@
 """A script as lines, its commands, and copies of it in which some of them are notes."""
+import glob
+import os
+import re
 
-LINE_BYTES = 256
+
+def constant(name):
+    """Returns a number of the crates, by the name of its constant."""
+    top = os.path.dirname(os.path.dirname(os.path.dirname(os.path.realpath(__file__))))
+    for path in glob.glob(f"{top}/crates/*_core/src/*.rt"):
+        with open(path, encoding="utf-8") as source:
+            found = re.search(rf"^(?:pub(?:\(crate\))? )?const {name}: \w+ = ([\d_]+);$", source.read(), re.MULTILINE)
+        if found:
+            return int(found[1])
+    raise LookupError(name)
+
+
+LINE_BYTES = constant("LINE_BYTES")
 NOTE = b"#"
 
 

@@ -1,0 +1,92 @@
+/* A library to preload: a program's reads and writes go piece by piece, and fail.
+ *
+ * PIECES_READ and PIECES_WRITTEN are the most bytes of a read and of a write, where they are set. Once as many bytes were read as
+ * PIECES_READABLE says, a read fails, and once as many were written to the file of number PIECES_FILE as PIECES_ROOM says, a write
+ * there does: where PIECES_HALTS is set it takes none, and where PIECES_RECOVERS is, those after it are well again. The file
+ * COUNTS holds a struct counts, of reads and of writes to the file of that number, and of their bytes. A program that does not
+ * end within SECONDS is ended by SIGALRM.
+ */
+#define _GNU_SOURCE
+#include <errno.h>
+#include <fcntl.h>
+#include <stdbool.h>
+#include <stdlib.h>
+#include <sys/mman.h>
+#include <sys/syscall.h>
+#include <unistd.h>
+
+struct counts {
+    unsigned reads, read, writes, written;
+};
+
+static struct counts *counts;
+static size_t readable, room, most_read, most_written;
+static int limited;
+static bool halts, recovers;
+
+/* The number that a variable has, or the greatest. */
+static size_t number_of(const char *name)
+{
+    const char *text = getenv(name);
+    return text ? strtoul(text, NULL, 10) : (size_t)-1;
+}
+
+__attribute__((constructor)) static void begin(void)
+{
+    const char *path = getenv("COUNTS");
+    int file = path ? open(path, O_RDWR | O_CLOEXEC) : -1;
+    if (file < 0)
+        abort();
+    counts = mmap(NULL, sizeof(struct counts), PROT_READ | PROT_WRITE, MAP_SHARED, file, 0);
+    if (counts == MAP_FAILED)
+        abort();
+    close(file);
+    alarm((unsigned)number_of("SECONDS"));
+    readable = number_of("PIECES_READABLE");
+    room = number_of("PIECES_ROOM");
+    most_read = number_of("PIECES_READ");
+    most_written = number_of("PIECES_WRITTEN");
+    limited = (int)number_of("PIECES_FILE");
+    halts = getenv("PIECES_HALTS") != NULL;
+    recovers = getenv("PIECES_RECOVERS") != NULL;
+}
+
+static size_t least(size_t one, size_t other)
+{
+    return one < other ? one : other;
+}
+
+static ssize_t failing(void)
+{
+    errno = EIO;
+    return -1;
+}
+
+ssize_t read(int file, void *bytes, size_t size)
+{
+    counts->reads++;
+    size = least(size, most_read);
+    if (size > 0 && counts->read >= readable)
+        return failing();
+    ssize_t count = syscall(SYS_read, file, bytes, least(size, readable - counts->read));
+    if (count > 0)
+        counts->read += count;
+    return count;
+}
+
+ssize_t write(int file, const void *bytes, size_t size)
+{
+    if (file != limited)
+        return syscall(SYS_write, file, bytes, size);
+    counts->writes++;
+    size = least(size, most_written);
+    if (size > 0 && counts->written >= room) {
+        if (recovers)
+            room = (size_t)-1;
+        return halts ? 0 : failing();
+    }
+    ssize_t count = syscall(SYS_write, file, bytes, least(size, room - counts->written));
+    if (count > 0)
+        counts->written += count;
+    return count;
+}
