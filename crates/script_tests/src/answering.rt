@@ -1,7 +1,7 @@
 // A script from a reader, and its answers to a writer.
 use crate::pipes::{PIECES, Sink, Source, assert_refusal, failing_source_of, sink_of, source_of};
 use point_core::Refusal;
-use script_core::{SCRIPT_BYTES, Totals, engine};
+use script_core::{Totals, engine};
 use std::alloc::Global;
 use std::process::Abort;
 
@@ -122,34 +122,10 @@ fn many_answers(rt: HostRuntime) {
     );
 }
 
-#[test]
-fn one_byte(rt: HostRuntime) {
-    for byte in 0..=255u8 {
-        let wanted: &[u8] = match byte {
-            b'\n' | b' ' | b'#' => b"",
-            _ => b"err 1 Syntax line 1\n",
-        };
-        let script = [byte];
-        let mut reader = script.as_slice();
-        let mut writer = sink_of(wanted, 4096, usize::MAX);
-        engine(rt.alloc(), &mut reader, &mut writer).expect(&rt, "answers");
-        writer.assert_whole(&rt);
-    }
-}
-
-// The first line has eleven bytes. Its answer is written before the next read.
-#[test]
-fn answered_before_the_next_read(rt: HostRuntime) {
-    let mut reader = source_of(BOTH_ORDERS, 1);
-    let mut writer = sink_of(b"", 4096, 0);
-    assert_refused(&rt, rt.alloc(), &mut reader, &mut writer, Refusal::Write);
-    assert!(rt; reader.reads == 11);
-}
-
 // The lines whose line feed was read are answered.
 #[test]
 fn failing_reader(rt: HostRuntime) {
-    for cut in 0..BOTH_ORDERS.len() {
+    for cut in 0..=BOTH_ORDERS.len() {
         let script = &BOTH_ORDERS[..cut];
         let ended = script.iter().filter(|byte| **byte == b'\n').count();
         let mut reader = failing_source_of(script, 7);
@@ -157,18 +133,6 @@ fn failing_reader(rt: HostRuntime) {
         assert_refused(&rt, rt.alloc(), &mut reader, &mut writer, Refusal::Read);
         writer.assert_whole(&rt);
         assert!(rt; writer.flushes == 1);
-    }
-}
-
-// A line that is too long is answered at its end.
-#[test]
-fn failing_in_a_long_line(rt: HostRuntime) {
-    let script = repeated(&rt, rt.alloc(), b"timeline a\n", b"x", 300);
-    for piece in PIECES {
-        let mut reader = failing_source_of(script.as_slice(), piece);
-        let mut writer = sink_of(b"ok 1\n", 4096, usize::MAX);
-        assert_refused(&rt, rt.alloc(), &mut reader, &mut writer, Refusal::Read);
-        writer.assert_whole(&rt);
     }
 }
 
@@ -186,42 +150,10 @@ fn failing_writer(rt: HostRuntime) {
 }
 
 #[test]
-fn halting_writer(rt: HostRuntime) {
-    let mut reader = source_of(BOTH_ORDERS, 4096);
-    let mut writer = sink_of(b"", 4096, 0);
-    writer.halts = true;
-    assert_refused(&rt, rt.alloc(), &mut reader, &mut writer, Refusal::Write);
-    writer.assert_whole(&rt);
-}
-
-#[test]
 fn failing_flush(rt: HostRuntime) {
     let mut reader = source_of(BOTH_ORDERS, 4096);
     let mut writer = sink_of(BOTH_ORDERS_ANSWERS, 4096, usize::MAX);
     writer.flush_fails = true;
     assert_refused(&rt, rt.alloc(), &mut reader, &mut writer, Refusal::Write);
     writer.assert_whole(&rt);
-}
-
-// Where both fail, the writer's fault is reported.
-#[test]
-fn failing_reader_and_writer(rt: HostRuntime) {
-    let mut reader = failing_source_of(b"timeline a\ntime", 4096);
-    let mut writer = sink_of(b"ok", 4096, 2);
-    assert_refused(&rt, rt.alloc(), &mut reader, &mut writer, Refusal::Write);
-    writer.assert_whole(&rt);
-}
-
-// No byte is read after the one past the limit, and none is asked for.
-#[test]
-fn reads_up_to_the_limit(rt: HostRuntime) {
-    for (piece, reads) in [(1, SCRIPT_BYTES + 1), (SCRIPT_BYTES, 65)] {
-        let mut reader = source_of(b"timeline a\n", piece);
-        reader.line_feeds = SCRIPT_BYTES;
-        let mut writer = sink_of(b"ok 1\nerr 6 Limit script\n", 4096, usize::MAX);
-        let totals = engine(rt.alloc(), &mut reader, &mut writer).expect(&rt, "answers");
-        writer.assert_whole(&rt);
-        assert_totals(&rt, totals, (2, 1, 1));
-        assert!(rt; reader.line_feeds == 10 && reader.reads == reads);
-    }
 }

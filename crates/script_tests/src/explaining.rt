@@ -1,6 +1,6 @@
-// Explanations of scripts whose reader or one of whose writers fails.
+// Explanations of scripts.
 use crate::answering::assert_totals;
-use crate::pipes::{Source, assert_refusal, failing_source_of, sink_of, source_of};
+use crate::pipes::{sink_of, source_of};
 use desk_core::{Command, Desk};
 use explain_core::{Look, explain};
 use point_core::Refusal;
@@ -11,18 +11,12 @@ use std::process::Abort;
 // A script of refused lines; of each its answer, and its note.
 const REFUSED: &[u8] = b"value a\nvalue b\nvalue c\n";
 
-const LINE_BYTES: usize = 8;
-
 const ANSWERS: &[u8] = b"err 2 NoEntry\nerr 2 NoEntry\nerr 2 NoEntry\n";
-
-const ANSWER_BYTES: usize = 14;
 
 const NOTES: &[u8] = b"line 1: \"a\": there is no timeline of that name
 line 2: \"b\": there is no timeline of that name
 line 3: \"c\": there is no timeline of that name
 ";
-
-const NOTE_BYTES: usize = 47;
 
 const NOTES_IN_BOLD: &[u8] = b"\x1b[1mline 1:\x1b[0m \"a\": there is no timeline of that name
 \x1b[1mline 2:\x1b[0m \"b\": there is no timeline of that name
@@ -47,64 +41,6 @@ fn numbers_in_bold(rt: HostRuntime) {
     assert_explained(&rt, rt.alloc(), Look::Bold, NOTES_IN_BOLD);
 }
 
-// So many bytes of the answers and of the notes are written, where there is that much room. Nothing is written after a note
-// that could not be.
-fn assert_ended(
-    rt: &impl Abort,
-    alloc: Global,
-    reader: &mut Source<'_>,
-    written: (usize, usize),
-    rooms: (usize, usize),
-    refusal: Refusal,
-) {
-    let mut answers = sink_of(first(ANSWERS, written.0), 4096, rooms.0);
-    let mut notes = sink_of(first(NOTES, written.1), 4096, rooms.1);
-    notes.halts = true;
-    notes.recovers = true;
-    let result = explain(alloc, Look::Plain, reader, &mut answers, &mut notes);
-    assert_refusal(rt, result.err(), refusal);
-    answers.assert_whole(rt);
-    notes.assert_whole(rt);
-}
-
-fn first(text: &'static [u8], count: usize) -> &'static [u8] {
-    &text[..count.min(text.len())]
-}
-
-// A line is explained after its answer, and before the next one is read.
-#[test]
-fn failing_reader(rt: HostRuntime) {
-    for cut in 0..REFUSED.len() {
-        let mut reader = failing_source_of(&REFUSED[..cut], 5);
-        let lines = cut / LINE_BYTES;
-        let written = (lines * ANSWER_BYTES, lines * NOTE_BYTES);
-        let rooms = (usize::MAX, usize::MAX);
-        assert_ended(&rt, rt.alloc(), &mut reader, written, rooms, Refusal::Read);
-    }
-}
-
-// Nothing is explained of a line whose answer was not written.
-#[test]
-fn failing_answers(rt: HostRuntime) {
-    for room in 0..ANSWERS.len() {
-        let written = (room, room / ANSWER_BYTES * NOTE_BYTES);
-        let mut reader = source_of(REFUSED, 4096);
-        let rooms = (room, usize::MAX);
-        assert_ended(&rt, rt.alloc(), &mut reader, written, rooms, Refusal::Write);
-    }
-}
-
-// The answer is written of the line that could not be explained, and of none after it.
-#[test]
-fn failing_notes(rt: HostRuntime) {
-    for room in 0..NOTES.len() {
-        let written = ((room / NOTE_BYTES + 1) * ANSWER_BYTES, room);
-        let mut reader = source_of(REFUSED, 4096);
-        let rooms = (usize::MAX, room);
-        assert_ended(&rt, rt.alloc(), &mut reader, written, rooms, Refusal::Write);
-    }
-}
-
 // What is written where a command was refused so.
 fn assert_reason(rt: &impl Abort, alloc: Global, desk: &Desk, refusal: Refusal, wanted: &[u8]) {
     let book = Book::new(alloc);
@@ -126,23 +62,6 @@ fn refusals_beside_scripts(rt: HostRuntime) {
     let memory = b"line 3: memory was refused\n";
     assert_reason(&rt, rt.alloc(), &desk, Refusal::Memory, memory);
     assert_reason(&rt, rt.alloc(), &desk, Refusal::Flags, b"line 3: Flags\n");
-}
-
-// The first line has eleven bytes. It is accepted, and its answer is written before the next read.
-#[test]
-fn answered_before_the_next_read(rt: HostRuntime) {
-    let mut reader = source_of(b"timeline a\nvalue a\n", 1);
-    let mut answers = sink_of(b"", 4096, 0);
-    let mut notes = sink_of(b"", 4096, 0);
-    let result = explain(
-        rt.alloc(),
-        Look::Plain,
-        &mut reader,
-        &mut answers,
-        &mut notes,
-    );
-    assert_refusal(&rt, result.err(), Refusal::Write);
-    assert!(rt; reader.reads == 11);
 }
 
 // The answer of a last line without a line feed is flushed too.

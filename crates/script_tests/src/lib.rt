@@ -1,5 +1,4 @@
-//! Tests of what no script of a program shows: readers and writers that go piece by piece, fail or halt, the moment at which
-//! a line is answered, and the calls of a desk.
+//! Tests of what no script of a program shows: totals, flushes, readers and writers that fail, and the calls of a desk.
 #![tactic(auto)]
 
 #[cfg(test)]

@@ -1,4 +1,4 @@
-// Readers and writers that go piece by piece, fail or halt.
+// Readers and writers that go piece by piece, and fail.
 use point_core::Refusal;
 use std::io;
 use std::io::{Read, Write};
@@ -7,58 +7,44 @@ use std::process::Abort;
 /// The bytes that a read or a write is given at most, by turns.
 pub(crate) const PIECES: [usize; 4] = [1, 2, 7, 4096];
 
-/// Gives a script and then so many line feeds, at most `piece` bytes a read. Fails at their end where it is to fail.
+/// Gives a script, at most `piece` bytes a read. Fails at its end where it is to fail.
 #[derive(Drop)]
 pub(crate) struct Source<'a> {
     pub(crate) script: &'a [u8],
-    pub(crate) line_feeds: usize,
     pub(crate) piece: usize,
     pub(crate) fails: bool,
-    pub(crate) reads: usize,
 }
 
 pub(crate) fn source_of(script: &[u8], piece: usize) -> Source<'_> {
     Source {
         script,
-        line_feeds: 0,
         piece,
         fails: false,
-        reads: 0,
     }
 }
 
 pub(crate) fn failing_source_of(script: &[u8], piece: usize) -> Source<'_> {
     Source {
         script,
-        line_feeds: 0,
         piece,
         fails: true,
-        reads: 0,
     }
 }
 
 impl<'a> Read for Source<'a> {
     fn read(&mut self, buf: &mut [u8]) -> io::Result<usize> {
-        self.reads = self.reads.saturating_add(1);
-        let room = self.piece.min(buf.len());
-        if !self.script.is_empty() {
-            let (first, rest) = self.script.split_at(room.min(self.script.len()));
-            buf[..first.len()].copy_from_slice(first);
-            self.script = rest;
-            return Ok(first.len());
-        }
-        let count = room.min(self.line_feeds);
+        let count = self.piece.min(buf.len()).min(self.script.len());
         if count == 0 && self.fails {
             return Err(io::Error::from(io::ErrorKind::Interrupted));
         }
-        buf[..count].fill(b'\n');
-        self.line_feeds -= count;
+        let (first, rest) = self.script.split_at(count);
+        buf[..count].copy_from_slice(first);
+        self.script = rest;
         Ok(count)
     }
 }
 
-/// Compares what is written with a text, and takes at most `piece` bytes a write. Once it has taken `room` bytes it fails, or
-/// takes none where it is to halt, and goes on after that where it is to recover.
+/// Compares what is written with a text, and takes at most `piece` bytes a write. Once it has taken `room` bytes it fails.
 #[derive(Drop)]
 pub(crate) struct Sink<'a> {
     // what is still to come of the text
@@ -67,8 +53,6 @@ pub(crate) struct Sink<'a> {
     pub(crate) strange: bool,
     pub(crate) piece: usize,
     pub(crate) room: usize,
-    pub(crate) halts: bool,
-    pub(crate) recovers: bool,
     pub(crate) flush_fails: bool,
     pub(crate) flushes: usize,
     // how many bytes were still to come at the last flush
@@ -81,8 +65,6 @@ pub(crate) fn sink_of(text: &[u8], piece: usize, room: usize) -> Sink<'_> {
         strange: false,
         piece,
         room,
-        halts: false,
-        recovers: false,
         flush_fails: false,
         flushes: 0,
         unflushed: text.len(),
@@ -100,10 +82,7 @@ impl<'a> Sink<'a> {
 impl<'a> Write for Sink<'a> {
     fn write(&mut self, buf: &[u8]) -> io::Result<usize> {
         let count = self.piece.min(buf.len()).min(self.room);
-        if count == 0 && self.recovers {
-            self.room = usize::MAX;
-        }
-        if count == 0 && !self.halts {
+        if count == 0 {
             return Err(io::Error::from(io::ErrorKind::Interrupted));
         }
         match self.rest.strip_prefix(&buf[..count]) {
