@@ -1,10 +1,10 @@
 /* A library to preload: a program's reads and writes go piece by piece, and fail.
  *
- * PIECES_READ and PIECES_WRITTEN are the most bytes of a read and of a write, where they are set. Once as many bytes were read as
- * PIECES_READABLE says, a read fails, and once as many were written to the file of number PIECES_FILE as PIECES_ROOM says, a write
- * there does: where PIECES_HALTS is set it takes none, and where PIECES_RECOVERS is, those after it are well again. The file
- * COUNTS holds a struct counts, of reads and of writes to the file of that number, and of their bytes. A program that does not
- * end within SECONDS is ended by SIGALRM.
+ * PIECES_READ and PIECES_WRITTEN are the most bytes of a read and of a write, where they are set. Once as many bytes were read
+ * as PIECES_READABLE says, a read fails, and once as many were written to the file of number PIECES_FILE as PIECES_ROOM says, a
+ * write there does: where PIECES_HALTS is set it takes none, and where PIECES_RECOVERS is, those after it are well again. The
+ * file COUNTS holds a struct counts, of reads and of writes to the file of that number, and of their bytes. A program that does
+ * not end within SECONDS is ended by SIGALRM.
  */
 #define _GNU_SOURCE
 #include <errno.h>

@@ -1,9 +1,9 @@
 /* A library to preload: it refuses a program memory and threads.
  *
  * Each malloc, calloc, realloc, posix_memalign, aligned_alloc, mmap and pthread_create of the program is a growth, and they are
- * numbered from 1; where REFUSE_READING is 1, from the first read on. Those from REFUSE_FIRST to REFUSE_LAST are refused. The file
- * COUNTS holds a struct counts: how many growths there were, how many of them were refused, and how many threads were started and
- * have ended. A program that does not end within SECONDS is ended by SIGALRM.
+ * numbered from 1; where REFUSE_READING is 1, from the first read on. Those from REFUSE_FIRST to REFUSE_LAST are refused. The
+ * file COUNTS holds a struct counts: how many growths there were, how many of them were refused, and how many threads were
+ * started and have ended. A program that does not end within SECONDS is ended by SIGALRM.
  */
 #define _GNU_SOURCE
 #include <dlfcn.h>
