@@ -1,5 +1,9 @@
 // What stands in a record before its event: the task, the processor and the time.
+ghost use Rattle.std.specs.Prelude.{◌≡◌, option_map};
+ghost use Rattle.trace_core.specs.Header.{header_of, thread, processor, after_dash, after_group, after_flags, trimmed, header_from};
+
 use crate::number::{number_at, time_at};
+use crate::runs::{Class, before_run, run, without_run};
 use crate::steps::{after, after_blanks, without_blanks};
 
 /// The bytes of a record that its task's name takes, blanks before it.
@@ -22,79 +26,84 @@ pub(crate) struct Header<'a> {
 
 /// The header that the piece begins with: 16 bytes of the task, `-` or a blank, the thread's number, its group in parentheses
 /// where it is printed, the processor in brackets, flags where they are printed, and the time.
-pub(crate) fn header_of(piece: &[u8]) -> Option<Header<'_>> {
+#[tactic(auto, unfolding(crate::specs::Header::header_of))]
+pub(crate) fn header_of(piece: &[u8]) -> Option<Header<'_>>
+    ensures header { option_map header_from result ≡ header_of piece.now }
+{
     if piece.len() < TASK_BYTES {
         return None;
     }
     let (task, rest) = piece.split_at(TASK_BYTES);
     let (pid, rest) = thread(rest)?;
     let (cpu, rest) = processor(rest)?;
-    let (time, text) = time_at(after_flags(rest)?)?;
+    let (time, rest) = time_at(after_flags(rest)?)?;
+    let text = after(rest, b": ")?;
     Some(Header {
         task: trimmed(task),
         pid,
         cpu,
         time,
-        text: after(text, b": ")?,
+        text,
     })
 }
 
 /// `-` or blanks, the thread's number and blanks.
-fn thread(bytes: &[u8]) -> Option<(u32, &[u8])> {
-    let bytes = match after(bytes, b"-") {
-        Some(rest) => rest,
-        None => after_blanks(bytes)?,
-    };
-    let (pid, rest) = number_at(bytes)?;
+#[tactic(auto, unfolding(crate::specs::Header::thread))]
+fn thread(bytes: &[u8]) -> Option<(u32, &[u8])>
+    ensures thread { option_map (λ n. (n.0, n.1.now)) result ≡ thread bytes.now }
+{
+    let (pid, rest) = number_at(after_dash(bytes)?)?;
     Some((pid, after_blanks(rest)?))
 }
 
+#[tactic(auto, unfolding(crate::specs::Header::after_dash))]
+fn after_dash(bytes: &[u8]) -> Option<&[u8]>
+    ensures rest { option_map (λ r. r.now) result ≡ after_dash bytes.now }
+{
+    match after(bytes, b"-") {
+        Some(rest) => Some(rest),
+        None => after_blanks(bytes),
+    }
+}
+
 /// The group, where it is printed, and `[`, the processor's number, `]` and blanks.
-fn processor(bytes: &[u8]) -> Option<(u32, &[u8])> {
-    let bytes = after(after_group(bytes)?, b"[")?;
-    let (cpu, rest) = number_at(bytes)?;
+#[tactic(auto, unfolding(crate::specs::Header::processor))]
+fn processor(bytes: &[u8]) -> Option<(u32, &[u8])>
+    ensures processor { option_map (λ n. (n.0, n.1.now)) result ≡ processor bytes.now }
+{
+    let (cpu, rest) = number_at(after(after_group(bytes)?, b"[")?)?;
     Some((cpu, after_blanks(after(rest, b"]")?)?))
 }
 
 /// What follows `(`, blanks, digits or dashes, and `) `, where the bytes begin with `(`.
-fn after_group(bytes: &[u8]) -> Option<&[u8]> {
+#[tactic(auto, unfolding(crate::specs::Header::after_group))]
+fn after_group(bytes: &[u8]) -> Option<&[u8]>
+    ensures rest { option_map (λ r. r.now) result ≡ after_group bytes.now }
+{
     match after(bytes, b"(") {
         None => Some(bytes),
-        Some(group) => after(without_group(group), b") "),
+        Some(group) => after(without_run(group, Class::Group), b") "),
     }
 }
 
-fn without_group(bytes: &[u8]) -> &[u8] {
-    let start = bytes
-        .iter()
-        .position(|byte| !is_of_group(*byte))
-        .unwrap_or(bytes.len());
-    &bytes[start..]
-}
-
-fn is_of_group(byte: u8) -> bool {
-    byte == b' ' || byte == b'-' || byte.is_ascii_digit()
-}
-
 /// What follows the flags and blanks, where the bytes begin with flags.
-fn after_flags(bytes: &[u8]) -> Option<&[u8]> {
-    let end = bytes
-        .iter()
-        .position(|byte| *byte == b' ')
-        .unwrap_or(bytes.len());
-    if FLAGS_FEWEST <= end && end <= FLAGS_MOST {
-        after_blanks(&bytes[end..])
+#[tactic(auto, unfolding(crate::specs::Header::after_flags))]
+fn after_flags(bytes: &[u8]) -> Option<&[u8]>
+    ensures rest { option_map (λ r. r.now) result ≡ after_flags bytes.now }
+{
+    let count = run(bytes, Class::Dark);
+    if FLAGS_FEWEST <= count && count <= FLAGS_MOST {
+        after_blanks(&bytes[count..])
     } else {
         Some(bytes)
     }
 }
 
 /// The name without the blanks before and behind it.
-fn trimmed(name: &[u8]) -> &[u8] {
+#[tactic(auto, unfolding(crate::specs::Header::trimmed))]
+fn trimmed(name: &[u8]) -> &[u8]
+    ensures name { result.now ≡ trimmed name.now }
+{
     let name = without_blanks(name);
-    let end = name
-        .iter()
-        .rposition(|byte| *byte != b' ')
-        .map_or(0, |last| last + 1);
-    &name[..end]
+    &name[..before_run(name, Class::Blank)]
 }

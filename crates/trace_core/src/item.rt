@@ -1,8 +1,16 @@
 // What a piece of the text is.
+ghost use Rattle.std.specs.Prelude.{◌≡◌};
+ghost use Rattle.trace_core.specs.Item.{told};
+ghost use Rattle.trace_core.specs.Piece.{item_of, record_or_other};
+
 use crate::event::event_at;
 use crate::header::header_of;
 use crate::loss::{lost, note};
-use crate::record::{Record, record_from};
+use crate::record::{Record, record_with};
+use crate::steps::after;
+
+/// The most bytes of a piece that is read. A longer line is unread, whatever it says.
+pub const PIECE_BYTES: usize = 8192;
 
 /// What a piece of the text is: a line, or a record of a `dma_fence` event, whose timeline's name may hold line feeds.
 #[derive(Clone, Copy, Debug)]
@@ -34,21 +42,35 @@ pub enum Item<'a> {
 }
 
 /// What the piece is.
-pub fn item_of(piece: &[u8]) -> Item<'_> {
-    if piece.starts_with(b"#") {
+#[tactic(auto, unfolding(crate::specs::Piece::item_of))]
+pub fn item_of(piece: &[u8]) -> Item<'_>
+    ensures item { told result ≡ item_of piece.now }
+{
+    if piece.len() > PIECE_BYTES {
+        return Item::Unread;
+    }
+    if after(piece, b"#").is_some() {
         return note(piece);
     }
-    if let Some((cpu, events)) = lost(piece) {
-        return Item::Lost { cpu, events };
+    match lost(piece) {
+        Some((cpu, events)) => Item::Lost { cpu, events },
+        None => record_or_other(piece),
     }
-    match header_of(piece) {
+}
+
+#[inline(always)]
+#[tactic(auto, unfolding(crate::specs::Piece::record_or_other))]
+fn record_or_other(piece: &[u8]) -> Item<'_>
+    ensures item { told result ≡ record_or_other piece.now }
+{
+    let Some(header) = header_of(piece) else {
+        return Item::Unread;
+    };
+    let Some((event, text)) = event_at(header.text) else {
+        return Item::Other;
+    };
+    match record_with(header, event, text) {
+        Some(record) => Item::Event(record),
         None => Item::Unread,
-        Some(header) => match event_at(header.text) {
-            None => Item::Other,
-            Some(_) => match record_from(header) {
-                Some(record) => Item::Event(record),
-                None => Item::Unread,
-            },
-        },
     }
 }

@@ -13,10 +13,11 @@ mod number;
 mod piece;
 mod pieces;
 mod record;
+mod runs;
 mod steps;
 
 pub use event::Event;
-pub use item::{Item, item_of};
-pub use piece::{PIECE_BYTES, Piece, RECORD_LINES};
+pub use item::{Item, PIECE_BYTES, item_of};
+pub use piece::{Piece, RECORD_LINES};
 pub use pieces::{Pieces, Progress};
 pub use record::{Record, record_of};
