@@ -1,0 +1,6 @@
+pub mod FirstByte
+pub mod Joining
+pub mod Lines
+pub mod Numbers
+pub mod Parts
+pub mod Passing

@@ -1,0 +1,12 @@
+pub mod Runs
+pub mod Steps
+pub mod Header
+pub mod Number
+pub mod Event
+pub mod Fields
+pub mod Record
+pub mod Item
+pub mod Loss
+pub mod Piece
+pub mod Cutting
+pub mod Pieces

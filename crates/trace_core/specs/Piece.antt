@@ -1,0 +1,97 @@
+-- The pieces of a text.
+use Rattle.std.specs.Prelude.{◌≡◌, ℕ, zero, suc, ◌==◌, Bool, true, false, ◌||◌, nat_lt, is_some, if◌then◌else◌, List, [], ◌∷◌, ◌++◌, length, Option, None, Some, codes}
+use Rattle.std.specs.List.{before_first, after_first}
+use Rattle.trace_core.specs.declared.event.Event.{Event as EventKind}
+use Rattle.trace_core.specs.declared.item.TheConstants.{PIECE_BYTES}
+use Rattle.trace_core.specs.Event.{event_at}
+use Rattle.trace_core.specs.Header.{Head, header_of}
+use Rattle.trace_core.specs.Item.{Told, Event, Other, Unread, Lost, BufferStarted, Counts, Note}
+use Rattle.trace_core.specs.Loss.{lost, note}
+use Rattle.trace_core.specs.Record.{Printed, record_of, record_with}
+use Rattle.trace_core.specs.Steps.{after}
+
+abbrev pub event_or_unread : Option Printed → Told
+event_or_unread None = Unread
+event_or_unread (Some r) = Event r
+
+-- a header and its event
+abbrev pub told_of_event : Head → Option (EventKind × List ℕ) → Told
+told_of_event head None = Other
+told_of_event head (Some event) = event_or_unread (record_with head event.0 event.1)
+
+abbrev pub told_of_header : Option Head → Told
+told_of_header None = Unread
+told_of_header (Some head) = told_of_event head (event_at head.text)
+
+unfoldable pub record_or_other : List ℕ → Told
+record_or_other piece = told_of_header (header_of piece)
+
+abbrev pub lost_or_record : Option (ℕ × Option ℕ) → List ℕ → Told
+lost_or_record (Some loss) piece = Lost loss.0 loss.1
+lost_or_record None piece = record_or_other piece
+
+-- what the piece is
+unfoldable pub item_of : List ℕ → Told
+item_of piece =
+    if nat_lt PIECE_BYTES (length piece) then Unread
+    else if is_some (after piece (codes "#")) then note piece
+    else lost_or_record (lost piece) piece
+
+-- 10 is the line feed
+abbrev pub is_line_feed : ℕ → Bool
+is_line_feed b = b == 10
+
+-- the first line of a text, and what follows it
+abbrev pub first_line : List ℕ → List ℕ
+first_line text = before_first is_line_feed text
+
+abbrev pub after_line : List ℕ → List ℕ
+after_line text = after_first is_line_feed text
+
+-- whether a line begins as a record
+unfoldable pub begins_record : List ℕ → Bool
+begins_record line = is_some (header_of line)
+
+abbrev pub record_or : Option Printed → List ℕ → Option (Printed × List ℕ) → Option (Printed × List ℕ)
+record_or None rest later = later
+record_or (Some r) rest later = Some (r, rest)
+
+-- the record that these lines are with the next one, or with the next few, of which none begins as a record
+unfoldable pub joined_from : ℕ → List ℕ → List ℕ → Option (Printed × List ℕ)
+joined_from zero lines rest = None
+joined_from (suc n) lines [] = None
+joined_from (suc n) lines (x ∷ xs) =
+    let line = first_line (x ∷ xs) in
+    let piece = lines ++ 10 ∷ line in
+    if nat_lt PIECE_BYTES (length piece) || begins_record line then None
+    else record_or (record_of piece) (after_line (x ∷ xs)) (joined_from n piece (after_line (x ∷ xs)))
+
+abbrev pub is_unread : Told → Bool
+is_unread Unread = true
+is_unread _ = false
+
+abbrev pub joined_or_unread : Option (Printed × List ℕ) → List ℕ → Told × List ℕ
+joined_or_unread None rest = (Unread, rest)
+joined_or_unread (Some joined) rest = (Event joined.0, joined.1)
+
+-- an unread line that begins as a record may go on in the next lines
+abbrev pub with_lines : Told → List ℕ → List ℕ → Told × List ℕ
+with_lines Unread line rest =
+    if begins_record line then joined_or_unread (joined_from 3 line rest) rest else (Unread, rest)
+with_lines (Event r) line rest = (Event r, rest)
+with_lines Other line rest = (Other, rest)
+with_lines (Lost cpu events) line rest = (Lost cpu events, rest)
+with_lines (BufferStarted cpu) line rest = (BufferStarted cpu, rest)
+with_lines (Counts held written processors) line rest = (Counts held written processors, rest)
+with_lines Note line rest = (Note, rest)
+
+-- what the first piece of a text is, and what follows it
+unfoldable pub first_item : List ℕ → Told × List ℕ
+first_item text = with_lines (item_of (first_line text)) (first_line text) (after_line text)
+
+-- the text, piece after piece, is these
+abbrev pub ReadsAs : List ℕ → List Told → Type 0
+ReadsAs text [] = text ≡ []
+ReadsAs [] (item ∷ items) = ⊥
+ReadsAs (x ∷ xs) (item ∷ items) =
+    ((first_item (x ∷ xs)).0 ≡ item) × ReadsAs (first_item (x ∷ xs)).1 items

@@ -1,0 +1,76 @@
+// What a piece of the text is.
+ghost use Rattle.std.specs.Prelude.{◌≡◌};
+ghost use Rattle.trace_core.specs.Item.{told};
+ghost use Rattle.trace_core.specs.Piece.{item_of, record_or_other};
+
+use crate::event::event_at;
+use crate::header::header_of;
+use crate::loss::{lost, note};
+use crate::record::{Record, record_with};
+use crate::steps::after;
+
+/// The most bytes of a piece that is read. A longer line is unread, whatever it says.
+pub const PIECE_BYTES: usize = 8192;
+
+/// What a piece of the text is: a line, or a record of a `dma_fence` event, whose timeline's name may hold line feeds.
+#[derive(Clone, Copy, Debug)]
+pub enum Item<'a> {
+    /// A record of a `dma_fence` event.
+    Event(Record<'a>),
+    /// A record of another event.
+    Other,
+    /// A line that is no record: a record of a `dma_fence` event that is cut, or has a number that is too great, too.
+    Unread,
+    /// Events of a processor were lost, and how many where that is known: `CPU:n [LOST m EVENTS]`, `CPU:n [LOST EVENTS]`.
+    Lost {
+        cpu: u32,
+        events: Option<u64>,
+    },
+    /// Of a processor all events before this line are missing: `##### CPU n buffer started ####`.
+    BufferStarted {
+        cpu: u32,
+    },
+    /// How many events are in the buffer, how many were written to it, and how many processors there are:
+    /// `# entries-in-buffer/entries-written: a/b   #P:n`.
+    Counts {
+        in_buffer: u64,
+        written: u64,
+        processors: u32,
+    },
+    /// Any other line that begins with `#`.
+    Note,
+}
+
+/// What the piece is.
+#[tactic(auto, unfolding(crate::specs::Piece::item_of))]
+pub fn item_of(piece: &[u8]) -> Item<'_>
+    ensures item { told result ≡ item_of piece.now }
+{
+    if piece.len() > PIECE_BYTES {
+        return Item::Unread;
+    }
+    if after(piece, b"#").is_some() {
+        return note(piece);
+    }
+    match lost(piece) {
+        Some((cpu, events)) => Item::Lost { cpu, events },
+        None => record_or_other(piece),
+    }
+}
+
+#[inline(always)]
+#[tactic(auto, unfolding(crate::specs::Piece::record_or_other))]
+fn record_or_other(piece: &[u8]) -> Item<'_>
+    ensures item { told result ≡ record_or_other piece.now }
+{
+    let Some(header) = header_of(piece) else {
+        return Item::Unread;
+    };
+    let Some((event, text)) = event_at(header.text) else {
+        return Item::Other;
+    };
+    match record_with(header, event, text) {
+        Some(record) => Item::Event(record),
+        None => Item::Unread,
+    }
+}

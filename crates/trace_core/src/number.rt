@@ -1,0 +1,91 @@
+// Numbers of a line.
+ghost use Rattle.std.specs.Prelude.{◌≡◌, ◌^◌, option_map, take, drop};
+ghost use Rattle.std.specs.List.{prefix_len};
+ghost use Rattle.std.specs.Char.{is_ascii_digit};
+ghost use Rattle.trace_core.specs.Number.{numeral, number_at, number_at_end, time_at, time_of};
+
+use crate::runs::{Class, before_run, split_run};
+use crate::steps::{after, before};
+
+/// The decimals of a second that are read.
+const DECIMALS: usize = 6;
+
+/// A second in microseconds.
+const SECOND: u64 = 1_000_000;
+
+/// The number that the word spells: one decimal digit or more, leading zeros allowed, of at most 64 bits.
+fn numeral(word: &[u8]) -> Option<u64>
+    ensures value { result ≡ numeral (2 ^ 64) word.now }
+{
+    if word.is_empty() {
+        return None;
+    }
+    let mut value: u64 = 0;
+    for byte in word {
+        if !byte.is_ascii_digit() {
+            return None;
+        }
+        value = value.checked_mul(10)?.checked_add(u64::from(*byte - b'0'))?;
+    }
+    Some(value)
+}
+
+/// The same of at most 32 bits.
+#[tactic(auto, unfolding(crate::specs::Number::numeral))]
+fn small_numeral(word: &[u8]) -> Option<u32>
+    ensures value { result ≡ numeral (2 ^ 32) word.now }
+{
+    match u32::try_from(numeral(word)?) {
+        Ok(value) => Some(value),
+        Err(_) => None,
+    }
+}
+
+/// The number that the bytes begin with, and the rest.
+#[tactic(auto, unfolding(crate::specs::Number::number_at))]
+pub(crate) fn number_at(bytes: &[u8]) -> Option<(u32, &[u8])>
+    ensures value { option_map (λ n. (n.0, n.1.now)) result ≡ number_at (2 ^ 32) bytes.now }
+{
+    let (digits, rest) = split_run(bytes, Class::Digit);
+    Some((small_numeral(digits)?, rest))
+}
+
+/// The same of at most 64 bits.
+#[tactic(auto, unfolding(crate::specs::Number::number_at))]
+pub(crate) fn wide_number_at(bytes: &[u8]) -> Option<(u64, &[u8])>
+    ensures value { option_map (λ n. (n.0, n.1.now)) result ≡ number_at (2 ^ 64) bytes.now }
+{
+    let (digits, rest) = split_run(bytes, Class::Digit);
+    Some((numeral(digits)?, rest))
+}
+
+/// What stands before the text and a number at the end of the bytes, and that number.
+#[tactic(auto, unfolding(crate::specs::Number::number_at_end))]
+pub(crate) fn number_at_end<'a>(bytes: &'a [u8], text: &[u8]) -> Option<(&'a [u8], u32)>
+    ensures value { option_map (λ n. (n.0.now, n.1)) result ≡ number_at_end text.now bytes.now }
+{
+    let (front, digits) = bytes.split_at(before_run(bytes, Class::Digit));
+    let front = before(front, text)?;
+    Some((front, small_numeral(digits)?))
+}
+
+/// The time that the bytes begin with, in microseconds, and the rest: seconds with six decimals or more.
+#[tactic(auto, unfolding(crate::specs::Number::time_at))]
+pub(crate) fn time_at(bytes: &[u8]) -> Option<(u64, &[u8])>
+    ensures value { option_map (λ t. (t.0, t.1.now)) result ≡ time_at bytes.now }
+{
+    let (seconds, rest) = wide_number_at(bytes)?;
+    let (decimals, rest) = split_run(after(rest, b".")?, Class::Digit);
+    Some((time_of(seconds, decimals)?, rest))
+}
+
+#[tactic(auto, unfolding(crate::specs::Number::time_of))]
+fn time_of(seconds: u64, decimals: &[u8]) -> Option<u64>
+    ensures value { result ≡ time_of seconds decimals.now }
+{
+    if decimals.len() < DECIMALS {
+        return None;
+    }
+    let part = numeral(&decimals[..DECIMALS])?;
+    seconds.checked_mul(SECOND)?.checked_add(part)
+}

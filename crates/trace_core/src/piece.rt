@@ -1,0 +1,166 @@
+// The first piece of a text.
+ghost use Rattle.std.specs.Prelude.{◌≡◌, ◌+◌, ◌-◌, ◌≤◌, ◌⊎◌, ◌++◌, List, ℕ, true, false, [], length, take, drop, IfSome, IfNone, position};
+ghost use Rattle.trace_core.specs.declared.item.TheConstants.{PIECE_BYTES};
+ghost use Rattle.trace_core.specs.Item.{told, Unread};
+ghost use Rattle.trace_core.specs.Piece.{is_line_feed, is_unread, begins_record, first_item};
+ghost use Rattle.trace_core.specs.Cutting.{IsLine, AreLines, IsJoining, IsJoined, IsFirstPiece, NeedsMore, Takes, IsRestOfLine, HasNoLineFeed, MayFollow};
+
+use crate::header::header_of;
+use crate::item::{Item, PIECE_BYTES, item_of};
+use crate::record::{Record, record_of};
+use memchr::memchr;
+
+/// The most lines of a record.
+pub const RECORD_LINES: usize = 4;
+
+const _: () = prove!(RECORD_LINES == 4);
+
+/// A piece of the text.
+#[derive(Clone, Copy, Debug)]
+pub struct Piece<'a> {
+    /// What it is.
+    pub item: Item<'a>,
+    /// How many lines it has.
+    pub lines: usize,
+    /// How many of the bytes it takes, the line feed at its end among them. Of a line that is too long only the last ones.
+    pub length: usize,
+}
+
+/// The first piece of the bytes, or none where it takes more bytes to tell. `whole` says that none are to come.
+pub(crate) fn first_piece(bytes: &[u8], whole: bool) -> Option<Piece<'_>>
+    ensures piece { IfSome result (IsFirstPiece bytes.now whole) }
+    ensures takes { IfSome result (Takes bytes.now) }
+    ensures none { IfNone result (NeedsMore bytes.now whole) }
+{
+    let (line, length) = first_line(bytes, whole)?;
+    let item = item_of(line);
+    if is_unread(&item) && begins_record(line) {
+        return joined(bytes, line, length, whole);
+    }
+    Some(Piece {
+        item,
+        lines: 1,
+        length,
+    })
+}
+
+#[inline(always)]
+fn is_unread(item: &Item<'_>) -> bool
+    ensures unread { result ≡ is_unread (told item.now) }
+{
+    match item {
+        Item::Unread => true,
+        _ => false,
+    }
+}
+
+#[tactic(auto, unfolding(crate::specs::Piece::begins_record))]
+fn begins_record(line: &[u8]) -> bool
+    ensures begins { result ≡ begins_record line.now }
+{
+    header_of(line).is_some()
+}
+
+/// The rest of a line that is too long.
+pub(crate) fn rest_of_line(bytes: &[u8], whole: bool) -> Option<Piece<'_>>
+    ensures unread { IfSome result (λ p. told p.item ≡ Unread) }
+    ensures rest { IfSome result (λ p. IsRestOfLine bytes.now whole p.length) }
+    ensures none { IfNone result ((whole ≡ false) × HasNoLineFeed bytes.now) }
+{
+    let length = match line_feed(bytes) {
+        Some(end) => end + 1,
+        None if whole => bytes.len(),
+        None => return None,
+    };
+    Some(unread_line(length))
+}
+
+fn line_feed(bytes: &[u8]) -> Option<usize>
+    ensures place { result ≡ position is_line_feed bytes.now }
+{
+    memchr(b'\n', bytes)
+}
+
+/// The first line, and how many bytes it takes with its line feed, or none where its end is not among the bytes.
+fn first_line(bytes: &[u8], whole: bool) -> Option<(&[u8], usize)>
+    ensures line { IfSome result (λ l. IsLine bytes.now whole l.0.now l.1) }
+    ensures all { IfNone result (whole ≡ true → bytes.now ≡ []) }
+    ensures none { IfNone result (HasNoLineFeed bytes.now) }
+{
+    match line_feed(bytes) {
+        Some(end) => Some((&bytes[..end], end + 1)),
+        None if whole && !bytes.is_empty() => Some((bytes, bytes.len())),
+        None => None,
+    }
+}
+
+/// What lines are with the next one.
+#[derive(Clone, Copy)]
+enum Joining<'a> {
+    /// More has to be read first.
+    Waits,
+    /// No record, whatever follows.
+    Alone,
+    /// A record, and where it ends.
+    Whole(Record<'a>, usize),
+    /// No record, but it may be one with the line after that. The next line ends there.
+    Longer(usize),
+}
+
+/// The record of the fewest lines that the bytes begin with. The first, which takes `first` bytes, is no record. Where there
+/// is none, it is unread.
+fn joined<'a>(bytes: &'a [u8], line: &[u8], first: usize, whole: bool) -> Option<Piece<'a>>
+    requires lines { AreLines bytes.now whole line.now first }
+    ensures piece { IfSome result (IsJoined bytes.now whole line.now first) }
+    ensures takes { IfSome result (Takes bytes.now) }
+    ensures none { IfNone result ((whole ≡ false) × (length bytes.now ≤ PIECE_BYTES)) }
+{
+    let mut end = first;
+    for lines in 2..RECORD_LINES + 1 {
+        match join(bytes, end, whole) {
+            Joining::Waits => return None,
+            Joining::Alone => return Some(unread_line(first)),
+            Joining::Whole(record, length) => {
+                return Some(Piece {
+                    item: Item::Event(record),
+                    lines,
+                    length,
+                });
+            }
+            Joining::Longer(next) => end = next,
+        }
+    }
+    Some(unread_line(first))
+}
+
+/// A line that is unread, and takes so many bytes.
+fn unread_line<'a>(length: usize) -> Piece<'a>
+    ensures unread { told result.item ≡ Unread }
+    ensures length { result.length ≡ length }
+{
+    Piece {
+        item: Item::Unread,
+        lines: 1,
+        length,
+    }
+}
+
+/// Joins the lines up to `end` with the next one.
+fn join(bytes: &[u8], end: usize, whole: bool) -> Joining<'_>
+    requires within { end ≤ length bytes.now }
+    ensures joining { (lines : List ℕ) → AreLines bytes.now whole lines end → IsJoining bytes.now whole lines end result }
+{
+    let Some((line, length)) = first_line(&bytes[end..], whole) else {
+        if whole || bytes.len() > PIECE_BYTES {
+            return Joining::Alone;
+        }
+        return Joining::Waits;
+    };
+    if end + line.len() > PIECE_BYTES || begins_record(line) {
+        return Joining::Alone;
+    }
+    match record_of(&bytes[..end + line.len()]) {
+        Some(record) => Joining::Whole(record, end + length),
+        None => Joining::Longer(end + length),
+    }
+}

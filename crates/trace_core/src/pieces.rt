@@ -1,0 +1,160 @@
+// The pieces of a text, from a reader.
+ghost use Rattle.std.specs.Prelude.{◌≡◌, ◌≤◌, ◌++◌, ◌∷◌, ◌||◌, [], List, ℕ, Option, true, false, nat_lt, length, IfSome, IfNone, if◌then◌else◌};
+ghost use Rattle.trace_core.specs.Item.{Told, told};
+
+use crate::item::PIECE_BYTES;
+use crate::piece::{Piece, first_piece, rest_of_line};
+use std::io::Read;
+use std::marker::Model;
+
+/// The most bytes of one read.
+const BLOCK_BYTES: usize = 65536;
+
+/// The bytes that are held: those of a block, and before them the front of a piece.
+const HELD_BYTES: usize = PIECE_BYTES + BLOCK_BYTES;
+
+/// What a read gave.
+#[derive(Clone, Copy, Debug, PartialEq, Eq)]
+pub enum Progress {
+    /// Bytes were read.
+    More,
+    /// The text is whole: the reader is at its end.
+    Whole,
+    /// The read failed. An interrupted read counts as failed.
+    Failed,
+}
+
+/// The pieces of a text, one after another. It holds one block of the text and the front of a piece that began before it.
+///
+/// `next` gives the next piece and `pass` goes on behind it; where `next` gives none, `read` reads more, or the text is at
+/// its end if it `is_whole`.
+///
+/// Takes no memory.
+#[derive(Drop)]
+pub struct Pieces {
+    held: [u8; HELD_BYTES],
+    // what was read and not passed lies from start to end
+    start: usize,
+    end: usize,
+    // whether the reader was at its end
+    whole: bool,
+    // whether the front of the line was let go, since the line is too long
+    long: bool,
+}
+
+impl Model for Pieces {
+    ghost use Rattle.std.specs.Prelude.{◌-◌, take, drop};
+    ghost use Rattle.trace_core.specs.Pieces.{Unpassed, AreWithin};
+
+    ghost Value = { Unpassed };
+
+    ghost view = { λ p. record {
+      bytes = take (p.end - p.start) (drop p.start p.held);
+      whole = p.whole;
+      long = p.long;
+    } };
+
+    ghost invariant = { λ p. AreWithin p.start p.end p.held };
+}
+
+impl Pieces {
+    ghost use Rattle.trace_core.specs.Pieces.{HasPassed, HasReadAll, IsNext, IsWaiting, passed};
+
+    /// Nothing was read.
+    pub fn new() -> Pieces
+        ensures none { (known : Option (List ℕ)) → HasPassed known known result [] }
+        ensures waiting { IsWaiting result }
+    {
+        Pieces {
+            held: [0; HELD_BYTES],
+            start: 0,
+            end: 0,
+            whole: false,
+            long: false,
+        }
+    }
+
+    /// The next piece, or none where more has to be read first or the text is at its end.
+    pub fn next(&self) -> Option<Piece<'_>>
+        ensures next { IfSome result (λ p. IsNext self.now (told p.item) p.length) }
+        ensures waiting { IfNone result (IsWaiting self.now) }
+
+        // Then each piece of the text was passed.
+        ensures all { IfNone result (self.now.whole ≡ true → (before now : Option (List ℕ)) → (items : List Told) →
+            HasPassed before now self.now items → HasReadAll before now items) }
+    {
+        if self.long {
+            rest_of_line(self.unread(), self.whole)
+        } else {
+            first_piece(self.unread(), self.whole)
+        }
+    }
+
+    /// Goes on behind the piece that takes so many bytes.
+    pub fn pass(&mut self, count: usize)
+        requires within { count ≤ length self.old.bytes }
+        ensures passed { self.new ≡ passed self.old count }
+        ensures more { (before now : Option (List ℕ)) → (items : List Told) → (item : Told) →
+            HasPassed before now self.old items → IsNext self.old item count
+            → HasPassed before now self.new (items ++ item ∷ []) }
+    {
+        self.start += count;
+        self.long = false;
+    }
+
+    /// Whether the whole text was read.
+    pub fn is_whole(&self) -> bool
+        ensures whole { result ≡ self.now.whole }
+    {
+        self.whole
+    }
+
+    /// Reads once, up to a block's bytes, after `next` gave none and before the text is whole.
+    pub fn read<R: Read>(&mut self, reader: &mut R) -> Progress
+        requires waiting { IsWaiting self.old }
+        requires unfinished { self.old.whole ≡ false }
+        ensures more { (before : Option (List ℕ)) → (items : List Told) →
+            HasPassed before (R.remaining reader.old) self.old items
+            → HasPassed before (R.remaining reader.new) self.new items }
+    {
+        let unread = self.end - self.start;
+        self.long = is_long(self.long, unread);
+        let kept = kept(self.long, unread);
+        self.held.copy_within(self.end - kept..self.end, 0);
+        self.start = 0;
+        self.end = kept;
+        match reader.read(&mut self.held[kept..]) {
+            Ok(0) => {
+                self.whole = true;
+                Progress::Whole
+            }
+            Ok(count) => {
+                self.end = kept + count;
+                Progress::More
+            }
+            Err(_) => Progress::Failed,
+        }
+    }
+
+    fn unread(&self) -> &[u8]
+        ensures bytes { result.now ≡ self.now.bytes }
+    {
+        &self.held[self.start..self.end]
+    }
+}
+
+/// Whether the line that so many bytes are of is too long.
+#[inline(always)]
+fn is_long(long: bool, unread: usize) -> bool
+    ensures { result ≡ (long || nat_lt PIECE_BYTES unread) }
+{
+    long || unread > PIECE_BYTES
+}
+
+/// How many of the bytes are kept: of a line that is too long none.
+#[inline(always)]
+fn kept(long: bool, unread: usize) -> usize
+    ensures { result ≡ (if long then 0 else unread) }
+{
+    if long { 0 } else { unread }
+}
