@@ -3,4 +3,3 @@ mod Counts
 mod Progress
 mod Stages
 mod Texts
-mod Written

@@ -6,11 +6,13 @@ ghost use Rattle.clients_core.specs.declared.rounds.TheConstants.{ROUNDS};
 ghost use Rattle.command_line.specs.Words.{
   Adds,
   IsApp,
+  check_app,
   clients_app,
   fencectl,
   file_rule,
-  locks_rule,
+  flag_rule,
   number_rule,
+  paths_rule,
   program_app,
   script_app,
 };
@@ -18,6 +20,7 @@ ghost use Rattle.command_line.specs.Words.{
 use clap::error::ErrorKind;
 use clap::{Arg, ArgAction, ArgMatches, Command, Error, value_parser};
 use clients_core::{CLIENTS, ROUNDS};
+use source_core::STANDARD_INPUT;
 use std::alloc::{AllocError, Global};
 
 const PROGRAM: &str = "fencectl";
@@ -82,10 +85,9 @@ Examples:
   fencectl clients 2 3
 ";
 
-/// The word for standard input, in the place of a file's name.
-pub(crate) const STANDARD_INPUT: &str = "-";
-
 pub(crate) const FILE: &str = "FILE";
+
+pub(crate) const PATH: &str = "PATH";
 
 const RUN: &str = "run";
 
@@ -95,7 +97,14 @@ const RUN_ABOUT: &str =
 pub(crate) const CHECK: &str = "check";
 
 const CHECK_ABOUT: &str =
-    "Runs a script, and compares its answers with those that its notes expect";
+    "Runs scripts, and compares their answers with those that their notes expect";
+
+/// The flags of a check.
+pub(crate) const QUIET: &str = "quiet";
+
+pub(crate) const TAP: &str = "tap";
+
+pub(crate) const ALLOW_EMPTY: &str = "allow-empty";
 
 pub(crate) const EXPLAIN: &str = "explain";
 
@@ -172,11 +181,18 @@ fn run<'a>(alloc: Global) -> Result<Command<'a>, AllocError>
 }
 
 fn check<'a>(alloc: Global) -> Result<Command<'a>, AllocError>
-    ensures { IfOk result (IsApp (script_app (codes "check"))) }
+    ensures { IfOk result (IsApp check_app) }
 {
-    Command::new(alloc, CHECK)
-        .about(CHECK_ABOUT)
-        .arg(file(alloc))
+    let command = Command::new(alloc, CHECK).about(CHECK_ABOUT);
+    command
+        .arg(paths(alloc))?
+        .arg(flag(alloc, QUIET, "Reports the counts alone"))?
+        .arg(flag(
+            alloc,
+            TAP,
+            "Writes TAP version 14 to standard output, a test for each file",
+        ))?
+        .arg(flag(alloc, ALLOW_EMPTY, "Lets a file pass that expects nothing"))
 }
 
 fn explain<'a>(alloc: Global) -> Result<Command<'a>, AllocError>
@@ -197,15 +213,27 @@ fn file<'a>(alloc: Global) -> Arg<'a>
         .help("The script's file, or - for standard input")
 }
 
+/// The files and folders of a check.
+fn paths<'a>(alloc: Global) -> Arg<'a>
+    ensures rule { rule_of result ≡ paths_rule }
+    ensures local { result.global ≡ false }
+{
+    Arg::new(alloc, PATH)
+        .action(ArgAction::Append)
+        .default_value(STANDARD_INPUT)
+        .help("Scripts' files, folders with such files (*.fence), or - for standard input")
+}
+
 /// `clients`, its two numbers and its table.
 fn clients<'a>(alloc: Global) -> Result<Command<'a>, AllocError>
     ensures { IfOk result (IsApp clients_app) }
 {
     let command = Command::new(alloc, CLIENTS_WORD).about(CLIENTS_ABOUT);
-    command
-        .arg(count(alloc))?
-        .arg(rounds(alloc))?
-        .arg(locks(alloc))
+    command.arg(count(alloc))?.arg(rounds(alloc))?.arg(flag(
+        alloc,
+        LOCKS,
+        "Shares buffers under locks, in the place of a lock-free board",
+    ))
 }
 
 /// The number of clients.
@@ -230,13 +258,13 @@ fn rounds<'a>(alloc: Global) -> Arg<'a>
         .help("How many rounds each of them makes, 1 to 10000")
 }
 
-/// The flag that asks for buffers under locks.
-fn locks<'a>(alloc: Global) -> Arg<'a>
-    ensures rule { rule_of result ≡ locks_rule }
+/// A flag of that name.
+fn flag<'a>(alloc: Global, name: &'a str, help: &'a str) -> Arg<'a>
+    ensures rule { rule_of result ≡ flag_rule name.entry.now }
     ensures local { result.global ≡ false }
 {
-    Arg::new(alloc, LOCKS)
-        .long(LOCKS)
+    Arg::new(alloc, name)
+        .long(name)
         .action(ArgAction::SetTrue)
-        .help("Shares buffers under locks, in the place of a lock-free board")
+        .help(help)
 }

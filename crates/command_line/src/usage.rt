@@ -31,7 +31,7 @@ pub fn action_of<'a>(
         → IfOk result (λ action. IsSome (asked_of action)) }
 {
     match matches_of(alloc, words) {
-        Ok(matches) => action_by(&matches),
+        Ok(matches) => action_by(alloc, &matches),
         Err(error) => Ok(Action::End(tell_error(rt, &error)?)),
     }
 }

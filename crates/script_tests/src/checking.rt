@@ -1,6 +1,6 @@
 // Checks of scripts whose reader or writer fails.
 use crate::pipes::{PIECES, assert_refusal, failing_source_of, sink_of, source_of};
-use check_core::check;
+use check_core::{Form, Place, check};
 use point_core::Refusal;
 use std::alloc::Global;
 use std::process::Abort;
@@ -15,20 +15,22 @@ info f
 #= ok f 0 1
 ";
 
-const DIFFERENCES: &[u8] = b"line 2: timeline a: expected \"ok 2\", came \"ok 1\"
-line 7: info f: expected nothing more, came \"fence a sw_sync 5 0\"
-5 answered, 3 checked, 2 differing
+const DIFFERENCES: &[u8] = b"s:2: timeline a: expected \"ok 2\", came \"ok 1\"
+s:7: info f: expected nothing more, came \"fence a sw_sync 5 0\"
 ";
 
-// The counts are flushed with all before them, once.
+const PLACE: Place<'static> = Place {
+    name: "s",
+    form: Form::Lines,
+};
+
 #[test]
 fn counts(rt: HostRuntime) {
     for piece in PIECES {
         let mut reader = source_of(SCRIPT, piece);
         let mut writer = sink_of(DIFFERENCES, piece, usize::MAX);
-        let tally = check(rt.alloc(), &mut reader, &mut writer).expect(&rt, "counts");
+        let tally = check(rt.alloc(), &PLACE, &mut reader, &mut writer).expect(&rt, "counts");
         writer.assert_whole(&rt);
-        assert!(rt; writer.flushes == 1 && writer.unflushed == 0);
         assert!(rt; tally.lines == 5 && tally.checked == 3 && tally.differing == 2);
     }
 }
@@ -38,7 +40,7 @@ fn assert_failed(rt: &impl Abort, alloc: Global, script: &[u8], wanted: &[u8]) {
     for piece in PIECES {
         let mut reader = failing_source_of(script, piece);
         let mut writer = sink_of(wanted, piece, usize::MAX);
-        let result = check(alloc, &mut reader, &mut writer);
+        let result = check(alloc, &PLACE, &mut reader, &mut writer);
         assert_refusal(rt, result.err(), Refusal::Read);
         writer.assert_whole(rt);
     }
@@ -51,16 +53,16 @@ fn failing_reader(rt: HostRuntime) {
         (b"timeline a\n#= ok 1\n", b""),
         (
             b"timeline a\n#= ok 2\nvalue a\n#= ok 9",
-            b"line 1: timeline a: expected \"ok 2\", came \"ok 1\"\n",
+            b"s:1: timeline a: expected \"ok 2\", came \"ok 1\"\n",
         ),
         (
             b"timeline a\n#= ok 1\n#= ok 1\n#= ok 1\n",
-            b"line 1: timeline a: expected \"ok 1\", came nothing\n",
+            b"s:1: timeline a: expected \"ok 1\", came nothing\n",
         ),
         (b"timeline a\nfence f a 5\ninfo f\n#= ok f 0 1\nval", b""),
         (
             b"timeline a\nfence f a 5\ninfo f\n#= ok f 0 1\nvalue a\n",
-            b"line 3: info f: expected nothing more, came \"fence a sw_sync 5 0\"\n",
+            b"s:3: info f: expected nothing more, came \"fence a sw_sync 5 0\"\n",
         ),
     ];
     for (script, wanted) in cases {
@@ -76,18 +78,8 @@ fn failing_writer(rt: HostRuntime) {
         let mut writer = sink_of(&DIFFERENCES[..room], 4096, room);
         writer.halts = true;
         writer.recovers = true;
-        let result = check(rt.alloc(), &mut reader, &mut writer);
+        let result = check(rt.alloc(), &PLACE, &mut reader, &mut writer);
         assert_refusal(&rt, result.err(), Refusal::Write);
         writer.assert_whole(&rt);
     }
-}
-
-#[test]
-fn failing_flush(rt: HostRuntime) {
-    let mut reader = source_of(SCRIPT, 4096);
-    let mut writer = sink_of(DIFFERENCES, 4096, usize::MAX);
-    writer.flush_fails = true;
-    let result = check(rt.alloc(), &mut reader, &mut writer);
-    assert_refusal(&rt, result.err(), Refusal::Write);
-    writer.assert_whole(&rt);
 }
