@@ -5,3 +5,4 @@ pub mod Finding
 pub mod Outcome
 pub mod Stage
 pub mod Tally
+pub mod Update

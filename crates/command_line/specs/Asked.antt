@@ -1,9 +1,10 @@
 -- What the words of a command line ask for.
-use Rattle.std.specs.Prelude.{ℕ, Bool, false, List, [], Option, Some, None, codes, map, if◌then◌else◌}
+use Rattle.std.specs.Prelude.{◌≡◌, ◌≢◌, ◌⊎◌, ◌∷◌, ℕ, Bool, true, false, List, [], Option, Some, None, codes, map, if◌then◌else◌}
 use Rattle.std.specs.Str.Parse.{digits_value, without_leading_plus}
 use Rattle.std.specs.Str.{bytes_eq}
-use Rattle.clap.specs.Words.{Row, Text, all_of, first_of, one_of}
+use Rattle.clap.specs.Words.{Row, Text, all_of, first_of, one_of, subcommand_of, takes}
 use Rattle.source_core.specs.Script.{file_named, file_of}
+use Rattle.command_line.specs.Words.{fencectl}
 use Rattle.command_line.specs.declared.action.Action.{Action}
 use Rattle.command_line.specs.declared.action.Action.TheVariants as action
 use Rattle.command_line.specs.declared.action.Check.{Check as CheckAction}
@@ -20,6 +21,7 @@ pub record AskedCheck : Type 0 where
 pub data Asked : Type 0 where
   Run : Option Text → Asked
   Check : AskedCheck → Asked
+  Update : List Text → Asked
   Explain : Option Text → Asked
   Clients : ℕ → ℕ → Asked
 
@@ -48,6 +50,11 @@ check_after rows = record {
   allows_empty = flag_named (one_of (codes "allow-empty") rows);
 }
 
+abbrev pub check_or_update : List Row → Asked
+check_or_update rows =
+    if flag_named (one_of (codes "update") rows) then Update (paths_named (all_of (codes "PATH") rows))
+    else Check (check_after rows)
+
 -- of a script, by the word of a subcommand
 abbrev pub asked_on : Text → Option Text → Asked
 asked_on word file = if bytes_eq word (codes "explain") then Explain file else Run file
@@ -57,7 +64,7 @@ abbrev pub asked_after : Text → List Row → Asked
 asked_after word rows =
     if bytes_eq word (codes "clients") then
     Clients (number_named (one_of (codes "N") rows)) (number_named (one_of (codes "ROUNDS") rows))
-    else if bytes_eq word (codes "check") then Check (check_after rows)
+    else if bytes_eq word (codes "check") then check_or_update rows
     else asked_on word (file_named (first_of (codes "FILE") rows))
 
 -- without a subcommand the script of standard input is run
@@ -75,7 +82,20 @@ asked_of_check check = record {
 -- nothing where the program is to end
 abbrev pub asked_of : Action → Option Asked
 asked_of (action.Run script) = Some (Run (file_of script))
+asked_of (action.Update paths) = Some (Update (map (λ p. p.now) paths.items))
 asked_of (action.Check check) = Some (Check (asked_of_check check))
 asked_of (action.Explain script) = Some (Explain (file_of script))
 asked_of (action.Clients clients) = Some (Clients clients.count clients.rounds)
 asked_of (action.End status) = None
+
+-- the second of two words is asked for as the name of a script's file
+pub record IsFileOf (words : List Text) (asked : Asked) : Type 0 where
+  pub program : Text
+  pub name : Text
+  pub two : words ≡ program ∷ name ∷ []
+  pub is : asked ≡ Run (Some name)
+
+-- what the subcommand asks for; or a file, by words that the command line does not take
+abbrev pub IsAsked : List Text → Asked → Type 0
+IsAsked words asked =
+    (asked ≡ asked_by (subcommand_of fencectl words)) ⊎ (IsFileOf words asked × (takes fencectl words ≢ true))

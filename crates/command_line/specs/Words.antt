@@ -25,9 +25,13 @@ flag_rule name = record (new_rule name) { long = Some name; action = Some SetTru
 abbrev pub script_app : Text → App
 script_app word = with_rule (new_app word) file_rule
 
+-- `check` without the flags that change what it does
+abbrev pub reports_app : App
+reports_app = with_rule (with_rule (with_rule (new_app (codes "check")) paths_rule)
+    (flag_rule (codes "quiet"))) (flag_rule (codes "tap"))
+
 abbrev pub check_app : App
-check_app = with_rule (with_rule (with_rule (with_rule (new_app (codes "check")) paths_rule)
-    (flag_rule (codes "quiet"))) (flag_rule (codes "tap"))) (flag_rule (codes "allow-empty"))
+check_app = with_rule (with_rule reports_app (flag_rule (codes "allow-empty"))) (flag_rule (codes "update"))
 
 abbrev pub clients_app : App
 clients_app = with_rule (with_rule (with_rule (new_app (codes "clients"))

@@ -12,6 +12,8 @@ pub enum Action<'a> {
     Run(Script<'a>),
     /// Compare the answers of scripts with those that they expect.
     Check(Check<'a>),
+    /// Put scripts in their place that expect what comes: of files, and of those below folders.
+    Update(Vec<&'a str>),
     /// Run a script, print its answers, and explain why lines were refused.
     Explain(Script<'a>),
     /// Run clients on threads, and print what they settle.

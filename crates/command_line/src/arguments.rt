@@ -14,6 +14,7 @@ ghost use Rattle.command_line.specs.Words.{
   number_rule,
   paths_rule,
   program_app,
+  reports_app,
   script_app,
 };
 
@@ -32,7 +33,8 @@ const ABOUT: &str =
 const VERSION: &str = "0.1.0 (proved in Rattle's logic dac8208d650f15bf)";
 
 const HELP: &str = "\
-A script is read from standard input or from FILE, one command a line; a line that begins with # is a note.
+A script is read from standard input or from FILE, one command a line; a line that begins with # is a note. A lone FILE that
+is no subcommand is run.
 
 Script commands:
   timeline T         makes timeline T at value 0             ok CONTEXT
@@ -68,20 +70,22 @@ A refused line is answered `err NUMBER NAME`, and changes nothing:
 
 The script language is documented in docs/SCRIPT.md.
 
-Behind a command a note `#= TEXT` expects TEXT as a line of its answer. `fencectl check` compares these, and tells each
-answer that differs on standard error. `fencectl explain` tells there which word of a refused line is at fault, and why,
-and what a `wait` waits for.
+After a command a note `#= TEXT` expects TEXT as a line of its answer. `fencectl check` compares these in files and in the
+*.fence files below folders, and reports each answer that differs on standard error. `fencectl explain` reports there which
+word of a refused line is at fault, and why, and what a `wait` waits for.
 
 Clients run on threads, each with a timeline of its own, and share two buffers; docs/CLIENTS.md says what they do. What
 they settle is the same in every run: a row for each timeline, and for each buffer the points that are pending.
 
 Exit status:
-  0  every line was accepted; of a check: every answer was as expected; of clients: they settled
-  1  a line was refused; of a check: an answer differs
+  0  every line was accepted; of a check: every script passes; of clients: they settled
+  1  a line was refused; of a check: an answer differs, or a script expects nothing
   2  wrong usage, or a fault of reading, writing, memory or threads
 
 Examples:
   printf 'timeline gpu\\nfence frame gpu 5\\ninfo frame\\n' | fencectl
+  fencectl examples/merge.fence
+  fencectl check examples
   fencectl clients 2 3
 ";
 
@@ -105,6 +109,8 @@ pub(crate) const QUIET: &str = "quiet";
 pub(crate) const TAP: &str = "tap";
 
 pub(crate) const ALLOW_EMPTY: &str = "allow-empty";
+
+pub(crate) const UPDATE: &str = "update";
 
 pub(crate) const EXPLAIN: &str = "explain";
 
@@ -183,6 +189,19 @@ fn run<'a>(alloc: Global) -> Result<Command<'a>, AllocError>
 fn check<'a>(alloc: Global) -> Result<Command<'a>, AllocError>
     ensures { IfOk result (IsApp check_app) }
 {
+    reports(alloc)?
+        .arg(flag(alloc, ALLOW_EMPTY, "Lets a file pass that expects nothing"))?
+        .arg(flag(
+            alloc,
+            UPDATE,
+            "Writes the answers that come into the files, as what they expect",
+        ))
+}
+
+/// `check`, its paths and what it reports.
+fn reports<'a>(alloc: Global) -> Result<Command<'a>, AllocError>
+    ensures { IfOk result (IsApp reports_app) }
+{
     let command = Command::new(alloc, CHECK).about(CHECK_ABOUT);
     command
         .arg(paths(alloc))?
@@ -191,8 +210,7 @@ fn check<'a>(alloc: Global) -> Result<Command<'a>, AllocError>
             alloc,
             TAP,
             "Writes TAP version 14 to standard output, a test for each file",
-        ))?
-        .arg(flag(alloc, ALLOW_EMPTY, "Lets a file pass that expects nothing"))
+        ))
 }
 
 fn explain<'a>(alloc: Global) -> Result<Command<'a>, AllocError>

@@ -9,6 +9,7 @@ ghost use Rattle.command_line.specs.Asked.{
   asked_of_check,
   asked_on,
   check_after,
+  check_or_update,
   flag_named,
   number_named,
   paths_named,
@@ -18,6 +19,7 @@ ghost use Rattle.command_line.specs.Asked.{
 use crate::action::{Action, Check, Clients, Report, Table};
 use crate::arguments::{
     ALLOW_EMPTY, CHECK, CLIENTS_WORD, COUNT, EXPLAIN, FILE, LOCKS, PATH, QUIET, ROUNDS_WORD, TAP,
+    UPDATE,
 };
 use clap::ArgMatches;
 use clients_core::{CLIENTS, ROUNDS};
@@ -51,9 +53,20 @@ fn action_after<'a>(
         return Ok(Action::Clients(clients_of(matches)?));
     }
     if word == CHECK {
-        return Ok(Action::Check(check_of(alloc, matches)?));
+        return check_action(alloc, matches);
     }
     Ok(action_on(word, script_of(matches)))
+}
+
+fn check_action<'a>(alloc: Global, matches: &ArgMatches<'a>) -> Result<Action<'a>, Refusal>
+    ensures asked { IfOk result (λ action. asked_of action
+        ≡ Some (check_or_update (rows_of (found_of matches.now)))) }
+{
+    if has_flag(matches, UPDATE) {
+        Ok(Action::Update(paths_of(alloc, matches)?))
+    } else {
+        Ok(Action::Check(check_of(alloc, matches)?))
+    }
 }
 
 /// What a word asks for of a script.

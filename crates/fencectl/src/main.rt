@@ -6,7 +6,7 @@
 mod scripts;
 mod status;
 
-use check_core::{Form, Plan, check_scripts};
+use check_core::{Form, Plan, check_scripts, update_scripts};
 use command_line::{
     Action, Check, Report, action_of, clients_report, tell_fault, tell_unread_word,
 };
@@ -46,6 +46,7 @@ fn act<T: Threads + Wait + Sync>(
     match action {
         Action::Run(script) => run(rt, script),
         Action::Check(asked) => check(rt, &asked),
+        Action::Update(paths) => update(rt, paths.as_slice()),
         Action::Explain(script) => explain(rt, script),
         Action::Clients(clients) => {
             clients_report(threads, rt.alloc(), &clients, &mut rt.stdout())?;
@@ -74,6 +75,12 @@ fn check(rt: &HostRuntime, asked: &Check) -> Result<u8, Refusal> {
         &mut rt.stdout(),
         &mut rt.stderr(),
     )?;
+    Ok(status_of_verdict(verdict))
+}
+
+fn update(rt: &HostRuntime, paths: &[&str]) -> Result<u8, Refusal> {
+    let names = script_files(rt, paths)?;
+    let verdict = update_scripts(rt, names.as_slice(), &mut rt.stderr())?;
     Ok(status_of_verdict(verdict))
 }
 

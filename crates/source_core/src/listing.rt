@@ -2,9 +2,9 @@
 use crate::script::STANDARD_INPUT;
 use crate::source::reported;
 use std::alloc::{AllocError, Global};
-use std::fs;
 use std::fs::{DirEntry, ReadDir};
 use std::rt::Files;
+use std::{fs, io};
 
 /// How the name of a script's file ends.
 const SUFFIX: &str = ".fence";
@@ -50,8 +50,21 @@ fn add_path<R: Files + Eprint + AllocGlobal + Clone + Drop>(
             files.append(&mut below)?;
             Ok(())
         }
-        Err(_) => push_name(rt, path, files),
+        Err(error) => push_unlisted(rt, path, &error, files),
     }
+}
+
+/// What can't be listed is a file, or can't be read either.
+fn push_unlisted<R: AllocGlobal>(
+    rt: &R,
+    path: &str,
+    error: &io::Error,
+    files: &mut Vec<String>,
+) -> Result<(), AllocError> {
+    if error.kind() == io::ErrorKind::OutOfMemory {
+        return Err(AllocError);
+    }
+    push_name(rt, path, files)
 }
 
 /// The files below a folder, and the folders that can't be listed.
@@ -81,7 +94,7 @@ fn add_folder<R: Files + Eprint + AllocGlobal + Clone + Drop>(
 ) -> Result<(), AllocError> {
     match fs::read_dir(rt, folder) {
         Ok(entries) => add_entries(rt, folder, entries, folders, files),
-        Err(_) => push_name(rt, folder, files),
+        Err(error) => push_unlisted(rt, folder, &error, files),
     }
 }
 
