@@ -20,7 +20,7 @@ def text_of(lines):
 
 def number_of(line):
     """Returns the number of the line that an explanation or a difference is about."""
-    return int(re.match(rb"line (\d+): ", line)[1])
+    return int(re.match(rb"(?:line |\S*:)(\d+): ", line)[1])
 
 
 def with_lines(text, more):
@@ -97,7 +97,9 @@ class Answers(Words):
         """Returns what is right where these commands are answered Memory."""
         if refused not in self.known:
             noted = self.program.file("noted", self.script.without(refused))
-            self.known[refused] = self.adding(self.program.plain(self.WORD, noted), refused)
+            run = self.program.plain(self.WORD, noted)
+            named = run.errors.replace(noted.encode(), self.words[-1].encode())
+            self.known[refused] = self.adding(replace(run, errors=named), refused)
         return self.known[refused]
 
     def adding(self, run, refused):
@@ -147,11 +149,21 @@ class Differences(Answers):
         return [number_of(line) for line in run.errors.split(b"\n") if line.endswith(b'came "%s"' % MEMORY)]
 
     def adding(self, run, refused):
-        differences, counts = re.fullmatch(rb"((?:.*\n)*)(.*)\n", run.errors).groups()
+        if not refused:
+            return run
         more = [self.difference(number) for number in refused]
-        counts = re.sub(rb"\d+", lambda count: b"%d" % (int(count[0]) + len(refused)), counts)
-        return replace(run, errors=with_lines(differences, more) + text_of([counts]), status=1 if refused else run.status)
+        differences, counts = re.fullmatch(rb"((?:.*\n)*?)(?:.*: expects nothing\n)?(files: .*)\n", run.errors).groups()
+        answers, expectations, differing = (int(count) + len(refused) for count in re.findall(rb"\d+", counts)[1:])
+        ends = [
+            b"%s: differs in %d of %d answers" % (self.path, differing, expectations),
+            b"files: 1, answers: %d, expectations: %d, differences: %d" % (answers, expectations, differing),
+        ]
+        return replace(run, errors=with_lines(differences, more) + text_of(ends), status=1)
+
+    @property
+    def path(self):
+        return self.words[-1].encode()
 
     def difference(self, number):
         command, expected = self.script.line(number), self.script.expected(number)
-        return b'line %d: %s: expected "%s", came "%s"' % (number, command, expected, MEMORY)
+        return b'%s:%d: %s: expected "%s", came "%s"' % (self.path, number, command, expected, MEMORY)

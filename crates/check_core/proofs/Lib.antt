@@ -1,6 +1,6 @@
 mod Comparing
 mod Counts
+mod Passing
 mod Progress
 mod Stages
 mod Texts
-mod Written

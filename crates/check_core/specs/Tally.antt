@@ -28,13 +28,15 @@ pub record CountsOne (tally tally' : Tally) : Type 0 where
   pub checked : tally'.checked ≤ tally.checked + 1
   pub differing : tally'.differing ≤ tally.differing + 1
 
--- a count, and what was counted
-abbrev pub count_text : ℕ → List ℕ → List ℕ
-count_text count words = decimal count ++ words
+-- what is counted, and a count
+abbrev pub count_text : List ℕ → ℕ → List ℕ
+count_text words count = words ++ decimal count
 
 -- the line of counts
-abbrev pub tally_text : Tally → List ℕ
-tally_text tally =
-    count_text tally.lines (codes " answered, ")
-    ++ count_text tally.checked (codes " checked, ")
-    ++ count_text tally.differing (codes " differing\n")
+abbrev pub totals_text : ℕ → Tally → List ℕ
+totals_text files tally =
+    count_text (codes "files: ") files
+    ++ count_text (codes ", answers: ") tally.lines
+    ++ count_text (codes ", expectations: ") tally.checked
+    ++ count_text (codes ", differences: ") tally.differing
+    ++ codes "\n"

@@ -10,6 +10,7 @@ ghost use Rattle.check_core.specs.Tally.{HasRoom, IsBelow, CountsOne};
 
 use crate::expected::expected_text;
 use crate::finding::{Difference, Finding};
+use crate::form::Place;
 use crate::stage::Stage;
 use crate::tally::Tally;
 use crate::telling::tell_difference;
@@ -22,7 +23,9 @@ use std::io::Write;
 
 /// What a check keeps from line to line: a desk, the counts, and the last line that has an answer.
 #[derive(Drop)]
-pub(crate) struct Checker {
+pub(crate) struct Checker<'a> {
+    alloc: Global,
+    place: Place<'a>,
     desk: Desk,
     pub(crate) tally: Tally,
     // of the last line that has an answer; 0 stands for what is above the first
@@ -34,14 +37,16 @@ pub(crate) struct Checker {
     ghost within: { place_of stage ≤ length text.items },
 }
 
-impl Checker {
+impl<'a> Checker<'a> {
     ghost use Rattle.check_core.specs.Check.{IsFresh, differences_of, IsQuiet, Expects, IsAnswered, IsTaken, IsOpened, IsJudgedAt, IsEnded};
 
-    pub(crate) fn new(alloc: Global) -> Result<Checker, Refusal>
+    pub(crate) fn new(alloc: Global, place: &Place<'a>) -> Result<Checker<'a>, Refusal>
         ensures fresh { IfOk result IsFresh }
         ensures refusals { IfErr result (λ refusal. refusal ≡ Memory) }
     {
         Ok(Checker {
+            alloc,
+            place: *place,
             desk: Desk::new(alloc)?,
             tally: Tally::new(),
             number: 0,
@@ -150,7 +155,7 @@ impl Checker {
         ensures expects { Expects self.old self.new (option_to_list (expected_text bytes.now)) }
         ensures quiet { OnOk result (IsQuiet self.old (differences_of self.new)
             (W.contents writer.old) (W.contents writer.new)) }
-        ensures refusals { IfErr result (λ refusal. refusal ≡ WriteFault) }
+        ensures refusals { IfErr result (λ refusal. (refusal ≡ WriteFault) ⊎ (refusal ≡ Memory)) }
     {
         match expected_text(bytes) {
             Some(line) => self.expect(line, writer),
@@ -163,7 +168,7 @@ impl Checker {
         ensures expects { Expects self.old self.new (line.now ∷ []) }
         ensures quiet { OnOk result (IsQuiet self.old (differences_of self.new)
             (W.contents writer.old) (W.contents writer.new)) }
-        ensures refusals { IfErr result (λ refusal. refusal ≡ WriteFault) }
+        ensures refusals { IfErr result (λ refusal. (refusal ≡ WriteFault) ⊎ (refusal ≡ Memory)) }
     {
         let before = self.stage;
         self.stage = before.with(&self.text, line);
@@ -180,7 +185,7 @@ impl Checker {
         ensures counts { CountsOne self.old.tally self.new.tally }
         ensures quiet { OnOk result (IsQuiet self.old self.new.tally.differing
             (W.contents writer.old) (W.contents writer.new)) }
-        ensures refusals { IfErr result (λ refusal. refusal ≡ WriteFault) }
+        ensures refusals { IfErr result (λ refusal. (refusal ≡ WriteFault) ⊎ (refusal ≡ Memory)) }
     {
         let finding = self.stage.finding(&self.text);
         self.tally.count(finding);
@@ -198,12 +203,17 @@ impl Checker {
         writer: &mut W,
     ) -> Result<(), Refusal>
         requires within { place_of stage ≤ length self.now.text.items }
-        ensures refusals { IfErr result (λ refusal. refusal ≡ WriteFault) }
+        ensures refusals { IfErr result (λ refusal. (refusal ≡ WriteFault) ⊎ (refusal ≡ Memory)) }
     {
         match stage.left(&self.text) {
             Some(came) => {
-                let difference = Difference { expected, came };
-                tell_difference(self.number, &self.bytes, &difference, writer)
+                let difference = Difference {
+                    number: self.number,
+                    command: &self.bytes,
+                    expected,
+                    came,
+                };
+                tell_difference(self.alloc, &self.place, &difference, writer)
             }
             None => Ok(()),
         }

@@ -1,33 +1,32 @@
 // A script from a reader, and how its answers differ from what its notes expect to a writer.
 ghost use Rattle.std.specs.Prelude.{◌≡◌, ◌+◌, ◌⊎◌, List, ℕ, Err, IfOk, IfErr};
-ghost use Rattle.std.specs.Io.KnownBytes.{Appends, Keeps};
+ghost use Rattle.std.specs.Io.KnownBytes.{Keeps};
 ghost use Rattle.point_core.specs.declared.refusal.Refusal.TheVariants.{Limit, Read as ReadFault, Write as WriteFault, Memory};
 ghost use Rattle.point_core.specs.declared.refusal.LimitKind.TheVariants.{Script};
 ghost use Rattle.line_core.specs.declared.script.Ending.TheVariants.{Whole};
 ghost use Rattle.line_core.specs.declared.script.TheConstants.{SCRIPT_BYTES};
 ghost use Rattle.line_core.specs.Reading.{ConsumesAtMost, IsInput, WasRead};
 ghost use Rattle.check_core.specs.Check.{ChecksScript, IsTooLong, IsFresh, HasCheckedBytes};
-ghost use Rattle.check_core.specs.Tally.{tally_text};
 
 use crate::checker::Checker;
+use crate::form::Place;
 use crate::tally::Tally;
-use crate::telling::tell_tally;
 use line_core::{Ending, SCRIPT_BYTES, ScriptLines};
 use point_core::{LimitKind, Refusal};
 use std::alloc::Global;
 use std::io::{Read, Write};
 
 /// Runs a script as `engine` does, and compares the answer of each line with the lines that the notes behind it expect; a
-/// line without such notes may answer anything. Writes one line for each answer that differs, once that is known, and at the
-/// end the counts.
+/// line without such notes may answer anything. Writes each answer that differs in the form of its place, once that is known.
 ///
 /// A line is answered when its end is read. Of the lines it keeps the last that has an answer, with its answer, and what the
 /// desk holds, so its memory does not grow with the script.
 ///
 /// Refused as Read where a read failed, as Limit where the script has more than `SCRIPT_BYTES` bytes, as Write where a write
-/// failed, and as Memory where a growth was refused. Then the differences are written that were known so far, and no counts.
+/// failed, and as Memory where a growth was refused. Then the differences are written that were known so far.
 pub fn check<R: Read, W: Write>(
     alloc: Global,
+    place: &Place<'_>,
     reader: &mut R,
     writer: &mut W,
 ) -> Result<Tally, Refusal>
@@ -38,9 +37,9 @@ pub fn check<R: Read, W: Write>(
     ensures reads { IfOk result (λ _. (script : List ℕ)
         × WasRead (R.remaining reader.old) (R.remaining reader.new) script Whole) }
 
-    // Where nothing differs, the line of counts is written, and nothing else.
+    // Where nothing differs, nothing is written.
     ensures told { IfOk result (λ tally. tally.differing ≡ 0
-        → Appends (W.contents writer.old) (W.contents writer.new) (tally_text tally)) }
+        → Keeps (W.contents writer.old) (W.contents writer.new)) }
 
     // Whatever the result, no byte is read past the one behind a script's limit, and after a failed read not that one.
     ensures within { ConsumesAtMost (SCRIPT_BYTES + 1) (R.remaining reader.old) (R.remaining reader.new) }
@@ -51,13 +50,13 @@ pub fn check<R: Read, W: Write>(
     ensures refusals { IfErr result (λ refusal.
         (refusal ≡ ReadFault) ⊎ (refusal ≡ Limit Script) ⊎ (refusal ≡ WriteFault) ⊎ (refusal ≡ Memory)) }
 {
-    let mut checker = Checker::new(alloc)?;
+    let mut checker = Checker::new(alloc, place)?;
     check_script(&mut checker, reader, writer)
 }
 
-/// Checks a script from its first line on, and writes the counts at its end.
+/// Checks a script from its first line on.
 fn check_script<R: Read, W: Write>(
-    checker: &mut Checker,
+    checker: &mut Checker<'_>,
     reader: &mut R,
     writer: &mut W,
 ) -> Result<Tally, Refusal>
@@ -67,7 +66,7 @@ fn check_script<R: Read, W: Write>(
     ensures reads { IfOk result (λ _. (script : List ℕ)
         × WasRead (R.remaining reader.old) (R.remaining reader.new) script Whole) }
     ensures told { IfOk result (λ tally. tally.differing ≡ 0
-        → Appends (W.contents writer.old) (W.contents writer.new) (tally_text tally)) }
+        → Keeps (W.contents writer.old) (W.contents writer.new)) }
     ensures within { ConsumesAtMost (SCRIPT_BYTES + 1) (R.remaining reader.old) (R.remaining reader.new) }
     ensures read { result ≡ Err ReadFault
         → ConsumesAtMost SCRIPT_BYTES (R.remaining reader.old) (R.remaining reader.new) }
@@ -76,10 +75,7 @@ fn check_script<R: Read, W: Write>(
         (refusal ≡ ReadFault) ⊎ (refusal ≡ Limit Script) ⊎ (refusal ≡ WriteFault) ⊎ (refusal ≡ Memory)) }
 {
     match check_lines(reader, checker, writer)? {
-        Ending::Whole => {
-            tell_tally(&checker.tally, writer)?;
-            Ok(checker.tally)
-        }
+        Ending::Whole => Ok(checker.tally),
         Ending::TooLong => Err(Refusal::Limit(LimitKind::Script)),
         Ending::Failed => Err(Refusal::Read),
     }
@@ -88,7 +84,7 @@ fn check_script<R: Read, W: Write>(
 /// Reads the lines of a script and checks each when its end was read.
 fn check_lines<R: Read, W: Write>(
     reader: &mut R,
-    checker: &mut Checker,
+    checker: &mut Checker<'_>,
     writer: &mut W,
 ) -> Result<Ending, Refusal>
     requires fresh { IsFresh checker.old }

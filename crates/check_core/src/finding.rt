@@ -13,6 +13,9 @@ pub(crate) enum Finding {
 /// The first line of an answer that differs.
 #[derive(Clone, Copy)]
 pub(crate) struct Difference<'a> {
+    /// The command's line, from 1; 0 stands for what is above the first.
+    pub(crate) number: u32,
+    pub(crate) command: &'a [u8],
     /// None where more came than was expected.
     pub(crate) expected: Option<&'a [u8]>,
     /// What came from there on.

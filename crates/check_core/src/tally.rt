@@ -44,4 +44,13 @@ impl Tally {
             }
         }
     }
+
+    /// The counts of both together. A sum that would pass the greatest number stays at it.
+    pub(crate) fn with(self, other: &Tally) -> Tally {
+        Tally {
+            lines: self.lines.saturating_add(other.lines),
+            checked: self.checked.saturating_add(other.checked),
+            differing: self.differing.saturating_add(other.differing),
+        }
+    }
 }

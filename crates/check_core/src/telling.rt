@@ -1,101 +1,95 @@
-// What a check tells.
-ghost use Rattle.std.specs.Prelude.{◌≡◌, OnOk, IfErr};
-ghost use Rattle.std.specs.Io.KnownBytes.{Appends, Keeps};
-ghost use Rattle.point_core.specs.declared.refusal.Refusal.TheVariants.{Write as WriteFault};
-ghost use Rattle.check_core.specs.Tally.{count_text, tally_text};
+// What a check reports of the answers of a script.
+ghost use Rattle.std.specs.Prelude.{◌≡◌, ◌⊎◌, IfErr};
+ghost use Rattle.point_core.specs.declared.refusal.Refusal.TheVariants.{Write as WriteFault, Memory};
 
 use crate::finding::Difference;
-use crate::tally::Tally;
-use itoa::Buffer;
+use crate::form::{Form, Place};
+use crate::parts::{Part, tell_parts};
 use line_core::first_line;
 use point_core::Refusal;
-use report_core::write_whole;
+use std::alloc::Global;
 use std::io::Write;
 
-/// Writes the line's number and bytes, and the first line of its answer that differs. Bytes other than printable ASCII are
-/// written as in a Rust literal.
-pub(crate) fn tell_difference<W: Write>(
-    number: u32,
-    bytes: &[u8],
+/// Writes the first line of an answer that differs, by one write.
+pub(crate) fn tell_difference<'a, W: Write>(
+    alloc: Global,
+    place: &Place<'a>,
+    difference: &Difference<'a>,
+    writer: &mut W,
+) -> Result<(), Refusal>
+    ensures refusals { IfErr result (λ refusal. (refusal ≡ WriteFault) ⊎ (refusal ≡ Memory)) }
+{
+    match place.form {
+        Form::Lines => tell_line(alloc, place.name, difference, writer),
+        Form::Counts => Ok(()),
+        Form::Tap(_) => tell_item(alloc, difference, writer),
+    }
+}
+
+/// `FILE:LINE: COMMAND: expected .., came ..`. What is above the first command is told of line 1.
+fn tell_line<'a, W: Write>(
+    alloc: Global,
+    name: &'a str,
+    difference: &Difference<'a>,
+    writer: &mut W,
+) -> Result<(), Refusal>
+    ensures refusals { IfErr result (λ refusal. (refusal ≡ WriteFault) ⊎ (refusal ≡ Memory)) }
+{
+    let number = u64::from(difference.number.max(1));
+    let command = match difference.number {
+        0 => Part::Text("above the first command"),
+        _ => Part::Escaped(difference.command),
+    };
+    let expected = quoted_or(difference.expected, "nothing more");
+    let came = quoted_or(first_of(difference.came), "nothing");
+    let parts = [
+        Part::Text(name),
+        Part::Text(":"),
+        Part::Number(number),
+        Part::Text(": "),
+        command,
+        Part::Text(": expected "),
+        expected,
+        Part::Text(", came "),
+        came,
+        Part::Text("\n"),
+    ];
+    tell_parts(alloc, &parts, writer)
+}
+
+/// An item of the list of differences, as YAML has it. What is above the first command is told of line 0.
+fn tell_item<W: Write>(
+    alloc: Global,
     difference: &Difference<'_>,
     writer: &mut W,
 ) -> Result<(), Refusal>
-    ensures refusals { IfErr result (λ refusal. refusal ≡ WriteFault) }
+    ensures refusals { IfErr result (λ refusal. (refusal ≡ WriteFault) ⊎ (refusal ≡ Memory)) }
 {
-    tell_line(number, bytes, writer)?;
-    tell_expected(difference.expected, writer)?;
-    tell_word(writer, ", ")?;
-    tell_came(difference.came, writer)?;
-    tell_word(writer, "\n")
+    let parts = [
+        Part::Text("    - line: "),
+        Part::Number(u64::from(difference.number)),
+        Part::Text("\n      command: "),
+        Part::Quoted(difference.command),
+        Part::Text("\n      expected: "),
+        quoted_or(difference.expected, "null"),
+        Part::Text("\n      came: "),
+        quoted_or(first_of(difference.came), "null"),
+        Part::Text("\n"),
+    ];
+    tell_parts(alloc, &parts, writer)
 }
 
-fn tell_expected<W: Write>(expected: Option<&[u8]>, writer: &mut W) -> Result<(), Refusal>
-    ensures refusals { IfErr result (λ refusal. refusal ≡ WriteFault) }
-{
-    match expected {
-        Some(line) => tell(writer, "expected", line),
-        None => tell_word(writer, "expected nothing more"),
+fn quoted_or<'a>(line: Option<&'a [u8]>, other: &'static str) -> Part<'a> {
+    match line {
+        Some(line) => Part::Quoted(line),
+        None => Part::Text(other),
     }
 }
 
 /// The first line of what came.
-fn tell_came<W: Write>(came: &[u8], writer: &mut W) -> Result<(), Refusal>
-    ensures refusals { IfErr result (λ refusal. refusal ≡ WriteFault) }
-{
+fn first_of(came: &[u8]) -> Option<&[u8]> {
     match first_line(came) {
-        Some((line, _)) => tell(writer, "came", line),
-        None => tell_word(writer, "came nothing"),
+        Some((line, _)) => Some(line),
+        None => None,
     }
-}
-
-fn tell_line<W: Write>(number: u32, bytes: &[u8], writer: &mut W) -> Result<(), Refusal>
-    ensures refusals { IfErr result (λ refusal. refusal ≡ WriteFault) }
-{
-    if number == 0 {
-        return tell_word(writer, "line 0: above the first command: ");
-    }
-    let command = bytes.escape_ascii();
-    write!(writer, "line {number}: {command}: ").map_err(|_| Refusal::Write)
-}
-
-fn tell<W: Write>(writer: &mut W, word: &str, line: &[u8]) -> Result<(), Refusal>
-    ensures refusals { IfErr result (λ refusal. refusal ≡ WriteFault) }
-{
-    let line = line.escape_ascii();
-    write!(writer, "{word} \"{line}\"").map_err(|_| Refusal::Write)
-}
-
-fn tell_word<W: Write>(writer: &mut W, text: &str) -> Result<(), Refusal>
-    ensures refusals { IfErr result (λ refusal. refusal ≡ WriteFault) }
-{
-    write!(writer, "{text}").map_err(|_| Refusal::Write)
-}
-
-/// Writes the line of counts, and flushes.
-pub(crate) fn tell_tally<W: Write>(tally: &Tally, writer: &mut W) -> Result<(), Refusal>
-    ensures ok { OnOk result (Appends (W.contents writer.old) (W.contents writer.new) (tally_text tally.now)) }
-    ensures refusals { IfErr result (λ refusal. refusal ≡ WriteFault) }
-{
-    tell_count(writer, tally.lines, " answered, ")?;
-    tell_count(writer, tally.checked, " checked, ")?;
-    tell_count(writer, tally.differing, " differing\n")?;
-    flush(writer)?;
-    Ok(())
-}
-
-fn tell_count<W: Write>(writer: &mut W, count: u64, words: &str) -> Result<(), Refusal>
-    ensures ok { OnOk result (Appends (W.contents writer.old) (W.contents writer.new) (count_text count words.now)) }
-    ensures refusals { IfErr result (λ refusal. refusal ≡ WriteFault) }
-{
-    let mut digits = Buffer::new();
-    write_whole(writer, digits.format(count).as_bytes())?;
-    write_whole(writer, words.as_bytes())?;
-    Ok(())
-}
-
-fn flush<W: Write>(writer: &mut W) -> Result<(), Refusal>
-    ensures bytes { Keeps (W.contents writer.old) (W.contents writer.new) }
-    ensures refusals { IfErr result (λ refusal. refusal ≡ WriteFault) }
-{
-    writer.flush().map_err(|_| Refusal::Write)
 }

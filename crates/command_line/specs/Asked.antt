@@ -1,41 +1,70 @@
 -- What the words of a command line ask for.
-use Rattle.std.specs.Prelude.{ℕ, List, Option, Some, None, codes, if◌then◌else◌}
+use Rattle.std.specs.Prelude.{◌≡◌, ◌≢◌, ◌⊎◌, ◌∷◌, ℕ, Bool, true, false, List, [], Option, Some, None, codes, map, if◌then◌else◌}
 use Rattle.std.specs.Str.Parse.{digits_value, without_leading_plus}
 use Rattle.std.specs.Str.{bytes_eq}
-use Rattle.clap.specs.Words.{Row, Text, first_of, one_of}
+use Rattle.clap.specs.Words.{Row, Text, all_of, first_of, one_of, subcommand_of, takes}
+use Rattle.source_core.specs.Script.{file_named, file_of}
+use Rattle.command_line.specs.Words.{fencectl}
 use Rattle.command_line.specs.declared.action.Action.{Action}
 use Rattle.command_line.specs.declared.action.Action.TheVariants as action
-use Rattle.command_line.specs.declared.action.Script.{Script}
-use Rattle.command_line.specs.declared.action.Script.TheVariants as script
+use Rattle.command_line.specs.declared.action.Check.{Check as CheckAction}
+use Rattle.command_line.specs.declared.action.Report.{Report}
+use Rattle.command_line.specs.declared.action.Report.TheVariants as report
+
+-- a check of scripts: the paths that name them, what is reported, and whether a script may expect nothing
+pub record AskedCheck : Type 0 where
+  pub paths : List Text
+  pub report : Report
+  pub allows_empty : Bool
 
 -- a script has the name of its file, or none on standard input; clients have their number and that of their rounds
 pub data Asked : Type 0 where
   Run : Option Text → Asked
-  Check : Option Text → Asked
+  Check : AskedCheck → Asked
+  Update : List Text → Asked
   Explain : Option Text → Asked
   Clients : ℕ → ℕ → Asked
-
--- `-` stands for standard input
-abbrev pub file_named : Option Text → Option Text
-file_named None = None
-file_named (Some name) = if bytes_eq name (codes "-") then None else Some name
 
 abbrev pub number_named : Option Text → ℕ
 number_named None = 0
 number_named (Some text) = digits_value 10 (without_leading_plus text)
 
+abbrev pub flag_named : Option Text → Bool
+flag_named None = false
+flag_named (Some text) = bytes_eq text (codes "true")
+
+abbrev pub paths_named : Option (List Text) → List Text
+paths_named None = []
+paths_named (Some paths) = paths
+
+abbrev pub report_named : List Row → Report
+report_named rows =
+    if flag_named (one_of (codes "tap") rows) then report.Tap
+    else if flag_named (one_of (codes "quiet") rows) then report.Counts
+    else report.All
+
+abbrev pub check_after : List Row → AskedCheck
+check_after rows = record {
+  paths = paths_named (all_of (codes "PATH") rows);
+  report = report_named rows;
+  allows_empty = flag_named (one_of (codes "allow-empty") rows);
+}
+
+abbrev pub check_or_update : List Row → Asked
+check_or_update rows =
+    if flag_named (one_of (codes "update") rows) then Update (paths_named (all_of (codes "PATH") rows))
+    else Check (check_after rows)
+
 -- of a script, by the word of a subcommand
 abbrev pub asked_on : Text → Option Text → Asked
-asked_on word file =
-    if bytes_eq word (codes "check") then Check file
-    else if bytes_eq word (codes "explain") then Explain file
-    else Run file
+asked_on word file = if bytes_eq word (codes "explain") then Explain file else Run file
 
 -- by the word of a subcommand, and the values behind it
 abbrev pub asked_after : Text → List Row → Asked
 asked_after word rows =
     if bytes_eq word (codes "clients") then
     Clients (number_named (one_of (codes "N") rows)) (number_named (one_of (codes "ROUNDS") rows))
+    else if bytes_eq word (codes "check") then check_or_update rows
     else asked_on word (file_named (first_of (codes "FILE") rows))
 
 -- without a subcommand the script of standard input is run
@@ -43,14 +72,30 @@ abbrev pub asked_by : Option (Text × List Row) → Asked
 asked_by None = Run None
 asked_by (Some subcommand) = asked_after subcommand.0 subcommand.1
 
-abbrev pub file_of : Script → Option Text
-file_of script.StandardInput = None
-file_of (script.File name) = Some name.now
+abbrev pub asked_of_check : CheckAction → AskedCheck
+asked_of_check check = record {
+  paths = map (λ p. p.now) check.paths.items;
+  report = check.report;
+  allows_empty = check.allows_empty;
+}
 
 -- nothing where the program is to end
 abbrev pub asked_of : Action → Option Asked
 asked_of (action.Run script) = Some (Run (file_of script))
-asked_of (action.Check script) = Some (Check (file_of script))
+asked_of (action.Update paths) = Some (Update (map (λ p. p.now) paths.items))
+asked_of (action.Check check) = Some (Check (asked_of_check check))
 asked_of (action.Explain script) = Some (Explain (file_of script))
 asked_of (action.Clients clients) = Some (Clients clients.count clients.rounds)
 asked_of (action.End status) = None
+
+-- the second of two words is asked for as the name of a script's file
+pub record IsFileOf (words : List Text) (asked : Asked) : Type 0 where
+  pub program : Text
+  pub name : Text
+  pub two : words ≡ program ∷ name ∷ []
+  pub is : asked ≡ Run (Some name)
+
+-- what the subcommand asks for; or a file, by words that the command line does not take
+abbrev pub IsAsked : List Text → Asked → Type 0
+IsAsked words asked =
+    (asked ≡ asked_by (subcommand_of fencectl words)) ⊎ (IsFileOf words asked × (takes fencectl words ≢ true))

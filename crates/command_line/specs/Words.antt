@@ -4,7 +4,7 @@ use Rattle.std.specs.declared.alloc.AllocError.{AllocError}
 use Rattle.clap.specs.declared.builder.command.Command.{Command}
 use Rattle.clap.specs.declared.builder.command.Command.TheViews.{out-Command}
 use Rattle.clap.specs.Words.{App, app_of, Rule, Text, new_app, new_rule, with_rule, with_subcommand}
-use Rattle.clap.specs.declared.builder.ArgAction.TheVariants.{SetTrue}
+use Rattle.clap.specs.declared.builder.ArgAction.TheVariants.{Append, SetTrue}
 use Rattle.clap.specs.declared.builder.value_parser.ValueParser.TheVariants as parser
 use Rattle.clients_core.specs.declared.plans.TheConstants.{CLIENTS}
 use Rattle.clients_core.specs.declared.rounds.TheConstants.{ROUNDS}
@@ -15,16 +15,27 @@ file_rule = record (new_rule (codes "FILE")) { defaults = codes "-" ∷ [] }
 abbrev pub number_rule : Text → ℕ → Rule
 number_rule name most = record (new_rule name) { required = true; parser = Some (parser.Signed (pos 1) (pos most)) }
 
-abbrev pub locks_rule : Rule
-locks_rule = record (new_rule (codes "locks")) { long = Some (codes "locks"); action = Some SetTrue }
+abbrev pub paths_rule : Rule
+paths_rule = record (new_rule (codes "PATH")) { action = Some Append; defaults = codes "-" ∷ [] }
+
+abbrev pub flag_rule : Text → Rule
+flag_rule name = record (new_rule name) { long = Some name; action = Some SetTrue }
 
 -- a subcommand that takes a file
 abbrev pub script_app : Text → App
 script_app word = with_rule (new_app word) file_rule
 
+-- `check` without the flags that change what it does
+abbrev pub reports_app : App
+reports_app = with_rule (with_rule (with_rule (new_app (codes "check")) paths_rule)
+    (flag_rule (codes "quiet"))) (flag_rule (codes "tap"))
+
+abbrev pub check_app : App
+check_app = with_rule (with_rule reports_app (flag_rule (codes "allow-empty"))) (flag_rule (codes "update"))
+
 abbrev pub clients_app : App
 clients_app = with_rule (with_rule (with_rule (new_app (codes "clients"))
-    (number_rule (codes "N") CLIENTS)) (number_rule (codes "ROUNDS") ROUNDS)) locks_rule
+    (number_rule (codes "N") CLIENTS)) (number_rule (codes "ROUNDS") ROUNDS)) (flag_rule (codes "locks"))
 
 -- without its subcommands
 abbrev pub program_app : App
@@ -32,7 +43,7 @@ program_app = record (new_app (codes "fencectl")) { top = record (new_app (codes
 
 abbrev pub fencectl : App
 fencectl = with_subcommand (with_subcommand (with_subcommand (with_subcommand program_app
-    (script_app (codes "run")).top) (script_app (codes "check")).top) (script_app (codes "explain")).top) clients_app.top
+    (script_app (codes "run")).top) check_app.top) (script_app (codes "explain")).top) clients_app.top
 
 -- the command is that one, and none of its arguments is global
 abbrev pub IsApp : App → Command → Type 0

@@ -3,13 +3,17 @@ ghost use Rattle.std.specs.Prelude.{◌≤◌};
 ghost use Rattle.clients_core.specs.declared.plans.TheConstants.{CLIENTS};
 ghost use Rattle.clients_core.specs.declared.rounds.TheConstants.{ROUNDS};
 
+use source_core::Script;
+
 /// What the program is to do.
-#[derive(Clone, Copy)]
+#[derive(Drop)]
 pub enum Action<'a> {
     /// Run a script, and print its answers.
     Run(Script<'a>),
-    /// Compare a script's answers with those that it expects.
-    Check(Script<'a>),
+    /// Compare the answers of scripts with those that they expect.
+    Check(Check<'a>),
+    /// Put scripts in their place that expect what comes: of files, and of those below folders.
+    Update(Vec<&'a str>),
     /// Run a script, print its answers, and explain why lines were refused.
     Explain(Script<'a>),
     /// Run clients on threads, and print what they settle.
@@ -18,12 +22,25 @@ pub enum Action<'a> {
     End(u8),
 }
 
-/// Where a script comes from.
+/// Which scripts are checked, and how.
+#[derive(Drop)]
+pub struct Check<'a> {
+    /// Files, folders, and `-` for standard input.
+    pub paths: Vec<&'a str>,
+    pub report: Report,
+    /// Whether a script may expect nothing.
+    pub allows_empty: bool,
+}
+
+/// What a check reports.
 #[derive(Clone, Copy)]
-pub enum Script<'a> {
-    StandardInput,
-    /// A file of that name.
-    File(&'a str),
+pub enum Report {
+    /// Each answer that differs, each script that does not pass, and the counts.
+    All,
+    /// The counts alone.
+    Counts,
+    /// Tests of the Test Anything Protocol.
+    Tap,
 }
 
 /// How many clients, how many rounds each of them makes, and what they share.

@@ -6,18 +6,22 @@ ghost use Rattle.clients_core.specs.declared.rounds.TheConstants.{ROUNDS};
 ghost use Rattle.command_line.specs.Words.{
   Adds,
   IsApp,
+  check_app,
   clients_app,
   fencectl,
   file_rule,
-  locks_rule,
+  flag_rule,
   number_rule,
+  paths_rule,
   program_app,
+  reports_app,
   script_app,
 };
 
 use clap::error::ErrorKind;
 use clap::{Arg, ArgAction, ArgMatches, Command, Error, value_parser};
 use clients_core::{CLIENTS, ROUNDS};
+use source_core::STANDARD_INPUT;
 use std::alloc::{AllocError, Global};
 
 const PROGRAM: &str = "fencectl";
@@ -29,7 +33,8 @@ const ABOUT: &str =
 const VERSION: &str = "0.1.0 (proved in Rattle's logic dac8208d650f15bf)";
 
 const HELP: &str = "\
-A script is read from standard input or from FILE, one command a line; a line that begins with # is a note.
+A script is read from standard input or from FILE, one command a line; a line that begins with # is a note. A lone FILE that
+is no subcommand is run.
 
 Script commands:
   timeline T         makes timeline T at value 0             ok CONTEXT
@@ -65,27 +70,28 @@ A refused line is answered `err NUMBER NAME`, and changes nothing:
 
 The script language is documented in docs/SCRIPT.md.
 
-Behind a command a note `#= TEXT` expects TEXT as a line of its answer. `fencectl check` compares these, and tells each
-answer that differs on standard error. `fencectl explain` tells there which word of a refused line is at fault, and why,
-and what a `wait` waits for.
+After a command a note `#= TEXT` expects TEXT as a line of its answer. `fencectl check` compares these in files and in the
+*.fence files below folders, and reports each answer that differs on standard error. `fencectl explain` reports there which
+word of a refused line is at fault, and why, and what a `wait` waits for.
 
 Clients run on threads, each with a timeline of its own, and share two buffers; docs/CLIENTS.md says what they do. What
 they settle is the same in every run: a row for each timeline, and for each buffer the points that are pending.
 
 Exit status:
-  0  every line was accepted; of a check: every answer was as expected; of clients: they settled
-  1  a line was refused; of a check: an answer differs
+  0  every line was accepted; of a check: every script passes; of clients: they settled
+  1  a line was refused; of a check: an answer differs, or a script expects nothing
   2  wrong usage, or a fault of reading, writing, memory or threads
 
 Examples:
   printf 'timeline gpu\\nfence frame gpu 5\\ninfo frame\\n' | fencectl
+  fencectl examples/merge.fence
+  fencectl check examples
   fencectl clients 2 3
 ";
 
-/// The word for standard input, in the place of a file's name.
-pub(crate) const STANDARD_INPUT: &str = "-";
-
 pub(crate) const FILE: &str = "FILE";
+
+pub(crate) const PATH: &str = "PATH";
 
 const RUN: &str = "run";
 
@@ -95,7 +101,16 @@ const RUN_ABOUT: &str =
 pub(crate) const CHECK: &str = "check";
 
 const CHECK_ABOUT: &str =
-    "Runs a script, and compares its answers with those that its notes expect";
+    "Runs scripts, and compares their answers with those that their notes expect";
+
+/// The flags of a check.
+pub(crate) const QUIET: &str = "quiet";
+
+pub(crate) const TAP: &str = "tap";
+
+pub(crate) const ALLOW_EMPTY: &str = "allow-empty";
+
+pub(crate) const UPDATE: &str = "update";
 
 pub(crate) const EXPLAIN: &str = "explain";
 
@@ -172,11 +187,30 @@ fn run<'a>(alloc: Global) -> Result<Command<'a>, AllocError>
 }
 
 fn check<'a>(alloc: Global) -> Result<Command<'a>, AllocError>
-    ensures { IfOk result (IsApp (script_app (codes "check"))) }
+    ensures { IfOk result (IsApp check_app) }
 {
-    Command::new(alloc, CHECK)
-        .about(CHECK_ABOUT)
-        .arg(file(alloc))
+    reports(alloc)?
+        .arg(flag(alloc, ALLOW_EMPTY, "Lets a file pass that expects nothing"))?
+        .arg(flag(
+            alloc,
+            UPDATE,
+            "Writes the answers that come into the files, as what they expect",
+        ))
+}
+
+/// `check`, its paths and what it reports.
+fn reports<'a>(alloc: Global) -> Result<Command<'a>, AllocError>
+    ensures { IfOk result (IsApp reports_app) }
+{
+    let command = Command::new(alloc, CHECK).about(CHECK_ABOUT);
+    command
+        .arg(paths(alloc))?
+        .arg(flag(alloc, QUIET, "Reports the counts alone"))?
+        .arg(flag(
+            alloc,
+            TAP,
+            "Writes TAP version 14 to standard output, a test for each file",
+        ))
 }
 
 fn explain<'a>(alloc: Global) -> Result<Command<'a>, AllocError>
@@ -197,15 +231,27 @@ fn file<'a>(alloc: Global) -> Arg<'a>
         .help("The script's file, or - for standard input")
 }
 
+/// The files and folders of a check.
+fn paths<'a>(alloc: Global) -> Arg<'a>
+    ensures rule { rule_of result ≡ paths_rule }
+    ensures local { result.global ≡ false }
+{
+    Arg::new(alloc, PATH)
+        .action(ArgAction::Append)
+        .default_value(STANDARD_INPUT)
+        .help("Scripts' files, folders with such files (*.fence), or - for standard input")
+}
+
 /// `clients`, its two numbers and its table.
 fn clients<'a>(alloc: Global) -> Result<Command<'a>, AllocError>
     ensures { IfOk result (IsApp clients_app) }
 {
     let command = Command::new(alloc, CLIENTS_WORD).about(CLIENTS_ABOUT);
-    command
-        .arg(count(alloc))?
-        .arg(rounds(alloc))?
-        .arg(locks(alloc))
+    command.arg(count(alloc))?.arg(rounds(alloc))?.arg(flag(
+        alloc,
+        LOCKS,
+        "Shares buffers under locks, in the place of a lock-free board",
+    ))
 }
 
 /// The number of clients.
@@ -230,13 +276,13 @@ fn rounds<'a>(alloc: Global) -> Arg<'a>
         .help("How many rounds each of them makes, 1 to 10000")
 }
 
-/// The flag that asks for buffers under locks.
-fn locks<'a>(alloc: Global) -> Arg<'a>
-    ensures rule { rule_of result ≡ locks_rule }
+/// A flag of that name.
+fn flag<'a>(alloc: Global, name: &'a str, help: &'a str) -> Arg<'a>
+    ensures rule { rule_of result ≡ flag_rule name.entry.now }
     ensures local { result.global ≡ false }
 {
-    Arg::new(alloc, LOCKS)
-        .long(LOCKS)
+    Arg::new(alloc, name)
+        .long(name)
         .action(ArgAction::SetTrue)
-        .help("Shares buffers under locks, in the place of a lock-free board")
+        .help(help)
 }

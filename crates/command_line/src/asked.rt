@@ -1,47 +1,79 @@
 // What the matches of a command line ask for.
-ghost use Rattle.std.specs.Prelude.{◌≡◌, ◌≤◌, IfOk, Some, codes};
-ghost use Rattle.clap.specs.Words.{found_of, first_of, one_of, rows_of, subcommand_rows_of};
-ghost use Rattle.command_line.specs.Asked.{asked_after, asked_by, asked_of, asked_on, file_named, file_of, number_named};
+ghost use Rattle.std.specs.Prelude.{◌≡◌, ◌≤◌, IfOk, Some, codes, map};
+ghost use Rattle.clap.specs.Words.{all_of, found_of, first_of, one_of, rows_of, subcommand_rows_of};
+ghost use Rattle.source_core.specs.Script.{file_named, file_of};
+ghost use Rattle.command_line.specs.Asked.{
+  asked_after,
+  asked_by,
+  asked_of,
+  asked_of_check,
+  asked_on,
+  check_after,
+  check_or_update,
+  flag_named,
+  number_named,
+  paths_named,
+  report_named,
+};
 
-use crate::action::{Action, Clients, Script, Table};
+use crate::action::{Action, Check, Clients, Report, Table};
 use crate::arguments::{
-    CHECK, CLIENTS_WORD, COUNT, EXPLAIN, FILE, LOCKS, ROUNDS_WORD, STANDARD_INPUT,
+    ALLOW_EMPTY, CHECK, CLIENTS_WORD, COUNT, EXPLAIN, FILE, LOCKS, PATH, QUIET, ROUNDS_WORD, TAP,
+    UPDATE,
 };
 use clap::ArgMatches;
 use clients_core::{CLIENTS, ROUNDS};
 use point_core::{LimitKind, Refusal};
+use source_core::Script;
+use std::alloc::Global;
 
 /// What the matches of a command line ask for.
 ///
 /// Refuses as `Limit` of the clients or of the plan where one of their numbers is not in its range, which the command line
 /// refuses before.
-pub(crate) fn action_by<'a>(matches: &ArgMatches<'a>) -> Result<Action<'a>, Refusal>
+pub(crate) fn action_by<'a>(alloc: Global, matches: &ArgMatches<'a>) -> Result<Action<'a>, Refusal>
     ensures asked { IfOk result (λ action. asked_of action ≡ Some (asked_by (subcommand_rows_of matches.now))) }
 {
     match matches.subcommand() {
-        Some((word, matches)) => action_after(word, matches),
+        Some((word, matches)) => action_after(alloc, word, matches),
         None => Ok(Action::Run(Script::StandardInput)),
     }
 }
 
 /// By the word of a subcommand, and what stands behind it.
-fn action_after<'a>(word: &str, matches: &ArgMatches<'a>) -> Result<Action<'a>, Refusal>
+fn action_after<'a>(
+    alloc: Global,
+    word: &str,
+    matches: &ArgMatches<'a>,
+) -> Result<Action<'a>, Refusal>
     ensures asked { IfOk result (λ action. asked_of action
         ≡ Some (asked_after word.now (rows_of (found_of matches.now)))) }
 {
     if word == CLIENTS_WORD {
         return Ok(Action::Clients(clients_of(matches)?));
     }
+    if word == CHECK {
+        return check_action(alloc, matches);
+    }
     Ok(action_on(word, script_of(matches)))
+}
+
+fn check_action<'a>(alloc: Global, matches: &ArgMatches<'a>) -> Result<Action<'a>, Refusal>
+    ensures asked { IfOk result (λ action. asked_of action
+        ≡ Some (check_or_update (rows_of (found_of matches.now)))) }
+{
+    if has_flag(matches, UPDATE) {
+        Ok(Action::Update(paths_of(alloc, matches)?))
+    } else {
+        Ok(Action::Check(check_of(alloc, matches)?))
+    }
 }
 
 /// What a word asks for of a script.
 fn action_on<'a>(word: &str, script: Script<'a>) -> Action<'a>
     ensures asked { asked_of result ≡ Some (asked_on word.now (file_of script.entry)) }
 {
-    if word == CHECK {
-        Action::Check(script)
-    } else if word == EXPLAIN {
+    if word == EXPLAIN {
         Action::Explain(script)
     } else {
         Action::Run(script)
@@ -52,19 +84,47 @@ fn script_of<'a>(matches: &ArgMatches<'a>) -> Script<'a>
     ensures { file_of result ≡ file_named (first_of (codes "FILE") (rows_of (found_of matches.now))) }
 {
     match matches.get_str(FILE) {
-        Some(name) => script_named(name),
+        Some(name) => Script::named(name),
         None => Script::StandardInput,
     }
 }
 
-fn script_named<'a>(name: &'a str) -> Script<'a>
-    ensures { file_of result ≡ file_named (Some name.entry.now) }
+fn check_of<'a>(alloc: Global, matches: &ArgMatches<'a>) -> Result<Check<'a>, Refusal>
+    ensures asked { IfOk result (λ check. asked_of_check check ≡ check_after (rows_of (found_of matches.now))) }
 {
-    if name == STANDARD_INPUT {
-        Script::StandardInput
-    } else {
-        Script::File(name)
+    Ok(Check {
+        paths: paths_of(alloc, matches)?,
+        report: report_of(matches),
+        allows_empty: has_flag(matches, ALLOW_EMPTY),
+    })
+}
+
+fn paths_of<'a>(alloc: Global, matches: &ArgMatches<'a>) -> Result<Vec<&'a str>, Refusal>
+    ensures paths { IfOk result (λ paths. map (λ p. p.now) paths.items
+        ≡ paths_named (all_of (codes "PATH") (rows_of (found_of matches.now)))) }
+{
+    match matches.get_strs(PATH) {
+        Some(paths) => Ok(Vec::from_slice(alloc, paths)?),
+        None => Ok(Vec::new(alloc)),
     }
+}
+
+fn report_of(matches: &ArgMatches<'_>) -> Report
+    ensures { result ≡ report_named (rows_of (found_of matches.now)) }
+{
+    if has_flag(matches, TAP) {
+        Report::Tap
+    } else if has_flag(matches, QUIET) {
+        Report::Counts
+    } else {
+        Report::All
+    }
+}
+
+fn has_flag(matches: &ArgMatches<'_>, name: &str) -> bool
+    ensures { result ≡ flag_named (one_of name.now (rows_of (found_of matches.now))) }
+{
+    matches.get_one(name).unwrap_or(false)
 }
 
 fn clients_of(matches: &ArgMatches<'_>) -> Result<Clients, Refusal>
@@ -96,7 +156,7 @@ fn number_of(matches: &ArgMatches<'_>, name: &str) -> u16
 }
 
 fn table_of(matches: &ArgMatches<'_>) -> Table {
-    if matches.get_flag(LOCKS) {
+    if has_flag(matches, LOCKS) {
         Table::Locks
     } else {
         Table::Board

@@ -1,5 +1,5 @@
-//! The command line of `fencectl`, and what of the program needs no script: a run of clients, what a fault prints, what wrong
-//! usage answers, and where a script comes from.
+//! The command line of `fencectl`, and what of the program needs no script: a run of clients, what a fault prints, and what
+//! wrong usage answers.
 #![tactic(auto)]
 
 mod action;
@@ -7,11 +7,9 @@ mod arguments;
 mod asked;
 mod clients;
 mod fault;
-mod source;
 mod usage;
 
-pub use action::{Action, Clients, Script, Table};
+pub use action::{Action, Check, Clients, Report, Table};
 pub use clients::clients_report;
 pub use fault::{FAULT, tell_fault};
-pub use source::Source;
 pub use usage::{action_of, tell_unread_word};

@@ -1,8 +1,8 @@
 // The words of the command line: what they ask for, and what is printed where they ask for nothing.
-ghost use Rattle.std.specs.Prelude.{◌≡◌, Err, IfOk, IfSome, IsSome, map, string_bytes, true};
+ghost use Rattle.std.specs.Prelude.{◌≡◌, Err, IfOk, IfSome, Some, map, string_bytes, true};
 ghost use Rattle.clap.specs.Words.{kind_of, subcommand_of, takes};
 ghost use Rattle.point_core.specs.declared.refusal.Refusal.TheVariants.{Memory};
-ghost use Rattle.command_line.specs.Asked.{asked_by, asked_of};
+ghost use Rattle.command_line.specs.Asked.{IsAsked, IsFileOf, asked_by, asked_of};
 ghost use Rattle.command_line.specs.Words.{fencectl};
 
 use crate::action::Action;
@@ -12,27 +12,57 @@ use crate::fault::FAULT;
 use clap::Error;
 use clap::error::ErrorKind;
 use point_core::Refusal;
+use source_core::Script;
 use std::alloc::Global;
-use std::io;
+use std::rt::Files;
+use std::{fs, io};
 
-/// What the words of the command line ask for; the first of them is the program's own. Help and the version are printed here,
-/// and wrong usage is reported.
+/// What the words of the command line ask for; the first of them is the program's own. A lone word that is no subcommand asks to
+/// run the script of that file, where there is one. Help and the version are printed here, and wrong usage is reported.
 ///
 /// Refuses as `Write` where that could not be printed, as `Memory` where memory was refused, and as `Limit` as `clients_of`.
 pub fn action_of<'a>(
-    rt: &(impl Print + Eprint),
+    rt: &(impl Print + Eprint + Files),
     alloc: Global,
     words: &'a [String],
 ) -> Result<Action<'a>, Refusal>
-    ensures asked { IfOk result (λ action. IfSome (asked_of action) (λ asked. asked
-        ≡ asked_by (subcommand_of fencectl (map string_bytes words.entry.now)))) }
-    // Words that the command line takes are neither help nor wrong usage.
+    ensures asked { IfOk result (λ action. IfSome (asked_of action) (IsAsked (map string_bytes words.entry.now))) }
+    // Words that the command line takes are neither help nor wrong usage, nor a file.
     ensures taken { takes fencectl (map string_bytes words.entry.now) ≡ true
-        → IfOk result (λ action. IsSome (asked_of action)) }
+        → IfOk result (λ action. asked_of action
+        ≡ Some (asked_by (subcommand_of fencectl (map string_bytes words.entry.now)))) }
 {
     match matches_of(alloc, words) {
-        Ok(matches) => action_by(&matches),
-        Err(error) => Ok(Action::End(tell_error(rt, &error)?)),
+        Ok(matches) => action_by(alloc, &matches),
+        Err(error) => action_instead(rt, words, &error),
+    }
+}
+
+/// What words ask for that the command line does not take.
+fn action_instead<'a>(
+    rt: &(impl Print + Eprint + Files),
+    words: &'a [String],
+    error: &Error,
+) -> Result<Action<'a>, Refusal>
+    ensures asked { IfOk result (λ action. IfSome (asked_of action) (λ asked.
+        IsFileOf (map string_bytes words.entry.now) asked × (kind_of error.now ≡ ErrorKind.InvalidSubcommand))) }
+    ensures memory { kind_of error.now ≡ ErrorKind.OutOfMemory → result ≡ Err Memory }
+{
+    if error.kind() == ErrorKind::InvalidSubcommand {
+        if let [_, name] = words {
+            if is_file(rt, name.as_str()) {
+                return Ok(Action::Run(Script::File(name.as_str())));
+            }
+        }
+    }
+    Ok(Action::End(tell_error(rt, error)?))
+}
+
+/// Whether there is a file of that name, and no folder.
+fn is_file(rt: &impl Files, name: &str) -> bool {
+    match fs::metadata(rt, name) {
+        Ok(found) => !found.is_dir(),
+        Err(_) => false,
     }
 }
 

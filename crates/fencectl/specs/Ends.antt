@@ -7,8 +7,8 @@ use Rattle.line_core.specs.Reading.{IsInput}
 use Rattle.line_core.specs.Script.{script_of}
 use Rattle.script_core.specs.Output.{WritesFront, AnswersScript, AnswersEndedLines}
 use Rattle.script_core.specs.declared.totals.Totals.{Totals}
-use Rattle.check_core.specs.Check.{ChecksScript}
-use Rattle.check_core.specs.declared.tally.Tally.{Tally}
+use Rattle.check_core.specs.declared.outcome.Verdict.{Verdict}
+use Rattle.check_core.specs.declared.outcome.Verdict.TheVariants.{Passed, Differs, Failed}
 use Rattle.script_core.specs.Bytes.{AppendsFront}
 use Rattle.command_line.specs.Fault.{fault_text}
 
@@ -18,18 +18,16 @@ pub record EndsRun (ended : Result Totals Refusal) (unread left before after : O
   pub read : ended ≡ Err ReadFault → AnswersEndedLines unread left before after
   pub err : OnErr ended ((script : List ℕ) × IsInput unread script × WritesFront (script_of script) before after)
 
-abbrev pub EndsCheck : Result Tally Refusal → Option (List ℕ) → Type 0
-EndsCheck ended unread = IfOk ended (λ tally. (script : List ℕ) × IsInput unread script × ChecksScript script tally)
-
 -- 0 where each line was accepted, 1 where one was refused, and 2 after a fault
 abbrev pub run_status : Result Totals Refusal → ℕ
 run_status (Ok totals) = if totals.refused == 0 then 0 else 1
 run_status (Err refusal) = 2
 
--- 0 where no answer differs, 1 where one does, and 2 after a fault
-abbrev pub check_status : Result Tally Refusal → ℕ
-check_status (Ok tally) = if tally.differing == 0 then 0 else 1
-check_status (Err refusal) = 2
+-- 0 where each script passes, 1 where one does not, and 2 where one could not be checked to its end
+abbrev pub check_status : Verdict → ℕ
+check_status Passed = 0
+check_status Differs = 1
+check_status Failed = 2
 
 -- the line of a fault is reported, or a front of it, and nothing else
 abbrev pub ReportsFault : {T : Type 0} → Result T Refusal → Option (List ℕ) → Option (List ℕ) → Type 0

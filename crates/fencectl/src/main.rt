@@ -6,13 +6,15 @@
 mod scripts;
 mod status;
 
+use check_core::{Form, Plan, check_scripts, update_scripts};
 use command_line::{
-    Action, Script, Source, action_of, clients_report, tell_fault, tell_unread_word,
+    Action, Check, Report, action_of, clients_report, tell_fault, tell_unread_word,
 };
 use explain_core::Look;
 use point_core::Refusal;
-use scripts::{check_script, explain_script, run_script};
-use status::ACCEPTED;
+use scripts::{explain_script, run_script};
+use source_core::{Script, Source, script_files};
+use status::{ACCEPTED, status_of_verdict};
 use std::env;
 use std::io::IsTerminal;
 use std::process::ExitCode;
@@ -43,7 +45,8 @@ fn act<T: Threads + Wait + Sync>(
 ) -> Result<u8, Refusal> {
     match action {
         Action::Run(script) => run(rt, script),
-        Action::Check(script) => check(rt, script),
+        Action::Check(asked) => check(rt, &asked),
+        Action::Update(paths) => update(rt, paths.as_slice()),
         Action::Explain(script) => explain(rt, script),
         Action::Clients(clients) => {
             clients_report(threads, rt.alloc(), &clients, &mut rt.stdout())?;
@@ -58,9 +61,43 @@ fn run(rt: &HostRuntime, script: Script) -> Result<u8, Refusal> {
     Ok(run_script(rt.alloc(), &mut source, &mut rt.stdout(), &mut rt.stderr()))
 }
 
-fn check(rt: &HostRuntime, script: Script) -> Result<u8, Refusal> {
-    let mut source = Source::open(rt, script, rt.stdin())?;
-    Ok(check_script(rt.alloc(), &mut source, &mut rt.stderr()))
+fn check(rt: &HostRuntime, asked: &Check) -> Result<u8, Refusal> {
+    let names = script_files(rt, asked.paths.as_slice())?;
+    let plan = Plan {
+        form: form_of(rt, asked.report),
+        allows_empty: asked.allows_empty,
+    };
+    let verdict = check_scripts(
+        rt,
+        &plan,
+        names.as_slice(),
+        rt.stdin(),
+        &mut rt.stdout(),
+        &mut rt.stderr(),
+    )?;
+    Ok(status_of_verdict(verdict))
+}
+
+fn update(rt: &HostRuntime, paths: &[&str]) -> Result<u8, Refusal> {
+    let names = script_files(rt, paths)?;
+    let verdict = update_scripts(rt, names.as_slice(), &mut rt.stderr())?;
+    Ok(status_of_verdict(verdict))
+}
+
+fn form_of(rt: &HostRuntime, report: Report) -> Form {
+    match report {
+        Report::All => Form::Lines,
+        Report::Counts => Form::Counts,
+        Report::Tap => Form::Tap(tap_version(rt)),
+    }
+}
+
+/// Perl's harness, which names itself in the environment, knows no later version than 13. What is written is the same in both.
+fn tap_version(rt: &HostRuntime) -> u64 {
+    match env::var(rt, "HARNESS_VERSION") {
+        Ok(_) => 13,
+        Err(_) => 14,
+    }
 }
 
 fn explain(rt: &HostRuntime, script: Script) -> Result<u8, Refusal> {

@@ -1,12 +1,10 @@
-// Runs, checks and explanations of a script, each with its exit status.
+// Runs and explanations of a script, each with its exit status.
 ghost use Rattle.std.specs.Prelude.{◌≡◌, Result};
 ghost use Rattle.point_core.specs.declared.refusal.Refusal.{Refusal};
 ghost use Rattle.script_core.specs.declared.totals.Totals.{Totals};
-ghost use Rattle.check_core.specs.declared.tally.Tally.{Tally};
-ghost use Rattle.fencectl.specs.Ends.{EndsCheck, EndsRun, ReportsFault, check_status, run_status};
+ghost use Rattle.fencectl.specs.Ends.{EndsRun, ReportsFault, run_status};
 
-use crate::status::{status_of_check, status_of_run};
-use check_core::check;
+use crate::status::status_of_run;
 use explain_core::{Look, explain};
 use script_core::engine;
 use std::alloc::Global;
@@ -25,15 +23,6 @@ pub(crate) fn run_script<R: Read, W: Write, E: Write>(
 {
     let ended = engine(alloc, reader, writer);
     status_of_run(ended, errors)
-}
-
-/// Checks the script of a reader. What differs is reported on `errors`, and so is a fault.
-pub(crate) fn check_script<R: Read, E: Write>(alloc: Global, reader: &mut R, errors: &mut E) -> u8
-    ensures ended { (ended : Result Tally Refusal) × (result ≡ check_status ended)
-        × EndsCheck ended (R.remaining reader.old) }
-{
-    let ended = check(alloc, reader, errors);
-    status_of_check(ended, errors)
 }
 
 /// Runs the script of a reader, and explains on `errors` why lines were refused. A fault is reported there too.

@@ -2,8 +2,8 @@
 ghost use Rattle.std.specs.Prelude.{◌≡◌, ◌==◌, if◌then◌else◌};
 ghost use Rattle.fencectl.specs.Ends.{ReportsFault, check_status, run_status};
 
-use check_core::Tally;
-use command_line::tell_fault;
+use check_core::Verdict;
+use command_line::{FAULT, tell_fault};
 use point_core::Refusal;
 use script_core::Totals;
 use std::io::Write;
@@ -35,24 +35,13 @@ pub(crate) fn status_of_run<W: Write>(ended: Result<Totals, Refusal>, writer: &m
     }
 }
 
-/// The status of a script that was checked to its end: 0 where every expected line is the one that came, else 1.
-fn status_of_tally(tally: Tally) -> u8
-    ensures { result ≡ (if tally.differing == 0 then 0 else 1) }
+/// The status of a check: 0 where every script passes, 1 where one does not, and 2 where one could not be checked to its end.
+pub(crate) fn status_of_verdict(verdict: Verdict) -> u8
+    ensures status { result ≡ check_status verdict }
 {
-    if tally.differing == 0 {
-        ACCEPTED
-    } else {
-        REFUSED
-    }
-}
-
-/// The status of a check that ended so. A fault is told to the writer, and its status is 2.
-pub(crate) fn status_of_check<W: Write>(ended: Result<Tally, Refusal>, writer: &mut W) -> u8
-    ensures status { result ≡ check_status ended }
-    ensures told { ReportsFault ended (W.contents writer.old) (W.contents writer.new) }
-{
-    match ended {
-        Ok(tally) => status_of_tally(tally),
-        Err(fault) => tell_fault(&fault, writer),
+    match verdict {
+        Verdict::Passed => ACCEPTED,
+        Verdict::Differs => REFUSED,
+        Verdict::Failed => FAULT,
     }
 }

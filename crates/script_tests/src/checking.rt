@@ -1,6 +1,6 @@
 // Checks of scripts piece by piece, and of one whose writer cannot be flushed.
 use crate::pipes::{PIECES, assert_refusal, sink_of, source_of};
-use check_core::check;
+use check_core::{Form, Place, check};
 use point_core::Refusal;
 
 const SCRIPT: &[u8] = b"value b
@@ -13,20 +13,22 @@ info f
 #= ok f 0 1
 ";
 
-const DIFFERENCES: &[u8] = b"line 2: timeline a: expected \"ok 2\", came \"ok 1\"
-line 7: info f: expected nothing more, came \"fence a sw_sync 5 0\"
-5 answered, 3 checked, 2 differing
+const DIFFERENCES: &[u8] = b"s:2: timeline a: expected \"ok 2\", came \"ok 1\"
+s:7: info f: expected nothing more, came \"fence a sw_sync 5 0\"
 ";
 
-// The counts are flushed with all before them, once.
+const PLACE: Place<'static> = Place {
+    name: "s",
+    form: Form::Lines,
+};
+
 #[test]
 fn counts(rt: HostRuntime) {
     for piece in PIECES {
         let mut reader = source_of(SCRIPT, piece);
         let mut writer = sink_of(DIFFERENCES, piece, usize::MAX);
-        let tally = check(rt.alloc(), &mut reader, &mut writer).expect(&rt, "counts");
+        let tally = check(rt.alloc(), &PLACE, &mut reader, &mut writer).expect(&rt, "counts");
         writer.assert_whole(&rt);
-        assert!(rt; writer.flushes == 1 && writer.unflushed == 0);
         assert!(rt; tally.lines == 5 && tally.checked == 3 && tally.differing == 2);
     }
 }
@@ -36,7 +38,7 @@ fn failing_flush(rt: HostRuntime) {
     let mut reader = source_of(SCRIPT, 4096);
     let mut writer = sink_of(DIFFERENCES, 4096, usize::MAX);
     writer.flush_fails = true;
-    let result = check(rt.alloc(), &mut reader, &mut writer);
+    let result = check(rt.alloc(), &PLACE, &mut reader, &mut writer);
     assert_refusal(&rt, result.err(), Refusal::Write);
     writer.assert_whole(&rt);
 }

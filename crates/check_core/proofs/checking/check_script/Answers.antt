@@ -2,7 +2,6 @@
 use Rattle.std.proofs.Common.{inl, inr, refl}
 use Rattle.std.proofs.lemmas.Result.{err_from_is_err_and}
 use Rattle.check_core.proofs.Progress.{Checked-input, Checked-read, Checked-few}
-use Rattle.check_core.proofs.Written.{Appends-quiet}
 use Rattle.check_core.proofs.checking.check_script.Goals as goal
 
 pub returns-in_err-check_lines-clause-refusals : goal.returns-in_err-check_lines-clause-refusals
@@ -10,29 +9,20 @@ returns-in_err-check_lines-clause-refusals g c =
     let p = err_from_is_err_and c.from_residual.result c.from_residual.ensures.1 in
     rw (p.1, p.2) (inr (inr c.in_err-check_lines.ensures.refusals))
 
-pub returns-in_err-tell_tally-in-Whole-clause-refusals : goal.returns-in_err-tell_tally-in-Whole-clause-refusals
-returns-in_err-tell_tally-in-Whole-clause-refusals g c =
-    let told = c.from_residual-in_err-tell_tally-in-Whole in
-    let p = err_from_is_err_and told.result told.ensures.1 in
-    rw (p.1, p.2) (inr (inr (inl c.in_err-tell_tally-in-Whole.ensures.refusals)))
-
 pub returns-in-TooLong-clause-refusals : goal.returns-in-TooLong-clause-refusals
 returns-in-TooLong-clause-refusals g c = inr (inl refl)
 
 pub returns-in-Failed-clause-refusals : goal.returns-in-Failed-clause-refusals
 returns-in-Failed-clause-refusals g c = inl refl
 
-pub returns-in_ok-tell_tally-in-Whole-clause-ok : goal.returns-in_ok-tell_tally-in-Whole-clause-ok
-returns-in_ok-tell_tally-in-Whole-clause-ok g c =
-    Checked-input _ _ _ c.check_lines.new.checker.tally c.in-Whole.is c.in_ok-check_lines.ensures.ok
+pub returns-in-Whole-clause-ok : goal.returns-in-Whole-clause-ok
+returns-in-Whole-clause-ok g c = Checked-input _ _ _ c.check_lines.new.checker.tally c.in-Whole.is c.in_ok-check_lines.ensures.ok
 
-pub returns-in_ok-tell_tally-in-Whole-clause-reads : goal.returns-in_ok-tell_tally-in-Whole-clause-reads
-returns-in_ok-tell_tally-in-Whole-clause-reads g c =
-    Checked-read _ _ _ _ c.check_lines.new.checker.tally c.in-Whole.is c.in_ok-check_lines.ensures.ok
+pub returns-in-Whole-clause-reads : goal.returns-in-Whole-clause-reads
+returns-in-Whole-clause-reads g c = Checked-read _ _ _ _ c.check_lines.new.checker.tally c.in-Whole.is c.in_ok-check_lines.ensures.ok
 
-pub returns-in_ok-tell_tally-in-Whole-clause-told : goal.returns-in_ok-tell_tally-in-Whole-clause-told
-returns-in_ok-tell_tally-in-Whole-clause-told g c none =
-    Appends-quiet _ _ _ _ (c.in_ok-check_lines.ensures.quiet c.in-Whole.is none) c.in_ok-tell_tally-in-Whole.ensures.ok
+pub returns-in-Whole-clause-told : goal.returns-in-Whole-clause-told
+returns-in-Whole-clause-told g c none = c.in_ok-check_lines.ensures.quiet c.in-Whole.is none
 
 pub returns-in-Failed-clause-read : goal.returns-in-Failed-clause-read
 returns-in-Failed-clause-read g c _ =

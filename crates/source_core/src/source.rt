@@ -1,7 +1,7 @@
 // Where a script is read from.
 ghost use Rattle.std.specs.Prelude.{◌≡◌};
 
-use crate::action::Script;
+use crate::script::Script;
 use point_core::Refusal;
 use std::io::Read;
 use std::rt::Files;
@@ -47,7 +47,7 @@ impl<'r, 'a, R: Files + Eprint, S: Read + Drop> Read for Source<'r, 'a, R, S> {
 }
 
 /// What a call on a file of that name gave. Where it failed, the name and the system's reason are reported.
-fn reported<T: Drop>(rt: &impl Eprint, name: &str, given: io::Result<T>) -> io::Result<T>
+pub fn reported<T: Drop>(rt: &impl Eprint, name: &str, given: io::Result<T>) -> io::Result<T>
     ensures same { result ≡ given }
 {
     if let Err(error) = &given {

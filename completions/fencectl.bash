@@ -1,0 +1,17 @@
+# Completion of fencectl for bash.
+
+_fencectl() {
+    local word="${COMP_WORDS[COMP_CWORD]}" words="" takes_files=yes
+    case "$COMP_CWORD ${COMP_WORDS[1]-}" in
+    "1 "*) words="run check explain clients help --help --version" ;;
+    *" run" | *" explain") words="--help" ;;
+    *" check") words="--quiet --tap --allow-empty --update --help" ;;
+    *" clients") words="--locks --help" takes_files="" ;;
+    *" help") words="run check explain clients" takes_files="" ;;
+    *) takes_files="" ;;
+    esac
+    mapfile -t COMPREPLY < <(compgen -W "$words" -- "$word")
+    [ -z "$takes_files" ] || mapfile -t -O "${#COMPREPLY[@]}" COMPREPLY < <(compgen -d -- "$word"; compgen -f -X '!*.fence' -- "$word")
+}
+
+complete -o filenames -F _fencectl fencectl

@@ -1,0 +1,19 @@
+// How a check reports what it finds.
+
+/// How a check reports what it finds.
+#[derive(Clone, Copy)]
+pub enum Form {
+    /// A line for each answer that differs and for each script that does not pass, and the counts.
+    Lines,
+    /// The counts alone.
+    Counts,
+    /// The Test Anything Protocol of that version: a test for each script, with the answers that differ.
+    Tap(u64),
+}
+
+/// A script that is checked.
+#[derive(Clone, Copy)]
+pub struct Place<'a> {
+    pub name: &'a str,
+    pub form: Form,
+}

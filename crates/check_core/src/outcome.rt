@@ -1,0 +1,108 @@
+// What came of the checks of scripts.
+ghost use Rattle.std.specs.Prelude.{◌≡◌, ◌⊎◌, List, ℕ, IfOk, IfErr};
+ghost use Rattle.std.specs.List.{list_any};
+ghost use Rattle.point_core.specs.declared.refusal.Refusal.TheVariants.{Write as WriteFault, Memory};
+ghost use Rattle.check_core.specs.Check.{ChecksScript};
+ghost use Rattle.check_core.specs.Outcome.{IsOutcome, is_failed, is_wrong, verdict_of};
+
+use crate::tally::Tally;
+use point_core::Refusal;
+
+/// What came of the check of a script.
+#[derive(Clone, Copy)]
+pub enum Outcome {
+    /// It was checked to its end.
+    Checked(Tally),
+    /// It could not be opened, or not be checked to its end.
+    Failed(Refusal),
+}
+
+/// What came of the checks of several scripts.
+#[derive(Clone, Copy)]
+pub enum Verdict {
+    /// Each was checked to its end, and is as it should be.
+    Passed,
+    /// An answer differs, or a script expects nothing that should.
+    Differs,
+    /// A script could not be checked to its end.
+    Failed,
+}
+
+impl Outcome {
+    /// Of a check that ended so.
+    ///
+    /// Fails with `Write` and with `Memory` where that did.
+    pub(crate) fn of(checked: Result<Tally, Refusal>) -> Result<Outcome, Refusal>
+        requires script { IfOk checked (λ tally. (script : List ℕ) × ChecksScript script tally) }
+        ensures outcome { IfOk result IsOutcome }
+        ensures refusals { IfErr result (λ refusal. (refusal ≡ WriteFault) ⊎ (refusal ≡ Memory)) }
+    {
+        match checked {
+            Ok(tally) => Ok(Outcome::Checked(tally)),
+            Err(Refusal::Write) => Err(Refusal::Write),
+            Err(Refusal::Memory) => Err(Refusal::Memory),
+            Err(refusal) => Ok(Outcome::Failed(refusal)),
+        }
+    }
+
+    pub(crate) fn is_failed(self) -> bool
+        ensures { result ≡ is_failed self }
+    {
+        match self {
+            Outcome::Checked(_) => false,
+            Outcome::Failed(_) => true,
+        }
+    }
+
+    /// Whether a script that was checked does not pass: an answer differs, or nothing is expected where something has to be.
+    pub(crate) fn is_wrong(self, allows_empty: bool) -> bool
+        ensures { result ≡ is_wrong allows_empty self }
+    {
+        match self {
+            Outcome::Checked(tally) => {
+                tally.differing > 0 || (tally.checked == 0 && !allows_empty)
+            }
+            Outcome::Failed(_) => false,
+        }
+    }
+
+    /// Whether it was checked to its end, and is as it should be.
+    pub(crate) fn passes(self, allows_empty: bool) -> bool {
+        !self.is_failed() && !self.is_wrong(allows_empty)
+    }
+
+    /// The counts, which are 0 where it was not checked to its end.
+    pub(crate) fn tally(self) -> Tally {
+        match self {
+            Outcome::Checked(tally) => tally,
+            Outcome::Failed(_) => Tally::new(),
+        }
+    }
+}
+
+/// What came of all of them. No script at all is as one that expects nothing.
+pub(crate) fn verdict_of(outcomes: &[Outcome], allows_empty: bool) -> Verdict
+    ensures { result ≡ verdict_of outcomes.now allows_empty }
+{
+    if some_failed(outcomes) {
+        Verdict::Failed
+    } else if some_wrong(outcomes, allows_empty) || (outcomes.is_empty() && !allows_empty) {
+        Verdict::Differs
+    } else {
+        Verdict::Passed
+    }
+}
+
+fn some_failed(outcomes: &[Outcome]) -> bool
+    ensures { result ≡ list_any is_failed outcomes.now }
+{
+    outcomes.iter().any(|outcome| outcome.is_failed())
+}
+
+fn some_wrong(outcomes: &[Outcome], allows_empty: bool) -> bool
+    ensures { result ≡ list_any (is_wrong allows_empty) outcomes.now }
+{
+    outcomes
+        .iter()
+        .any(|outcome| outcome.is_wrong(allows_empty))
+}

@@ -1,0 +1,102 @@
+// Texts that are put together of parts.
+ghost use Rattle.std.specs.Prelude.{◌≡◌, ◌⊎◌, IfErr};
+ghost use Rattle.point_core.specs.declared.refusal.Refusal.TheVariants.{Write as WriteFault, Memory};
+
+use itoa::Buffer;
+use point_core::Refusal;
+use report_core::write_whole;
+use std::alloc::{AllocError, Global};
+use std::ascii::escape_default;
+use std::io::Write;
+use std::slice;
+
+/// A part of a text.
+#[derive(Clone, Copy)]
+pub(crate) enum Part<'a> {
+    Text(&'a str),
+    Number(u64),
+    /// Bytes other than printable ASCII are written as in a Rust literal.
+    Escaped(&'a [u8]),
+    /// As `Escaped`, between quotes.
+    Quoted(&'a [u8]),
+    /// The description of a test: `#` and `\` follow a `\`, and a line feed is a space.
+    Description(&'a str),
+    /// Bytes as they are.
+    Bytes(&'a [u8]),
+}
+
+/// Writes a text of these parts, by one write.
+pub(crate) fn tell_parts<W: Write>(
+    alloc: Global,
+    parts: &[Part<'_>],
+    writer: &mut W,
+) -> Result<(), Refusal>
+    ensures refusals { IfErr result (λ refusal. (refusal ≡ WriteFault) ⊎ (refusal ≡ Memory)) }
+{
+    let mut text = Vec::new(alloc);
+    push_parts(parts, &mut text)?;
+    write_whole(writer, text.as_slice())
+}
+
+fn push_parts(parts: &[Part<'_>], text: &mut Vec<u8>) -> Result<(), AllocError> {
+    for part in parts {
+        push_part(part, text)?;
+    }
+    Ok(())
+}
+
+fn push_part(part: &Part<'_>, text: &mut Vec<u8>) -> Result<(), AllocError> {
+    match part {
+        Part::Text(part) => text.extend_from_slice(part.as_bytes()),
+        Part::Number(number) => push_number(*number, text),
+        Part::Escaped(bytes) => push_escaped(bytes, text),
+        Part::Quoted(bytes) => push_quoted(bytes, text),
+        Part::Description(name) => push_description(name.as_bytes(), text),
+        Part::Bytes(bytes) => text.extend_from_slice(bytes),
+    }
+}
+
+fn push_number(number: u64, text: &mut Vec<u8>) -> Result<(), AllocError> {
+    let mut digits = Buffer::new();
+    text.extend_from_slice(digits.format(number).as_bytes())
+}
+
+fn push_quoted(bytes: &[u8], text: &mut Vec<u8>) -> Result<(), AllocError> {
+    text.extend_from_slice(b"\"")?;
+    push_escaped(bytes, text)?;
+    text.extend_from_slice(b"\"")
+}
+
+fn push_escaped(bytes: &[u8], text: &mut Vec<u8>) -> Result<(), AllocError> {
+    for byte in bytes {
+        push_byte(*byte, text)?;
+    }
+    Ok(())
+}
+
+/// A single quote needs no escape between double ones.
+fn push_byte(byte: u8, text: &mut Vec<u8>) -> Result<(), AllocError> {
+    if byte == b'\'' {
+        return text.extend_from_slice(b"'");
+    }
+    for escaped in escape_default(byte) {
+        text.extend_from_slice(&[escaped])?;
+    }
+    Ok(())
+}
+
+fn push_description(name: &[u8], text: &mut Vec<u8>) -> Result<(), AllocError> {
+    for byte in name {
+        text.extend_from_slice(described(byte))?;
+    }
+    Ok(())
+}
+
+fn described(byte: &u8) -> &[u8] {
+    match *byte {
+        b'#' => b"\\#",
+        b'\\' => b"\\\\",
+        b'\n' => b" ",
+        _ => slice::from_ref(byte),
+    }
+}

@@ -1,0 +1,206 @@
+// Scripts of files and of standard input, checked one after another.
+ghost use Rattle.std.specs.Prelude.{◌≡◌, ◌⊎◌, ◌++◌, ◌∷◌, [], IfOk, OnOk, IfErr, length};
+ghost use Rattle.std.specs.List.{All};
+ghost use Rattle.point_core.specs.declared.refusal.Refusal.TheVariants.{Write as WriteFault, Memory};
+ghost use Rattle.check_core.specs.Outcome.{ComesOf, IsOutcome};
+
+use crate::checking::check;
+use crate::form::{Form, Place};
+use crate::outcome::{Outcome, Verdict, verdict_of};
+use crate::sink::Sink;
+use crate::summary::tell_summary;
+use crate::tap::{Test, tell_failed, tell_passed, tell_plan};
+use point_core::Refusal;
+use source_core::{Script, Source};
+use std::alloc::{AllocError, Global};
+use std::io::{Read, Write};
+use std::rt::Files;
+
+/// How scripts are checked.
+#[derive(Clone, Copy)]
+pub struct Plan {
+    pub form: Form,
+    /// Whether a script may expect nothing.
+    pub allows_empty: bool,
+}
+
+/// Checks the scripts of these names, one after another; `-` stands for standard input. What is found is written in the form
+/// of the plan: tests to `output`, all else to `errors`. Why a script can't be opened or read is reported on standard error.
+///
+/// Fails with `Write` where a write failed, and with `Memory`.
+pub fn check_scripts<R: Files + Eprint + AllocGlobal, S: Read + Copy + Drop, O: Write, W: Write>(
+    rt: &R,
+    plan: &Plan,
+    names: &[String],
+    standard_input: S,
+    output: &mut O,
+    errors: &mut W,
+) -> Result<Verdict, Refusal>
+    ensures verdict { IfOk result (ComesOf (length names.now) plan.now.allows_empty) }
+    ensures refusals { IfErr result (λ refusal. (refusal ≡ WriteFault) ⊎ (refusal ≡ Memory)) }
+{
+    let mut outcomes = Vec::new(rt.alloc());
+    check_all(
+        rt,
+        plan,
+        names,
+        standard_input,
+        &mut outcomes,
+        output,
+        errors,
+    )
+}
+
+/// The same, where nothing came of a script yet.
+fn check_all<R: Files + Eprint + AllocGlobal, S: Read + Copy + Drop, O: Write, W: Write>(
+    rt: &R,
+    plan: &Plan,
+    names: &[String],
+    standard_input: S,
+    outcomes: &mut Vec<Outcome>,
+    output: &mut O,
+    errors: &mut W,
+) -> Result<Verdict, Refusal>
+    requires none { outcomes.old.items ≡ [] }
+    ensures verdict { IfOk result (ComesOf (length names.now) plan.now.allows_empty) }
+    ensures refusals { IfErr result (λ refusal. (refusal ≡ WriteFault) ⊎ (refusal ≡ Memory)) }
+{
+    tell_plan(rt.alloc(), plan.form, names.len(), output)?;
+    check_each(rt, plan, names, standard_input, outcomes, output, errors)?;
+    tell_summary(rt.alloc(), plan, names, outcomes.as_slice(), errors)?;
+    Ok(verdict_of(outcomes.as_slice(), plan.allows_empty))
+}
+
+/// Checks each script, and appends what comes of it.
+fn check_each<R: Files + Eprint + AllocGlobal, S: Read + Copy + Drop, O: Write, W: Write>(
+    rt: &R,
+    plan: &Plan,
+    names: &[String],
+    standard_input: S,
+    outcomes: &mut Vec<Outcome>,
+    output: &mut O,
+    errors: &mut W,
+) -> Result<(), Refusal>
+    requires none { outcomes.old.items ≡ [] }
+    ensures each { OnOk result (length outcomes.new.items ≡ length names.now) }
+    ensures checked { OnOk result (All IsOutcome outcomes.new.items) }
+    ensures refusals { IfErr result (λ refusal. (refusal ≡ WriteFault) ⊎ (refusal ≡ Memory)) }
+{
+    for name in names {
+        let before = outcomes.len();
+        let outcome = check_script(
+            rt,
+            plan,
+            before,
+            name.as_str(),
+            standard_input,
+            output,
+            errors,
+        )?;
+        push(outcomes, outcome)?;
+    }
+    Ok(())
+}
+
+fn push(outcomes: &mut Vec<Outcome>, outcome: Outcome) -> Result<(), AllocError>
+    ensures { OnOk result (outcomes.new.items ≡ outcomes.old.items ++ outcome ∷ []) }
+{
+    outcomes.push(outcome)?;
+    Ok(())
+}
+
+/// Checks a script, before which so many were, and reports what is found of it.
+fn check_script<R: Files + Eprint + AllocGlobal, S: Read + Drop, O: Write, W: Write>(
+    rt: &R,
+    plan: &Plan,
+    before: usize,
+    name: &str,
+    standard_input: S,
+    output: &mut O,
+    errors: &mut W,
+) -> Result<Outcome, Refusal>
+    ensures outcome { IfOk result IsOutcome }
+    ensures refusals { IfErr result (λ refusal. (refusal ≡ WriteFault) ⊎ (refusal ≡ Memory)) }
+{
+    let form = plan.form;
+    let place = Place { name, form };
+    match form {
+        Form::Tap(_) => {
+            let mut differences = Vec::new(rt.alloc());
+            let mut sink: Sink<'_, W> = Sink::Kept(&mut differences);
+            let outcome = outcome_of(rt, &place, standard_input, &mut sink);
+            report_test(
+                rt.alloc(),
+                plan,
+                before,
+                name,
+                outcome,
+                differences.as_slice(),
+                output,
+            )
+        }
+        Form::Lines | Form::Counts => {
+            outcome_of(rt, &place, standard_input, &mut Sink::Through(errors))
+        }
+    }
+}
+
+/// Reports the test of a script. Its differences were kept, so where a write of one failed memory was refused.
+fn report_test<'a, O: Write>(
+    alloc: Global,
+    plan: &Plan,
+    before: usize,
+    name: &'a str,
+    outcome: Result<Outcome, Refusal>,
+    differences: &'a [u8],
+    output: &mut O,
+) -> Result<Outcome, Refusal>
+    requires outcome { IfOk outcome IsOutcome }
+    ensures outcome { IfOk result IsOutcome }
+    ensures refusals { IfErr result (λ refusal. (refusal ≡ WriteFault) ⊎ (refusal ≡ Memory)) }
+{
+    let Ok(outcome) = outcome else {
+        return Err(Refusal::Memory);
+    };
+    let test = Test {
+        before,
+        name,
+        outcome,
+        differences,
+    };
+    tell_test(alloc, &test, outcome.passes(plan.allows_empty), output)?;
+    Ok(outcome)
+}
+
+fn tell_test<O: Write>(
+    alloc: Global,
+    test: &Test<'_>,
+    passes: bool,
+    output: &mut O,
+) -> Result<(), Refusal>
+    ensures refusals { IfErr result (λ refusal. (refusal ≡ WriteFault) ⊎ (refusal ≡ Memory)) }
+{
+    if passes {
+        tell_passed(alloc, test, output)
+    } else {
+        tell_failed(alloc, test, output)
+    }
+}
+
+/// What comes of a script. Its differences go to the sink.
+///
+/// Fails with `Write` and with `Memory`.
+fn outcome_of<R: Files + Eprint + AllocGlobal, S: Read + Drop, W: Write>(
+    rt: &R,
+    place: &Place<'_>,
+    standard_input: S,
+    sink: &mut Sink<'_, W>,
+) -> Result<Outcome, Refusal>
+    ensures outcome { IfOk result IsOutcome }
+    ensures refusals { IfErr result (λ refusal. (refusal ≡ WriteFault) ⊎ (refusal ≡ Memory)) }
+{
+    match Source::open(rt, Script::named(place.name), standard_input) {
+        Ok(mut source) => Outcome::of(check(rt.alloc(), place, &mut source, sink)),
+        Err(refusal) => Ok(Outcome::Failed(refusal)),
+    }
+}

@@ -1,0 +1,145 @@
+// What a check reports at its end.
+ghost use Rattle.std.specs.Prelude.{◌≡◌, ◌⊎◌, ◌<◌, ◌^◌, OnOk, IfErr};
+ghost use Rattle.std.specs.Io.KnownBytes.{Appends, Keeps};
+ghost use Rattle.point_core.specs.declared.refusal.Refusal.TheVariants.{Write as WriteFault, Memory};
+ghost use Rattle.check_core.specs.Tally.{count_text, totals_text};
+
+use crate::form::Form;
+use crate::outcome::Outcome;
+use crate::parts::{Part, tell_parts};
+use crate::scripts::Plan;
+use crate::tally::Tally;
+use itoa::Buffer;
+use point_core::Refusal;
+use report_core::write_whole;
+use std::alloc::Global;
+use std::io::Write;
+
+/// Writes what the form of the plan has at the end, and flushes: a line for each script that does not pass, the counts, or
+/// nothing.
+pub(crate) fn tell_summary<W: Write>(
+    alloc: Global,
+    plan: &Plan,
+    names: &[String],
+    outcomes: &[Outcome],
+    writer: &mut W,
+) -> Result<(), Refusal>
+    ensures refusals { IfErr result (λ refusal. (refusal ≡ WriteFault) ⊎ (refusal ≡ Memory)) }
+{
+    match plan.form {
+        Form::Lines => {
+            tell_scripts(alloc, names, outcomes, plan.allows_empty, writer)?;
+            tell_totals(outcomes.len(), &totals_of(outcomes), writer)
+        }
+        Form::Counts => tell_totals(outcomes.len(), &totals_of(outcomes), writer),
+        Form::Tap(_) => flush(writer),
+    }
+}
+
+/// Writes a line for each script that does not pass.
+fn tell_scripts<W: Write>(
+    alloc: Global,
+    names: &[String],
+    outcomes: &[Outcome],
+    allows_empty: bool,
+    writer: &mut W,
+) -> Result<(), Refusal>
+    ensures refusals { IfErr result (λ refusal. (refusal ≡ WriteFault) ⊎ (refusal ≡ Memory)) }
+{
+    for (name, outcome) in names.iter().zip(outcomes.iter()) {
+        tell_script(alloc, name.as_str(), *outcome, allows_empty, writer)?;
+    }
+    Ok(())
+}
+
+fn tell_script<W: Write>(
+    alloc: Global,
+    name: &str,
+    outcome: Outcome,
+    allows_empty: bool,
+    writer: &mut W,
+) -> Result<(), Refusal>
+    ensures refusals { IfErr result (λ refusal. (refusal ≡ WriteFault) ⊎ (refusal ≡ Memory)) }
+{
+    if outcome.passes(allows_empty) {
+        return Ok(());
+    }
+    let [what, count, of, all, end] = parts_of_outcome(outcome);
+    let name = Part::Text(name);
+    let parts = [
+        name,
+        Part::Text(": "),
+        what,
+        count,
+        of,
+        all,
+        end,
+        Part::Text("\n"),
+    ];
+    tell_parts(alloc, &parts, writer)
+}
+
+/// What is wrong with a script that does not pass.
+pub(crate) fn parts_of_outcome(outcome: Outcome) -> [Part<'static>; 5] {
+    let none = Part::Text("");
+    match outcome {
+        Outcome::Checked(tally) if tally.checked == 0 => {
+            [Part::Text("expects nothing"), none, none, none, none]
+        }
+        Outcome::Checked(tally) => [
+            Part::Text("differs in "),
+            Part::Number(tally.differing),
+            Part::Text(" of "),
+            Part::Number(tally.checked),
+            Part::Text(" answers"),
+        ],
+        Outcome::Failed(refusal) => [
+            Part::Text("not checked: "),
+            Part::Number(u64::from(refusal.number())),
+            Part::Text(" "),
+            Part::Text(refusal.name()),
+            none,
+        ],
+    }
+}
+
+/// The counts of all of them together.
+fn totals_of(outcomes: &[Outcome]) -> Tally {
+    let mut totals = Tally::new();
+    for outcome in outcomes {
+        totals = totals.with(&outcome.tally());
+    }
+    totals
+}
+
+/// Writes the line of counts, and flushes.
+fn tell_totals<W: Write>(files: usize, tally: &Tally, writer: &mut W) -> Result<(), Refusal>
+    requires files { files < 2 ^ 64 }
+    ensures ok { OnOk result (Appends (W.contents writer.old) (W.contents writer.new) (totals_text files tally.now)) }
+    ensures refusals { IfErr result (λ refusal. refusal ≡ WriteFault) }
+{
+    tell_count(writer, "files: ", files as u64)?;
+    tell_count(writer, ", answers: ", tally.lines)?;
+    tell_count(writer, ", expectations: ", tally.checked)?;
+    tell_count(writer, ", differences: ", tally.differing)?;
+    write_whole(writer, b"\n")?;
+    flush(writer)?;
+    Ok(())
+}
+
+fn tell_count<W: Write>(writer: &mut W, words: &str, count: u64) -> Result<(), Refusal>
+    ensures ok { OnOk result (Appends (W.contents writer.old) (W.contents writer.new) (count_text words.now count)) }
+    ensures refusals { IfErr result (λ refusal. refusal ≡ WriteFault) }
+{
+    let mut digits = Buffer::new();
+    write_whole(writer, words.as_bytes())?;
+    write_whole(writer, digits.format(count).as_bytes())?;
+    Ok(())
+}
+
+fn flush<W: Write>(writer: &mut W) -> Result<(), Refusal>
+    ensures bytes { Keeps (W.contents writer.old) (W.contents writer.new) }
+    ensures refusals { IfErr result (λ refusal. refusal ≡ WriteFault) }
+{
+    writer.flush().map_err(|_| Refusal::Write)
+}

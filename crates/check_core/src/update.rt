@@ -1,0 +1,85 @@
+// Scripts that come to expect what they are answered.
+ghost use Rattle.std.specs.Prelude.{◌≡◌, IfOk};
+ghost use Rattle.check_core.specs.Update.{Passes};
+
+use crate::checking::check;
+use crate::expected::expected_text;
+use crate::form::{Form, Place};
+use crate::page::Page;
+use crate::rewriter::Rewriter;
+use line_core::{SCRIPT_BYTES, first_line};
+use point_core::{LimitKind, Refusal};
+use std::alloc::{AllocError, Global};
+
+/// The script with the lines that its commands are answered with in the place of those that its notes expect. All other lines
+/// stay as they are, and so do commands of which nothing is expected, unless nothing is expected of any: then each answer is.
+/// Numbers of lines in answers are those of the new script, and what it has is checked.
+///
+/// Fails with `Limit` where the script or the new one has more than `SCRIPT_BYTES` bytes, with `Memory` where memory was refused,
+/// to a command too, and with `Torn` where an answer of the new script differs, which none does.
+pub fn updated(alloc: Global, script: &[u8]) -> Result<Vec<u8>, Refusal>
+    ensures passes { IfOk result (λ text. Passes text.items) }
+{
+    if script.len() > SCRIPT_BYTES {
+        return Err(Refusal::Limit(LimitKind::Script));
+    }
+    let mut page = Page::new(alloc);
+    rewrite(alloc, script, &mut page)?;
+    if differences(alloc, page.bytes.as_slice())? == 0 {
+        Ok(page.bytes)
+    } else {
+        Err(Refusal::Torn)
+    }
+}
+
+fn rewrite(alloc: Global, script: &[u8], page: &mut Page) -> Result<(), Refusal> {
+    let mut rewriter = Rewriter::new(alloc, !expects(script))?;
+    rewrite_lines(&mut rewriter, script, page)
+}
+
+/// Writes the new script to an empty page. Its last line lacks its line feed where that of the script does.
+fn rewrite_lines(rewriter: &mut Rewriter, script: &[u8], page: &mut Page) -> Result<(), Refusal> {
+    let mut rest = script;
+    for _ in 0..script.len() {
+        let Some((line, more)) = first_line(rest) else {
+            break;
+        };
+        rewriter.take(line, page)?;
+        rest = more;
+    }
+    if rest.is_empty() {
+        return Ok(rewriter.end(page)?);
+    }
+    rewriter.take(rest, page)?;
+    rewriter.end(page)?;
+    page.bytes.pop();
+    Ok(())
+}
+
+/// Whether a line expects one of an answer.
+fn expects(script: &[u8]) -> bool {
+    let mut rest = script;
+    for _ in 0..script.len() {
+        let Some((line, more)) = first_line(rest) else {
+            break;
+        };
+        if expected_text(line).is_some() {
+            return true;
+        }
+        rest = more;
+    }
+    expected_text(rest).is_some()
+}
+
+/// How many answers of the script differ.
+fn differences(alloc: Global, script: &[u8]) -> Result<u64, Refusal>
+    ensures passes { IfOk result (λ differences. differences ≡ 0 → Passes script.now) }
+{
+    let place = Place {
+        name: "",
+        form: Form::Counts,
+    };
+    let mut reader = script;
+    let tally = check(alloc, &place, &mut reader, &mut Vec::new(alloc))?;
+    Ok(tally.differing)
+}

@@ -1,0 +1,13 @@
+-- A file that the words ask for is asked for by words that the command line does not take.
+use Rattle.std.proofs.Common.{map, string_bytes}
+use Rattle.std.proofs.lemmas.Result.{IfOk-weaker}
+use Rattle.clap.specs.Words.{kind_of}
+use Rattle.command_line.specs.Asked.{asked_of}
+use Rattle.command_line.proofs.Instead.{file_asked}
+use Rattle.command_line.proofs.usage.action_of.Goals as goal
+
+pub returns-in-Err-clause-asked : goal.returns-in-Err-clause-asked
+returns-in-Err-clause-asked g c =
+    IfOk-weaker c.action_instead.result _ _
+    (λ action. file_asked (map string_bytes c.args.words.now) (kind_of c.in-Err.error) (asked_of action) c.in-Err.ensures.taken)
+    c.action_instead.ensures.asked

@@ -1,0 +1,138 @@
+// The scripts that paths name.
+use crate::script::STANDARD_INPUT;
+use crate::source::reported;
+use std::alloc::{AllocError, Global};
+use std::fs::{DirEntry, ReadDir};
+use std::rt::Files;
+use std::{fs, io};
+
+/// How the name of a script's file ends.
+const SUFFIX: &str = ".fence";
+
+/// The names of the scripts that paths name, in the order of the paths: of a folder the files below it whose names end with
+/// `.fence`, sorted by their bytes, and each other path itself. A link to a folder is followed where it is such a path, and
+/// not below one. A folder that can't be listed stands for itself, so that reading it fails and reports why.
+///
+/// Fails where memory was refused.
+pub fn script_files<R: Files + Eprint + AllocGlobal + Clone + Drop>(
+    rt: &R,
+    paths: &[&str],
+) -> Result<Vec<String>, AllocError> {
+    let mut files = Vec::new(rt.alloc());
+    for path in paths {
+        if *path == STANDARD_INPUT {
+            push_name(rt, STANDARD_INPUT, &mut files)?;
+        } else {
+            add_path(rt, path, &mut files)?;
+        }
+    }
+    Ok(files)
+}
+
+fn push_name<R: AllocGlobal>(
+    rt: &R,
+    name: &str,
+    names: &mut Vec<String>,
+) -> Result<(), AllocError> {
+    let name = String::from_str(rt.alloc(), name)?;
+    names.push(name)?;
+    Ok(())
+}
+
+fn add_path<R: Files + Eprint + AllocGlobal + Clone + Drop>(
+    rt: &R,
+    path: &str,
+    files: &mut Vec<String>,
+) -> Result<(), AllocError> {
+    match fs::read_dir(rt, path) {
+        Ok(entries) => {
+            let mut below = files_below(rt, path, entries)?;
+            files.append(&mut below)?;
+            Ok(())
+        }
+        Err(error) => push_unlisted(rt, path, &error, files),
+    }
+}
+
+/// What can't be listed is a file, or can't be read either.
+fn push_unlisted<R: AllocGlobal>(
+    rt: &R,
+    path: &str,
+    error: &io::Error,
+    files: &mut Vec<String>,
+) -> Result<(), AllocError> {
+    if error.kind() == io::ErrorKind::OutOfMemory {
+        return Err(AllocError);
+    }
+    push_name(rt, path, files)
+}
+
+/// The files below a folder, and the folders that can't be listed.
+fn files_below<R: Files + Eprint + AllocGlobal + Clone + Drop>(
+    rt: &R,
+    folder: &str,
+    entries: ReadDir<R, Global>,
+) -> Result<Vec<String>, AllocError> {
+    let mut files = Vec::new(rt.alloc());
+    let mut folders = Vec::new(rt.alloc());
+    add_entries(rt, folder, entries, &mut folders, &mut files)?;
+    for _ in 0..u64::MAX {
+        let Some(folder) = folders.pop() else {
+            break;
+        };
+        add_folder(rt, folder.as_str(), &mut folders, &mut files)?;
+    }
+    files.sort()?;
+    Ok(files)
+}
+
+fn add_folder<R: Files + Eprint + AllocGlobal + Clone + Drop>(
+    rt: &R,
+    folder: &str,
+    folders: &mut Vec<String>,
+    files: &mut Vec<String>,
+) -> Result<(), AllocError> {
+    match fs::read_dir(rt, folder) {
+        Ok(entries) => add_entries(rt, folder, entries, folders, files),
+        Err(error) => push_unlisted(rt, folder, &error, files),
+    }
+}
+
+fn add_entries<R: Files + Eprint + AllocGlobal + Clone + Drop>(
+    rt: &R,
+    folder: &str,
+    entries: ReadDir<R, Global>,
+    folders: &mut Vec<String>,
+    files: &mut Vec<String>,
+) -> Result<(), AllocError> {
+    for entry in entries {
+        match reported(rt, folder, entry) {
+            Ok(entry) => add_entry(rt, &entry, folders, files)?,
+            Err(_) => push_name(rt, folder, files)?,
+        }
+    }
+    Ok(())
+}
+
+fn add_entry<R: Files + AllocGlobal>(
+    rt: &R,
+    entry: &DirEntry<R, Global>,
+    folders: &mut Vec<String>,
+    files: &mut Vec<String>,
+) -> Result<(), AllocError> {
+    let path = entry.path().as_str();
+    if is_folder(entry) {
+        push_name(rt, path, folders)
+    } else if path.ends_with(SUFFIX) {
+        push_name(rt, path, files)
+    } else {
+        Ok(())
+    }
+}
+
+fn is_folder<R: Files>(entry: &DirEntry<R, Global>) -> bool {
+    match entry.file_type() {
+        Ok(kind) => kind.is_dir(),
+        Err(_) => false,
+    }
+}

@@ -1,0 +1,44 @@
+// Files that are read and replaced as a whole.
+use std::fs::{File, OpenFile};
+use std::io::{Read, Write};
+use std::rt::Files;
+use std::{fs, io};
+
+/// The bytes of a file, up to one more than that many.
+pub fn read_file<R: Files + AllocGlobal>(rt: &R, name: &str, most: u64) -> io::Result<Vec<u8>> {
+    let mut bytes = Vec::new(rt.alloc());
+    let file = fs::open(rt, name)?;
+    file.take(most.saturating_add(1)).read_to_end(&mut bytes)?;
+    Ok(bytes)
+}
+
+/// Puts bytes in the place of a file, which may stand behind links: a file beside it is written, with the same permissions, and
+/// takes its name once it is whole and on its disk. So the name always stands for a whole file.
+///
+/// Where that fails the file stays as it was, and the other is removed. One that is there already is left alone, which fails.
+pub fn replace_file<R: Files + AllocGlobal>(rt: &R, name: &str, bytes: &[u8]) -> io::Result<()> {
+    let path = fs::canonicalize(rt, name)?;
+    let mut beside = String::from_str(rt.alloc(), path.as_str())?;
+    beside.push_str(".new")?;
+    let file = File::create_new(rt, beside.as_str())?;
+    let replaced = replace(rt, path.as_str(), beside.as_str(), file, bytes);
+    if replaced.is_err() {
+        // Whether it can be removed changes nothing of what failed.
+        let _ = fs::remove_file(rt, beside.as_str());
+    }
+    replaced
+}
+
+fn replace<R: Files>(
+    rt: &R,
+    path: &str,
+    beside: &str,
+    mut file: R::File,
+    bytes: &[u8],
+) -> io::Result<()> {
+    let permissions = fs::metadata(rt, path)?.permissions();
+    file.set_permissions(permissions)?;
+    file.write_all(bytes)?;
+    file.sync_all()?;
+    fs::rename(rt, beside, path)
+}
