@@ -152,7 +152,7 @@ class Differences(Answers):
         if not refused:
             return run
         more = [self.difference(number) for number in refused]
-        differences, counts = re.fullmatch(rb"((?:.*\n)*?)(?:.*: expects nothing\n)?(files: .*)\n", run.errors).groups()
+        differences, counts = re.fullmatch(rb"((?:\S*:\d+: .*\n)*)(?:.*\n)?(files: .*)\n", run.errors).groups()
         answers, expectations, differing = (int(count) + len(refused) for count in re.findall(rb"\d+", counts)[1:])
         ends = [
             b"%s: differs in %d of %d answers" % (self.path, differing, expectations),
