@@ -1,6 +1,9 @@
 pub mod FirstByte
+pub mod Heads
 pub mod Joining
 pub mod Lines
 pub mod Numbers
 pub mod Parts
 pub mod Passing
+pub mod Reading
+pub mod Records

@@ -1,23 +1,37 @@
 -- What stands before and behind a text.
-use Rattle.std.proofs.Common.{◌≡◌, ℕ, ◌+◌, ◌-◌, ◌<◌, ◌≤◌, true, false, cond, List, [], ◌∷◌, ◌++◌, length, get_or, take, drop, Option, None, Some, option_map, MatchOption, refl, sym, ap, ◌∙◌, append-nil, append_assoc}
-use denote.Ref.{Bor}
+use Rattle.std.proofs.Common.{◌≡◌, ℕ, ◌+◌, ◌-◌, ◌<◌, ◌≤◌, Bool, true, false, cond, List, [], ◌∷◌, ◌++◌, length, get_or, take, drop, Option, None, Some, option_map, refl, sym, ap, ◌∙◌, append-nil, append_assoc, length-drop, arith}
 use Rattle.std.specs.Str.{bytes_eq}
-use Rattle.std.proofs.lemmas.List.{drop_more, take_more, drop_all}
+use Rattle.std.proofs.lemmas.Bool.{false_from_ne_true}
+use Rattle.std.proofs.lemmas.List.{drop_more, take_more, drop_all, take_all, take_at, get_or-take}
+use Rattle.std.proofs.lemmas.List.Prefix.{front_from_reads}
+use Rattle.std.proofs.lemmas.Slice.Eq.{bytes_eq-Decides}
 use Rattle.trace_core.specs.Steps.{after, before, here_or, with_first, part_at}
 
-pub after-strip : (bytes text : List ℕ) (r : Option (Bor (List ℕ)))
-    → MatchOption r (bytes_eq (take (length text) bytes) text ≡ false) (λ x. (bytes_eq (take (length text) bytes) text ≡ true) × (x.now ≡ drop (length text) bytes) × (length x.now + length text ≡ length bytes))
-    → option_map (λ x. x.now) r ≡ after bytes text
-unfolding after
-after-strip bytes text None h = sym (ap (λ b. cond b (Some (drop (length text) bytes)) None) h)
-after-strip bytes text (Some x) h = ap Some h.1 ∙ sym (ap (λ b. cond b (Some (drop (length text) bytes)) None) h.0)
+bytes_eq-no : (xs ys : List ℕ) → (xs ≡ ys → ⊥) → false ≡ bytes_eq xs ys
+bytes_eq-no xs ys other =
+    sym (false_from_ne_true (bytes_eq xs ys) (λ e. other ((bytes_eq-Decides xs ys).0 e)))
 
-pub before-strip : (bytes text : List ℕ) (r : Option (Bor (List ℕ)))
-    → MatchOption r (bytes_eq (drop (length bytes - length text) bytes) text ≡ false) (λ x. (bytes_eq (drop (length bytes - length text) bytes) text ≡ true) × (x.now ≡ take (length bytes - length text) bytes) × (length x.now + length text ≡ length bytes))
-    → option_map (λ x. x.now) r ≡ before bytes text
-unfolding before
-before-strip bytes text None h = sym (ap (λ b. cond b (Some (take (length bytes - length text) bytes)) None) h)
-before-strip bytes text (Some x) h = ap Some h.1 ∙ sym (ap (λ b. cond b (Some (take (length bytes - length text) bytes)) None) h.0)
+module _ (bytes text : List ℕ) where
+  pub begins-not : (place : ℕ) → place < length text → (get_or bytes place 0 ≡ get_or text place 0 → ⊥) → false ≡ bytes_eq (take (length text) bytes) text
+  begins-not place h other =
+      bytes_eq-no (take (length text) bytes) text (λ e. other (sym (get_or-take (length text) bytes place 0 h) ∙ ap (λ xs. get_or xs place 0) e))
+
+  pub begins-all : length text ≤ length bytes → ((k : ℕ) → k < length text → get_or bytes k 0 ≡ get_or text k 0) → true ≡ bytes_eq (take (length text) bytes) text
+  begins-all h reads =
+      sym ((bytes_eq-Decides (take (length text) bytes) text).1 (ap (take (length text)) (front_from_reads 0 bytes text h reads) ∙ take_at text (drop (length text) bytes) (length text) refl))
+
+  pub begins-whole : length bytes ≡ length text → bytes_eq (take (length text) bytes) text ≡ bytes_eq bytes text
+  begins-whole e = ap (λ xs. bytes_eq xs text) (take_all (length text) bytes (omega arith))
+
+  pub before-short : length bytes < length text → None ≡ before bytes text
+  unfolding before
+  before-short h =
+      ap (λ b. cond b (Some (take (length bytes - length text) bytes)) None) (bytes_eq-no (drop (length bytes - length text) bytes) text (λ e. absurd (omega (arith, ap length e, length-drop (length bytes - length text) bytes))))
+
+  pub before-at : (b : Bool) → length text ≤ length bytes → b ≡ bytes_eq (take (length text) (drop (length bytes - length text) bytes)) text → cond b (Some (take (length bytes - length text) bytes)) None ≡ before bytes text
+  unfolding before
+  before-at b h e =
+      ap (λ c. cond c (Some (take (length bytes - length text) bytes)) None) (e ∙ ap (λ xs. bytes_eq xs text) (take_all (length text) (drop (length bytes - length text) bytes) (omega (arith, length-drop (length bytes - length text) bytes))))
 
 -- more bytes before the first of the parts
 abbrev pub with_front : List ℕ → List ℕ × List ℕ → List ℕ × List ℕ

@@ -258,3 +258,14 @@ module _ (before now now' : Option (List ℕ)) (s : Unpassed) (items : List Told
       let left = bytes-read held held' buf end kept count room (subst (λ n. n ≤ end) (sym k) (kept-le start end long)) within moved many in
       let same = ap (λ n. take n (drop (end - n) held)) k ∙ kept-is held start end long order ∙ ap (cond long nothing) bytes in
       read-passed before now s items p waits going now' (record { bytes = take (stop - 0) (drop 0 (put_mid kept room held' buf)); whole = whole; long = long }) (take count buf) consumed (ap (λ n. take n (put_mid kept room held' buf)) stops ∙ left ∙ ap (λ xs. xs ++ take count buf) same) (is_long ∙ ap (λ b. b || nat_lt PIECE_BYTES (end - start)) l ∙ ap (λ n. s.long || nat_lt PIECE_BYTES n) size) at_end
+
+-- a text has one reading
+pub ReadsAs-one : (text : List ℕ) (items others : List Told) → ReadsAs text items → ReadsAs text others → items ≡ others
+ReadsAs-one text [] [] a b = refl
+ReadsAs-one [] [] (o ∷ others) a b = absurd b
+ReadsAs-one (x ∷ xs) [] (o ∷ others) a b = absurd (cc)
+ReadsAs-one [] (i ∷ items) [] a b = absurd a
+ReadsAs-one (x ∷ xs) (i ∷ items) [] a b = absurd (cc)
+ReadsAs-one [] (i ∷ items) (o ∷ others) a b = absurd a
+ReadsAs-one (x ∷ xs) (i ∷ items) (o ∷ others) a b =
+    ap (λ y. y ∷ items) (sym a.0 ∙ b.0) ∙ ap (λ ys. o ∷ ys) (ReadsAs-one (first_item (x ∷ xs)).1 items others a.1 b.1)

@@ -5,6 +5,7 @@ use Rattle.trace_core.specs.declared.item.TheConstants.{PIECE_BYTES}
 use Rattle.trace_core.specs.declared.piece.Joining.{Joining}
 use Rattle.trace_core.specs.declared.piece.Joining.TheVariants.{Waits, Alone, Whole, Longer}
 use Rattle.trace_core.specs.declared.piece.Piece.{Piece}
+use Rattle.trace_core.specs.declared.piece.TheConstants.{RECORD_LINES}
 use Rattle.trace_core.specs.Item.{told}
 use Rattle.trace_core.specs.Piece.{is_line_feed, joined_from, joined_or_unread, first_item}
 use Rattle.trace_core.specs.Record.{printed}
@@ -49,7 +50,7 @@ Takes bytes piece = (1 ≤ piece.length) × (piece.length ≤ length bytes)
 abbrev pub IsJoined : List ℕ → Bool → List ℕ → ℕ → Piece → Type 0
 IsJoined bytes whole line first piece =
     (more : List ℕ) → MayFollow whole more →
-    joined_or_unread (joined_from 3 line (drop first bytes ++ more)) (drop first bytes ++ more) ≡ (told piece.item, drop piece.length bytes ++ more)
+    joined_or_unread (joined_from (RECORD_LINES - 1) line (drop first bytes ++ more)) (drop first bytes ++ more) ≡ (told piece.item, drop piece.length bytes ++ more)
 
 -- the piece is the text's first, whichever way the text goes on
 abbrev pub IsFirstPiece : List ℕ → Bool → Piece → Type 0

@@ -28,9 +28,9 @@ kind_at (row ∷ rows) word = if bytes_eq word row.0 then Some row.1 else kind_a
 unfoldable pub kind_of : List ℕ → Option Event
 kind_of word = kind_at kinds word
 
--- without the name of the events' system
+-- what follows the name of the events' system, where it stands before that of the event
 unfoldable pub without_system : List ℕ → List ℕ
-without_system text = unwrap_or (after text (codes "dma_fence:")) text
+without_system text = unwrap_or (after text (codes ":dma_fence")) text
 
 -- what follows `:` and blanks
 abbrev pub after_colon : List ℕ → Option (List ℕ)
@@ -45,4 +45,4 @@ event_named name =
 -- the event that an event's text begins with, and what follows its name
 unfoldable pub event_at : List ℕ → Option (Event × List ℕ)
 event_at text =
-    option_and_then event_named (after (without_system (without_blanks text)) (codes "dma_fence_"))
+    option_and_then event_named (option_and_then (λ rest. after (without_system rest) (codes "_")) (after (without_blanks text) (codes "dma_fence")))

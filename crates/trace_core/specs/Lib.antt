@@ -10,3 +10,4 @@ pub mod Loss
 pub mod Piece
 pub mod Cutting
 pub mod Pieces
+pub mod Printing

@@ -1,8 +1,9 @@
 -- The pieces of a text.
-use Rattle.std.specs.Prelude.{◌≡◌, ℕ, zero, suc, ◌==◌, Bool, true, false, ◌||◌, nat_lt, is_some, if◌then◌else◌, List, [], ◌∷◌, ◌++◌, length, Option, None, Some, codes}
+use Rattle.std.specs.Prelude.{◌≡◌, ℕ, zero, suc, ◌-◌, ◌==◌, Bool, true, false, ◌||◌, nat_lt, is_some, if◌then◌else◌, List, [], ◌∷◌, ◌++◌, length, Option, None, Some, codes}
 use Rattle.std.specs.List.{before_first, after_first}
 use Rattle.trace_core.specs.declared.event.Event.{Event as EventKind}
 use Rattle.trace_core.specs.declared.item.TheConstants.{PIECE_BYTES}
+use Rattle.trace_core.specs.declared.piece.TheConstants.{RECORD_LINES}
 use Rattle.trace_core.specs.Event.{event_at}
 use Rattle.trace_core.specs.Header.{Head, header_of}
 use Rattle.trace_core.specs.Item.{Told, Event, Other, Unread, Lost, BufferStarted, Counts, Note}
@@ -77,7 +78,7 @@ joined_or_unread (Some joined) rest = (Event joined.0, joined.1)
 -- an unread line that begins as a record may go on in the next lines
 abbrev pub with_lines : Told → List ℕ → List ℕ → Told × List ℕ
 with_lines Unread line rest =
-    if begins_record line then joined_or_unread (joined_from 3 line rest) rest else (Unread, rest)
+    if begins_record line then joined_or_unread (joined_from (RECORD_LINES - 1) line rest) rest else (Unread, rest)
 with_lines (Event r) line rest = (Event r, rest)
 with_lines Other line rest = (Other, rest)
 with_lines (Lost cpu events) line rest = (Lost cpu events, rest)

@@ -26,18 +26,18 @@ pub enum Event {
 pub(crate) fn event_at(text: &[u8]) -> Option<(Event, &[u8])>
     ensures event { option_map (λ e. (e.0, e.1.now)) result ≡ event_at text.now }
 {
-    let name = after(without_system(without_blanks(text)), b"dma_fence_")?;
-    let (kind, rest) = split_run(name, Class::Word);
+    let name = without_system(after(without_blanks(text), b"dma_fence")?);
+    let (kind, rest) = split_run(after(name, b"_")?, Class::Word);
     let event = kind_of(kind)?;
     Some((event, after_blanks(after(rest, b":")?)?))
 }
 
-/// Without the name of the events' system, where the text begins with it.
+/// What follows the name of the events' system, where it stands before that of the event.
 #[tactic(auto, unfolding(crate::specs::Event::without_system))]
 fn without_system(text: &[u8]) -> &[u8]
     ensures rest { result.now ≡ without_system text.now }
 {
-    match after(text, b"dma_fence:") {
+    match after(text, b":dma_fence") {
         Some(rest) => rest,
         None => text,
     }

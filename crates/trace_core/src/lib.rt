@@ -8,6 +8,7 @@ mod event;
 mod fields;
 mod header;
 mod item;
+pub mod laws;
 mod loss;
 mod number;
 mod piece;

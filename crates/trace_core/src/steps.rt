@@ -1,16 +1,38 @@
 // Steps of reading: what follows a text or blanks.
-ghost use Rattle.std.specs.Prelude.{◌≡◌, option_map};
+ghost use Rattle.std.specs.Prelude.{◌≡◌, ◌≤◌, true, length, take, option_map};
 ghost use Rattle.std.specs.Str.{bytes_eq};
 ghost use Rattle.trace_core.specs.Steps.{after, before, without_blanks, after_blanks, part_at};
 
 use crate::runs::{Class, without_run};
 
+/// Whether the bytes begin with the text. It is unrolled where the text is a literal.
+#[inline(always)]
+fn begins_with(bytes: &[u8], text: &[u8]) -> bool
+    ensures begins { result ≡ bytes_eq (take (length text.now) bytes.now) text.now }
+    ensures fits { result ≡ true → length text.now ≤ length bytes.now }
+{
+    if bytes.len() < text.len() {
+        return false;
+    }
+    for (place, byte) in text.iter().enumerate() {
+        if bytes[place] != *byte {
+            return false;
+        }
+    }
+    true
+}
+
 /// What follows the text, where the bytes begin with it.
 #[inline(always)]
+#[tactic(auto, unfolding(crate::specs::Steps::after))]
 pub(crate) fn after<'a>(bytes: &'a [u8], text: &[u8]) -> Option<&'a [u8]>
     ensures rest { option_map (λ r. r.now) result ≡ after bytes.now text.now }
 {
-    bytes.strip_prefix(text)
+    if begins_with(bytes, text) {
+        Some(&bytes[text.len()..])
+    } else {
+        None
+    }
 }
 
 /// What stands before the text, where the bytes end with it.
@@ -18,7 +40,15 @@ pub(crate) fn after<'a>(bytes: &'a [u8], text: &[u8]) -> Option<&'a [u8]>
 pub(crate) fn before<'a>(bytes: &'a [u8], text: &[u8]) -> Option<&'a [u8]>
     ensures front { option_map (λ r. r.now) result ≡ before bytes.now text.now }
 {
-    bytes.strip_suffix(text)
+    if bytes.len() < text.len() {
+        return None;
+    }
+    let (front, end) = bytes.split_at(bytes.len() - text.len());
+    if begins_with(end, text) {
+        Some(front)
+    } else {
+        None
+    }
 }
 
 /// The bytes without the blanks that they begin with.
@@ -53,8 +83,9 @@ pub(crate) fn part_at<'a>(bytes: &'a [u8], text: &[u8]) -> Option<(&'a [u8], &'a
 }
 
 /// Whether the word is that text.
+#[inline(always)]
 pub(crate) fn is(word: &[u8], text: &str) -> bool
     ensures same { result ≡ bytes_eq word.now text.now }
 {
-    word == text.as_bytes()
+    word.len() == text.len() && begins_with(word, text.as_bytes())
 }
