@@ -1,7 +1,6 @@
-// Checks of scripts piece by piece, and of one whose writer cannot be flushed.
-use crate::pipes::{PIECES, assert_refusal, sink_of, source_of};
+// Checks of scripts piece by piece.
+use crate::pipes::{PIECES, sink_of, source_of};
 use check_core::{Form, Place, check};
-use point_core::Refusal;
 
 const SCRIPT: &[u8] = b"value b
 timeline a
@@ -31,14 +30,4 @@ fn counts(rt: HostRuntime) {
         writer.assert_whole(&rt);
         assert!(rt; tally.lines == 5 && tally.checked == 3 && tally.differing == 2);
     }
-}
-
-#[test]
-fn failing_flush(rt: HostRuntime) {
-    let mut reader = source_of(SCRIPT, 4096);
-    let mut writer = sink_of(DIFFERENCES, 4096, usize::MAX);
-    writer.flush_fails = true;
-    let result = check(rt.alloc(), &PLACE, &mut reader, &mut writer);
-    assert_refusal(&rt, result.err(), Refusal::Write);
-    writer.assert_whole(&rt);
 }
