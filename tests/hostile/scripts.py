@@ -4,10 +4,10 @@ import os
 import re
 
 
-def constant(name):
-    """Returns a number of the crates, by the name of its constant."""
+def constant(name, crate="*_core"):
+    """Returns a number of a crate, or of any, by the name of its constant."""
     top = os.path.dirname(os.path.dirname(os.path.dirname(os.path.realpath(__file__))))
-    for path in glob.glob(f"{top}/crates/*_core/src/*.rt"):
+    for path in glob.glob(f"{top}/crates/{crate}/src/*.rt"):
         with open(path, encoding="utf-8") as source:
             found = re.search(rf"^(?:pub(?:\(crate\))? )?const {name}: \w+ = ([\d_]+);$", source.read(), re.MULTILINE)
         if found:
