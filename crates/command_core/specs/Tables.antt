@@ -1,12 +1,13 @@
 -- What a report tells.
 use Rattle.std.specs.Prelude.{ℕ, ◌+◌, List, length}
 use Rattle.std.specs.List.{sum_by}
+use Rattle.point_core.specs.declared.timeline_row.TimelineRow.{TimelineRow}
 use Rattle.command_core.specs.declared.answer.FileRow.{FileRow}
 use Rattle.command_core.specs.declared.answer.BufferRows.{BufferRows}
 
 -- the timelines by rising context with their values, the files and the buffers in order of making
 pub record Tables : Type 0 where
-  pub timelines : List (List ℕ × ℕ)
+  pub timelines : List TimelineRow
   pub files : List FileRow
   pub buffers : List BufferRows
 

@@ -2,7 +2,7 @@
 ghost use Rattle.std.specs.Prelude.{◌≡◌, ◌≤◌, ◌^◌};
 ghost use Rattle.command_core.specs.Tables.{row_count, rows_beside};
 
-use point_core::{Items, Name, Refusal, Status, Usage};
+use point_core::{Items, Name, Refusal, Status, TimelineRow, Usage};
 use std::marker::Model;
 
 /// The answer of one command.
@@ -12,7 +12,7 @@ pub enum Answer {
     Done,
     /// The number that it asked for: a context, a timeline's value, or 1 for yes and 0 for no.
     Value(u64),
-    /// The timeline's new value, and the cookies of the callbacks that it fires, by registration.
+    /// The timeline's value after an increment or its closing, and the cookies of the callbacks that this fires, by registration.
     Raised(u64, Items<u64>),
     /// File information.
     Info(Info),
@@ -56,7 +56,7 @@ pub enum Maker {
 #[derive(Debug, Drop, PartialEq, Eq)]
 pub struct Report {
     /// Each timeline with its value, by rising context.
-    pub timelines: Items<(Name, u64)>,
+    pub timelines: Items<TimelineRow>,
     /// The files in order of making. A name made again after a close counts as new.
     pub files: Items<FileRow>,
     /// The buffers in order of making, `BUFFERS` at most.

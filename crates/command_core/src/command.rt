@@ -12,6 +12,9 @@ pub enum Command {
     Inc(Name, u64),
     /// `value T`: reads a timeline's value.
     Value(Name),
+    /// `shut T`: closes timeline T, as the close of a sw_sync timeline's descriptor, and tells the callbacks that this fires. Its
+    /// pending points are cancelled, its value stays, and its name stays taken.
+    Shut(Name),
     /// `fence F T P`: makes file F of point P on timeline T, as libsync's `sw_sync_fence_create`.
     Fence(Name, Name, u64),
     /// `merge F A B`: makes file F of files A and B, as libsync's `sync_merge`.

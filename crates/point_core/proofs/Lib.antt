@@ -9,6 +9,7 @@ pub mod Names
 pub mod Reached
 pub mod Results
 mod Rows
+pub mod Ticking
 pub mod TwoLists
 pub mod Used
 pub mod Values

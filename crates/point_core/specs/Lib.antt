@@ -1,10 +1,12 @@
 pub mod Agreement
+pub mod Clocks
 pub mod Latest
 pub mod Name
 pub mod Named
 pub mod Reach
 pub mod Refusal
 pub mod Status
+pub mod StoredClocks
 pub mod StoredName
 pub mod TwoLists
 pub mod Usage

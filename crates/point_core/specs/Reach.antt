@@ -1,5 +1,5 @@
 -- The value of each context, and which points it has reached.
-use Rattle.std.specs.Prelude.{ℕ, ◌-◌, ◌≤◌, Bool, nat_le, max, map, List, slice_index, slice_set}
+use Rattle.std.specs.Prelude.{ℕ, ◌-◌, ◌^◌, ◌≤◌, Bool, nat_le, max, map, List, slice_index, slice_set}
 use Rattle.std.specs.List.{zip}
 use Rattle.point_core.specs.declared.entry.Point.{Point}
 
@@ -11,6 +11,14 @@ value_at reach ctx = slice_index reach (ctx - 1)
 -- the reach with the value of such a context changed
 abbrev pub with_value : List ℕ → ℕ → ℕ → List ℕ
 with_value reach ctx value = slice_set reach (ctx - 1) value
+
+-- the greatest value that there can be
+abbrev pub GREATEST : ℕ
+GREATEST = 2 ^ 64 - 1
+
+-- the reach once such a context is closed: every point of it is reached
+abbrev pub shut_value : List ℕ → ℕ → List ℕ
+shut_value reach ctx = with_value reach ctx GREATEST
 
 -- the reach, with the point reached
 abbrev pub reaching : List ℕ → Point → List ℕ

@@ -5,6 +5,7 @@
 //! them.
 #![tactic(auto)]
 
+mod clocks;
 mod context;
 mod context_values;
 mod entry;
@@ -19,7 +20,9 @@ mod name;
 mod reach;
 mod refusal;
 mod status;
+mod timeline_row;
 
+pub use clocks::{Clock, Clocks};
 pub use context::{CONTEXTS, Context};
 pub use entry::{Entry, Point, Usage, covers};
 pub use floor::Floor;
@@ -32,3 +35,4 @@ pub use name::{NAME_BYTES, Name};
 pub use reach::{Reach, is_signalled};
 pub use refusal::{LimitKind, Refusal};
 pub use status::Status;
+pub use timeline_row::TimelineRow;

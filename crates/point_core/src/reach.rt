@@ -31,7 +31,7 @@ impl Model for Reach {
 
 impl Reach {
     ghost use Rattle.std.specs.Prelude.{replicate, slice_set, ◌-◌};
-    ghost use Rattle.point_core.specs.Reach.{with_value, reaching, later_values, IsAtLeast};
+    ghost use Rattle.point_core.specs.Reach.{with_value, shut_value, reaching, later_values, IsAtLeast};
     ghost use Rattle.point_core.specs.Used.{used_of};
 
     /// Every value is 0.
@@ -79,6 +79,24 @@ impl Reach {
         ensures context { (1 ≤ point.ctx) × (point.ctx ≤ CONTEXTS) }
     {
         self.values.raise(point.ctx.index(), point.value);
+    }
+
+    /// Closes a context: every point of it is reached.
+    pub fn close(&mut self, ctx: Context)
+        ensures value { self.new ≡ shut_value self.old ctx }
+        ensures full { length self.old ≡ CONTEXTS }
+        ensures context { (1 ≤ ctx) × (ctx ≤ CONTEXTS) }
+    {
+        self.values.raise(ctx.index(), u64::MAX);
+    }
+
+    /// The reach once a context is closed: every point of it is reached.
+    pub fn shut(&self, ctx: Context) -> Reach
+        ensures { result ≡ shut_value self.now ctx }
+    {
+        let mut shut = *self;
+        shut.close(ctx);
+        shut
     }
 
     /// How many contexts there are up to the last whose value is not 0. A loop over what is reached can end there.

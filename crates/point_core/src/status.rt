@@ -1,6 +1,6 @@
 // Whether a fence is signalled.
 ghost use Rattle.std.specs.Prelude.{◌≡◌};
-ghost use Rattle.point_core.specs.Status.{status_number, status_if};
+ghost use Rattle.point_core.specs.Status.{status_number, status_if, status_with};
 
 /// The status of a point or a sync file, as Linux's `dma_fence_get_status` gives it.
 #[derive(Clone, Copy, Debug, PartialEq, Eq, Hash)]
@@ -9,6 +9,9 @@ pub enum Status {
     Active,
     /// Every point is reached.
     Signalled,
+    /// No point is pending any more, and the timeline of some was closed before its value was there. Linux's
+    /// `sync_timeline_debug_remove` leaves such a fence with the error `-ENOENT`.
+    Cancelled,
 }
 
 impl Status {
@@ -23,13 +26,26 @@ impl Status {
         }
     }
 
-    /// The number that file information shows: 0 while active, 1 once signalled.
-    pub fn number(self) -> u8
+    /// The status of two fences together: active while one is, else cancelled where one is.
+    pub fn with(self, other: Status) -> Status
+        ensures { result ≡ status_with self other }
+    {
+        match (self, other) {
+            (Status::Active, _) | (_, Status::Active) => Status::Active,
+            (Status::Cancelled, _) | (_, Status::Cancelled) => Status::Cancelled,
+            (Status::Signalled, Status::Signalled) => Status::Signalled,
+        }
+    }
+
+    /// The number that file information shows: 0 while active, 1 once signalled, and -2, which is the kernel's
+    /// `-ENOENT`, where it is cancelled.
+    pub fn number(self) -> i32
         ensures { result ≡ status_number self }
     {
         match self {
             Status::Active => 0,
             Status::Signalled => 1,
+            Status::Cancelled => -2,
         }
     }
 }

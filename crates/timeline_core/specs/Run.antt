@@ -3,8 +3,8 @@ use Rattle.std.specs.Prelude.{◌≡◌, ℕ, ◌+◌, ◌-◌, ◌^◌, ◌<◌
 use Rattle.std.specs.List.{sum_by}
 use Rattle.point_core.specs.declared.context.TheConstants.{CONTEXTS}
 use Rattle.point_core.specs.Named.{same_name}
-use Rattle.point_core.specs.Reach.{value_at}
-use Rattle.timeline_core.specs.Timeline.{Timeline, new_timeline, has_timeline, name_at, reach_of, value_of, raised}
+use Rattle.point_core.specs.Clocks.{clock_at}
+use Rattle.timeline_core.specs.Timeline.{Timeline, new_timeline, has_timeline, name_at, clocks_of, value_of, is_closed, raised, shut}
 
 -- an increment of the timeline of that name
 pub record Increment : Type 0 where
@@ -26,17 +26,19 @@ AreSums ts is = All (λ (t : Timeline). t.value ≡ incremented is t.name) ts
 pub data Call : Type 0 where
   Create : List ℕ → Call
   Inc : List ℕ → ℕ → Call
+  Shut : List ℕ → Call
   RaiseTo : ℕ → ℕ → Call
 
 -- nothing refuses the call
 abbrev pub IsAllowed : Call → List Timeline → Type 0
 IsAllowed (Create name) ts = (has_timeline ts name ≡ false) × (length ts < CONTEXTS)
-IsAllowed (Inc name n) ts = (has_timeline ts name ≡ true) × (value_of ts name + n < 2 ^ 64)
-IsAllowed (RaiseTo ctx value) ts = (1 ≤ ctx) × (ctx ≤ length ts)
+IsAllowed (Inc name n) ts = (has_timeline ts name ≡ true) × (is_closed ts name ≡ false) × (value_of ts name + n < 2 ^ 64)
+IsAllowed (Shut name) ts = (has_timeline ts name ≡ true) × (is_closed ts name ≡ false)
+IsAllowed (RaiseTo ctx value) ts = (1 ≤ ctx) × (ctx ≤ length ts) × ((clock_at (clocks_of ts) ctx).closed ≡ false)
 
 -- by how much the value of a context is below another
 abbrev pub missing_to : List Timeline → ℕ → ℕ → ℕ
-missing_to ts ctx value = value - value_at (reach_of ts) ctx
+missing_to ts ctx value = value - (clock_at (clocks_of ts) ctx).value
 
 -- an increment of the timeline of that name, where there is one
 abbrev pub increments_if : Option (List ℕ) → ℕ → List Increment
@@ -52,6 +54,7 @@ raised_if ts (Some name) n = raised ts name n
 abbrev pub after : Call → List Timeline → List Timeline
 after (Create name) ts = ts ++ new_timeline name ∷ []
 after (Inc name n) ts = raised ts name n
+after (Shut name) ts = shut ts name
 after (RaiseTo ctx value) ts = raised_if ts (name_at ts ctx) (missing_to ts ctx value)
 
 -- what a call leaves, that was accepted or refused
@@ -78,6 +81,7 @@ last_timelines old (step ∷ steps) = last_timelines step.left steps
 abbrev pub increments_of : Call → List Timeline → List Increment
 increments_of (Create name) ts = []
 increments_of (Inc name n) ts = increment name n ∷ []
+increments_of (Shut name) ts = []
 increments_of (RaiseTo ctx value) ts = increments_if (name_at ts ctx) (missing_to ts ctx value)
 
 abbrev pub accepted_increments : List Timeline → Step → List Increment

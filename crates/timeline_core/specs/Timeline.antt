@@ -1,22 +1,29 @@
 -- Named timelines, in order of making.
-use Rattle.std.specs.Prelude.{ℕ, ◌+◌, ◌-◌, ◌≤◌, Bool, if◌then◌else◌, List, ◌++◌, length, map, replicate, Option, option_map, unwrap_or, slice_get}
+use Rattle.std.specs.Prelude.{ℕ, ◌+◌, ◌-◌, ◌≤◌, Bool, ◌&&◌, if◌then◌else◌, List, ◌++◌, length, map, replicate, Option, option_map, unwrap_or, slice_get}
 use Rattle.std.specs.List.{position_from}
 use Rattle.point_core.specs.declared.context.TheConstants.{CONTEXTS}
-use Rattle.point_core.specs.Reach.{value_at}
+use Rattle.point_core.specs.declared.clocks.Clock.{Clock}
+use Rattle.point_core.specs.declared.timeline_row.TimelineRow.{TimelineRow}
+use Rattle.point_core.specs.Clocks.{clock_of, new_clock, closed_clock, clock_at, reach_of_clocks}
 use Rattle.point_core.specs.Named.{same_name, has_named, named, HasDistinctNames}
 
 -- a timeline as callers see it
 pub record Timeline : Type 0 where
   pub name : List ℕ
   pub value : ℕ
+  pub closed : Bool
 
--- the timeline with that name and value
-abbrev pub timeline_of : List ℕ → ℕ → Timeline
-timeline_of name value = record { name = name; value = value }
+-- the timeline with that name and clock
+abbrev pub timeline_of : List ℕ → Clock → Timeline
+timeline_of name clock = record { name = name; value = clock.value; closed = clock.closed }
+
+-- its value, and whether it is closed
+abbrev pub own_clock : Timeline → Clock
+own_clock t = clock_of t.value t.closed
 
 -- a timeline begins at 0
 abbrev pub new_timeline : List ℕ → Timeline
-new_timeline name = timeline_of name 0
+new_timeline name = timeline_of name new_clock
 
 -- whether the timeline has that name
 abbrev pub is_named : List ℕ → Timeline → Bool
@@ -26,9 +33,9 @@ is_named name t = same_name t.name name
 abbrev pub names_of : List Timeline → List (List ℕ)
 names_of ts = map (λ t. t.name) ts
 
--- the values, in order of making
-abbrev pub values_of : List Timeline → List ℕ
-values_of ts = map (λ t. t.value) ts
+-- the clocks, in order of making
+abbrev pub own_clocks : List Timeline → List Clock
+own_clocks ts = map own_clock ts
 
 -- whether there is a timeline of that name
 abbrev pub has_timeline : List Timeline → List ℕ → Bool
@@ -46,26 +53,49 @@ context_of ts name = unwrap_or (position_from (is_named name) 1 ts) 0
 abbrev pub name_at : List Timeline → ℕ → Option (List ℕ)
 name_at ts ctx = option_map (λ t. t.name) (slice_get ts (ctx - 1))
 
--- the value of each context, 0 where no timeline was made
-abbrev pub reach_of : List Timeline → List ℕ
-reach_of ts = values_of ts ++ replicate (CONTEXTS - length ts) 0
+-- the clock of each context, a new one where no timeline was made
+abbrev pub clocks_of : List Timeline → List Clock
+clocks_of ts = own_clocks ts ++ replicate (CONTEXTS - length ts) new_clock
 
--- The value that the reach has for the timeline of that name, of a name that there is. Clauses speak of it only where
--- `has_timeline` holds: of any other name, this would be the value of context 1.
+-- what each context has reached: its value, or the greatest one where its timeline is closed
+abbrev pub reach_of : List Timeline → List ℕ
+reach_of ts = reach_of_clocks (clocks_of ts)
+
+-- The clock of the timeline of that name, of a name that there is. Clauses speak of it only where `has_timeline` holds: of any
+-- other name, this would be the clock of context 1.
+abbrev pub clock_named : List Timeline → List ℕ → Clock
+clock_named ts name = clock_at (clocks_of ts) (context_of ts name)
+
+-- its value
 abbrev pub value_of : List Timeline → List ℕ → ℕ
-value_of ts name = value_at (reach_of ts) (context_of ts name)
+value_of ts name = (clock_named ts name).value
+
+-- there is a timeline of that name, and it is closed
+abbrev pub is_closed : List Timeline → List ℕ → Bool
+is_closed ts name = has_timeline ts name && (clock_named ts name).closed
 
 -- the timeline once n is added to its value
 abbrev pub raised_by : ℕ → Timeline → Timeline
-raised_by n t = timeline_of t.name (t.value + n)
+raised_by n t = timeline_of t.name (clock_of (t.value + n) t.closed)
 
 -- the timeline of that name rises by n, and no other changes
 abbrev pub raised : List Timeline → List ℕ → ℕ → List Timeline
 raised ts name n = map (λ t. if is_named name t then raised_by n t else t) ts
 
--- each name and its value, in order of making
-abbrev pub rows_of : List Timeline → List (List ℕ × ℕ)
-rows_of ts = map (λ t. (t.name, t.value)) ts
+-- a closed timeline keeps its name and its value
+abbrev pub closed_timeline : Timeline → Timeline
+closed_timeline t = timeline_of t.name (closed_clock (own_clock t))
+
+-- the timeline of that name is closed, and no other changes
+abbrev pub shut : List Timeline → List ℕ → List Timeline
+shut ts name = map (λ t. if is_named name t then closed_timeline t else t) ts
+
+abbrev pub row_of : Timeline → TimelineRow
+row_of t = record { name = t.name; value = t.value; closed = t.closed }
+
+-- a row for each, in order of making
+abbrev pub rows_of : List Timeline → List TimelineRow
+rows_of ts = map row_of ts
 
 -- names are distinct, and there are no more timelines than contexts
 pub record AreTimelines (ts : List Timeline) : Type 0 where

@@ -3,17 +3,18 @@ ghost use Rattle.std.specs.Prelude.{◌≡◌, List, ℕ, ◌+◌, ◌<◌, ◌�
 ghost use Rattle.point_core.specs.declared.context.TheConstants.{CONTEXTS};
 
 use indexmap::IndexSet;
-use point_core::{CONTEXTS, Context, LimitKind, Name, Point, Reach, Refusal};
+use point_core::{CONTEXTS, Clocks, Context, LimitKind, Name, Point, Reach, Refusal, TimelineRow};
 use std::alloc::Global;
 use std::marker::Model;
 
 /// Named timelines, as libsync's sw_sync has them: a timeline begins at 0, and an increment adds to its value.
 ///
-/// There are at most `CONTEXTS`; none is ever taken away. A value does not wrap, where the kernel's 32-bit one does.
+/// There are at most `CONTEXTS`; none is ever taken away, a closed one neither. A value does not wrap, where the kernel's
+/// 32-bit one does.
 #[derive(Debug, Drop)]
 pub struct Timelines {
     names: IndexSet<Name>,
-    reach: Reach,
+    clocks: Clocks,
 }
 
 impl Model for Timelines {
@@ -23,16 +24,18 @@ impl Model for Timelines {
 
     ghost Value = { List Timeline };
 
-    ghost view = { λ a. timelines_of a.names.keys a.reach };
+    ghost view = { λ a. timelines_of a.names.keys a.clocks };
 
-    ghost invariant = { λ a. AreStored a.names.keys a.reach };
+    ghost invariant = { λ a. AreStored a.names.keys a.clocks };
 }
 
 impl Timelines {
     ghost use Rattle.timeline_core.specs.Timeline.{timeline_of, new_timeline, has_timeline, timeline_at, context_of};
-    ghost use Rattle.timeline_core.specs.Timeline.{name_at, names_of, reach_of, value_of, raised, rows_of, AreTimelines};
-    ghost use Rattle.timeline_core.specs.Run.{Leaves, Create, Inc, RaiseTo};
-    ghost use Rattle.point_core.specs.Reach.{with_value, value_at, reaching, IsAtLeast};
+    ghost use Rattle.timeline_core.specs.Timeline.{name_at, names_of, clocks_of, reach_of, value_of, is_closed, raised, shut, rows_of, AreTimelines};
+    ghost use Rattle.timeline_core.specs.Run.{Leaves, Create, Inc, Shut, RaiseTo};
+    ghost use Rattle.point_core.specs.Reach.{GREATEST, with_value, reaching, IsAtLeast};
+    ghost use Rattle.point_core.specs.Clocks.{clock_of, clock_at};
+    ghost use Rattle.point_core.specs.Agreement.{point_of};
 
     /// No timelines. It takes no memory yet, so it is never refused.
     pub fn new(alloc: Global) -> Result<Timelines, Refusal>
@@ -40,7 +43,7 @@ impl Timelines {
     {
         Ok(Timelines {
             names: IndexSet::new(alloc),
-            reach: Reach::zero(),
+            clocks: Clocks::zero(),
         })
     }
 
@@ -53,7 +56,8 @@ impl Timelines {
         ensures added { OnOk result (self.new ≡ self.old ++ new_timeline name ∷ []) }
         ensures leaves { Leaves (Create name) (is_ok result) self.old self.new }
         ensures found { IfOk result (λ ctx. context_of self.new name ≡ ctx) }
-        ensures same_values { reach_of self.new ≡ reach_of self.old }
+        ensures same_clocks { clocks_of self.new ≡ clocks_of self.old }
+        ensures same_reach { reach_of self.new ≡ reach_of self.old }
 
         ensures exists { (result ≡ Err Refusal.Exists) ↔ IsTrue (has_timeline self.old name) }
         ensures limit { (result ≡ Err (Refusal.Limit LimitKind.Timelines)) ↔
@@ -75,8 +79,8 @@ impl Timelines {
 
     /// Adds n to the value of that timeline, as libsync's `sw_sync_timeline_inc` does, and answers the new value.
     ///
-    /// Refuses as `NoEntry`, and as `Overflow` where the value would pass the greatest u64; then nothing has changed.
-    /// Takes no memory.
+    /// Refuses as `NoEntry`, as `Cancelled` where the timeline is closed, and as `Overflow` where the value would pass the
+    /// greatest u64; then nothing has changed. Takes no memory.
     pub fn inc(&mut self, name: &Name, n: u64) -> Result<u64, Refusal>
         ensures value { IfOk result (λ v. v ≡ value_of self.old name.now + n) }
         ensures raised { OnOk result (self.new ≡ raised self.old name.now n) }
@@ -85,24 +89,57 @@ impl Timelines {
             with_value (reach_of self.old) (context_of self.old name.now) (value_of self.old name.now + n)) }
         ensures never_falls { IsAtLeast (reach_of self.new) (reach_of self.old) }
 
-        ensures accepted { IsOk result ↔ (IsTrue (has_timeline self.old name.now) × (value_of self.old name.now + n < 2 ^ 64)) }
+        ensures accepted { IsOk result ↔ (IsTrue (has_timeline self.old name.now)
+            × (is_closed self.old name.now ≡ false) × (value_of self.old name.now + n < 2 ^ 64)) }
         ensures missing { (result ≡ Err Refusal.NoEntry) ↔ (has_timeline self.old name.now ≡ false) }
-        ensures overflow { (result ≡ Err Refusal.Overflow) ↔
-            (IsTrue (has_timeline self.old name.now) × (2 ^ 64 ≤ value_of self.old name.now + n)) }
+        ensures cancelled { (result ≡ Err Refusal.Cancelled) ↔ IsTrue (is_closed self.old name.now) }
+        ensures overflow { (result ≡ Err Refusal.Overflow) ↔ (IsTrue (has_timeline self.old name.now)
+            × (is_closed self.old name.now ≡ false) × (2 ^ 64 ≤ value_of self.old name.now + n)) }
         ensures err { OnErr result (self.new ≡ self.old) }
     {
         let ctx = self.context(name).ok_or(Refusal::NoEntry)?;
-        let value = self.reach.get(ctx).checked_add(n).ok_or(Refusal::Overflow)?;
-        self.reach.raise_to(Point { ctx, value });
+        let clock = self.clocks.clock(ctx);
+        if clock.closed {
+            return Err(Refusal::Cancelled);
+        }
+        let value = clock.value.checked_add(n).ok_or(Refusal::Overflow)?;
+        self.clocks.raise_to(Point { ctx, value });
         Ok(value)
     }
 
-    /// Raises the value of the timeline of that context to the point, where it is not there yet: what `inc` does, once the
+    /// Closes that timeline, as the close of a sw_sync timeline's descriptor does, and answers its value, which stays. Its
+    /// pending points are cancelled: each point of it is reached from now on.
+    ///
+    /// Refuses as `NoEntry`, and as `Cancelled` where it is closed already; then nothing has changed. Takes no memory.
+    pub fn shut(&mut self, name: &Name) -> Result<u64, Refusal>
+        ensures value { IfOk result (λ v. v ≡ value_of self.old name.now) }
+        ensures shut { OnOk result (self.new ≡ shut self.old name.now) }
+        ensures leaves { Leaves (Shut name.now) (is_ok result) self.old self.new }
+        ensures reach { OnOk result (reach_of self.new ≡
+            reaching (reach_of self.old) (point_of (context_of self.old name.now) GREATEST)) }
+        ensures never_falls { IsAtLeast (reach_of self.new) (reach_of self.old) }
+
+        ensures accepted { IsOk result ↔ (IsTrue (has_timeline self.old name.now) × (is_closed self.old name.now ≡ false)) }
+        ensures missing { (result ≡ Err Refusal.NoEntry) ↔ (has_timeline self.old name.now ≡ false) }
+        ensures cancelled { (result ≡ Err Refusal.Cancelled) ↔ IsTrue (is_closed self.old name.now) }
+        ensures err { OnErr result (self.new ≡ self.old) }
+    {
+        let ctx = self.context(name).ok_or(Refusal::NoEntry)?;
+        let clock = self.clocks.clock(ctx);
+        if clock.closed {
+            return Err(Refusal::Cancelled);
+        }
+        self.clocks.close(ctx);
+        Ok(clock.value)
+    }
+
+    /// Raises the value of the open timeline of that context to the point, where it is not there yet: what `inc` does, once the
     /// name was looked up and the sum is known.
     ///
     /// Takes no memory.
     pub fn raise_to(&mut self, point: Point)
         requires made { point.ctx ≤ length self.old }
+        requires not_closed { (clock_at (clocks_of self.old) point.ctx).closed ≡ false }
         ensures leaves { Leaves (RaiseTo point.ctx point.value) true self.old self.new }
         ensures reach { reach_of self.new ≡ reaching (reach_of self.old) point }
         ensures names { names_of self.new ≡ names_of self.old }
@@ -110,20 +147,21 @@ impl Timelines {
             IsTrue (has_timeline self.old name) → context_of self.old name ≡ point.ctx →
             value_of self.old name + n ≡ point.value → self.new ≡ raised self.old name n }
     {
-        self.reach.raise_to(point);
+        self.clocks.raise_to(point);
     }
 
-    /// The value of that timeline.
+    /// The value of that timeline, which its closing leaves.
     ///
     /// Refuses as `NoEntry`. Takes no memory.
     pub fn value(&self, name: &Name) -> Result<u64, Refusal>
         ensures value { IfOk result (λ v. v ≡ value_of self.now name.now) }
-        ensures timeline { IfOk result (λ v. timeline_at self.now name.now ≡ Some (timeline_of name.now v)) }
+        ensures timeline { IfOk result (λ v. timeline_at self.now name.now ≡
+            Some (timeline_of name.now (clock_of v (is_closed self.now name.now)))) }
         ensures found { IsOk result ↔ IsTrue (has_timeline self.now name.now) }
         ensures missing { IfErr result (λ e. e ≡ Refusal.NoEntry) }
     {
         let ctx = self.context(name).ok_or(Refusal::NoEntry)?;
-        Ok(self.reach.get(ctx))
+        Ok(self.clocks.value(ctx))
     }
 
     /// The context of the timeline of that name.
@@ -147,14 +185,35 @@ impl Timelines {
         self.names.get_index(ctx.index()).copied()
     }
 
-    /// The value of each context, 0 where no timeline was made.
+    /// The value of each context, and which are closed; where no timeline was made, 0 and open.
+    ///
+    /// Takes no memory.
+    pub fn clocks(&self) -> Clocks
+        ensures value { result ≡ clocks_of self.now }
+        ensures timelines { AreTimelines self.now }
+    {
+        self.clocks
+    }
+
+    /// The same, where it lies.
+    ///
+    /// Takes no memory.
+    pub fn as_clocks(&self) -> &Clocks
+        ensures value { result.now ≡ clocks_of self.now }
+        ensures timelines { AreTimelines self.now }
+    {
+        &self.clocks
+    }
+
+    /// What each context has reached: its value, or the greatest one where its timeline is closed; 0 where no timeline was
+    /// made.
     ///
     /// Takes no memory.
     pub fn reach(&self) -> Reach
         ensures value { result ≡ reach_of self.now }
         ensures timelines { AreTimelines self.now }
     {
-        self.reach
+        self.clocks.reach()
     }
 
     /// The same, where it lies.
@@ -164,20 +223,25 @@ impl Timelines {
         ensures value { result.now ≡ reach_of self.now }
         ensures timelines { AreTimelines self.now }
     {
-        &self.reach
+        self.clocks.as_reach()
     }
 
-    /// The names and values, by context.
+    /// A row for each timeline, by context.
     ///
     /// Refuses as `Memory` alone.
-    pub fn rows(&self) -> Result<Vec<(Name, u64)>, Refusal>
+    pub fn rows(&self) -> Result<Vec<TimelineRow>, Refusal>
         ensures rows { IfOk result (λ rows. rows.items ≡ rows_of self.now) }
         ensures memory { IfErr result (λ e. e ≡ Refusal.Memory) }
     {
         let names = self.names.as_slice();
         let mut rows = Vec::with_capacity(*self.names.allocator(), names.len())?;
         for (index, name) in names.iter().enumerate() {
-            rows.push_reserved((*name, self.reach.get(Context::at(index))));
+            let clock = self.clocks.clock(Context::at(index));
+            rows.push_reserved(TimelineRow {
+                name: *name,
+                value: clock.value,
+                closed: clock.closed,
+            });
         }
         Ok(rows)
     }

@@ -1,0 +1,63 @@
+-- The clock of each context: its value, and whether it is closed.
+use Rattle.std.specs.Prelude.{◌≡◌, ℕ, ◌-◌, Bool, true, false, nat_le, max, if◌then◌else◌, ◌&&◌, not, List, length, map, get_or, set}
+use Rattle.std.specs.List.{list_any}
+use Rattle.point_core.specs.declared.context.TheConstants.{CONTEXTS}
+use Rattle.point_core.specs.declared.clocks.Clock.{Clock}
+use Rattle.point_core.specs.declared.entry.Point.{Point}
+use Rattle.point_core.specs.declared.status.Status.{Status}
+use Rattle.point_core.specs.declared.status.Status.TheVariants.{Active, Signalled, Cancelled}
+use Rattle.point_core.specs.Reach.{GREATEST}
+use Rattle.point_core.specs.Status.{status_if}
+
+abbrev pub clock_of : ℕ → Bool → Clock
+clock_of value closed = record { value = value; closed = closed }
+
+abbrev pub open_clock : ℕ → Clock
+open_clock value = clock_of value false
+
+-- a context begins at 0
+abbrev pub new_clock : Clock
+new_clock = open_clock 0
+
+-- the clock of a context that there can be; past them a new one
+abbrev pub clock_at : List Clock → ℕ → Clock
+clock_at clocks ctx = get_or clocks (ctx - 1) new_clock
+
+-- the clocks with that of such a context changed
+abbrev pub with_clock : List Clock → ℕ → Clock → List Clock
+with_clock clocks ctx clock = set clocks (ctx - 1) clock
+
+-- a closed context has no pending point: its reach is the greatest value
+abbrev pub reached_by : Clock → ℕ
+reached_by clock = if clock.closed then GREATEST else clock.value
+
+abbrev pub reach_of_clocks : List Clock → List ℕ
+reach_of_clocks clocks = map reached_by clocks
+
+-- the clock with its value raised, where it is lower
+abbrev pub raised_clock : Clock → ℕ → Clock
+raised_clock clock value = clock_of (max clock.value value) clock.closed
+
+-- a closed clock keeps its value
+abbrev pub closed_clock : Clock → Clock
+closed_clock clock = clock_of clock.value true
+
+-- the point lies past the value that its context had when it was closed
+abbrev pub is_cancelled : List Clock → Point → Bool
+is_cancelled clocks p = (clock_at clocks p.ctx).closed && not (nat_le p.value (clock_at clocks p.ctx).value)
+
+-- the status of what is signalled, or not, and in part cancelled
+abbrev pub status_of : Bool → Bool → Status
+status_of signalled cancelled = if signalled then (if cancelled then Cancelled else Signalled) else Active
+
+-- a point is cancelled where its context closed before its value was there
+abbrev pub status_at : List Clock → Point → Status
+status_at clocks p = status_of (nat_le p.value (reached_by (clock_at clocks p.ctx))) (is_cancelled clocks p)
+
+-- some point is cancelled
+abbrev pub some_cancelled : List Clock → List Point → Bool
+some_cancelled clocks ps = list_any (is_cancelled clocks) ps
+
+-- a clock for each context, and what they reach
+abbrev pub AreClocks : List Clock → List ℕ → Type 0
+AreClocks clocks reach = (length clocks ≡ CONTEXTS) × (reach ≡ reach_of_clocks clocks)
