@@ -1,12 +1,17 @@
 -- What clocks reach.
-use Rattle.std.proofs.Common.{◌≡◌, ◌≢◌, ℕ, ◌+◌, ◌-◌, ◌<◌, ◌≤◌, suc, max, refl, sym, ap, ◌∙◌, Bool, true, false, if◌then◌else◌, List, [], ◌∷◌, length, map, get_or, set, arith, get_or-set_same, get_or-set_other, inl, inr}
-use Rattle.std.proofs.lemmas.Bool.{cases_lt}
+use Rattle.std.proofs.Common.{◌≡◌, ◌≢◌, ◌↔◌, ℕ, ◌+◌, ◌-◌, ◌<◌, ◌≤◌, suc, max, refl, sym, ap, ◌∙◌, Bool, true, false, ◌&&◌, ◌||◌, nat_le, if◌then◌else◌, List, [], ◌∷◌, ◌++◌, length, take, map, get_or, set, arith, get_or-set_same, get_or-set_other, inl, inr}
+use Rattle.std.proofs.lemmas.Bool.{cases_lt, false≢true}
 use Rattle.std.proofs.Math.ListN.{get_or-map}
+use Rattle.std.proofs.Math.Seq.{take-suc}
 use Rattle.std.proofs.lemmas.List.{map-set}
 use Rattle.point_core.specs.declared.clocks.Clock.{Clock}
 use Rattle.point_core.specs.declared.entry.Point.{Point}
-use Rattle.point_core.specs.Reach.{GREATEST, value_at, with_value, reaching, shut_value}
-use Rattle.point_core.specs.Clocks.{clock_of, open_clock, new_clock, clock_at, reached_by, reach_of_clocks, raised_clock, closed_clock, with_clock}
+use Rattle.std.specs.List.{list_all, list_any}
+use Rattle.point_core.specs.declared.status.Status.{Status}
+use Rattle.point_core.specs.declared.status.Status.TheVariants.{Active}
+use Rattle.point_core.specs.Status.{status_with}
+use Rattle.point_core.specs.Reach.{is_reached, GREATEST, value_at, reaching, shut_value}
+use Rattle.point_core.specs.Clocks.{clock_of, open_clock, new_clock, status_of, status_at, is_cancelled, some_cancelled, common_status, clock_at, reached_by, reach_of_clocks, closed_clock}
 
 -- the value that the reach has for a context
 pub value_at-reach_of_clocks : (clocks : List Clock) (ctx : ℕ) → value_at (reach_of_clocks clocks) ctx ≡ reached_by (clock_at clocks ctx)
@@ -63,3 +68,61 @@ reach_of_clocks-open (v ∷ vs) = ap (λ us. v ∷ us) (reach_of_clocks-open vs)
 
 pub reach_of_clocks-opened : (clocks : List Clock) (values : List ℕ) → clocks ≡ map open_clock values → values ≡ reach_of_clocks clocks
 reach_of_clocks-opened clocks values is = sym (ap reach_of_clocks is ∙ reach_of_clocks-open values)
+
+status_with-of : (all some reached cancelled : Bool) → status_with (status_of all some) (status_of reached cancelled) ≡ status_of (all && reached) (some || cancelled)
+status_with-of false some reached cancelled = refl
+status_with-of true false false cancelled = refl
+status_with-of true false true false = refl
+status_with-of true false true true = refl
+status_with-of true true false cancelled = refl
+status_with-of true true true false = refl
+status_with-of true true true true = refl
+
+list_all-push : {X : Type 0} (test : X → Bool) (xs : List X) (x : X) → list_all test (xs ++ x ∷ []) ≡ (list_all test xs && test x)
+list_all-push test [] x = and_true (test x)
+  where
+    and_true : (b : Bool) → (b && true) ≡ b
+    and_true true = refl
+    and_true false = refl
+list_all-push test (y ∷ xs) x = ap (λ b. test y && b) (list_all-push test xs x) ∙ and_assoc (test y) (list_all test xs) (test x)
+  where
+    and_assoc : (a b c : Bool) → (a && (b && c)) ≡ ((a && b) && c)
+    and_assoc true b c = refl
+    and_assoc false b c = refl
+
+list_any-push : {X : Type 0} (test : X → Bool) (xs : List X) (x : X) → list_any test (xs ++ x ∷ []) ≡ (list_any test xs || test x)
+list_any-push test [] x = or_false (test x)
+  where
+    or_false : (b : Bool) → (b || false) ≡ b
+    or_false true = refl
+    or_false false = refl
+list_any-push test (y ∷ xs) x = ap (λ b. test y || b) (list_any-push test xs x) ∙ or_assoc (test y) (list_any test xs) (test x)
+  where
+    or_assoc : (a b c : Bool) → (a || (b || c)) ≡ ((a || b) || c)
+    or_assoc true b c = refl
+    or_assoc false b c = refl
+
+-- one point more
+pub common_status-push : (clocks : List Clock) (ps : List Point) (p : Point) → common_status clocks (ps ++ p ∷ []) ≡ status_with (common_status clocks ps) (status_at clocks p)
+common_status-push clocks ps p =
+    ap (λ b. status_of b (some_cancelled clocks (ps ++ p ∷ []))) (list_all-push (is_reached (reach_of_clocks clocks)) ps p)
+    ∙ ap (status_of (list_all (is_reached (reach_of_clocks clocks)) ps && is_reached (reach_of_clocks clocks) p)) (list_any-push (is_cancelled clocks) ps p)
+    ∙ ap (λ v. status_of (list_all (is_reached (reach_of_clocks clocks)) ps && nat_le p.value v) (some_cancelled clocks ps || is_cancelled clocks p)) (value_at-reach_of_clocks clocks p.ctx)
+    ∙ sym (status_with-of (list_all (is_reached (reach_of_clocks clocks)) ps) (some_cancelled clocks ps) (nat_le p.value (reached_by (clock_at clocks p.ctx))) (is_cancelled clocks p))
+
+-- the points up to the next place
+pub common_status-take_more : {next : Status} (clocks : List Clock) (ps : List Point) (i : ℕ) (p : Point) (status : Status) → i < length ps → p ≡ get_or ps i p → status ≡ common_status clocks (take i ps) → next ≡ status_at clocks p → status_with status next ≡ common_status clocks (take (i + 1) ps)
+common_status-take_more {next} clocks ps i p status low is before told =
+    let more : suc i ≡ i + 1 = omega arith in
+    ap (λ s. status_with s next) before
+    ∙ ap (status_with (common_status clocks (take i ps))) told
+    ∙ sym (common_status-push clocks (take i ps) p)
+    ∙ ap (λ q. common_status clocks (take i ps ++ q ∷ [])) is
+    ∙ ap (common_status clocks) (sym (take-suc ps i p low))
+    ∙ ap (λ n. common_status clocks (take n ps)) more
+
+-- what is not active is signalled, in part cancelled or not
+pub status_of-not_active : {P : Type 0} (signalled cancelled : Bool) → ((signalled ≡ true) ↔ P) → ((status_of signalled cancelled ≢ Active) ↔ P)
+status_of-not_active true true told = (λ _. told.0 refl, λ _ is. absurd (cc))
+status_of-not_active true false told = (λ _. told.0 refl, λ _ is. absurd (cc))
+status_of-not_active false cancelled told = (λ isnt. absurd (isnt refl), λ is _. false≢true (told.1 is))

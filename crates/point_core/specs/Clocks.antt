@@ -1,13 +1,12 @@
 -- The clock of each context: its value, and whether it is closed.
 use Rattle.std.specs.Prelude.{◌≡◌, ℕ, ◌-◌, Bool, true, false, nat_le, max, if◌then◌else◌, ◌&&◌, not, List, length, map, get_or, set}
-use Rattle.std.specs.List.{list_any}
+use Rattle.std.specs.List.{list_all, list_any}
 use Rattle.point_core.specs.declared.context.TheConstants.{CONTEXTS}
 use Rattle.point_core.specs.declared.clocks.Clock.{Clock}
 use Rattle.point_core.specs.declared.entry.Point.{Point}
 use Rattle.point_core.specs.declared.status.Status.{Status}
 use Rattle.point_core.specs.declared.status.Status.TheVariants.{Active, Signalled, Cancelled}
-use Rattle.point_core.specs.Reach.{GREATEST}
-use Rattle.point_core.specs.Status.{status_if}
+use Rattle.point_core.specs.Reach.{GREATEST, is_reached}
 
 abbrev pub clock_of : ℕ → Bool → Clock
 clock_of value closed = record { value = value; closed = closed }
@@ -57,6 +56,10 @@ status_at clocks p = status_of (nat_le p.value (reached_by (clock_at clocks p.ct
 -- some point is cancelled
 abbrev pub some_cancelled : List Clock → List Point → Bool
 some_cancelled clocks ps = list_any (is_cancelled clocks) ps
+
+-- the status of points together: active while one is, else cancelled where one is, else signalled
+abbrev pub common_status : List Clock → List Point → Status
+common_status clocks ps = status_of (list_all (is_reached (reach_of_clocks clocks)) ps) (some_cancelled clocks ps)
 
 -- a clock for each context, and what they reach
 abbrev pub AreClocks : List Clock → List ℕ → Type 0

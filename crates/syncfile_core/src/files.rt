@@ -5,14 +5,15 @@ ghost use Rattle.syncfile_core.specs.declared.files.TheConstants.{FILES};
 ghost use Rattle.syncfile_core.specs.SyncFile.{file_of, plain_file};
 ghost use Rattle.syncfile_core.specs.Merge.{files_at, merge_of, cause_to_refuse_merge, StandsForUnion};
 ghost use Rattle.point_core.specs.Agreement.{as_entry, HasRisingContexts};
-ghost use Rattle.syncfile_core.specs.Status.{status_of, info_of, TellsSetsOf};
+ghost use Rattle.point_core.specs.Clocks.{common_status};
+ghost use Rattle.syncfile_core.specs.Status.{info_of, TellsSetsOf};
 ghost use Rattle.syncfile_core.specs.Files.{has_file, file_at, without_file, names_of, HasDistinctNames, HasStanding, cause_to_refuse, IsRefusedFor};
 
 use crate::by_making::ByMaking;
 use crate::merge::{self, Gathered};
 use crate::status::{self, FileInfo};
 use crate::sync_file::SyncFile;
-use point_core::{Floor, Items, LimitKind, Listing, Name, Point, Reach, Refusal, Status};
+use point_core::{Clocks, Floor, Items, LimitKind, Listing, Name, Point, Reach, Refusal, Status};
 use std::alloc::Global;
 use std::marker::Model;
 
@@ -73,34 +74,35 @@ impl Files {
         }
     }
 
-    /// Whether each of the file's points is signalled. A file without points is.
+    /// The file's status: active while a point is, else cancelled where one is, else signalled. A file without points is
+    /// signalled.
     ///
     /// Refuses as `NoEntry`. Takes no memory.
-    pub fn status(&self, name: &Name, reach: &Reach) -> Result<Status, Refusal>
+    pub fn status(&self, name: &Name, clocks: &Clocks) -> Result<Status, Refusal>
         ensures status { MatchOption (file_at self.now name.now)
             (result ≡ Err NoEntry)
-            (λ f. result ≡ Ok (status_of f.points reach.now)) }
-        ensures stands { IfSome (file_at self.now name.now) (λ f. TellsSetsOf f reach.now) }
+            (λ f. result ≡ Ok (common_status clocks.now f.points)) }
+        ensures stands { IfSome (file_at self.now name.now) (λ f. TellsSetsOf f clocks.now) }
     {
         let file = self.known(name)?;
-        Ok(status::status_of(file.points.as_slice(), reach))
+        Ok(clocks.common_status(file.points.as_slice()))
     }
 
     /// The file's name, its status, and a fence for each of its points. A file without points is told as one fence,
     /// the stub, as the kernel does.
     ///
     /// Refuses as `NoEntry`, then as `Memory`.
-    pub fn info(&self, name: &Name, reach: &Reach) -> Result<FileInfo, Refusal>
+    pub fn info(&self, name: &Name, clocks: &Clocks) -> Result<FileInfo, Refusal>
         ensures info { MatchOption (file_at self.now name.now)
             (result ≡ Err NoEntry)
-            (λ f. MatchResult result (λ info. info ≡ info_of f reach.now) (λ e. e ≡ Memory)) }
+            (λ f. MatchResult result (λ info. info ≡ info_of f clocks.now) (λ e. e ≡ Memory)) }
     {
         let file = self.known(name)?;
         let points = file.points.as_slice();
-        let fences = status::fences_of(self.alloc, points, reach)?;
+        let fences = status::fences_of(self.alloc, points, clocks)?;
         Ok(FileInfo {
             name: file.name,
-            status: status::status_of(points, reach),
+            status: clocks.common_status(points),
             fences: Items::of(fences),
         })
     }

@@ -96,6 +96,7 @@ impl SyncFile {
         for _ in 0..tries {
             match self.poll(words, seat)? {
                 Status::Signalled => return Ok(()),
+                Status::Cancelled => return Ok(()),
                 Status::Active => {}
             }
         }

@@ -2,7 +2,7 @@
 ghost use Rattle.std.specs.Prelude.{◌≡◌, IfOk};
 ghost use Rattle.syncfile_core.specs.Status.{status_of, fence_of, fences_of, stub};
 
-use point_core::{Context, Items, Name, Point, Reach, Status, is_signalled};
+use point_core::{Clocks, Context, Items, Name, Point, Reach, Status, is_signalled};
 use std::alloc::{AllocError, Global};
 
 /// What is told of a file, as Linux's `struct sync_file_info`.
@@ -23,13 +23,13 @@ pub struct FenceInfo {
 }
 
 impl FenceInfo {
-    fn of(point: &Point, reach: &Reach) -> FenceInfo
-        ensures fence { result ≡ fence_of reach.now point.now }
+    fn of(point: &Point, clocks: &Clocks) -> FenceInfo
+        ensures fence { result ≡ fence_of clocks.now point.now }
     {
         FenceInfo {
             ctx: Some(point.ctx),
             point: point.value,
-            status: Status::of(is_signalled(*point, reach)),
+            status: clocks.status(*point),
         }
     }
 
@@ -44,7 +44,7 @@ impl FenceInfo {
     }
 }
 
-/// Signalled once each of the points is.
+/// Signalled once each of the points is, by a reach that knows no closed timeline.
 pub(crate) fn status_of(points: &[Point], reach: &Reach) -> Status
     ensures status { result ≡ status_of points.now reach.now }
 {
@@ -55,15 +55,15 @@ pub(crate) fn status_of(points: &[Point], reach: &Reach) -> Status
 pub(crate) fn fences_of(
     alloc: Global,
     points: &[Point],
-    reach: &Reach,
+    clocks: &Clocks,
 ) -> Result<Vec<FenceInfo>, AllocError>
-    ensures fences { IfOk result (λ fences. fences.items ≡ fences_of points.now reach.now) }
+    ensures fences { IfOk result (λ fences. fences.items ≡ fences_of points.now clocks.now) }
 {
     if points.is_empty() {
         return Vec::from_slice(alloc, &[FenceInfo::stub()]);
     }
     points
         .iter()
-        .map(|point| FenceInfo::of(point, reach))
+        .map(|point| FenceInfo::of(point, clocks))
         .collect(alloc)
 }

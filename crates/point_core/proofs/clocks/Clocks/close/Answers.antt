@@ -1,6 +1,5 @@
 use Rattle.std.proofs.Common.{◌∙◌, sym, ap}
 use Rattle.std.proofs.lemmas.List.{length-set}
-use Rattle.point_core.specs.Clocks.{new_clock, clock_of}
 use Rattle.point_core.specs.Reach.{shut_value}
 use Rattle.point_core.proofs.Ticking.{reach_of_clocks-shut}
 use Rattle.point_core.proofs.clocks.Clocks.close.Goals as goal

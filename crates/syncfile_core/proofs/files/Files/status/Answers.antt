@@ -5,4 +5,4 @@ use Rattle.syncfile_core.proofs.Reached.{TellsSetsOf-always}
 use Rattle.syncfile_core.proofs.files.Files.status.Goals as goal
 
 pub returns-clause-stands : goal.returns-clause-stands
-returns-clause-stands c = subst (λ o. IfSome o (λ f. TellsSetsOf f c.args.reach.now)) (sym c.in_ok-file.ensures.found) (TellsSetsOf-always c.in_ok-file.file.now c.args.reach.now)
+returns-clause-stands c = subst (λ o. IfSome o (λ f. TellsSetsOf f c.args.clocks.now)) (sym c.in_ok-file.ensures.found) (TellsSetsOf-always c.in_ok-file.file.now c.args.clocks.now)

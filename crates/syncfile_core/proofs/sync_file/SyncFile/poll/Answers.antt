@@ -7,7 +7,7 @@ use Rattle.words_core.proofs.Loads.{contexts-loaded, kept-loaded, HasLoadedAll-s
 use Rattle.syncfile_core.specs.SyncFile.{File}
 use Rattle.syncfile_core.specs.Status.{status_of}
 use Rattle.words_core.specs.Loads.{reach_seen}
-use Rattle.syncfile_core.proofs.Reached.{TellsSetsOf-always}
+use Rattle.syncfile_core.proofs.Reached.{status_of-stands}
 use Rattle.syncfile_core.proofs.Polling.{IsBorneOut-seen, IsBorneOut-found}
 use Rattle.syncfile_core.proofs.sync_file.SyncFile.poll.Goals as goal
 
@@ -36,7 +36,7 @@ returns-clause-stands c =
     let is : c.status_of.result ≡ status_of c.args.self.now.points (reach_seen c.load_all-reach.new.seat) = c.status_of.ensures.status ∙ ap (λ ps. status_of ps c.load_all-reach.result) points ∙ ap (status_of c.args.self.now.points) c.load_all-reach.ensures.loaded.found in
     λ set stands.
     subst (λ (s : Status). (s ≡ Signalled) ↔ IsReached set 0 (reach_seen c.load_all-reach.new.seat)) (sym is)
-    (TellsSetsOf-always c.args.self.now (reach_seen c.load_all-reach.new.seat) set stands out.floor)
+    (status_of-stands c.args.self.now (reach_seen c.load_all-reach.new.seat) set stands out.floor)
 
 pub returns-clause-loaded : goal.returns-clause-loaded
 returns-clause-loaded c = HasLoadedAll-seen c.load_all-reach.ensures.loaded
