@@ -9,7 +9,7 @@ use Rattle.point_core.specs.declared.entry.Point.{Point}
 use Rattle.std.specs.List.{list_all, list_any}
 use Rattle.point_core.specs.declared.status.Status.{Status}
 use Rattle.point_core.specs.declared.status.Status.TheVariants.{Active}
-use Rattle.point_core.specs.Status.{status_with}
+use Rattle.point_core.specs.Status.{is_signalled, status_with}
 use Rattle.point_core.specs.Reach.{is_reached, GREATEST, value_at, reaching, shut_value}
 use Rattle.point_core.specs.Clocks.{clock_of, open_clock, new_clock, status_of, status_at, is_cancelled, some_cancelled, common_status, clock_at, reached_by, reach_of_clocks, closed_clock}
 
@@ -126,3 +126,9 @@ pub status_of-not_active : {P : Type 0} (signalled cancelled : Bool) → ((signa
 status_of-not_active true true told = (λ _. told.0 refl, λ _ is. absurd (cc))
 status_of-not_active true false told = (λ _. told.0 refl, λ _ is. absurd (cc))
 status_of-not_active false cancelled told = (λ isnt. absurd (isnt refl), λ is _. false≢true (told.1 is))
+
+-- whatever is cancelled of it
+pub is_signalled-of : (signalled cancelled : Bool) → is_signalled (status_of signalled cancelled) ≡ signalled
+is_signalled-of true true = refl
+is_signalled-of true false = refl
+is_signalled-of false cancelled = refl

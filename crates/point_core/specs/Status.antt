@@ -1,5 +1,5 @@
 -- The numbers of a status.
-use Rattle.std.specs.Prelude.{ℤ, pos, negsuc, Bool, if◌then◌else◌}
+use Rattle.std.specs.Prelude.{ℤ, pos, negsuc, Bool, true, false, if◌then◌else◌}
 use Rattle.point_core.specs.declared.status.Status.{Status}
 use Rattle.point_core.specs.declared.status.Status.TheVariants.{Active, Signalled, Cancelled}
 
@@ -12,10 +12,16 @@ status_number Cancelled = negsuc 1
 abbrev pub status_if : Bool → Status
 status_if b = if b then Signalled else Active
 
--- what a wait for several points has come to: the later ones follow the first
+-- the status of two fences together
 abbrev pub status_with : Status → Status → Status
 status_with Active other = Active
 status_with Signalled other = other
 status_with Cancelled Active = Active
 status_with Cancelled Signalled = Cancelled
 status_with Cancelled Cancelled = Cancelled
+
+-- nothing is pending any more
+abbrev pub is_signalled : Status → Bool
+is_signalled Active = false
+is_signalled Signalled = true
+is_signalled Cancelled = true

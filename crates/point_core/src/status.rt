@@ -1,6 +1,6 @@
 // Whether a fence is signalled.
 ghost use Rattle.std.specs.Prelude.{◌≡◌};
-ghost use Rattle.point_core.specs.Status.{status_number, status_if, status_with};
+ghost use Rattle.point_core.specs.Status.{status_number, status_if, status_with, is_signalled};
 
 /// The status of a point or a sync file, as Linux's `dma_fence_get_status` gives it.
 #[derive(Clone, Copy, Debug, PartialEq, Eq, Hash)]
@@ -23,6 +23,16 @@ impl Status {
             Status::Signalled
         } else {
             Status::Active
+        }
+    }
+
+    /// Whether nothing is pending any more, as Linux's `dma_fence_is_signaled`: signalled or cancelled.
+    pub fn is_signalled(self) -> bool
+        ensures { result ≡ is_signalled self }
+    {
+        match self {
+            Status::Active => false,
+            Status::Signalled | Status::Cancelled => true,
         }
     }
 
