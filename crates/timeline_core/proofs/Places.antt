@@ -8,8 +8,9 @@ use Rattle.std.proofs.lemmas.List.{length-map}
 use Rattle.std.proofs.lemmas.Option.{none-some, same_Some}
 use Rattle.std.proofs.lemmas.Map.Keys.{IsDistinct-head, IsDistinct-tail}
 use Rattle.point_core.specs.declared.context.TheConstants.{CONTEXTS}
+use Rattle.point_core.specs.Clocks.{new_clock}
 use Rattle.point_core.specs.Named.{same_name, HasDistinctNames}
-use Rattle.timeline_core.specs.Timeline.{Timeline, timeline_of, is_named, names_of, values_of, has_timeline, timeline_at, context_of, reach_of, value_of}
+use Rattle.timeline_core.specs.Timeline.{Timeline, timeline_of, own_clock, is_named, names_of, own_clocks, has_timeline, timeline_at, context_of, clocks_of, clock_named}
 use Rattle.timeline_core.proofs.Lookups.{position_from-more}
 
 -- the first timeline of that name stands at the place
@@ -52,23 +53,23 @@ place_from-has_timeline (t ∷ ts) name i has =
 pub context_of-place : (ts : List Timeline) (name : List ℕ) (k : ℕ) → IsPlace ts name k → context_of ts name ≡ k + 1
 context_of-place ts name k place = ap (λ o. unwrap_or o 0) (position_from-more (is_named name) 0 ts ∙ ap (option_map (λ j. j + 1)) place)
 
-pub value_of-place : (ts : List Timeline) (name : List ℕ) (k : ℕ) → IsPlace ts name k → value_of ts name ≡ get_or (values_of ts) k 0
-value_of-place ts name k place =
+pub clock_named-place : (ts : List Timeline) (name : List ℕ) (k : ℕ) → IsPlace ts name k → clock_named ts name ≡ get_or (own_clocks ts) k new_clock
+clock_named-place ts name k place =
     let at : context_of ts name - 1 ≡ k = omega (arith, context_of-place ts name k place) in
-    let low : k < length (values_of ts) = rw length-map (place-within ts name k place) in
-    ap (λ j. get_or (reach_of ts) j 0) at ∙ get_or-append (values_of ts) (replicate (CONTEXTS - length ts) 0) 0 k low
+    let low : k < length (own_clocks ts) = rw length-map (place-within ts name k place) in
+    ap (λ j. get_or (clocks_of ts) j new_clock) at ∙ get_or-append (own_clocks ts) (replicate (CONTEXTS - length ts) new_clock) new_clock k low
 
-timeline_at-place : (ts : List Timeline) (name : List ℕ) (k : ℕ) → IsPlace ts name k → timeline_at ts name ≡ Some (timeline_of name (get_or (values_of ts) k 0))
+timeline_at-place : (ts : List Timeline) (name : List ℕ) (k : ℕ) → IsPlace ts name k → timeline_at ts name ≡ Some (timeline_of name (get_or (own_clocks ts) k new_clock))
 timeline_at-place ts name k place =
-    at_place name (λ us j. timeline_at us name ≡ Some (timeline_of name (get_or (values_of us) j 0)))
-    (λ t us is. ap (λ b. cond b (Some t) (timeline_at us name)) is ∙ ap (λ n. Some (timeline_of n t.value)) (same_text t.name name (sym is)))
+    at_place name (λ us j. timeline_at us name ≡ Some (timeline_of name (get_or (own_clocks us) j new_clock)))
+    (λ t us is. ap (λ b. cond b (Some t) (timeline_at us name)) is ∙ ap (λ n. Some (timeline_of n (own_clock t))) (same_text t.name name (sym is)))
     (λ t us j isnt after rest. ap (λ b. cond b (Some t) (timeline_at us name)) isnt ∙ rest) ts k place
 
--- the reach has the value of the timeline of that name
-pub timeline_at-value_of : (ts : List Timeline) (name : List ℕ) → has_timeline ts name ≡ true → timeline_at ts name ≡ Some (timeline_of name (value_of ts name))
-timeline_at-value_of ts name has =
+-- the clocks have that of the timeline of that name
+pub timeline_at-clock_named : (ts : List Timeline) (name : List ℕ) → has_timeline ts name ≡ true → timeline_at ts name ≡ Some (timeline_of name (clock_named ts name))
+timeline_at-clock_named ts name has =
     let k = place_from-has_timeline ts name 0 has in
-    timeline_at-place ts name k.0 k.1 ∙ ap (λ v. Some (timeline_of name v)) (sym (value_of-place ts name k.0 k.1))
+    timeline_at-place ts name k.0 k.1 ∙ ap (λ clock. Some (timeline_of name clock)) (sym (clock_named-place ts name k.0 k.1))
 
 -- a name that is apart from all
 apart-place : (ts : List Timeline) (name other : List ℕ) (k : ℕ) → IsPlace ts name k → AllByRecursion (λ m. same_name other m ≡ false) (names_of ts) → same_name other name ≡ false

@@ -6,10 +6,10 @@ use Rattle.std.proofs.lemmas.List.Sums.{sum_by-append}
 use Rattle.std.proofs.lemmas.List.Elements.{All-nil, All-cons, All-head, All-tail, All-push}
 use Rattle.point_core.specs.Named.{same_name}
 use Rattle.point_core.proofs.Named.{has_named-same_names, named-All}
-use Rattle.timeline_core.specs.Timeline.{Timeline, timeline_of, new_timeline, is_named, has_timeline, name_at, value_of, raised_by, raised}
-use Rattle.timeline_core.specs.Run.{Increment, increment, incremented, AreSums, Call, Create, Inc, RaiseTo, Leaves, Step, missing_to, increments_if, raised_if, IsRun, last_timelines, increments_of, accepted_increments, all_increments}
-use Rattle.timeline_core.proofs.Places.{timeline_at-value_of, has_timeline-name}
-use Rattle.timeline_core.proofs.Raising.{names_of-raised}
+use Rattle.timeline_core.specs.Timeline.{Timeline, timeline_of, new_timeline, is_named, has_timeline, name_at, clock_named, value_of, raised_by, closed_timeline, raised, shut}
+use Rattle.timeline_core.specs.Run.{Increment, increment, incremented, AreSums, Call, Create, Inc, Shut, RaiseTo, Leaves, Step, missing_to, increments_if, raised_if, IsRun, last_timelines, increments_of, accepted_increments, all_increments}
+use Rattle.timeline_core.proofs.Places.{timeline_at-clock_named, has_timeline-name}
+use Rattle.timeline_core.proofs.Raising.{names_of-raised, names_of-shut}
 
 -- values are sums, and where there is no timeline nothing was added
 record IsSummed (ts : List Timeline) (is : List Increment) : Type 0 where
@@ -68,6 +68,23 @@ IsSummed-raised ts name n is has before = record {
       ∙ (let none = before.none other before_absent in omega arith);
 }
 
+sums-closed_if : (b : Bool) (is : List Increment) (t : Timeline) → IsSum is t → IsSum is (if b then closed_timeline t else t)
+sums-closed_if true is t sum = sum
+sums-closed_if false is t sum = sum
+
+AreSums-shut : (ts : List Timeline) (name : List ℕ) (is : List Increment) → AreSums ts is → AreSums (shut ts name) is
+AreSums-shut [] name is sums = sums
+AreSums-shut (t ∷ ts) name is sums =
+    All-cons (IsSum is) (if is_named name t then closed_timeline t else t) (shut ts name)
+    (sums-closed_if (is_named name t) is t (All-head (IsSum is) t ts sums)) (AreSums-shut ts name is (All-tail (IsSum is) t ts sums))
+
+-- one timeline closes, and keeps its value
+IsSummed-shut : (ts : List Timeline) (name : List ℕ) (is : List Increment) → IsSummed ts is → IsSummed (shut ts name) is
+IsSummed-shut ts name is before = record {
+  kept = AreSums-shut ts name is before.kept;
+  none = λ other absent. before.none other (sym (has_named-same_names (λ (t : Timeline). t.name) (λ (t : Timeline). t.name) (shut ts name) ts other (names_of-shut ts name)) ∙ absent);
+}
+
 IsSummed-raised_if : (ts : List Timeline) (ctx n : ℕ) (is : List Increment) (name : Option (List ℕ)) → name_at ts ctx ≡ name → IsSummed ts is → IsSummed (raised_if ts name n) (is ++ increments_if name n)
 IsSummed-raised_if ts ctx n is None at before = subst (IsSummed ts) (sym (append-nil is)) before
 IsSummed-raised_if ts ctx n is (Some name) at before = IsSummed-raised ts name n is (has_timeline-name ts (ctx - 1) name at) before
@@ -79,6 +96,8 @@ IsSummed-Leaves (Create name) true old new is left before = subst (IsSummed new)
   none = λ other absent. before.none other (has_timeline-before old (new_timeline name) other absent);
 }))
 IsSummed-Leaves (Inc name n) true old new is left before = subst (λ ts. IsSummed ts (is ++ increment name n ∷ [])) (sym left.1) (IsSummed-raised old name n is left.0.0 before)
+IsSummed-Leaves (Shut name) true old new is left before =
+    subst (λ ts. IsSummed ts (is ++ [])) (sym left.1) (subst (IsSummed (shut old name)) (sym (append-nil is)) (IsSummed-shut old name is before))
 IsSummed-Leaves (RaiseTo ctx value) true old new is left before =
     let n = missing_to old ctx value in
     subst (λ ts. IsSummed ts (is ++ increments_if (name_at old ctx) n)) (sym left.1) (IsSummed-raised_if old ctx n is (name_at old ctx) refl before)
@@ -98,4 +117,4 @@ AreSums-run steps run = (IsSummed-all steps run).kept
 pub value_of-run : (steps : List Step) (name : List ℕ) → IsRun [] steps → has_timeline (last_timelines [] steps) name ≡ true → value_of (last_timelines [] steps) name ≡ incremented (all_increments [] steps) name
 value_of-run steps name run has =
     let ts = last_timelines [] steps in
-    named-All (λ (t : Timeline). t.name) (IsSum (all_increments [] steps)) ts name (timeline_of name (value_of ts name)) (AreSums-run steps run) (timeline_at-value_of ts name has)
+    named-All (λ (t : Timeline). t.name) (IsSum (all_increments [] steps)) ts name (timeline_of name (clock_named ts name)) (AreSums-run steps run) (timeline_at-clock_named ts name has)

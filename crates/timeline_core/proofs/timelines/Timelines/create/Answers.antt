@@ -3,9 +3,9 @@ use Rattle.std.specs.Prelude.{IfErr}
 use Rattle.std.proofs.lemmas.Result.{IfErr-at_err}
 use Rattle.point_core.specs.declared.refusal.Refusal.TheVariants.{Exists, Memory}
 use Rattle.point_core.specs.declared.context.TheConstants.{CONTEXTS}
-use Rattle.timeline_core.specs.Timeline.{has_timeline, new_timeline, context_of, names_of, reach_of, AreTimelines}
+use Rattle.timeline_core.specs.Timeline.{has_timeline, new_timeline, context_of, names_of, clocks_of, reach_of, AreTimelines}
 use Rattle.timeline_core.proofs.Lookups.{has_timeline-told, context_of-new}
-use Rattle.timeline_core.proofs.Storing.{names-seen, values-seen, AreTimelines-seen, AreTimelines-new, AreStored-made, timelines_of-stored, reach_of-new, length-stored, names-inserted, on_ok}
+use Rattle.timeline_core.proofs.Storing.{names-seen, clocks-seen, AreTimelines-seen, AreTimelines-new, AreStored-made, timelines_of-stored, clocks_of-new, reach_of-new, length-stored, names-inserted, on_ok}
 use Rattle.timeline_core.proofs.timelines.Timelines.create.Goals as goal
 
 absent : (c : goal.After-at) → has_timeline c.args.self.now c.args.name ≡ false
@@ -17,25 +17,28 @@ room c = omega (arith, length-stored c.args.self.now (names-seen c.self.invarian
 names_after : (c : goal.After-at) → c.insert.new.self.keys ≡ names_of (c.args.self.now ++ new_timeline c.args.name ∷ [])
 names_after c = names-inserted c.args.self.now c.args.name (names-seen c.self.invariant c.self.view_is) (absent c) (on_ok c.insert.result c.in_ok-map_err.ensures.variant c.insert.ensures.keys)
 
-reach_after : (c : goal.After-at) → c.self.inside.reach ≡ reach_of (c.args.self.now ++ new_timeline c.args.name ∷ [])
-reach_after c = values-seen c.self.invariant c.self.view_is ∙ sym (reach_of-new c.args.self.now c.args.name (room c))
+clocks_after : (c : goal.After-at) → c.self.inside.clocks ≡ clocks_of (c.args.self.now ++ new_timeline c.args.name ∷ [])
+clocks_after c = clocks-seen c.self.invariant c.self.view_is ∙ sym (clocks_of-new c.args.self.now c.args.name (room c))
 
 kept : (c : goal.After-at) → AreTimelines (c.args.self.now ++ new_timeline c.args.name ∷ [])
 kept c = AreTimelines-new c.args.self.now c.args.name (room c) (names_after c) c.insert.ensures.unique
 
 pub invariant_of-self-2 : goal.invariant_of-self-2
-invariant_of-self-2 c = AreStored-made _ (names_after c) (reach_after c) (kept c)
+invariant_of-self-2 c = AreStored-made _ (names_after c) (clocks_after c) (kept c)
 
 pub returns-clause-added : goal.returns-clause-added
-returns-clause-added c = timelines_of-stored _ (names_after c) (reach_after c)
+returns-clause-added c = timelines_of-stored _ (names_after c) (clocks_after c)
 
 pub returns-clause-found : goal.returns-clause-found
 returns-clause-found c =
     ap (λ ts. context_of ts c.args.name) (returns-clause-added c) ∙ context_of-new c.args.self.now c.args.name (absent c)
     ∙ sym (c.at.ensures ∙ ap (λ n. n + 1) (c.len-index.ensures.len ∙ length-stored c.args.self.now (names-seen c.self.invariant c.self.view_is)))
 
-pub returns-clause-same_values : goal.returns-clause-same_values
-returns-clause-same_values c = ap reach_of (returns-clause-added c) ∙ reach_of-new c.args.self.now c.args.name (room c)
+pub returns-clause-same_clocks : goal.returns-clause-same_clocks
+returns-clause-same_clocks c = ap clocks_of (returns-clause-added c) ∙ clocks_of-new c.args.self.now c.args.name (room c)
+
+pub returns-clause-same_reach : goal.returns-clause-same_reach
+returns-clause-same_reach c = ap reach_of (returns-clause-added c) ∙ reach_of-new c.args.self.now c.args.name (room c)
 
 pub returns-clause-exists : goal.returns-clause-exists
 returns-clause-exists c = (λ is. cc, λ has. absurd (true≢false (sym has ∙ absent c)))

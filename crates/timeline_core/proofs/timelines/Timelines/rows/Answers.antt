@@ -10,8 +10,8 @@ loop-index-preserved c =
     record {
       so_far =
           c.push_reserved.ensures.items
-          ∙ ap (λ rows. rows ++ (c.index-names-index.result, c.get.result) ∷ []) c.loop-index.invariant.so_far
-          ∙ rows_of-next (timelines_of stored.names.keys stored.reach) c.loop-index.index c.index-names-index.result names c.self.invariant.values_are c.loop-index-test.true c.index-names-index.is c.at.ensures c.get.ensures.value;
+          ∙ ap (λ rows. rows ++ record { name = c.index-names-index.result; value = c.clock-clock.result.value; closed = c.clock-clock.result.closed } ∷ []) c.loop-index.invariant.so_far
+          ∙ rows_of-next (timelines_of stored.names.keys stored.clocks) c.loop-index.index c.index-names-index.result c.clock-clock.result names c.self.invariant.clocks_are c.loop-index-test.true c.index-names-index.is c.at.ensures c.clock-clock.ensures.clock;
       len = omega arith;
       capacity = omega arith;
     }

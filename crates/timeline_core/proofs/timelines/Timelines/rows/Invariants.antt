@@ -5,7 +5,7 @@ use Rattle.timeline_core.proofs.timelines.Timelines.rows.Given as goal
 
 abbrev pub invariant-loop-index : goal.invariant-loop-index
 invariant-loop-index l = record {
-  so_far : l.rows.items ≡ rows_of (take l.index (timelines_of l.self-inside.names.keys l.self-inside.reach));
+  so_far : l.rows.items ≡ rows_of (take l.index (timelines_of l.self-inside.names.keys l.self-inside.clocks));
   len : vec_len l.rows ≡ l.index;
   capacity : vec_capacity l.rows ≡ length l.names;
 }
