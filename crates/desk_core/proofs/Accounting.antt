@@ -15,7 +15,7 @@ use Rattle.command_core.specs.declared.answer.Answer.{Answer}
 use Rattle.command_core.specs.declared.answer.Answer.TheVariants as answer
 use Rattle.fence_core.specs.Watch.{Watch, IsWatchOf, cookies_of as kept_cookies}
 use Rattle.timeline_core.specs.Timeline.{reach_of}
-use Rattle.desk_core.specs.World.{World, MadeFile, MadeWatch, empty_world, after, file_named, has_file, put_set, has_made_watch, watches_without, watch_made, is_due, raised_reach, fired_watches, left_watches, cookies_of}
+use Rattle.desk_core.specs.World.{World, MadeFile, MadeWatch, empty_world, after, file_named, has_file, put_set, has_made_watch, watches_without, watch_made, is_due, raised_reach, shut_reach, other_watches, fired_watches, shut_watches, cookies_of}
 use Rattle.desk_core.specs.Answer.{first_of, causes, told, info_told, answer_to, refused_or, is_refused, is_full, is_signalled, number_if}
 use Rattle.desk_core.specs.History.{world_from, world_of, AreAccepted, IsHistory, IsAnswer, history_after, history_of, AreAnswers}
 use Rattle.desk_core.specs.Desk.{DeskState, HasHistory}
@@ -130,7 +130,12 @@ Accounts-told : (cookie : ℕ) (w : World) (c : Command) → pending cookie w.wa
 Accounts-told cookie w (command.Inc t n) low =
     let parts = sum_by-filter_both (is_due (raised_reach w t n)) (λ x. not (is_due (raised_reach w t n) x)) (λ x. refl) (one_of cookie) w.watches in
     let fired = times-cookies cookie (fired_watches w t n) in
-    let whole : 0 + pending cookie w.watches ≡ times cookie (cookies_of (fired_watches w t n)) + 0 + pending cookie (left_watches w t n) = omega (arith, parts, fired) in
+    let whole : 0 + pending cookie w.watches ≡ times cookie (cookies_of (fired_watches w t n)) + 0 + pending cookie (other_watches w (raised_reach w t n)) = omega (arith, parts, fired) in
+    whole
+Accounts-told cookie w (command.Shut t) low =
+    let parts = sum_by-filter_both (is_due (shut_reach w t)) (λ x. not (is_due (shut_reach w t) x)) (λ x. refl) (one_of cookie) w.watches in
+    let fired = times-cookies cookie (shut_watches w t) in
+    let whole : 0 + pending cookie w.watches ≡ times cookie (cookies_of (shut_watches w t)) + 0 + pending cookie (other_watches w (shut_reach w t)) = omega (arith, parts, fired) in
     whole
 Accounts-told cookie w (command.Watch f other) low =
     let x : MadeWatch = watch_made other (put_set w.files f) w.watches_made in
@@ -177,6 +182,9 @@ once_by cookie other ws false all is none low sum = let whole : all ≡ pending 
 once-after : (cookie : ℕ) (w : World) (c : Command) → is_refused (answer_to w c) ≡ false → pending cookie w.watches ≤ 1 → pending cookie (after w c).watches ≤ 1
 once-after cookie w (command.Inc t n) accepted low =
     let left = pending-filter cookie (λ x. not (is_due (raised_reach w t n) x)) w.watches in
+    omega (arith, left, low)
+once-after cookie w (command.Shut t) accepted low =
+    let left = pending-filter cookie (λ x. not (is_due (shut_reach w t) x)) w.watches in
     omega (arith, left, low)
 once-after cookie w (command.Unwatch other) accepted low =
     let left = pending-filter cookie (λ (x : MadeWatch). not (nat_eq x.cookie other)) w.watches in

@@ -32,6 +32,7 @@ pub is_refused-told : (w : World) (c : Command) → is_refused (told w c) ≡ fa
 is_refused-told w (command.Timeline t) = refl
 is_refused-told w (command.Inc t n) = refl
 is_refused-told w (command.Value t) = refl
+is_refused-told w (command.Shut t) = refl
 is_refused-told w (command.Fence f t p) = refl
 is_refused-told w (command.Merge f a b) = refl
 is_refused-told w (command.Close f) = refl
@@ -57,25 +58,26 @@ AreAccepted-push w [] c accepted is = (is, tt)
 AreAccepted-push w (d ∷ history) c accepted is = (accepted.0, AreAccepted-push (after w d) history c accepted.1 is)
 
 -- a command takes memory for the desk exactly where it does in the world
-takes_memory-holds : {desk : DeskState} {world : World} → Holds desk world → (c : Command) → takes_memory (fires_kept desk) c ≡ takes_memory (fires_some world) c
-takes_memory-holds h (command.Inc t n) = fires_kept-holds h t n
-takes_memory-holds h (command.Timeline t) = refl
-takes_memory-holds h (command.Value t) = refl
-takes_memory-holds h (command.Fence f t p) = refl
-takes_memory-holds h (command.Merge f a b) = refl
-takes_memory-holds h (command.Close f) = refl
-takes_memory-holds h (command.Wait f) = refl
-takes_memory-holds h (command.Info f) = refl
-takes_memory-holds h (command.Buffer b) = refl
-takes_memory-holds h (command.Add b t p u) = refl
-takes_memory-holds h (command.Import b f flags) = refl
-takes_memory-holds h (command.Export f b flags) = refl
-takes_memory-holds h (command.Test b u) = refl
-takes_memory-holds h (command.Trim b) = refl
-takes_memory-holds h (command.Show b) = refl
-takes_memory-holds h command.Report = refl
-takes_memory-holds h (command.Watch f cookie) = refl
-takes_memory-holds h (command.Unwatch cookie) = refl
+takes_memory-holds : {desk : DeskState} {world : World} → Keeps desk world → (c : Command) → takes_memory (fires_kept desk) c ≡ takes_memory (fires_some world) c
+takes_memory-holds k (command.Inc t n) = fires_kept-holds k (command.Inc t n)
+takes_memory-holds k (command.Shut t) = fires_kept-holds k (command.Shut t)
+takes_memory-holds k (command.Timeline t) = refl
+takes_memory-holds k (command.Value t) = refl
+takes_memory-holds k (command.Fence f t p) = refl
+takes_memory-holds k (command.Merge f a b) = refl
+takes_memory-holds k (command.Close f) = refl
+takes_memory-holds k (command.Wait f) = refl
+takes_memory-holds k (command.Info f) = refl
+takes_memory-holds k (command.Buffer b) = refl
+takes_memory-holds k (command.Add b t p u) = refl
+takes_memory-holds k (command.Import b f flags) = refl
+takes_memory-holds k (command.Export f b flags) = refl
+takes_memory-holds k (command.Test b u) = refl
+takes_memory-holds k (command.Trim b) = refl
+takes_memory-holds k (command.Show b) = refl
+takes_memory-holds k command.Report = refl
+takes_memory-holds k (command.Watch f cookie) = refl
+takes_memory-holds k (command.Unwatch cookie) = refl
 
 answered : (old new : DeskState) (c : Command) (r : Result Answer Refusal) (cause : Option Refusal) (history : List Command) → IsRefusedFor cause r → (takes_memory (fires_kept old) c ≡ false → IfErr r (λ e. e ≢ Memory)) → IfOk r (λ a. IsDone old c a new) → Keeps old (world_of history) → first_of (causes (world_of history) c) ≡ cause → IsAnswer history c (answer_of r)
 answered old new c (Ok a) (Some e) history refused sure done keeps is = absurd (cc)
@@ -86,7 +88,7 @@ answered old new c (Err e') (Some e) history refused sure done keeps is =
 answered old new c (Err e) None history refused sure done keeps is =
     elim (cases_Bool (takes_memory (fires_kept old) c)) [
       | inl takes ↦ record {
-        told = inr (ap answer.Refused refused, sym (takes_memory-holds keeps.holds c) ∙ takes, ap (λ o. is_refused (refused_or o (told (world_of history) c))) is ∙ is_refused-told (world_of history) c);
+        told = inr (ap answer.Refused refused, sym (takes_memory-holds keeps c) ∙ takes, ap (λ o. is_refused (refused_or o (told (world_of history) c))) is ∙ is_refused-told (world_of history) c);
       }
       | inr takes_none ↦ absurd (sure takes_none refused)
     ]

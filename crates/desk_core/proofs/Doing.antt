@@ -4,7 +4,8 @@ use Rattle.std.specs.Prelude.{if◌then◌else◌, ◌↔◌, IsTrue}
 use Rattle.std.proofs.lemmas.List.Elements.{All-nil, All-push, All-append, All-contains, All-map}
 use Rattle.point_core.specs.declared.entry.Point.{Point}
 use Rattle.point_core.specs.declared.entry.Entry.{Entry}
-use Rattle.point_core.specs.Status.{status_if}
+use Rattle.point_core.specs.declared.status.Status.{Status}
+use Rattle.point_core.specs.Clocks.{status_of, some_cancelled}
 use Rattle.point_core.specs.Agreement.{as_entry, as_entries, point_of, listing, pending, top, all_reached, AgreesAbove, IsReached}
 use Rattle.point_core.specs.Reach.{value_at}
 use Rattle.point_core.proofs.Agreement.{listing-All, top-Some, AgreesAbove-same}
@@ -12,7 +13,7 @@ use Rattle.command_core.specs.declared.command.Command.TheVariants as command
 use Rattle.command_core.specs.declared.answer.Answer.TheVariants as answer
 use Rattle.command_core.specs.declared.answer.Info.{Info}
 use Rattle.command_core.specs.declared.answer.FenceRow.{FenceRow}
-use Rattle.timeline_core.specs.Timeline.{Timeline, new_timeline, context_of, reach_of, value_of, raised}
+use Rattle.timeline_core.specs.Timeline.{Timeline, new_timeline, context_of, clocks_of, reach_of, value_of, raised, shut}
 use Rattle.syncfile_core.specs.SyncFile.{File, plain_file, file_of}
 use Rattle.syncfile_core.specs.Files.{file_at as sync_file_at, without_file}
 use Rattle.syncfile_core.specs.Merge.{merge_of}
@@ -21,11 +22,11 @@ use Rattle.desk_core.specs.Answer.{listed_points, fence_row, or_stub, info_told,
 use Rattle.desk_core.specs.Desk.{DeskState}
 use Rattle.desk_core.specs.Keeping.{points_at, Keeps, IsDone, AreMade, HaveTimelines, info_at}
 use Rattle.desk_core.proofs.Keeping.{points_of-files_at, sync_file_at-points, sync_file_at-All, AgreesAbove-keeps}
-use Rattle.desk_core.proofs.Signalling.{all_reached-keeps, IsReached-table}
-use Rattle.desk_core.proofs.Stepping.{Holds-timeline, Holds-raised, Holds-fence, Holds-close, Holds-merge, Holds-buffer, Holds-put, Holds-export, Holds-trim, Holds-watch, Holds-unwatch}
+use Rattle.desk_core.proofs.Signalling.{all_reached-keeps, IsReached-table, common_status-told}
+use Rattle.desk_core.proofs.Stepping.{Holds-timeline, Holds-raised, Holds-shut, Holds-fence, Holds-close, Holds-merge, Holds-buffer, Holds-put, Holds-export, Holds-trim, Holds-watch, Holds-unwatch}
 use Rattle.fence_core.specs.Watch.{Registry}
 use Rattle.fence_core.specs.Watches.{has_watch, fired_by, after_rise_to, with_watch, without_watch}
-use Rattle.desk_core.proofs.Watching.{fired-holds, has_watch-holds}
+use Rattle.desk_core.proofs.Watching.{fired-holds, fired-shut, has_watch-holds}
 use mir.Val.{bool_byte}
 use Rattle.std.proofs.lemmas.Bool.{false≢true}
 use Rattle.point_core.specs.declared.context.TheConstants.{CONTEXTS}
@@ -54,6 +55,15 @@ IsDone-inc desk name n timelines value reach fired watches risen is at told left
       ap (λ v. answer.Raised v fired) (is ∙ ap (λ ts. value_of ts name + n) k.holds.timelines)
       ∙ ap (answer.Raised (value_of world.timelines name + n)) (told ∙ ap (fired_by desk.watches) at ∙ fired-holds k.holds name n);
   held = λ world k. rw (risen, left, at) (Holds-raised k.holds name n);
+}
+
+pub IsDone-shut : (desk : DeskState) (name : List ℕ) (timelines : List Timeline) (value : ℕ) (reach : List ℕ) (fired : List ℕ) (watches : Registry) → timelines ≡ shut desk.timelines name → value ≡ value_of desk.timelines name → reach ≡ reach_of (shut desk.timelines name) → fired ≡ fired_by desk.watches reach → watches ≡ after_rise_to desk.watches reach → IsDone desk (command.Shut name) (answer.Raised value fired) (record { timelines = timelines; files = desk.files; buffers = desk.buffers; watches = watches })
+IsDone-shut desk name timelines value reach fired watches closed is at told left = record {
+  accepted = refl;
+  told = λ world k.
+      ap (λ v. answer.Raised v fired) (is ∙ ap (λ ts. value_of ts name) k.holds.timelines)
+      ∙ ap (answer.Raised (value_of world.timelines name)) (told ∙ ap (fired_by desk.watches) at ∙ fired-shut k name);
+  held = λ world k. rw (closed, left, at) (Holds-shut k name);
 }
 
 pub IsDone-value : (desk : DeskState) (name : List ℕ) (value : ℕ) → value ≡ value_of desk.timelines name → IsDone desk (command.Value name) (answer.Value value) desk
@@ -167,8 +177,8 @@ IsDone-unwatch desk cookie removed watches is without = record {
 
 -- what is told of a file
 
-abbrev info_with : List ℕ → Bool → List FenceRow → Info
-info_with name signalled rows = record { name = name; status = status_if signalled; fences = rows }
+abbrev info_with : List ℕ → Status → List FenceRow → Info
+info_with name status rows = record { name = name; status = status; fences = rows }
 
 info-found : {desk : DeskState} {world : World} → Keeps desk world → (name : List ℕ) (f : File) (o : Option MadeFile) → file_named world.files name ≡ o → sync_file_at desk.files name ≡ Some f → answer.Info (info_at desk.timelines name f.points) ≡ info_told world name o
 info-found {desk} {world} k name f None missing is =
@@ -184,8 +194,8 @@ info-found {desk} {world} k name f (Some g) found is =
     let reached = ap (λ ps. all_reached (reach_of world.timelines) 0 (as_entries ps)) (sym listed) ∙ all_reached-keeps k name ∙ ap (all_reached (reach_of world.timelines) 0) put in
     ap answer.Info (
     ap (λ ts. info_at ts name f.points) k.holds.timelines
-    ∙ ap (λ b. info_with name b (or_stub (map (fence_row world.timelines) f.points))) reached
-    ∙ ap (λ ps. info_with name (all_reached (reach_of world.timelines) 0 g.put) (or_stub (map (fence_row world.timelines) ps))) same
+    ∙ ap (λ s. info_with name s (or_stub (map (fence_row world.timelines) f.points))) (common_status-told (clocks_of world.timelines) f.points g.put reached)
+    ∙ ap (λ ps. info_with name (status_of (all_reached (reach_of world.timelines) 0 g.put) (some_cancelled (clocks_of world.timelines) ps)) (or_stub (map (fence_row world.timelines) ps))) same
     )
 
 pub IsDone-info : (desk : DeskState) (name : List ℕ) (f : File) (info : Info) → sync_file_at desk.files name ≡ Some f → info ≡ info_at desk.timelines name f.points → IsDone desk (command.Info name) (answer.Info info) desk

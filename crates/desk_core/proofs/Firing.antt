@@ -6,10 +6,10 @@ use Rattle.std.proofs.lemmas.List.Sums.{sum_by-append}
 use Rattle.std.proofs.lemmas.List.Filters.{sum_by-filter_both}
 use Rattle.point_core.specs.Agreement.{IsReached}
 use Rattle.point_core.proofs.Reached.{all_reached-IsReached}
-use Rattle.timeline_core.specs.Timeline.{has_timeline, value_of}
+use Rattle.timeline_core.specs.Timeline.{has_timeline, value_of, is_closed}
 use Rattle.command_core.specs.declared.command.Command.{Command}
 use Rattle.command_core.specs.declared.command.Command.TheVariants as command
-use Rattle.desk_core.specs.World.{World, MadeWatch, empty_world, put_set, after, is_due, raised_reach, fired_watches, left_watches, watch_made}
+use Rattle.desk_core.specs.World.{World, MadeWatch, empty_world, put_set, after, is_due, raised_reach, shut_reach, due_watches, other_watches, fired_watches, shut_watches, watch_made}
 use Rattle.std.proofs.Common.{◌^◌}
 use Rattle.timeline_core.specs.Timeline.{reach_of}
 use Rattle.fence_core.proofs.Once.{Contains-filter, Contains-filtered}
@@ -18,7 +18,7 @@ use Rattle.desk_core.specs.Headline.{TellsWhatFires, put_into_file}
 use Rattle.desk_core.specs.History.{world_of}
 use Rattle.desk_core.specs.World.{cookies_of}
 use Rattle.desk_core.proofs.Answering.{world_from-push}
-use Rattle.desk_core.proofs.Sums.{told_raised}
+use Rattle.desk_core.proofs.Sums.{told_raised, told_closed}
 use Rattle.desk_core.specs.Fired.{fired_from, fired_along, pending_after, IsLeftBy}
 use Rattle.std.proofs.lemmas.Bool.{ne_eqb}
 use Rattle.std.proofs.lemmas.List.Elements.{Contains-append_left}
@@ -41,8 +41,8 @@ times-numbers number (x ∷ xs) =
     let there = sum_by-append (λ (y : MadeWatch). cond (nat_eq number y.number) 1 0) (x ∷ []) xs in
     omega (arith, here, there, times-numbers number xs)
 
-times-parts : (number : ℕ) (w : World) (t : List ℕ) (n : ℕ) → times_pending number (fired_watches w t n) + times_pending number (left_watches w t n) ≡ times_pending number w.watches
-times-parts number w t n = sum_by-filter_both (is_due (raised_reach w t n)) (λ x. not (is_due (raised_reach w t n) x)) (λ x. refl) (λ (x : MadeWatch). cond (nat_eq number x.number) 1 0) w.watches
+times-parts : (number : ℕ) (w : World) (reach : List ℕ) → times_pending number (due_watches w reach) + times_pending number (other_watches w reach) ≡ times_pending number w.watches
+times-parts number w reach = sum_by-filter_both (is_due reach) (λ x. not (is_due reach x)) (λ x. refl) (λ (x : MadeWatch). cond (nat_eq number x.number) 1 0) w.watches
 
 times-filter : (number : ℕ) (p : MadeWatch → Bool) (xs : List MadeWatch) → times_pending number (filter p xs) ≤ times_pending number xs
 times-filter number p xs =
@@ -67,7 +67,12 @@ Fired-from number w (command.Inc t n ∷ cs) =
     let rest = Fired-from number (after w (command.Inc t n)) cs in
     let here = times-numbers number (fired_watches w t n) in
     let both = sum_by-append (λ (k : ℕ). cond (nat_eq number k) 1 0) (numbers_of (fired_watches w t n)) (fired_from (after w (command.Inc t n)) cs) in
-    omega (arith, rest, here, both, times-parts number w t n)
+    omega (arith, rest, here, both, times-parts number w (raised_reach w t n))
+Fired-from number w (command.Shut t ∷ cs) =
+    let rest = Fired-from number (after w (command.Shut t)) cs in
+    let here = times-numbers number (shut_watches w t) in
+    let both = sum_by-append (λ (k : ℕ). cond (nat_eq number k) 1 0) (numbers_of (shut_watches w t)) (fired_from (after w (command.Shut t)) cs) in
+    omega (arith, rest, here, both, times-parts number w (shut_reach w t))
 Fired-from number w (command.Timeline t ∷ cs) = Fired-from number (after w (command.Timeline t)) cs
 Fired-from number w (command.Value t ∷ cs) = Fired-from number w cs
 Fired-from number w (command.Fence f t p ∷ cs) = Fired-from number (after w (command.Fence f t p)) cs
@@ -99,13 +104,13 @@ at_most_one false = omega arith
 pub fired_along-once : (number : ℕ) (history : List Command) → count_by (nat_eq number) (fired_along history) ≤ 1
 fired_along-once number history = omega (arith, Fired-from number empty_world history, at_most_one (nat_le 0 number))
 
--- what an increment fires
+-- what an increment or a closing fires
 
-pub Contains-fired : (w : World) (t : List ℕ) (n : ℕ) (x : MadeWatch) → Contains (fired_watches w t n) x ↔ (Contains w.watches x × IsReached x.put 0 (raised_reach w t n))
-Contains-fired w t n x =
-    let told = all_reached-IsReached (raised_reach w t n) 0 x.put in (
-      λ fired. let both = Contains-filtered (is_due (raised_reach w t n)) w.watches x fired in (both.0, told.0 both.1),
-      λ due. Contains-filter (is_due (raised_reach w t n)) w.watches x due.0 (told.1 due.1),
+pub Contains-due : (w : World) (reach : List ℕ) (x : MadeWatch) → Contains (due_watches w reach) x ↔ (Contains w.watches x × IsReached x.put 0 reach)
+Contains-due w reach x =
+    let told = all_reached-IsReached reach 0 x.put in (
+      λ fired. let both = Contains-filtered (is_due reach) w.watches x fired in (both.0, told.0 both.1),
+      λ due. Contains-filter (is_due reach) w.watches x due.0 (told.1 due.1),
     )
 
 pub TellsWhatFires-stands : (desk : DeskState) (history : List Command) → HasHistory desk history → TellsWhatFires desk history
@@ -113,12 +118,19 @@ TellsWhatFires-stands desk history stands =
     let world : World = world_of history in
     record {
       told = λ name n value fired given. elim ((given history stands).told) [
-        | inl is ↦ (told_raised (has_timeline world.timelines name) (nat_le (2 ^ 64) (value_of world.timelines name + n)) value (value_of world.timelines name + n) fired (cookies_of (fired_watches world name n)) is).2
+        | inl is ↦ (told_raised (has_timeline world.timelines name) (is_closed world.timelines name) (nat_le (2 ^ 64) (value_of world.timelines name + n)) value (value_of world.timelines name + n) fired (cookies_of (fired_watches world name n)) is).2
         | inr none ↦ absurd (cc (none.0))
       ];
       due = λ name n x.
           let P : World → Type 0 = λ w. Contains (fired_watches world name n) x ↔ (Contains world.watches x × IsReached x.put 0 (reach_of w.timelines)) in
-          subst P (sym (world_from-push empty_world history (command.Inc name n))) (Contains-fired world name n x);
+          subst P (sym (world_from-push empty_world history (command.Inc name n))) (Contains-due world (raised_reach world name n) x);
+      told_shut = λ name value fired given. elim ((given history stands).told) [
+        | inl is ↦ (told_closed (has_timeline world.timelines name) (is_closed world.timelines name) value (value_of world.timelines name) fired (cookies_of (shut_watches world name)) is).2
+        | inr none ↦ absurd (cc (none.0))
+      ];
+      due_shut = λ name x.
+          let P : World → Type 0 = λ w. Contains (shut_watches world name) x ↔ (Contains world.watches x × IsReached x.put 0 (reach_of w.timelines)) in
+          subst P (sym (world_from-push empty_world history (command.Shut name))) (Contains-due world (shut_reach world name) x);
       once = λ number. fired_along-once number history;
     }
 
@@ -126,6 +138,7 @@ TellsWhatFires-stands desk history stands =
 
 Contains-after : (w : World) (x : MadeWatch) (c : Command) → Contains w.watches x → IsLeftBy w x c → Contains (after w c).watches x
 Contains-after w x (command.Inc t n) h left = Contains-filter (λ (y : MadeWatch). not (is_due (raised_reach w t n) y)) w.watches x h (ap not left)
+Contains-after w x (command.Shut t) h left = Contains-filter (λ (y : MadeWatch). not (is_due (shut_reach w t) y)) w.watches x h (ap not left)
 Contains-after w x (command.Unwatch cookie) h left = Contains-filter (λ (y : MadeWatch). not (nat_eq y.cookie cookie)) w.watches x h (ap not (ne_eqb x.cookie cookie left))
 Contains-after w x (command.Watch f cookie) h left = Contains-append_left w.watches (watch_made cookie (put_set w.files f) w.watches_made ∷ []) x h
 Contains-after w x (command.Timeline t) h left = h

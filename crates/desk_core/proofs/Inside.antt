@@ -10,7 +10,7 @@ use Rattle.point_core.proofs.Values.{IsAtLeast-refl}
 use Rattle.resv_core.specs.Resv.{empty, entry_of}
 use Rattle.dmabuf_core.specs.Buffers.{Buffer, OnlyChanges, entries_of}
 use Rattle.dmabuf_core.specs.Flags.{imported, import_usage, with_usage}
-use Rattle.timeline_core.specs.Timeline.{Timeline, new_timeline, reach_of, raised}
+use Rattle.timeline_core.specs.Timeline.{Timeline, new_timeline, reach_of, raised, shut}
 use Rattle.syncfile_core.specs.SyncFile.{File, file_of, plain_file}
 use Rattle.syncfile_core.specs.Files.{is_named, without_file}
 use Rattle.syncfile_core.specs.Merge.{merge_of}
@@ -21,7 +21,7 @@ use Rattle.desk_core.specs.Keeping.{AreMade, HasNoneBehind, IsOfItsTimelines}
 use Rattle.desk_core.proofs.Behind.{HasNoneBehind-AgreesAbove, HasNoneBehind-append, HasNoneBehind-made, HasNoneBehind-later, AreMade-behind}
 use Rattle.desk_core.proofs.Buffers.{same_or_other, entries_of-new, entries_in}
 use Rattle.desk_core.proofs.Doing.{HaveTimelines-merge}
-use Rattle.desk_core.proofs.Sound.{IsAtLeast-raised, length-raised}
+use Rattle.desk_core.proofs.Sound.{IsAtLeast-raised, length-raised, length-shut}
 use Rattle.point_core.proofs.Agreement.{AgreesAbove-sym}
 
 pub inside-new : (timelines : List Timeline) (files : List File) (buffers : List Buffer) (watches : Registry) → timelines ≡ [] → files ≡ [] → buffers ≡ [] → watches ≡ no_watches → IsOfItsTimelines (record { timelines = timelines; files = files; buffers = buffers; watches = watches })
@@ -45,6 +45,12 @@ inside-later {d} later watches more rises known h = record {
 pub inside-raised : {d : DeskState} (later : List Timeline) (name : List ℕ) (n : ℕ) (watches : Registry) (reach : List ℕ) → later ≡ raised d.timelines name n → reach ≡ reach_of (raised d.timelines name n) → watches ≡ after_rise_to d.watches reach → IsOfItsTimelines d → IsOfItsTimelines (record { timelines = later; files = d.files; buffers = d.buffers; watches = watches })
 inside-raised {d} later name n watches reach is at left h =
     rw (is, left, at) (inside-later (raised d.timelines name n) (after_rise_to d.watches (reach_of (raised d.timelines name n))) (omega (arith, length-raised d.timelines name n)) (IsAtLeast-raised d.timelines name n) refl h)
+
+pub inside-shut : {d : DeskState} (later : List Timeline) (name : List ℕ) (watches : Registry) (reach : List ℕ) → later ≡ shut d.timelines name → IsAtLeast (reach_of later) (reach_of d.timelines) → reach ≡ reach_of (shut d.timelines name) → watches ≡ after_rise_to d.watches reach → IsOfItsTimelines d → IsOfItsTimelines (record { timelines = later; files = d.files; buffers = d.buffers; watches = watches })
+inside-shut {d} later name watches reach is rises at left h =
+    let P : List Timeline → Type 0 = λ ts. IsAtLeast (reach_of ts) (reach_of d.timelines) in
+    let rises' = subst P is rises in
+    rw (is, left, at) (inside-later (shut d.timelines name) (after_rise_to d.watches (reach_of (shut d.timelines name))) (omega (arith, length-shut d.timelines name)) rises' refl h)
 
 pub inside-timeline : {d : DeskState} (later : List Timeline) (name : List ℕ) → later ≡ d.timelines ++ new_timeline name ∷ [] → reach_of later ≡ reach_of d.timelines → IsOfItsTimelines d → IsOfItsTimelines (record { timelines = later; files = d.files; buffers = d.buffers; watches = d.watches })
 inside-timeline {d} later name is same h =

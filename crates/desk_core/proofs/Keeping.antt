@@ -109,7 +109,7 @@ points_at-keeps {desk} {world} k name = ap (λ o. unwrap_or o []) (sync_file_at-
 pub AgreesAbove-keeps : {desk : DeskState} {world : World} → Keeps desk world → (name : List ℕ) → AgreesAbove (reach_of world.timelines) (as_entries (points_at desk.files name)) (put_set world.files name)
 AgreesAbove-keeps {desk} {world} k name =
     rw (points_at-keeps k name)
-    (put-found world.timelines (file_named world.files name) (λ f is. file_named-All (WasMade world.timelines) world.files name f k.sound.made is) k.sound.room)
+    (put-found world.timelines (file_named world.files name) (λ f is. file_named-All (WasMade world.timelines) world.files name f k.sound.made is) k.sound.timelines.room)
 
 -- what is merged is what is pending of both put sets
 pub listing-keeps : {desk : DeskState} {world : World} → Keeps desk world → (a b : List ℕ) → listing (as_entries (points_at desk.files a ++ points_at desk.files b)) 0 (reach_of world.timelines) ≡ listing (put_set world.files a ++ put_set world.files b) 0 (reach_of world.timelines)

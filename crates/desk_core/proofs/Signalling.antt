@@ -3,7 +3,12 @@ use Rattle.std.proofs.Common.{◌≡◌, ℕ, List, Bool}
 use Rattle.std.specs.Prelude.{◌↔◌}
 use Rattle.point_core.specs.Agreement.{as_entries, IsReached, all_reached}
 use Rattle.point_core.proofs.Agreement.{AgreesAbove-sym}
-use Rattle.point_core.proofs.Reached.{IsReached-AgreesAbove, all_reached-AgreesAbove}
+use Rattle.std.proofs.Common.{sym, ap, ◌∙◌}
+use Rattle.point_core.specs.declared.clocks.Clock.{Clock}
+use Rattle.point_core.specs.declared.entry.Entry.{Entry}
+use Rattle.point_core.specs.declared.entry.Point.{Point}
+use Rattle.point_core.specs.Clocks.{reach_of_clocks, status_of, some_cancelled, common_status}
+use Rattle.point_core.proofs.Reached.{IsReached-AgreesAbove, all_reached-AgreesAbove, all_reached-points}
 use Rattle.timeline_core.specs.Timeline.{reach_of}
 use Rattle.dmabuf_core.specs.Buffers.{entries_of}
 use Rattle.desk_core.specs.World.{World, put_set, buffer_put_set}
@@ -23,3 +28,7 @@ all_reached-keeps {desk} {world} k name = all_reached-AgreesAbove 0 (AgreesAbove
 
 pub IsReached-table : {desk : DeskState} {world : World} → Keeps desk world → (name : List ℕ) (usage : ℕ) → IsReached (entries_of desk.buffers name) usage (reach_of world.timelines) ↔ IsReached (buffer_put_set world.buffers name) usage (reach_of world.timelines)
 IsReached-table {desk} {world} k name usage = (IsReached-AgreesAbove usage (k.holds.tables name), IsReached-AgreesAbove usage (AgreesAbove-sym (k.holds.tables name)))
+
+-- the status of points by all that was put, where these are reached when all of that is
+pub common_status-told : (clocks : List Clock) (ps : List Point) (put : List Entry) → all_reached (reach_of_clocks clocks) 0 (as_entries ps) ≡ all_reached (reach_of_clocks clocks) 0 put → common_status clocks ps ≡ status_of (all_reached (reach_of_clocks clocks) 0 put) (some_cancelled clocks ps)
+common_status-told clocks ps put same = ap (λ b. status_of b (some_cancelled clocks ps)) (sym (all_reached-points (reach_of_clocks clocks) ps) ∙ same)

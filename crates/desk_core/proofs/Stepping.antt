@@ -1,29 +1,30 @@
 -- What a desk keeps after each command.
-use Rattle.std.proofs.Common.{◌≡◌, ℕ, ◌+◌, ◌^◌, ◌≤◌, Bool, true, false, ◌&&◌, refl, sym, ap, ◌∙◌, List, [], ◌∷◌, ◌++◌, length, map, None, Some, nat_le, nat_lt, not, ◌<◌, subst}
+use Rattle.std.proofs.Common.{◌≡◌, ℕ, ◌+◌, ◌^◌, ◌≤◌, Bool, true, false, ◌&&◌, refl, sym, ap, ◌∙◌, List, [], ◌∷◌, ◌++◌, length, map, Option, None, Some, nat_le, nat_lt, not, ◌<◌, subst}
 use Rattle.std.specs.Prelude.{if◌then◌else◌}
 use Rattle.std.proofs.lemmas.Bool.{leb-true, leb-false, lt-ltb, le-ltb}
 use Rattle.point_core.specs.declared.context.TheConstants.{CONTEXTS}
 use Rattle.point_core.specs.declared.refusal.Refusal.{Refusal}
-use Rattle.point_core.specs.declared.refusal.Refusal.TheVariants.{NoEntry, Exists, Overflow, Flags, Limit, TimedOut}
+use Rattle.point_core.specs.declared.refusal.Refusal.TheVariants.{NoEntry, Exists, Overflow, Flags, Limit, TimedOut, Cancelled}
 use Rattle.point_core.specs.declared.refusal.LimitKind.TheVariants.{Timelines, Buffers, Files}
 use Rattle.point_core.specs.Agreement.{point_of, as_entries, listing, all_reached, AgreesAbove}
 use Rattle.syncfile_core.specs.declared.files.TheConstants.{FILES}
 use Rattle.command_core.specs.declared.command.Command.{Command}
 use Rattle.command_core.specs.declared.command.Command.TheVariants as command
-use Rattle.timeline_core.specs.Timeline.{new_timeline, has_timeline, context_of, reach_of, value_of, raised}
+use Rattle.timeline_core.specs.Timeline.{Timeline, new_timeline, has_timeline, context_of, reach_of, value_of, is_closed, raised, shut}
 use Rattle.syncfile_core.specs.SyncFile.{File, plain_file, file_of}
 use Rattle.syncfile_core.specs.Files.{has_file as has_sync_file, without_file, cause_to_refuse}
 use Rattle.syncfile_core.specs.Merge.{merge_of}
-use Rattle.desk_core.specs.World.{World, MadeFile, has_file, after, has_made_buffer, buffer_of, MadeBuffer, with_put, has_made_watch, raised_reach, left_watches}
-use Rattle.desk_core.specs.Answer.{first_of, is_full, causes, making_file, listed_points}
-use Rattle.desk_core.specs.Desk.{DeskState, AreWatchesOf, Holds}
-use Rattle.desk_core.specs.Keeping.{points_at, Keeps, cause_of}
+use Rattle.desk_core.specs.World.{World, MadeFile, has_file, after, has_made_buffer, buffer_of, MadeBuffer, with_put, has_made_watch, other_watches}
+use Rattle.desk_core.specs.Answer.{first_of, cause, is_full, causes, making_file, listed_points}
+use Rattle.desk_core.specs.Desk.{DeskState, Holds}
+use Rattle.desk_core.specs.Keeping.{points_at, Keeps, cause_of, first_cause}
 use Rattle.desk_core.proofs.Signalling.{all_reached-keeps, put_reached}
 use Rattle.desk_core.proofs.Keeping.{points_of-files_at, has_sync_file-names, length-names, without_file-names, without_file-points, listing-keeps, AgreesAbove-keeps}
 use Rattle.std.proofs.lemmas.List.{map-append}
 use Rattle.point_core.specs.declared.entry.Point.{Point}
 use Rattle.point_core.specs.declared.entry.Entry.{Entry}
 use Rattle.point_core.specs.Usage.{usage_number}
+use Rattle.point_core.specs.Reach.{IsAtLeast}
 use Rattle.point_core.proofs.Agreement.{AgreesAbove-later, AgreesAbove-sym}
 use Rattle.resv_core.specs.Resv.{empty}
 use Rattle.point_core.specs.declared.limits.TheConstants.{BUFFERS}
@@ -32,12 +33,11 @@ use Rattle.dmabuf_core.specs.Flags.{is_sync_flags, export_usage}
 use Rattle.dmabuf_core.proofs.Putting.{listing-exported}
 use Rattle.timeline_core.proofs.Storing.{reach_of-new}
 use Rattle.desk_core.proofs.Buffers.{has_buffer-names, length-buffers, entries_of-new, buffer_put_set-new, names-put_into, tables-put, tables-trim}
-use Rattle.desk_core.proofs.Sound.{IsAtLeast-raised}
-use Rattle.std.proofs.Common.{filter}
-use Rattle.fence_core.specs.Watch.{Watch, watch_of}
-use Rattle.fence_core.specs.Watches.{fires, cause_to_refuse_watch, after_rise_to, without_watch, with_watch as with_kept_watch}
+use Rattle.desk_core.proofs.Sound.{IsAtLeast-raised, IsAtLeast-shut}
+use Rattle.fence_core.specs.Watch.{watch_of}
+use Rattle.fence_core.specs.Watches.{cause_to_refuse_watch, after_rise_to, without_watch, with_watch as with_kept_watch}
 use Rattle.fence_core.proofs.Firing.{AllZip-left, AllZip-without, AllZip-push}
-use Rattle.desk_core.proofs.Watching.{cookie_of, put_of, watches-raised, watch_cause, watch_cause-keeps}
+use Rattle.desk_core.proofs.Watching.{cookie_of, put_of, watches-later, watch_cause, watch_cause-keeps}
 
 -- why a command is refused
 
@@ -86,21 +86,38 @@ cause_without-keeps {desk} {world} k b =
     if-not (has_made_buffer world.buffers b) (Some NoEntry) None
     ∙ ap (λ h. if h then None else Some NoEntry) (sym (has_buffer-names desk.buffers world.buffers b k.holds.buffers))
 
+first_cause-if : (b : Bool) (r : Refusal) (o : Option Refusal) → (if b then Some r else o) ≡ first_cause (if b then Some r else None) o
+first_cause-if true r o = refl
+first_cause-if false r o = refl
+
+first_of-append : (rs qs : List (Bool × Refusal)) → first_of (rs ++ qs) ≡ first_cause (first_of rs) (first_of qs)
+first_of-append [] qs = refl
+first_of-append (r ∷ rs) qs = ap (λ o. if r.0 then Some r.1 else o) (first_of-append rs qs) ∙ by r.0 r.1 (first_of rs) (first_of qs)
+  where
+    by : (b : Bool) (e : Refusal) (o p : Option Refusal) → (if b then Some e else first_cause o p) ≡ first_cause (if b then Some e else o) p
+    by true e o p = refl
+    by false e o p = refl
+
 -- the desk refuses what is refused in the worlds that it keeps, and for the same cause
 pub causes-keeps : {desk : DeskState} {world : World} → Keeps desk world → (c : Command) → first_of (causes world c) ≡ cause_of desk c
 causes-keeps {desk} {world} k (command.Timeline t) =
     ap (λ o. if has_timeline world.timelines t then Some Exists else o) (limit_tests CONTEXTS (length world.timelines) (Limit Timelines))
     ∙ ap (λ ts. if has_timeline ts t then Some Exists else (if nat_lt (length ts) CONTEXTS then None else Some (Limit Timelines))) (sym k.holds.timelines)
 causes-keeps {desk} {world} k (command.Inc t n) =
-    if-not (has_timeline world.timelines t) (Some NoEntry) (if nat_le (2 ^ 64) (value_of world.timelines t + n) then Some Overflow else None)
-    ∙ ap (λ ts. if has_timeline ts t then (if nat_le (2 ^ 64) (value_of ts t + n) then Some Overflow else None) else Some NoEntry) (sym k.holds.timelines)
+    if-not (has_timeline world.timelines t) (Some NoEntry) (if is_closed world.timelines t then Some Cancelled else (if nat_le (2 ^ 64) (value_of world.timelines t + n) then Some Overflow else None))
+    ∙ ap (λ o. if has_timeline world.timelines t then o else Some NoEntry) (first_cause-if (is_closed world.timelines t) Cancelled (if nat_le (2 ^ 64) (value_of world.timelines t + n) then Some Overflow else None))
+    ∙ ap (λ ts. if has_timeline ts t then first_cause (if is_closed ts t then Some Cancelled else None) (if nat_le (2 ^ 64) (value_of ts t + n) then Some Overflow else None) else Some NoEntry) (sym k.holds.timelines)
 causes-keeps {desk} {world} k (command.Value t) =
     if-not (has_timeline world.timelines t) (Some NoEntry) None
     ∙ ap (λ ts. if has_timeline ts t then None else Some NoEntry) (sym k.holds.timelines)
+causes-keeps {desk} {world} k (command.Shut t) =
+    if-not (has_timeline world.timelines t) (Some NoEntry) (if is_closed world.timelines t then Some Cancelled else None)
+    ∙ ap (λ ts. if has_timeline ts t then (if is_closed ts t then Some Cancelled else None) else Some NoEntry) (sym k.holds.timelines)
 causes-keeps {desk} {world} k (command.Fence f t p) =
-    if-not (has_timeline world.timelines t) (Some NoEntry) (first_of (making_file world f))
-    ∙ ap (λ o. if has_timeline world.timelines t then o else Some NoEntry) (making_file-keeps k f)
-    ∙ ap (λ ts. if has_timeline ts t then cause_to_refuse desk.files f else Some NoEntry) (sym k.holds.timelines)
+    let closed = cause (is_closed world.timelines t) Cancelled ∷ [] in
+    if-not (has_timeline world.timelines t) (Some NoEntry) (first_of (making_file world f ++ closed))
+    ∙ ap (λ o. if has_timeline world.timelines t then o else Some NoEntry) (first_of-append (making_file world f) closed ∙ ap (λ o. first_cause o (if is_closed world.timelines t then Some Cancelled else None)) (making_file-keeps k f))
+    ∙ ap (λ ts. if has_timeline ts t then first_cause (cause_to_refuse desk.files f) (if is_closed ts t then Some Cancelled else None) else Some NoEntry) (sym k.holds.timelines)
 causes-keeps {desk} {world} k (command.Merge f a b) =
     if-not (has_file world.files a && has_file world.files b) (Some NoEntry) (first_of (making_file world f))
     ∙ ap (λ o. if has_file world.files a && has_file world.files b then o else Some NoEntry) (making_file-keeps k f)
@@ -149,20 +166,30 @@ map-push : {X Y : Type 0} (f : X → Y) (xs : List X) (x : X) → map f (xs ++ x
 map-push f [] x = refl
 map-push f (y ∷ ys) x = ap (λ zs. f y ∷ zs) (map-push f ys x)
 
--- a timeline rises, files and buffers stay, and the watches that this fires go out
-pub Holds-raised : {desk : DeskState} {world : World} → Holds desk world → (name : List ℕ) (n : ℕ) → Holds (record { timelines = raised desk.timelines name n; files = desk.files; buffers = desk.buffers; watches = after_rise_to desk.watches (reach_of (raised desk.timelines name n)) }) (after world (command.Inc name n))
-Holds-raised {desk} {world} h name n = record {
-  timelines = ap (λ ts. raised ts name n) h.timelines;
+-- more is reached, files and buffers stay, and the watches that are due go out
+Holds-later : {desk : DeskState} {world : World} → Holds desk world → (later : List Timeline) → IsAtLeast (reach_of later) (reach_of world.timelines) → Holds (record { timelines = later; files = desk.files; buffers = desk.buffers; watches = after_rise_to desk.watches (reach_of later) }) (record world { timelines = later; watches = other_watches world (reach_of later) })
+Holds-later {desk} {world} h later rises = record {
+  timelines = refl;
   names = h.names;
   points = h.points;
   buffers = h.buffers;
   kept = h.kept;
-  tables = λ b. AgreesAbove-later (IsAtLeast-raised world.timelines name n) (h.tables b);
-  watches =
-      let P : List ℕ → Type 0 = λ reach. AreWatchesOf (raised_reach world name n) (filter (λ (w : Watch). not (fires reach w)) desk.watches.pending) (left_watches world name n) in
-      subst P (sym (ap (λ ts. reach_of (raised ts name n)) h.timelines)) (AllZip-left cookie_of put_of (raised_reach world name n) desk.watches.pending world.watches (watches-raised h name n));
+  tables = λ b. AgreesAbove-later rises (h.tables b);
+  watches = AllZip-left cookie_of put_of (reach_of later) desk.watches.pending world.watches (watches-later h (reach_of later) rises);
   watches_made = h.watches_made;
 }
+
+-- a timeline rises
+pub Holds-raised : {desk : DeskState} {world : World} → Holds desk world → (name : List ℕ) (n : ℕ) → Holds (record { timelines = raised desk.timelines name n; files = desk.files; buffers = desk.buffers; watches = after_rise_to desk.watches (reach_of (raised desk.timelines name n)) }) (after world (command.Inc name n))
+Holds-raised {desk} {world} h name n =
+    let P : List Timeline → Type 0 = λ ts. Holds (record { timelines = raised ts name n; files = desk.files; buffers = desk.buffers; watches = after_rise_to desk.watches (reach_of (raised ts name n)) }) (after world (command.Inc name n)) in
+    subst P (sym h.timelines) (Holds-later h (raised world.timelines name n) (IsAtLeast-raised world.timelines name n))
+
+-- a timeline is closed
+pub Holds-shut : {desk : DeskState} {world : World} → Keeps desk world → (name : List ℕ) → Holds (record { timelines = shut desk.timelines name; files = desk.files; buffers = desk.buffers; watches = after_rise_to desk.watches (reach_of (shut desk.timelines name)) }) (after world (command.Shut name))
+Holds-shut {desk} {world} k name =
+    let P : List Timeline → Type 0 = λ ts. Holds (record { timelines = shut ts name; files = desk.files; buffers = desk.buffers; watches = after_rise_to desk.watches (reach_of (shut ts name)) }) (after world (command.Shut name)) in
+    subst P (sym k.holds.timelines) (Holds-later k.holds (shut world.timelines name) (IsAtLeast-shut world.timelines name k.sound.values))
 
 pub Holds-timeline : {desk : DeskState} {world : World} → Holds desk world → (name : List ℕ) → length desk.timelines < CONTEXTS → Holds (record { timelines = desk.timelines ++ new_timeline name ∷ []; files = desk.files; buffers = desk.buffers; watches = desk.watches }) (after world (command.Timeline name))
 Holds-timeline {desk} {world} h name low =

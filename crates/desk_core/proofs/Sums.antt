@@ -7,17 +7,17 @@ use Rattle.std.proofs.lemmas.List.Sums.{sum_by-append}
 use Rattle.std.proofs.lemmas.Grind.{flat_map-append}
 use Rattle.std.proofs.lemmas.List.Elements.{All-nil, All-push, All-weaker, All-map}
 use Rattle.point_core.specs.declared.context.TheConstants.{CONTEXTS}
-use Rattle.point_core.specs.declared.refusal.Refusal.TheVariants.{NoEntry, Exists, Overflow, Limit}
+use Rattle.point_core.specs.declared.refusal.Refusal.TheVariants.{NoEntry, Exists, Overflow, Limit, Cancelled as AlreadyClosed}
 use Rattle.point_core.specs.declared.refusal.LimitKind.TheVariants.{Timelines}
-use Rattle.timeline_core.specs.Timeline.{Timeline, new_timeline, has_timeline, timeline_of, value_of, raised, is_named, raised_by}
+use Rattle.timeline_core.specs.Timeline.{Timeline, new_timeline, has_timeline, timeline_of, clock_named, value_of, is_closed, raised, shut, is_named, raised_by, closed_timeline}
 use Rattle.timeline_core.specs.Run.{Increment, incremented, AreSums}
 use Rattle.timeline_core.proofs.Lookups.{has_timeline-names_of}
-use Rattle.timeline_core.proofs.Places.{timeline_at-value_of}
-use Rattle.timeline_core.proofs.Raising.{names_of-raised}
+use Rattle.timeline_core.proofs.Places.{timeline_at-clock_named}
+use Rattle.timeline_core.proofs.Raising.{names_of-raised, names_of-shut}
 use Rattle.command_core.specs.declared.answer.Answer.TheVariants as answer
 use Rattle.command_core.specs.declared.command.Command.{Command}
 use Rattle.command_core.specs.declared.command.Command.TheVariants as command
-use Rattle.desk_core.specs.World.{World, empty_world, after, fired_watches, cookies_of}
+use Rattle.desk_core.specs.World.{World, empty_world, after, fired_watches, shut_watches, cookies_of}
 use Rattle.point_core.specs.Named.{same_name}
 use Rattle.point_core.proofs.Named.{find-All}
 use Rattle.desk_core.specs.Answer.{first_of, cause, causes, refused_or}
@@ -72,6 +72,16 @@ raised-sum : (b : Bool) (n : ℕ) (u : Timeline) (total : List ℕ → ℕ) (tot
 raised-sum true n u total total' is more = omega arith
 raised-sum false n u total total' is more = omega arith
 
+has_timeline-shut : (ts : List Timeline) (t name : List ℕ) → has_timeline (shut ts t) name ≡ has_timeline ts name
+has_timeline-shut ts t name =
+    sym (has_timeline-names_of (shut ts t) name)
+    ∙ ap (λ ns. list_any (pointwise nat_eq name) ns) (names_of-shut ts t)
+    ∙ has_timeline-names_of ts name
+
+closed-sum : (b : Bool) (u : Timeline) (total : List ℕ → ℕ) → u.value ≡ total u.name → (if b then closed_timeline u else u).value ≡ total (if b then closed_timeline u else u).name
+closed-sum true u total is = is
+closed-sum false u total is = is
+
 added_none : (b : Bool) (n : ℕ) → (b ≡ true → ⊥) → (if b then n else 0) ≡ 0
 added_none true n h = absurd (h refl)
 added_none false n h = refl
@@ -90,6 +100,18 @@ Sums-inc w done t n has s =
           omega (arith, s.missing name absent, incremented-inc done t n name, none);
     }
 
+-- a closing adds nothing
+Sums-shut : (w : World) (done : List Command) (t : List ℕ) → Sums w done → Sums (after w (command.Shut t)) (done ++ command.Shut t ∷ [])
+Sums-shut w done t s =
+    let same = Sums-same w done (command.Shut t) (λ name. refl) s in
+    let total : List ℕ → ℕ = incremented (increments_in (done ++ command.Shut t ∷ [])) in
+    let P : Timeline → Type 0 = λ u. u.value ≡ total u.name in
+    record {
+      kept = All-map P (λ u. if is_named t u then closed_timeline u else u) w.timelines
+          (All-weaker P (λ (u : Timeline). P (if is_named t u then closed_timeline u else u)) (λ u is. closed-sum (is_named t u) u total is) w.timelines same.kept);
+      missing = λ name is. same.missing name (sym (has_timeline-shut w.timelines t name) ∙ is);
+    }
+
 Sums-after : (w : World) (done : List Command) (c : Command) → Sums w done → first_of (causes w c) ≡ None → Sums (after w c) (done ++ c ∷ [])
 Sums-after w done (command.Timeline t) s is =
     let absent = (first_of-none (has_timeline w.timelines t) Exists (cause (nat_le CONTEXTS (length w.timelines)) (Limit Timelines) ∷ []) is).0 in
@@ -98,7 +120,8 @@ Sums-after w done (command.Timeline t) s is =
       kept = All-push (λ (u : Timeline). u.value ≡ incremented (increments_in (done ++ command.Timeline t ∷ [])) u.name) w.timelines (new_timeline t) same.kept (sym (same.missing t absent));
       missing = λ name is'. same.missing name (has_timeline-append w.timelines (new_timeline t) name is');
     }
-Sums-after w done (command.Inc t n) s is = Sums-inc w done t n (not-false (has_timeline w.timelines t) (first_of-none (not (has_timeline w.timelines t)) NoEntry (cause (nat_le (2 ^ 64) (value_of w.timelines t + n)) Overflow ∷ []) is).0) s
+Sums-after w done (command.Inc t n) s is = Sums-inc w done t n (not-false (has_timeline w.timelines t) (first_of-none (not (has_timeline w.timelines t)) NoEntry (cause (is_closed w.timelines t) AlreadyClosed ∷ cause (nat_le (2 ^ 64) (value_of w.timelines t + n)) Overflow ∷ []) is).0) s
+Sums-after w done (command.Shut t) s is = Sums-shut w done t s
 Sums-after w done (command.Value t) s is = Sums-same w done (command.Value t) (λ name. refl) s
 Sums-after w done (command.Fence f t p) s is = let h = Sums-same w done (command.Fence f t p) (λ name. refl) s in record { kept = h.kept; missing = h.missing }
 Sums-after w done (command.Merge f a b) s is = let h = Sums-same w done (command.Merge f a b) (λ name. refl) s in record { kept = h.kept; missing = h.missing }
@@ -130,16 +153,22 @@ AreSums-history history accepted = AreSums-from empty_world [] history (record {
 
 -- the value of a name is its sum
 value_of-sum : (ts : List Timeline) (history : List Command) (name : List ℕ) → AreSums ts (increments_in history) → has_timeline ts name ≡ true → value_of ts name ≡ incremented (increments_in history) name
-value_of-sum ts history name sums has = find-All (λ (t : Timeline). t.value ≡ incremented (increments_in history) t.name) (is_named name) ts (timeline_of name (value_of ts name)) sums (timeline_at-value_of ts name has)
+value_of-sum ts history name sums has = find-All (λ (t : Timeline). t.value ≡ incremented (increments_in history) t.name) (is_named name) ts (timeline_of name (clock_named ts name)) sums (timeline_at-clock_named ts name has)
 
 told_value : (b : Bool) (value v : ℕ) → answer.Value value ≡ refused_or (if not b then Some NoEntry else None) (answer.Value v) → (b ≡ true) × (value ≡ v)
 told_value true value v is = (refl, cc)
 told_value false value v is = absurd (cc)
 
-pub told_raised : (b past : Bool) (value v : ℕ) (fired rest : List ℕ) → answer.Raised value fired ≡ refused_or (if not b then Some NoEntry else (if past then Some Overflow else None)) (answer.Raised v rest) → (b ≡ true) × (value ≡ v) × (fired ≡ rest)
-told_raised true true value v fired rest is = absurd (cc)
-told_raised true false value v fired rest is = (refl, cc, cc)
-told_raised false past value v fired rest is = absurd (cc)
+pub told_raised : (b closed past : Bool) (value v : ℕ) (fired rest : List ℕ) → answer.Raised value fired ≡ refused_or (if not b then Some NoEntry else (if closed then Some AlreadyClosed else (if past then Some Overflow else None))) (answer.Raised v rest) → (b ≡ true) × (value ≡ v) × (fired ≡ rest)
+told_raised true true past value v fired rest is = absurd (cc)
+told_raised true false true value v fired rest is = absurd (cc)
+told_raised true false false value v fired rest is = (refl, cc, cc)
+told_raised false closed past value v fired rest is = absurd (cc)
+
+pub told_closed : (b closed : Bool) (value v : ℕ) (fired rest : List ℕ) → answer.Raised value fired ≡ refused_or (if not b then Some NoEntry else (if closed then Some AlreadyClosed else None)) (answer.Raised v rest) → (b ≡ true) × (value ≡ v) × (fired ≡ rest)
+told_closed true true value v fired rest is = absurd (cc)
+told_closed true false value v fired rest is = (refl, cc, cc)
+told_closed false closed value v fired rest is = absurd (cc)
 
 pub TellsSums-stands : (desk : DeskState) (history : List Command) → HasHistory desk history → TellsSums desk history
 TellsSums-stands desk history stands =
@@ -151,7 +180,11 @@ TellsSums-stands desk history stands =
         | inr none ↦ absurd (cc (none.0))
       ];
       raised = λ name n value fired given. elim ((given history stands).told) [
-        | inl is ↦ let h = told_raised (has_timeline (world_of history).timelines name) (nat_le (2 ^ 64) (value_of (world_of history).timelines name + n)) value (value_of (world_of history).timelines name + n) fired (cookies_of (fired_watches (world_of history) name n)) is in h.1 ∙ ap (λ v. v + n) (value_of-sum (world_of history).timelines history name sums h.0)
+        | inl is ↦ let h = told_raised (has_timeline (world_of history).timelines name) (is_closed (world_of history).timelines name) (nat_le (2 ^ 64) (value_of (world_of history).timelines name + n)) value (value_of (world_of history).timelines name + n) fired (cookies_of (fired_watches (world_of history) name n)) is in h.1 ∙ ap (λ v. v + n) (value_of-sum (world_of history).timelines history name sums h.0)
+        | inr none ↦ absurd (cc (none.0))
+      ];
+      shut = λ name value fired given. elim ((given history stands).told) [
+        | inl is ↦ let h = told_closed (has_timeline (world_of history).timelines name) (is_closed (world_of history).timelines name) value (value_of (world_of history).timelines name) fired (cookies_of (shut_watches (world_of history) name)) is in h.1 ∙ value_of-sum (world_of history).timelines history name sums h.0
         | inr none ↦ absurd (cc (none.0))
       ];
     }

@@ -6,11 +6,13 @@ use Rattle.std.proofs.lemmas.List.Elements.{All-head, All-tail}
 use Rattle.point_core.specs.declared.context.TheConstants.{CONTEXTS}
 use Rattle.point_core.specs.declared.status.Status.{Status}
 use Rattle.point_core.specs.Named.{same_name}
-use Rattle.point_core.specs.Status.{status_if}
+use Rattle.point_core.specs.Clocks.{status_of, some_cancelled, common_status}
+use Rattle.desk_core.proofs.Signalling.{common_status-told}
 use Rattle.point_core.specs.Agreement.{all_reached, as_entries}
 use Rattle.point_core.proofs.Agreement.{AgreesAbove-sym}
 use Rattle.point_core.proofs.Reached.{all_reached-AgreesAbove}
-use Rattle.timeline_core.specs.Timeline.{reach_of, rows_of as timeline_rows}
+use Rattle.point_core.specs.declared.timeline_row.TimelineRow.{TimelineRow}
+use Rattle.timeline_core.specs.Timeline.{clocks_of, reach_of, rows_of as timeline_rows}
 use Rattle.syncfile_core.specs.SyncFile.{File}
 use Rattle.resv_core.proofs.Runs.{rows_of-AgreesAbove}
 use Rattle.dmabuf_core.specs.Buffers.{names_of, entries_of}
@@ -45,16 +47,17 @@ IsDone-show desk name rows is = record {
 abbrev file_row_with : List ℕ → Status → ℕ → FileRow
 file_row_with name status count = record { name = name; status = status; count = count }
 
-file_row-told : (world : World) (k : File) (f : MadeFile) → WasMade world.timelines f → length world.timelines ≤ CONTEXTS → k.name ≡ f.name → k.points ≡ listed_points f → file_row_at (reach_of world.timelines) k ≡ file_row world f
+file_row-told : (world : World) (k : File) (f : MadeFile) → WasMade world.timelines f → length world.timelines ≤ CONTEXTS → k.name ≡ f.name → k.points ≡ listed_points f → file_row_at (clocks_of world.timelines) k ≡ file_row world f
 file_row-told world k f made room name points =
     let reach = reach_of world.timelines in
     let agrees = AgreesAbove-listed_points world.timelines f made room in
     let reached : all_reached reach 0 (as_entries k.points) ≡ all_reached reach 0 f.put = ap (λ ps. all_reached reach 0 (as_entries ps)) points ∙ all_reached-AgreesAbove 0 agrees (AgreesAbove-sym agrees) in
-    ap (λ n. file_row_with n (status_if (all_reached reach 0 (as_entries k.points))) (fence_count k.points)) name
-    ∙ ap (λ b. file_row_with f.name (status_if b) (fence_count k.points)) reached
-    ∙ ap (λ ps. file_row_with f.name (status_if (all_reached reach 0 f.put)) (fence_count ps)) points
+    let clocks = clocks_of world.timelines in
+    ap (λ n. file_row_with n (common_status clocks k.points) (fence_count k.points)) name
+    ∙ ap (λ s. file_row_with f.name s (fence_count k.points)) (common_status-told clocks k.points f.put reached)
+    ∙ ap (λ ps. file_row_with f.name (status_of (all_reached reach 0 f.put) (some_cancelled clocks ps)) (fence_count ps)) points
 
-file_rows-told : (world : World) (ks : List File) (fs : List MadeFile) → All (WasMade world.timelines) fs → length world.timelines ≤ CONTEXTS → kept_names ks ≡ made_names fs → kept_points ks ≡ made_points fs → map (file_row_at (reach_of world.timelines)) ks ≡ map (file_row world) fs
+file_rows-told : (world : World) (ks : List File) (fs : List MadeFile) → All (WasMade world.timelines) fs → length world.timelines ≤ CONTEXTS → kept_names ks ≡ made_names fs → kept_points ks ≡ made_points fs → map (file_row_at (clocks_of world.timelines)) ks ≡ map (file_row world) fs
 file_rows-told world [] [] made room names points = refl
 file_rows-told world [] (f ∷ fs) made room names points = absurd (cc)
 file_rows-told world (k ∷ ks) [] made room names points = absurd (cc)
@@ -63,7 +66,7 @@ file_rows-told world (k ∷ ks) (f ∷ fs) made room names points =
     let others : kept_names ks ≡ made_names fs = cc in
     let listed : k.points ≡ listed_points f = cc in
     let rest : kept_points ks ≡ made_points fs = cc in
-    ap (λ r. r ∷ map (file_row_at (reach_of world.timelines)) ks) (file_row-told world k f (All-head (WasMade world.timelines) f fs made) room name listed)
+    ap (λ r. r ∷ map (file_row_at (clocks_of world.timelines)) ks) (file_row-told world k f (All-head (WasMade world.timelines) f fs made) room name listed)
     ∙ ap (λ rs. file_row world f ∷ rs) (file_rows-told world ks fs (All-tail (WasMade world.timelines) f fs made) room others rest)
 
 -- the buffers
@@ -94,13 +97,13 @@ buffer_rows-told {desk} {world} k =
 
 -- everything
 
-abbrev report_with : List (List ℕ × ℕ) → List FileRow → List BufferRows → Tables
+abbrev report_with : List TimelineRow → List FileRow → List BufferRows → Tables
 report_with timelines files buffers = record { timelines = timelines; files = files; buffers = buffers }
 
 report-keeps : {desk : DeskState} {world : World} → Keeps desk world → report_at world.timelines desk.files desk.buffers ≡ report_of world
 report-keeps {desk} {world} k =
     let timelines = timeline_rows world.timelines in
-    ap (λ files. report_with timelines files (map (buffer_rows_at world.timelines desk.buffers) (names_of desk.buffers))) (file_rows-told world desk.files world.files k.sound.made k.sound.room k.holds.names k.holds.points)
+    ap (λ files. report_with timelines files (map (buffer_rows_at world.timelines desk.buffers) (names_of desk.buffers))) (file_rows-told world desk.files world.files k.sound.made k.sound.timelines.room k.holds.names k.holds.points)
     ∙ ap (report_with timelines (map (file_row world) world.files)) (buffer_rows-told k)
 
 pub IsDone-report : (desk : DeskState) (report : Tables) → report ≡ report_at desk.timelines desk.files desk.buffers → IsDone desk command.Report (answer.Report report) desk

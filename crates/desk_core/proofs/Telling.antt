@@ -1,9 +1,10 @@
 -- A desk that keeps a world tells what was put into its files.
-use Rattle.std.proofs.Common.{◌≡◌, ℕ, Bool, true, false, not, ◌&&◌, refl, sym, ap, ◌∙◌, List, [], ◌∷◌, Option, None, Some, option_map, unwrap_or, arith, inl, inr, All, ◌≤◌, length}
+use Rattle.point_core.specs.declared.entry.Point.{Point}
+use Rattle.std.proofs.Common.{◌≡◌, ◌≢◌, ℕ, Bool, true, false, not, ◌&&◌, refl, sym, ap, ◌∙◌, List, [], ◌∷◌, Option, None, Some, option_map, unwrap_or, arith, inl, inr, All, ◌≤◌, length}
 use Rattle.std.specs.Prelude.{◌↔◌, if◌then◌else◌, is_some}
 use Rattle.std.proofs.lemmas.Bool.{false≢true, cases_Bool}
 use Rattle.point_core.specs.declared.refusal.Refusal.TheVariants.{NoEntry, TimedOut}
-use Rattle.point_core.specs.declared.status.Status.TheVariants.{Signalled}
+use Rattle.point_core.specs.declared.status.Status.TheVariants.{Active, Cancelled}
 use Rattle.point_core.specs.Agreement.{AgreesAbove, as_entries, IsReached, all_reached}
 use Rattle.point_core.proofs.Agreement.{AgreesAbove-trans, AgreesAbove-sym, AgreesAbove-same_entries}
 use Rattle.command_core.specs.declared.answer.Answer.{Answer}
@@ -11,7 +12,7 @@ use Rattle.command_core.specs.declared.answer.Answer.TheVariants as answer
 use Rattle.command_core.specs.declared.command.Command.{Command}
 use Rattle.command_core.specs.declared.command.Command.TheVariants as command
 use Rattle.command_core.specs.declared.answer.Info.{Info}
-use Rattle.timeline_core.specs.Timeline.{reach_of}
+use Rattle.timeline_core.specs.Timeline.{clocks_of, reach_of}
 use Rattle.syncfile_core.specs.SyncFile.{File}
 use Rattle.syncfile_core.specs.Files.{file_at as sync_file_at}
 use Rattle.desk_core.specs.World.{World, MadeFile, has_file, file_named, put_set, has_made_buffer}
@@ -30,7 +31,9 @@ use Rattle.std.proofs.lemmas.Map.Entries.{lookup_head, lookup_tail}
 use Rattle.point_core.specs.declared.entry.Usage.{Usage}
 use Rattle.point_core.specs.Usage.{usage_number}
 use Rattle.point_core.specs.Named.{same_name}
-use Rattle.point_core.proofs.Reached.{all_reached-IsReached, status_if-Signalled}
+use Rattle.point_core.proofs.Reached.{all_reached-IsReached}
+use Rattle.point_core.proofs.Ticking.{status_of-not_active}
+use Rattle.point_core.specs.Clocks.{status_of, some_cancelled}
 use Rattle.resv_core.specs.Resv.{Reservation, IsTable}
 use Rattle.resv_core.specs.declared.resv.TheConstants.{PLACES}
 use Rattle.dmabuf_core.specs.Buffers.{Buffer, has_buffer, entries_of}
@@ -45,12 +48,26 @@ agrees {desk} {world} k name f is = rw (listed desk.files name f is) at (AgreesA
 same_Info : (a b : Info) → answer.Info a ≡ answer.Info b → a ≡ b
 same_Info a b is = cc
 
-told_status : (world : World) (name : List ℕ) (b : Bool) (o : Option MadeFile) (told : Info) → answer.Info told ≡ refused_or (if not b then Some NoEntry else None) (info_told world name o) → (told.status ≡ Signalled) ↔ IsReached (unwrap_or (option_map (λ (f : MadeFile). f.put) o) []) 0 (reach_of world.timelines)
+told_status : (world : World) (name : List ℕ) (b : Bool) (o : Option MadeFile) (told : Info) → answer.Info told ≡ refused_or (if not b then Some NoEntry else None) (info_told world name o) → (told.status ≢ Active) ↔ IsReached (unwrap_or (option_map (λ (f : MadeFile). f.put) o) []) 0 (reach_of world.timelines)
 told_status world name false o told is = absurd (cc)
 told_status world name true None told is = absurd (cc)
 told_status world name true (Some f) told is =
     let same = same_Info told (info_of world name f) is in
-    rw same (status_if-Signalled (all_reached (reach_of world.timelines) 0 f.put) (IsReached f.put 0 (reach_of world.timelines)) (all_reached-IsReached (reach_of world.timelines) 0 f.put))
+    rw same (status_of-not_active (all_reached (reach_of world.timelines) 0 f.put) (some_cancelled (clocks_of world.timelines) (listed_points f)) (all_reached-IsReached (reach_of world.timelines) 0 f.put))
+
+-- what is reached, and in part cancelled
+status_of-Cancelled : {P : Type 0} (reached cancelled : Bool) → ((reached ≡ true) ↔ P) → (status_of reached cancelled ≡ Cancelled) ↔ (P × (cancelled ≡ true))
+status_of-Cancelled true true h = (λ _. (h.0 refl, refl), λ _. refl)
+status_of-Cancelled true false h = (λ is. absurd (cc), λ both. absurd (false≢true both.1))
+status_of-Cancelled false cancelled h = (λ is. absurd (cc), λ both. absurd (false≢true (h.1 both.0)))
+
+told_cancelled : (world : World) (name : List ℕ) (b : Bool) (o : Option MadeFile) (ps : List Point) (told : Info) → Some ps ≡ option_map listed_points o → answer.Info told ≡ refused_or (if not b then Some NoEntry else None) (info_told world name o) → (told.status ≡ Cancelled) ↔ (IsReached (unwrap_or (option_map (λ (f : MadeFile). f.put) o) []) 0 (reach_of world.timelines) × (some_cancelled (clocks_of world.timelines) ps ≡ true))
+told_cancelled world name false o ps told listed is = absurd (cc)
+told_cancelled world name true None ps told listed is = absurd (cc)
+told_cancelled world name true (Some f) ps told listed is =
+    let same = same_Info told (info_of world name f) is in
+    let points : ps ≡ listed_points f = cc in
+    rw (same, points) (status_of-Cancelled (all_reached (reach_of world.timelines) 0 f.put) (some_cancelled (clocks_of world.timelines) (listed_points f)) (all_reached-IsReached (reach_of world.timelines) 0 f.put))
 
 -- what a check answers of a file that is there
 waited : (b reached : Bool) (given : Answer) → b ≡ true → given ≡ refused_or (if not b then Some NoEntry else (if not (b && reached) then Some TimedOut else None)) answer.Done → given ≡ (if reached then answer.Done else answer.Refused TimedOut)
@@ -85,6 +102,12 @@ TellsWhatWasPut-stands desk history stands =
       reached = λ name f is. rw (listed desk.files name f is) at (IsReached-keeps k name);
       signalled = λ name told given. elim ((given history stands).told) [
         | inl is ↦ told_status world name (has_file world.files name) (file_named world.files name) told is
+        | inr none ↦ absurd (cc (none.0))
+      ];
+      cancelled = λ name f told is given. elim ((given history stands).told) [
+        | inl answered ↦
+            let both = sync_file_at-points desk.files world.files name k.holds.names k.holds.points in
+            told_cancelled world name (has_file world.files name) (file_named world.files name) f.points told (ap (option_map (λ (g : File). g.points)) (sym is) ∙ both) answered
         | inr none ↦ absurd (cc (none.0))
       ];
       waited = λ name f given is answers. done_if (put_reached world name) given (IsFileReached history name) (waited-stands stands name f given is answers) (reached_by name);

@@ -5,12 +5,14 @@ use Rattle.std.proofs.lemmas.Bool.{false≢true}
 use Rattle.point_core.specs.declared.refusal.Refusal.{Refusal}
 use Rattle.point_core.specs.declared.refusal.Refusal.TheVariants.{NoEntry, TimedOut}
 use Rattle.point_core.specs.declared.status.Status.{Status}
-use Rattle.point_core.specs.declared.status.Status.TheVariants.{Active, Signalled}
-use Rattle.point_core.specs.Status.{status_if}
+use Rattle.point_core.specs.declared.clocks.Clock.{Clock}
+use Rattle.point_core.specs.Status.{is_signalled}
+use Rattle.point_core.specs.Clocks.{some_cancelled, common_status}
+use Rattle.point_core.proofs.Ticking.{is_signalled-of}
 use Rattle.point_core.specs.Agreement.{as_entries, all_reached}
-use Rattle.timeline_core.specs.Timeline.{reach_of}
+use Rattle.timeline_core.specs.Timeline.{clocks_of, reach_of}
 use Rattle.syncfile_core.specs.SyncFile.{File}
-use Rattle.syncfile_core.specs.Status.{is_reached, status_of}
+use Rattle.syncfile_core.specs.Status.{is_reached}
 use Rattle.syncfile_core.specs.Files.{is_named, has_file as has_sync_file, file_at as sync_file_at, without_file, IsRefusedFor}
 use Rattle.command_core.specs.declared.command.Command.TheVariants as command
 use Rattle.desk_core.specs.Desk.{DeskState}
@@ -21,12 +23,7 @@ use Rattle.point_core.proofs.Reached.{all_reached-points}
 
 -- why a check of a file of that status is refused
 abbrev pub cause_if : Status → Option Refusal
-cause_if Signalled = None
-cause_if Active = Some TimedOut
-
-cause_if-status_if : (b : Bool) → (if b then None else Some TimedOut) ≡ cause_if (status_if b)
-cause_if-status_if true = refl
-cause_if-status_if false = refl
+cause_if s = if is_signalled s then None else Some TimedOut
 
 abbrev reached_by : DeskState → Option File → Bool
 reached_by d o = all_reached (reach_of d.timelines) 0 (as_entries (unwrap_or (option_map (λ (f : File). f.points) o) []))
@@ -34,35 +31,35 @@ reached_by d o = all_reached (reach_of d.timelines) 0 (as_entries (unwrap_or (op
 cause_of-missing : (d : DeskState) (name : List ℕ) → sync_file_at d.files name ≡ None → cause_of d (command.Wait name) ≡ Some NoEntry
 cause_of-missing d name is = ap (λ h. if h then (if reached_by d (sync_file_at d.files name) then None else Some TimedOut) else Some NoEntry) (has_sync_file-found d.files name ∙ ap is_some is)
 
-cause_of-found : (d : DeskState) (name : List ℕ) (f : File) → sync_file_at d.files name ≡ Some f → cause_of d (command.Wait name) ≡ cause_if (status_of f.points (reach_of d.timelines))
+cause_of-found : (d : DeskState) (name : List ℕ) (f : File) → sync_file_at d.files name ≡ Some f → cause_of d (command.Wait name) ≡ cause_if (common_status (clocks_of d.timelines) f.points)
 cause_of-found d name f is =
     ap (λ h. if h then (if reached_by d (sync_file_at d.files name) then None else Some TimedOut) else Some NoEntry) (has_sync_file-found d.files name ∙ ap is_some is)
     ∙ ap (λ o. if reached_by d o then None else Some TimedOut) is
     ∙ ap (λ b. if b then None else Some TimedOut) (all_reached-points (reach_of d.timelines) f.points)
-    ∙ cause_if-status_if (list_all (is_reached (reach_of d.timelines)) f.points)
+    ∙ ap (λ b. if b then None else Some TimedOut) (sym (is_signalled-of (list_all (is_reached (reach_of d.timelines)) f.points) (some_cancelled (clocks_of d.timelines) f.points)))
 
 -- what the files' answer says of the check
-waited : (d : DeskState) (name reach : List ℕ) (r : Result Status Refusal) (o : Option File) → reach ≡ reach_of d.timelines → sync_file_at d.files name ≡ o → MatchOption o (r ≡ Err NoEntry) (λ f. r ≡ Ok (status_of f.points reach)) → (s : Status) → r ≡ Ok s → cause_of d (command.Wait name) ≡ cause_if s
-waited d name reach r None same is told s ok = absurd (cc)
-waited d name reach r (Some f) same is told s ok =
-    let status : s ≡ status_of f.points reach = cc in
-    cause_of-found d name f is ∙ ap (λ rs. cause_if (status_of f.points rs)) (sym same) ∙ ap cause_if (sym status)
+waited : (d : DeskState) (name : List ℕ) (clocks : List Clock) (r : Result Status Refusal) (o : Option File) → clocks ≡ clocks_of d.timelines → sync_file_at d.files name ≡ o → MatchOption o (r ≡ Err NoEntry) (λ f. r ≡ Ok (common_status clocks f.points)) → (s : Status) → r ≡ Ok s → cause_of d (command.Wait name) ≡ cause_if s
+waited d name clocks r None same is told s ok = absurd (cc)
+waited d name clocks r (Some f) same is told s ok =
+    let status : s ≡ common_status clocks f.points = cc in
+    cause_of-found d name f is ∙ ap (λ cs. cause_if (common_status cs f.points)) (sym same) ∙ ap cause_if (sym status)
 
-unwaited : (d : DeskState) (name reach : List ℕ) (r : Result Status Refusal) (o : Option File) → sync_file_at d.files name ≡ o → MatchOption o (r ≡ Err NoEntry) (λ f. r ≡ Ok (status_of f.points reach)) → (e : Refusal) → r ≡ Err e → (cause_of d (command.Wait name) ≡ Some NoEntry) × (e ≡ NoEntry)
-unwaited d name reach r None is told e err = (cause_of-missing d name is, cc)
-unwaited d name reach r (Some f) is told e err = absurd (cc)
+unwaited : (d : DeskState) (name : List ℕ) (clocks : List Clock) (r : Result Status Refusal) (o : Option File) → sync_file_at d.files name ≡ o → MatchOption o (r ≡ Err NoEntry) (λ f. r ≡ Ok (common_status clocks f.points)) → (e : Refusal) → r ≡ Err e → (cause_of d (command.Wait name) ≡ Some NoEntry) × (e ≡ NoEntry)
+unwaited d name clocks r None is told e err = (cause_of-missing d name is, cc)
+unwaited d name clocks r (Some f) is told e err = absurd (cc)
 
 refused_for : {T : Type 0} (o : Option Refusal) (r : Result T Refusal) (cause e : Refusal) → o ≡ Some cause → e ≡ cause → IsErrAnd r (λ given. given ≡ e) → IsRefusedFor o r
 refused_for o (Ok v) cause e is same given = absurd given
 refused_for o (Err f) cause e is same given = let told : f ≡ cause = cc in rw is (ap Err told)
 
-pub IsRefusedFor-no_file : {T : Type 0} (d : DeskState) (name reach : List ℕ) (checked : Result Status Refusal) (e : Refusal) (r : Result T Refusal) → MatchOption (sync_file_at d.files name) (checked ≡ Err NoEntry) (λ f. checked ≡ Ok (status_of f.points reach)) → checked ≡ Err e → IsErrAnd r (λ given. given ≡ e) → IsRefusedFor (cause_of d (command.Wait name)) r
-IsRefusedFor-no_file d name reach checked e r told err given =
-    let missing = unwaited d name reach checked (sync_file_at d.files name) refl told e err in
+pub IsRefusedFor-no_file : {T : Type 0} (d : DeskState) (name : List ℕ) (clocks : List Clock) (checked : Result Status Refusal) (e : Refusal) (r : Result T Refusal) → MatchOption (sync_file_at d.files name) (checked ≡ Err NoEntry) (λ f. checked ≡ Ok (common_status clocks f.points)) → checked ≡ Err e → IsErrAnd r (λ given. given ≡ e) → IsRefusedFor (cause_of d (command.Wait name)) r
+IsRefusedFor-no_file d name clocks checked e r told err given =
+    let missing = unwaited d name clocks checked (sync_file_at d.files name) refl told e err in
     refused_for (cause_of d (command.Wait name)) r NoEntry e missing.0 missing.1 given
 
-pub cause_of-waited : (d : DeskState) (name reach : List ℕ) (checked : Result Status Refusal) (s : Status) → reach ≡ reach_of d.timelines → MatchOption (sync_file_at d.files name) (checked ≡ Err NoEntry) (λ f. checked ≡ Ok (status_of f.points reach)) → checked ≡ Ok s → cause_of d (command.Wait name) ≡ cause_if s
-cause_of-waited d name reach checked s same told ok = waited d name reach checked (sync_file_at d.files name) same refl told s ok
+pub cause_of-waited : (d : DeskState) (name : List ℕ) (clocks : List Clock) (checked : Result Status Refusal) (s : Status) → clocks ≡ clocks_of d.timelines → MatchOption (sync_file_at d.files name) (checked ≡ Err NoEntry) (λ f. checked ≡ Ok (common_status clocks f.points)) → checked ≡ Ok s → cause_of d (command.Wait name) ≡ cause_if s
+cause_of-waited d name clocks checked s same told ok = waited d name clocks checked (sync_file_at d.files name) same refl told s ok
 
 -- a close that is refused takes nothing out
 

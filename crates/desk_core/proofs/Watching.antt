@@ -1,9 +1,8 @@
 -- The watches that a desk keeps, and those of the world.
-use Rattle.std.proofs.Common.{◌≡◌, ℕ, ◌+◌, max, arith, Bool, true, false, not, ◌&&◌, ◌||◌, if◌then◌else◌, refl, sym, ap, ◌∙◌, List, [], ◌∷◌, length, nat_le, nat_lt, Option, None, Some, option_map, unwrap_or, is_some, Result, Ok, Err, IsOk}
+use Rattle.std.proofs.Common.{◌≡◌, ◌≤◌, ℕ, ◌+◌, max, arith, Bool, true, false, not, ◌&&◌, ◌||◌, if◌then◌else◌, refl, sym, ap, ◌∙◌, List, [], ◌∷◌, length, nat_le, nat_lt, Option, None, Some, option_map, unwrap_or, is_some, Result, Ok, Err, IsOk}
 use Rattle.std.specs.Prelude.{MatchOption, option_copied}
 use denote.Bor.{Bor}
 use Rattle.fence_core.specs.declared.fence.Fence.{Fence}
-use Rattle.std.specs.List.{list_any}
 use Rattle.std.proofs.lemmas.Bool.{false≢true, leb-true, leb-false, lt-ltb, le-ltb}
 use Rattle.std.proofs.lemmas.Slice.Zip.{AllZip-long}
 use Rattle.point_core.specs.declared.refusal.Refusal.{Refusal}
@@ -12,28 +11,31 @@ use Rattle.point_core.specs.declared.refusal.LimitKind.TheVariants.{Watches as W
 use Rattle.point_core.specs.declared.entry.Entry.{Entry}
 use Rattle.point_core.specs.declared.entry.Point.{Point}
 use Rattle.point_core.specs.declared.status.Status.{Status}
-use Rattle.point_core.specs.declared.status.Status.TheVariants as status
-use Rattle.point_core.specs.Status.{status_if}
-use Rattle.point_core.specs.Reach.{value_at, with_value}
+use Rattle.point_core.specs.declared.clocks.Clock.{Clock}
+use Rattle.point_core.specs.Status.{is_signalled}
+use Rattle.point_core.specs.Agreement.{point_of}
+use Rattle.point_core.specs.Clocks.{reach_of_clocks, some_cancelled, common_status}
+use Rattle.point_core.specs.Reach.{GREATEST, value_at, with_value, reaching, IsAtLeast}
+use Rattle.point_core.proofs.Ticking.{is_signalled-of}
 use Rattle.point_core.proofs.Reached.{all_reached-points}
-use Rattle.timeline_core.specs.Timeline.{Timeline, AreTimelines, has_timeline, context_of, reach_of, raised}
-use Rattle.timeline_core.proofs.Raising.{reach_of-raised}
+use Rattle.timeline_core.specs.Timeline.{Timeline, AreTimelines, has_timeline, context_of, clocks_of, reach_of, clock_named, value_of, raised, shut}
+use Rattle.timeline_core.proofs.Raising.{reach_of-raised, reach_of-shut-reaching, value_at-open}
 use Rattle.syncfile_core.specs.SyncFile.{File}
-use Rattle.syncfile_core.specs.Status.{status_of}
 use Rattle.syncfile_core.specs.Files.{file_at as sync_file_at}
 use Rattle.fence_core.specs.declared.watches.TheConstants.{WATCHES, WATCHES_EVER}
 use Rattle.fence_core.specs.Fence.{are_reached, members_of, fence_of}
 use Rattle.fence_core.specs.Watch.{IsWatchOf}
-use Rattle.fence_core.specs.Watches.{has_watch, has_room, fires, fired_by, cause_to_refuse, cause_to_refuse_watch, if_none}
+use Rattle.fence_core.specs.Watches.{has_watch, has_room, fired_by, cause_to_refuse, cause_to_refuse_watch, if_none}
 use Rattle.fence_core.proofs.Firing.{AllZip-later, fired-none, cookies_of-fires, list_any-fires, list_any-is_for}
-use Rattle.desk_core.specs.World.{World, MadeWatch, has_made_watch, raised_reach, fired_watches, fires_some, cookies_of}
+use Rattle.desk_core.specs.World.{World, MadeWatch, has_made_watch, raised_reach, shut_reach, due_watches, has_due_watch, fired_watches, shut_watches, fires_some, cookies_of}
 use Rattle.desk_core.specs.Answer.{is_full}
 use Rattle.desk_core.specs.Desk.{DeskState, AreWatchesOf, Holds}
-use Rattle.desk_core.specs.Keeping.{points_at, Keeps, cause_of, fires_kept}
+use Rattle.desk_core.specs.Keeping.{points_at, Keeps, cause_of, keeps_due, fires_kept}
+use Rattle.command_core.specs.declared.command.Command.{Command}
 use Rattle.command_core.specs.declared.command.Command.TheVariants as command
 use Rattle.desk_core.proofs.Finding.{has_sync_file-found}
 use Rattle.desk_core.proofs.Signalling.{all_reached-keeps, put_reached}
-use Rattle.desk_core.proofs.Sound.{IsAtLeast-raised}
+use Rattle.desk_core.proofs.Sound.{IsAtLeast-raised, IsAtLeast-shut}
 
 abbrev pub cookie_of : MadeWatch → ℕ
 cookie_of x = x.cookie
@@ -41,24 +43,56 @@ cookie_of x = x.cookie
 abbrev pub put_of : MadeWatch → List Entry
 put_of x = x.put
 
--- at the values after an increment
+-- where more is reached
 
-pub watches-raised : {desk : DeskState} {world : World} → Holds desk world → (name : List ℕ) (n : ℕ) → AreWatchesOf (raised_reach world name n) desk.watches.pending world.watches
-watches-raised {desk} {world} h name n = AllZip-later cookie_of put_of desk.watches.pending world.watches (IsAtLeast-raised world.timelines name n) h.watches
+module _ {desk : DeskState} {world : World} (h : Holds desk world) (reach : List ℕ) (rises : IsAtLeast reach (reach_of world.timelines)) where
+  pub watches-later : AreWatchesOf reach desk.watches.pending world.watches
+  watches-later = AllZip-later cookie_of put_of desk.watches.pending world.watches rises h.watches
+
+  -- the cookies that the desk tells are those of the watches that are due
+  pub fired-later : fired_by desk.watches reach ≡ cookies_of (due_watches world reach)
+  fired-later = cookies_of-fires cookie_of put_of reach desk.watches.pending world.watches watches-later
+
+  keeps_due-later : keeps_due desk reach ≡ has_due_watch world reach
+  keeps_due-later = list_any-fires cookie_of put_of reach desk.watches.pending world.watches watches-later
 
 raised-holds : {desk : DeskState} {world : World} → Holds desk world → (name : List ℕ) (n : ℕ) → reach_of (raised desk.timelines name n) ≡ raised_reach world name n
 raised-holds h name n = ap (λ ts. reach_of (raised ts name n)) h.timelines
 
--- the cookies that the desk tells are those that the increment fires
 pub fired-holds : {desk : DeskState} {world : World} → Holds desk world → (name : List ℕ) (n : ℕ) → fired_by desk.watches (reach_of (raised desk.timelines name n)) ≡ cookies_of (fired_watches world name n)
 fired-holds {desk} {world} h name n =
-    ap (fired_by desk.watches) (raised-holds h name n)
-    ∙ cookies_of-fires cookie_of put_of (raised_reach world name n) desk.watches.pending world.watches (watches-raised h name n)
+    ap (fired_by desk.watches) (raised-holds h name n) ∙ fired-later h (raised_reach world name n) (IsAtLeast-raised world.timelines name n)
 
-pub fires_kept-holds : {desk : DeskState} {world : World} → Holds desk world → (name : List ℕ) (n : ℕ) → fires_kept desk name n ≡ fires_some world name n
-fires_kept-holds {desk} {world} h name n =
-    ap (λ reach. list_any (fires reach) desk.watches.pending) (raised-holds h name n)
-    ∙ list_any-fires cookie_of put_of (raised_reach world name n) desk.watches.pending world.watches (watches-raised h name n)
+-- the same of a closing, where no value passes the greatest
+shut-holds : {desk : DeskState} {world : World} → Holds desk world → (name : List ℕ) → reach_of (shut desk.timelines name) ≡ shut_reach world name
+shut-holds h name = ap (λ ts. reach_of (shut ts name)) h.timelines
+
+pub fired-shut : {desk : DeskState} {world : World} → Keeps desk world → (name : List ℕ) → fired_by desk.watches (reach_of (shut desk.timelines name)) ≡ cookies_of (shut_watches world name)
+fired-shut {desk} {world} k name =
+    ap (fired_by desk.watches) (shut-holds k.holds name) ∙ fired-later k.holds (shut_reach world name) (IsAtLeast-shut world.timelines name k.sound.values)
+
+pub fires_kept-holds : {desk : DeskState} {world : World} → Keeps desk world → (c : Command) → fires_kept desk c ≡ fires_some world c
+fires_kept-holds {desk} {world} k (command.Inc t n) =
+    ap (keeps_due desk) (raised-holds k.holds t n) ∙ keeps_due-later k.holds (raised_reach world t n) (IsAtLeast-raised world.timelines t n)
+fires_kept-holds {desk} {world} k (command.Shut t) =
+    ap (keeps_due desk) (shut-holds k.holds t) ∙ keeps_due-later k.holds (shut_reach world t) (IsAtLeast-shut world.timelines t k.sound.values)
+fires_kept-holds k (command.Timeline t) = refl
+fires_kept-holds k (command.Value t) = refl
+fires_kept-holds k (command.Fence f t p) = refl
+fires_kept-holds k (command.Merge f a b) = refl
+fires_kept-holds k (command.Close f) = refl
+fires_kept-holds k (command.Wait f) = refl
+fires_kept-holds k (command.Info f) = refl
+fires_kept-holds k (command.Buffer b) = refl
+fires_kept-holds k (command.Add b t p u) = refl
+fires_kept-holds k (command.Import b f flags) = refl
+fires_kept-holds k (command.Export f b flags) = refl
+fires_kept-holds k (command.Test b u) = refl
+fires_kept-holds k (command.Trim b) = refl
+fires_kept-holds k (command.Watch f cookie) = refl
+fires_kept-holds k (command.Unwatch cookie) = refl
+fires_kept-holds k (command.Show b) = refl
+fires_kept-holds k command.Report = refl
 
 -- why a watch is refused
 
@@ -111,13 +145,13 @@ watch_cause-keeps {desk} {world} k f cookie =
 -- what the desk asks before it registers a watch
 
 -- a check of a file's status that is refused, and one that is answered
-no_status : (o : Option File) (reach : List ℕ) (r : Result Status Refusal) (e : Refusal) → MatchOption o (r ≡ Err NoEntry) (λ f. r ≡ Ok (status_of f.points reach)) → r ≡ Err e → (o ≡ None) × (e ≡ NoEntry)
-no_status None reach r e told err = (refl, cc)
-no_status (Some f) reach r e told err = absurd (cc)
+no_status : (o : Option File) (clocks : List Clock) (r : Result Status Refusal) (e : Refusal) → MatchOption o (r ≡ Err NoEntry) (λ f. r ≡ Ok (common_status clocks f.points)) → r ≡ Err e → (o ≡ None) × (e ≡ NoEntry)
+no_status None clocks r e told err = (refl, cc)
+no_status (Some f) clocks r e told err = absurd (cc)
 
-found_status : (o : Option File) (reach : List ℕ) (r : Result Status Refusal) (s : Status) → MatchOption o (r ≡ Err NoEntry) (λ f. r ≡ Ok (status_of f.points reach)) → r ≡ Ok s → (f : File) × (o ≡ Some f) × (s ≡ status_of f.points reach)
-found_status None reach r s told ok = absurd (cc)
-found_status (Some f) reach r s told ok = (f, refl, cc)
+found_status : (o : Option File) (clocks : List Clock) (r : Result Status Refusal) (s : Status) → MatchOption o (r ≡ Err NoEntry) (λ f. r ≡ Ok (common_status clocks f.points)) → r ≡ Ok s → (f : File) × (o ≡ Some f) × (s ≡ common_status clocks f.points)
+found_status None clocks r s told ok = absurd (cc)
+found_status (Some f) clocks r s told ok = (f, refl, cc)
 
 -- whether a cookie is free, as it was answered
 pub refused_cookie : (o : Option Refusal) (r : Result (Unit {0}) Refusal) (e : Refusal) → MatchOption o (IsOk r) (λ cause. r ≡ Err cause) → r ≡ Err e → o ≡ Some e
@@ -129,65 +163,70 @@ pub free_cookie : (o : Option Refusal) (r : Result (Unit {0}) Refusal) (t : Unit
 free_cookie None r t told ok = refl
 free_cookie (Some cause) r t told ok = absurd (cc)
 
-abbrev if_reached : Bool → Option Refusal
+abbrev pub if_reached : Bool → Option Refusal
 if_reached reached = if reached then Some Signalled else None
 
 -- why a watch of a file of that status is refused
 abbrev pub signalled_cause : Status → Option Refusal
-signalled_cause status.Signalled = Some Signalled
-signalled_cause status.Active = None
-
-signalled_cause-status_if : (b : Bool) → if_reached b ≡ signalled_cause (status_if b)
-signalled_cause-status_if true = refl
-signalled_cause-status_if false = refl
+signalled_cause s = if_reached (is_signalled s)
 
 pub members-fence_of : (points : List Point) → members_of (fence_of points) ≡ points
 members-fence_of [] = refl
 members-fence_of (p ∷ []) = refl
 members-fence_of (p ∷ q ∷ points) = refl
 
-module _ (d : DeskState) (f : List ℕ) (cookie : ℕ) (reach : List ℕ) (r : Result Status Refusal) (at : reach ≡ reach_of d.timelines) (told : MatchOption (sync_file_at d.files f) (r ≡ Err NoEntry) (λ g. r ≡ Ok (status_of g.points reach))) where
+module _ (d : DeskState) (f : List ℕ) (cookie : ℕ) (clocks : List Clock) (r : Result Status Refusal) (at : clocks ≡ clocks_of d.timelines) (told : MatchOption (sync_file_at d.files f) (r ≡ Err NoEntry) (λ g. r ≡ Ok (common_status clocks g.points))) where
   pub watch-missing : (e : Refusal) → r ≡ Err e → (cause_of d (command.Watch f cookie) ≡ Some NoEntry) × (e ≡ NoEntry)
   watch-missing e err =
-      let none = no_status (sync_file_at d.files f) reach r e told err in
+      let none = no_status (sync_file_at d.files f) clocks r e told err in
       let missing = has_sync_file-found d.files f ∙ ap is_some none.0 in
       (ap (λ b. if b then cause_to_refuse_watch d.watches cookie (points_at d.files f) (reach_of d.timelines) else Some NoEntry) missing, none.1)
 
   -- the file is there
-  pub watch-found : (s : Status) → r ≡ Ok s → cause_of d (command.Watch f cookie) ≡ cause_to_refuse_watch d.watches cookie (points_at d.files f) reach
+  pub watch-found : (s : Status) → r ≡ Ok s → cause_of d (command.Watch f cookie) ≡ cause_to_refuse_watch d.watches cookie (points_at d.files f) (reach_of d.timelines)
   watch-found s ok =
-      let found = found_status (sync_file_at d.files f) reach r s told ok in
+      let found = found_status (sync_file_at d.files f) clocks r s told ok in
       let has = has_sync_file-found d.files f ∙ ap is_some found.1 in
       ap (λ b. if b then cause_to_refuse_watch d.watches cookie (points_at d.files f) (reach_of d.timelines) else Some NoEntry) has
-      ∙ ap (cause_to_refuse_watch d.watches cookie (points_at d.files f)) (sym at)
 
   -- the cookie is not free
   pub watch-taken : (s : Status) → r ≡ Ok s → (e : Refusal) → cause_to_refuse d.watches cookie ≡ Some e → cause_of d (command.Watch f cookie) ≡ Some e
-  watch-taken s ok e taken = watch-found s ok ∙ ap (λ o. if_none o (if_reached (are_reached reach (points_at d.files f)))) taken
+  watch-taken s ok e taken = watch-found s ok ∙ ap (λ o. if_none o (if_reached (are_reached (reach_of d.timelines) (points_at d.files f)))) taken
 
   -- the cookie is free
   pub watch-free : (s : Status) → r ≡ Ok s → cause_to_refuse d.watches cookie ≡ None → cause_of d (command.Watch f cookie) ≡ signalled_cause s
   watch-free s ok free =
-      let found = found_status (sync_file_at d.files f) reach r s told ok in
+      let found = found_status (sync_file_at d.files f) clocks r s told ok in
       let listed : points_at d.files f ≡ found.0.points = ap (λ o. unwrap_or (option_map (λ (g : File). g.points) o) []) found.1 in
       watch-found s ok
-      ∙ ap (λ o. if_none o (if_reached (are_reached reach (points_at d.files f)))) free
-      ∙ ap (λ ps. if_reached (are_reached reach ps)) listed
-      ∙ signalled_cause-status_if (are_reached reach found.0.points)
+      ∙ ap (λ o. if_none o (if_reached (are_reached (reach_of d.timelines) (points_at d.files f)))) free
+      ∙ ap (λ ps. if_reached (are_reached (reach_of d.timelines) ps)) listed
+      ∙ ap (λ cs. if_reached (are_reached (reach_of_clocks cs) found.0.points)) (sym at)
+      ∙ ap if_reached (sym (is_signalled-of (are_reached (reach_of_clocks clocks) found.0.points) (some_cancelled clocks found.0.points)))
       ∙ ap signalled_cause (sym found.2)
 
 -- the values after an increment, as the desk works them out beforehand
-pub raised_reach-is : (ts : List Timeline) (name : List ℕ) (n ctx value : ℕ) (reach later : List ℕ) → reach ≡ reach_of ts → ctx ≡ context_of ts name → AreTimelines ts → has_timeline ts name ≡ true → value ≡ value_at reach ctx + n → later ≡ with_value reach ctx (max (value_at reach ctx) value) → later ≡ reach_of (raised ts name n)
-raised_reach-is ts name n ctx value reach later at is kept has sum raise =
-    let greater : max (value_at reach ctx) value ≡ value_at reach ctx + n = omega arith in
-    raise ∙ ap (with_value reach ctx) greater ∙ ap (λ r. with_value r ctx (value_at r ctx + n)) at
-    ∙ ap (λ c. with_value (reach_of ts) c (value_at (reach_of ts) c + n)) is
-    ∙ sym (reach_of-raised ts name n kept has)
+pub raised_reach-is : (ts : List Timeline) (name : List ℕ) (n ctx value : ℕ) (reach : List ℕ) → reach ≡ reach_of ts → ctx ≡ context_of ts name → AreTimelines ts → has_timeline ts name ≡ true → (clock_named ts name).closed ≡ false → value ≡ value_of ts name + n → reaching reach (point_of ctx value) ≡ reach_of (raised ts name n)
+raised_reach-is ts name n ctx value reach at is kept has still sum =
+    let before : value_at (reach_of ts) ctx ≡ value_of ts name = ap (value_at (reach_of ts)) is ∙ value_at-open ts name still in
+    let greater : max (value_at (reach_of ts) ctx) value ≡ value_of ts name + n = omega arith in
+    ap (λ r. with_value r ctx (max (value_at r ctx) value)) at
+    ∙ ap (with_value (reach_of ts) ctx) greater
+    ∙ ap (λ c. with_value (reach_of ts) c (value_of ts name + n)) is
+    ∙ sym (reach_of-raised ts name n kept has still)
 
--- where an increment fires no watch, it is not refused for want of memory
-pub sure-raised : {T : Type 0} (d : DeskState) (name : List ℕ) (n : ℕ) (reach : List ℕ) (r : Result T Refusal) (e : Refusal) → reach ≡ reach_of (raised d.timelines name n) → fires_kept d name n ≡ false → (fired_by d.watches reach ≡ [] → IsOk r) → r ≡ Err e → ⊥
-sure-raised d name n reach (Ok v) e at none ok err = absurd (cc)
-sure-raised d name n reach (Err f) e at none ok err = false≢true (ok (ap (fired_by d.watches) at ∙ fired-none (reach_of (raised d.timelines name n)) d.watches.pending none))
+-- and those after a closing
+pub shut_reach-is : (ts : List Timeline) (name : List ℕ) (ctx value : ℕ) (reach : List ℕ) → reach ≡ reach_of ts → ctx ≡ context_of ts name → AreTimelines ts → has_timeline ts name ≡ true → (clock_named ts name).closed ≡ false → value_of ts name ≤ GREATEST → value ≡ GREATEST → reaching reach (point_of ctx value) ≡ reach_of (shut ts name)
+shut_reach-is ts name ctx value reach at is kept has still low greatest =
+    ap (λ r. reaching r (point_of ctx value)) at
+    ∙ ap (λ c. reaching (reach_of ts) (point_of c value)) is
+    ∙ ap (λ v. reaching (reach_of ts) (point_of (context_of ts name) v)) greatest
+    ∙ sym (reach_of-shut-reaching ts name kept has still low)
+
+-- where no watch is due, none is refused for want of memory
+pub sure-fired : {T : Type 0} (d : DeskState) (reach later : List ℕ) (r : Result T Refusal) (e : Refusal) → reach ≡ later → keeps_due d later ≡ false → (fired_by d.watches reach ≡ [] → IsOk r) → r ≡ Err e → ⊥
+sure-fired d reach later (Ok v) e at none ok err = absurd (cc)
+sure-fired d reach later (Err f) e at none ok err = false≢true (ok (ap (fired_by d.watches) at ∙ fired-none later d.watches.pending none))
 
 -- the points of the fence that is made of a file's
 pub watch_points : (fs : List File) (name : List ℕ) (o : Option (Bor File)) (b : Bor File) (points : List Point) (fence : Fence) → option_copied o ≡ sync_file_at fs name → o ≡ Some b → points ≡ b.now.points → fence ≡ fence_of points → members_of fence ≡ points_at fs name

@@ -1,15 +1,14 @@
 -- The answer of each command in a world: the first refusal whose cause holds, else what the accepted command tells.
-use Rattle.std.specs.Prelude.{ℕ, ◌+◌, ◌^◌, Bool, true, false, not, ◌&&◌, ◌||◌, nat_le, if◌then◌else◌, List, [], ◌∷◌, length, map, Option, None, Some, unwrap_or, codes, ⊤}
+use Rattle.std.specs.Prelude.{ℕ, ◌+◌, ◌^◌, Bool, true, false, not, ◌&&◌, ◌||◌, nat_le, if◌then◌else◌, List, [], ◌∷◌, ◌++◌, length, map, Option, None, Some, unwrap_or, codes, ⊤}
 use Rattle.point_core.specs.declared.context.TheConstants.{CONTEXTS}
 use Rattle.point_core.specs.declared.entry.Point.{Point}
 use Rattle.point_core.specs.declared.refusal.Refusal.{Refusal}
-use Rattle.point_core.specs.declared.refusal.Refusal.TheVariants.{NoEntry, Exists, Overflow, Flags, Limit, TimedOut, Signalled as AlreadySignalled}
+use Rattle.point_core.specs.declared.refusal.Refusal.TheVariants.{NoEntry, Exists, Overflow, Flags, Limit, TimedOut, Cancelled as AlreadyClosed, Signalled as AlreadySignalled}
 use Rattle.point_core.specs.declared.refusal.LimitKind.TheVariants.{Timelines, Buffers, Files, Watches}
 use Rattle.point_core.specs.declared.status.Status.{Status}
 use Rattle.point_core.specs.declared.status.Status.TheVariants.{Signalled}
 use Rattle.point_core.specs.Usage.{usage_number}
-use Rattle.point_core.specs.Status.{status_if}
-use Rattle.point_core.specs.Reach.{value_at}
+use Rattle.point_core.specs.Clocks.{status_of, status_at, some_cancelled}
 use Rattle.point_core.specs.Agreement.{listing, all_reached}
 use Rattle.command_core.specs.declared.command.Command.{Command}
 use Rattle.command_core.specs.declared.command.Command.TheVariants as command
@@ -25,8 +24,8 @@ use Rattle.command_core.specs.Tables.{Tables}
 use Rattle.point_core.specs.declared.entry.Entry.{Entry}
 use Rattle.point_core.specs.declared.listing.TopRow.{TopRow}
 use Rattle.resv_core.specs.Resv.{rows_of}
-use Rattle.timeline_core.specs.Timeline.{Timeline, has_timeline, name_at, reach_of, value_of, rows_of as timeline_rows}
-use Rattle.desk_core.specs.World.{MadeFile, MadeBuffer, World, has_file, file_named, put_set, has_made_buffer, buffer_put_set, has_made_watch, fired_watches, cookies_of}
+use Rattle.timeline_core.specs.Timeline.{Timeline, has_timeline, name_at, clocks_of, reach_of, value_of, is_closed, rows_of as timeline_rows}
+use Rattle.desk_core.specs.World.{MadeFile, MadeBuffer, World, has_file, file_named, put_set, has_made_buffer, buffer_put_set, has_made_watch, fired_watches, shut_watches, cookies_of}
 use Rattle.point_core.specs.declared.limits.TheConstants.{BUFFERS}
 use Rattle.dmabuf_core.specs.Flags.{is_sync_flags}
 use Rattle.syncfile_core.specs.declared.files.TheConstants.{FILES}
@@ -57,9 +56,13 @@ abbrev pub causes : World → Command → List (Bool × Refusal)
 causes w (command.Timeline t) =
     cause (has_timeline w.timelines t) Exists ∷ cause (nat_le CONTEXTS (length w.timelines)) (Limit Timelines) ∷ []
 causes w (command.Inc t n) =
-    cause (not (has_timeline w.timelines t)) NoEntry ∷ cause (nat_le (2 ^ 64) (value_of w.timelines t + n)) Overflow ∷ []
+    cause (not (has_timeline w.timelines t)) NoEntry ∷ cause (is_closed w.timelines t) AlreadyClosed
+    ∷ cause (nat_le (2 ^ 64) (value_of w.timelines t + n)) Overflow ∷ []
 causes w (command.Value t) = cause (not (has_timeline w.timelines t)) NoEntry ∷ []
-causes w (command.Fence f t p) = cause (not (has_timeline w.timelines t)) NoEntry ∷ making_file w f
+causes w (command.Shut t) =
+    cause (not (has_timeline w.timelines t)) NoEntry ∷ cause (is_closed w.timelines t) AlreadyClosed ∷ []
+causes w (command.Fence f t p) =
+    cause (not (has_timeline w.timelines t)) NoEntry ∷ making_file w f ++ cause (is_closed w.timelines t) AlreadyClosed ∷ []
 causes w (command.Merge f a b) = cause (not (has_file w.files a && has_file w.files b)) NoEntry ∷ making_file w f
 causes w (command.Close f) = cause (not (has_file w.files f)) NoEntry ∷ []
 causes w (command.Wait f) = cause (not (has_file w.files f)) NoEntry ∷ cause (not (is_signalled w f)) TimedOut ∷ []
@@ -84,13 +87,14 @@ causes w command.Report = []
 abbrev pub number_if : Bool → ℕ
 number_if b = if b then 1 else 0
 
--- a file is signalled exactly where all that was put into it is
-abbrev pub file_status : World → MadeFile → Status
-file_status w f = status_if (all_reached (reach_of w.timelines) 0 f.put)
-
 -- a file made of one point lists it, any other what was pending when it was made
 abbrev pub listed_points : MadeFile → List Point
 listed_points f = if f.is_one_point then map (λ e. e.point) f.put else listing f.put 0 f.made_at
+
+-- a file is active until all that was put into it is reached, and then cancelled where a point that it lists is
+abbrev pub file_status : World → MadeFile → Status
+file_status w f =
+    status_of (all_reached (reach_of w.timelines) 0 f.put) (some_cancelled (clocks_of w.timelines) (listed_points f))
 
 -- the name of a context that a timeline was made of
 abbrev pub name_of : List Timeline → ℕ → List ℕ
@@ -101,7 +105,7 @@ fence_row ts p = record {
   timeline = name_of ts p.ctx;
   driver = SwSync;
   point = p.value;
-  status = status_if (nat_le p.value (value_at (reach_of ts) p.ctx));
+  status = status_at (clocks_of ts) p;
 }
 
 abbrev pub stub_row : FenceRow
@@ -154,6 +158,7 @@ abbrev pub told : World → Command → Answer
 told w (command.Timeline t) = answer.Value (length w.timelines + 1)
 told w (command.Inc t n) = answer.Raised (value_of w.timelines t + n) (cookies_of (fired_watches w t n))
 told w (command.Value t) = answer.Value (value_of w.timelines t)
+told w (command.Shut t) = answer.Raised (value_of w.timelines t) (cookies_of (shut_watches w t))
 told w (command.Fence f t p) = answer.Done
 told w (command.Merge f a b) = answer.Done
 told w (command.Close f) = answer.Done
@@ -175,12 +180,13 @@ abbrev pub refused_or : Option Refusal → Answer → Answer
 refused_or None a = a
 refused_or (Some r) a = answer.Refused r
 
--- The command makes something or tells a list, and so may find no memory; no other command does. Of an increment that is so
--- where it fires a watch, which `fires` tells by the timeline's name and the increment.
-abbrev pub takes_memory : (List ℕ → ℕ → Bool) → Command → Bool
+-- The command makes something or tells a list, and so may find no memory; no other command does. Of an increment and a closing
+-- that is so where the command fires a watch, which `fires` tells.
+abbrev pub takes_memory : (Command → Bool) → Command → Bool
 takes_memory fires (command.Timeline t) = true
-takes_memory fires (command.Inc t n) = fires t n
+takes_memory fires (command.Inc t n) = fires (command.Inc t n)
 takes_memory fires (command.Value t) = false
+takes_memory fires (command.Shut t) = fires (command.Shut t)
 takes_memory fires (command.Fence f t p) = true
 takes_memory fires (command.Merge f a b) = true
 takes_memory fires (command.Close f) = false

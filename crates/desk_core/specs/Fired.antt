@@ -2,12 +2,13 @@
 use Rattle.std.specs.Prelude.{◌≡◌, ◌≢◌, ℕ, false, ⊤, List, [], ◌∷◌, ◌++◌, map}
 use Rattle.command_core.specs.declared.command.Command.{Command}
 use Rattle.command_core.specs.declared.command.Command.TheVariants as command
-use Rattle.desk_core.specs.World.{World, MadeWatch, empty_world, after, is_due, raised_reach, fired_watches}
+use Rattle.desk_core.specs.World.{World, MadeWatch, empty_world, after, is_due, raised_reach, shut_reach, fired_watches, shut_watches}
 use Rattle.desk_core.specs.History.{world_of}
 
 -- the registrations, by number, that the command fires
 abbrev pub fired_in : World → Command → List ℕ
 fired_in w (command.Inc t n) = map (λ (x : MadeWatch). x.number) (fired_watches w t n)
+fired_in w (command.Shut t) = map (λ (x : MadeWatch). x.number) (shut_watches w t)
 fired_in w (command.Timeline t) = []
 fired_in w (command.Value t) = []
 fired_in w (command.Fence f t p) = []
@@ -38,9 +39,10 @@ fired_along history = fired_from empty_world history
 abbrev pub pending_after : List Command → List MadeWatch
 pending_after history = (world_of history).watches
 
--- the command neither removes the watch nor raises the values to all that was put
+-- the command neither removes the watch nor is all that was put reached by it
 abbrev pub IsLeftBy : World → MadeWatch → Command → Type 0
 IsLeftBy w x (command.Inc t n) = is_due (raised_reach w t n) x ≡ false
+IsLeftBy w x (command.Shut t) = is_due (shut_reach w t) x ≡ false
 IsLeftBy w x (command.Unwatch cookie) = x.cookie ≢ cookie
 IsLeftBy w x (command.Timeline t) = ⊤
 IsLeftBy w x (command.Value t) = ⊤

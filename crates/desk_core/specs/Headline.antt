@@ -1,23 +1,25 @@
 -- What a desk tells of all that was put into its files and buffers, and of its timelines.
-use Rattle.std.specs.Prelude.{◌≡◌, ℕ, ◌+◌, ◌≤◌, ◌↔◌, nat_eq, true, List, [], ◌∷◌, ◌++◌, length, count_by, Some, Contains}
+use Rattle.std.specs.Prelude.{◌≡◌, ◌≢◌, ℕ, ◌+◌, ◌≤◌, ◌↔◌, nat_eq, true, List, [], ◌∷◌, ◌++◌, length, count_by, Some, Contains}
 use Rattle.point_core.specs.declared.entry.Entry.{Entry}
 use Rattle.point_core.specs.declared.entry.Usage.{Usage}
 use Rattle.point_core.specs.declared.refusal.Refusal.TheVariants.{TimedOut}
 use Rattle.point_core.specs.Usage.{usage_number}
-use Rattle.point_core.specs.declared.status.Status.TheVariants.{Signalled}
+use Rattle.point_core.specs.declared.clocks.Clock.{Clock}
+use Rattle.point_core.specs.declared.status.Status.TheVariants.{Active, Cancelled}
+use Rattle.point_core.specs.Clocks.{some_cancelled}
 use Rattle.point_core.specs.Agreement.{AgreesAbove, as_entries, IsReached}
 use Rattle.command_core.specs.declared.command.Command.{Command}
 use Rattle.command_core.specs.declared.command.Command.TheVariants as command
 use Rattle.command_core.specs.declared.answer.Info.{Info}
 use Rattle.command_core.specs.declared.answer.Answer.{Answer}
 use Rattle.command_core.specs.declared.answer.Answer.TheVariants as answer
-use Rattle.timeline_core.specs.Timeline.{reach_of}
+use Rattle.timeline_core.specs.Timeline.{clocks_of, reach_of}
 use Rattle.timeline_core.specs.Run.{incremented, AreSums}
 use Rattle.syncfile_core.specs.SyncFile.{File}
 use Rattle.syncfile_core.specs.Files.{file_at as sync_file_at}
 use Rattle.resv_core.specs.declared.resv.TheConstants.{PLACES}
 use Rattle.dmabuf_core.specs.Buffers.{has_buffer, entries_of}
-use Rattle.desk_core.specs.World.{MadeFile, MadeWatch, file_named, put_set, buffer_put_set, fired_watches, cookies_of}
+use Rattle.desk_core.specs.World.{MadeFile, MadeWatch, file_named, put_set, buffer_put_set, fired_watches, shut_watches, cookies_of}
 use Rattle.desk_core.specs.Answer.{listed_points}
 use Rattle.desk_core.specs.History.{world_of, increments_in}
 use Rattle.desk_core.specs.Fired.{fired_along, pending_after}
@@ -29,9 +31,13 @@ pub record HasSameEntries (es fs : List Entry) : Type 0 where
   pub there : (e : Entry) → Contains es e → Contains fs e
   pub back : (e : Entry) → Contains fs e → Contains es e
 
--- the timelines' values after a history
+-- what the timelines have reached after a history: their values, or the greatest value of a closed one
 abbrev pub values_after : List Command → List ℕ
 values_after history = reach_of (world_of history).timelines
+
+-- the timelines' values after a history, and which are closed
+abbrev pub clocks_after : List Command → List Clock
+clocks_after history = clocks_of (world_of history).timelines
 
 -- all that a history put into the file of that name
 abbrev pub put_into_file : List Command → List ℕ → List Entry
@@ -54,9 +60,13 @@ pub record TellsWhatWasPut (desk : DeskState) (history : List Command) : Type 0 
   -- all that a file lists is reached exactly when every point put into it is
   pub reached : (name : List ℕ) (f : File) → sync_file_at desk.files name ≡ Some f
       → (IsReached (as_entries f.points) 0 (values_after history) ↔ IsFileReached history name)
-  -- `info` tells that a file is signalled exactly when every point put into it is reached
+  -- `info` tells that a file is signalled, its status not being active, exactly when every point put into it is reached
   pub signalled : (name : List ℕ) (told : Info) → Answers desk (command.Info name) (answer.Info told)
-      → ((told.status ≡ Signalled) ↔ IsFileReached history name)
+      → ((told.status ≢ Active) ↔ IsFileReached history name)
+  -- and that it is cancelled exactly when besides a point that it lists is
+  pub cancelled : (name : List ℕ) (f : File) (told : Info) → sync_file_at desk.files name ≡ Some f
+      → Answers desk (command.Info name) (answer.Info told)
+      → ((told.status ≡ Cancelled) ↔ (IsFileReached history name × (some_cancelled (clocks_after history) f.points ≡ true)))
   -- a `wait` is done exactly when every point put into the file is reached, and else it has timed out
   pub waited : (name : List ℕ) (f : File) (given : Answer) → sync_file_at desk.files name ≡ Some f
       → Answers desk (command.Wait name) given → ((given ≡ answer.Done) ↔ IsFileReached history name)
@@ -104,12 +114,19 @@ pub record TellsSums (desk : DeskState) (history : List Command) : Type 0 where
   -- `inc` tells the sum with the new increment
   pub raised : (name : List ℕ) (n value : ℕ) (fired : List ℕ) → Answers desk (command.Inc name n) (answer.Raised value fired)
       → value ≡ incremented (increments_in history) name + n
+  -- `shut` tells the sum, which stays
+  pub shut : (name : List ℕ) (value : ℕ) (fired : List ℕ) → Answers desk (command.Shut name) (answer.Raised value fired)
+      → value ≡ incremented (increments_in history) name
 
 -- the watches that one more increment fires, by registration
 abbrev pub fired_after : List Command → List ℕ → ℕ → List MadeWatch
 fired_after history name n = fired_watches (world_of history) name n
 
--- an increment fires the watches all of whose put points it signals, and none fires twice
+-- the watches that a closing fires, by registration
+abbrev pub shut_after : List Command → List ℕ → List MadeWatch
+shut_after history name = shut_watches (world_of history) name
+
+-- an increment or a closing fires the watches all of whose put points it signals, and none fires twice
 pub record TellsWhatFires (desk : DeskState) (history : List Command) : Type 0 where
   -- `inc` tells the cookies of the watches that it fires, by registration
   pub told : (name : List ℕ) (n value : ℕ) (fired : List ℕ) → Answers desk (command.Inc name n) (answer.Raised value fired)
@@ -117,6 +134,11 @@ pub record TellsWhatFires (desk : DeskState) (history : List Command) : Type 0 w
   -- these are the pending watches of which every put point is reached at the new values
   pub due : (name : List ℕ) (n : ℕ) (x : MadeWatch) → (Contains (fired_after history name n) x
       ↔ (Contains (pending_after history) x × IsReached x.put 0 (values_after (history ++ command.Inc name n ∷ []))))
+  -- and `shut` those that it fires
+  pub told_shut : (name : List ℕ) (value : ℕ) (fired : List ℕ) → Answers desk (command.Shut name) (answer.Raised value fired)
+      → fired ≡ cookies_of (shut_after history name)
+  pub due_shut : (name : List ℕ) (x : MadeWatch) → (Contains (shut_after history name) x
+      ↔ (Contains (pending_after history) x × IsReached x.put 0 (values_after (history ++ command.Shut name ∷ []))))
   -- each registration has fired at most once
   pub once : (number : ℕ) → count_by (nat_eq number) (fired_along history) ≤ 1
 

@@ -32,6 +32,7 @@ abbrev pub increment_in : Command → List Increment
 increment_in (command.Inc t n) = increment t n ∷ []
 increment_in (command.Timeline t) = []
 increment_in (command.Value t) = []
+increment_in (command.Shut t) = []
 increment_in (command.Fence f t p) = []
 increment_in (command.Merge f a b) = []
 increment_in (command.Close f) = []

@@ -3,15 +3,16 @@ use Rattle.std.specs.Prelude.{◌≡◌, ℕ, ◌+◌, ◌^◌, ◌≤◌, ◌<�
 use Rattle.point_core.specs.declared.entry.Point.{Point}
 use Rattle.point_core.specs.declared.context.TheConstants.{CONTEXTS}
 use Rattle.point_core.specs.declared.refusal.Refusal.{Refusal}
-use Rattle.point_core.specs.declared.refusal.Refusal.TheVariants.{NoEntry, Exists, Overflow, Flags, Limit, TimedOut}
+use Rattle.point_core.specs.declared.refusal.Refusal.TheVariants.{NoEntry, Exists, Overflow, Flags, Limit, TimedOut, Cancelled}
 use Rattle.point_core.specs.declared.refusal.LimitKind.TheVariants.{Timelines}
 use Rattle.point_core.specs.Agreement.{as_entries, all_reached, top}
 use Rattle.point_core.specs.Latest.{raised_to}
 use Rattle.point_core.specs.Reach.{value_at}
 use Rattle.point_core.specs.declared.entry.Entry.{Entry}
-use Rattle.point_core.specs.Status.{status_if}
+use Rattle.point_core.specs.declared.clocks.Clock.{Clock}
+use Rattle.point_core.specs.Clocks.{common_status}
 use Rattle.std.specs.List.{list_any}
-use Rattle.timeline_core.specs.Timeline.{Timeline, has_timeline, reach_of, value_of, raised, rows_of as timeline_rows}
+use Rattle.timeline_core.specs.Timeline.{Timeline, has_timeline, clocks_of, reach_of, value_of, is_closed, raised, shut, rows_of as timeline_rows}
 use Rattle.syncfile_core.specs.SyncFile.{File}
 use Rattle.syncfile_core.specs.Files.{has_file as has_sync_file, file_at as sync_file_at, cause_to_refuse}
 use Rattle.syncfile_core.specs.Merge.{cause_to_refuse_merge}
@@ -54,7 +55,7 @@ pub record IsOfItsTimelines (d : DeskState) : Type 0 where
 abbrev pub info_at : List Timeline → List ℕ → List Point → Info
 info_at ts name ps = record {
   name = name;
-  status = status_if (all_reached (reach_of ts) 0 (as_entries ps));
+  status = common_status (clocks_of ts) ps;
   fences = or_stub (map (fence_row ts) ps);
 }
 
@@ -67,19 +68,41 @@ pub record Keeps (desk : DeskState) (world : World) : Type 0 where
 abbrev pub points_at : List File → List ℕ → List Point
 points_at fs name = unwrap_or (option_map (λ (f : File). f.points) (sync_file_at fs name)) []
 
--- whether an increment of that timeline by n fires a watch that the desk keeps
-abbrev pub fires_kept : DeskState → List ℕ → ℕ → Bool
-fires_kept d t n = list_any (fires (reach_of (raised d.timelines t n))) d.watches.pending
+-- whether a watch that the desk keeps is due where so much is reached
+abbrev pub keeps_due : DeskState → List ℕ → Bool
+keeps_due d reach = list_any (fires reach) d.watches.pending
+
+-- whether the command fires a watch that the desk keeps
+abbrev pub fires_kept : DeskState → Command → Bool
+fires_kept d (command.Inc t n) = keeps_due d (reach_of (raised d.timelines t n))
+fires_kept d (command.Shut t) = keeps_due d (reach_of (shut d.timelines t))
+fires_kept d (command.Timeline t) = false
+fires_kept d (command.Value t) = false
+fires_kept d (command.Fence f t p) = false
+fires_kept d (command.Merge f a b) = false
+fires_kept d (command.Close f) = false
+fires_kept d (command.Wait f) = false
+fires_kept d (command.Info f) = false
+fires_kept d (command.Buffer b) = false
+fires_kept d (command.Add b t p u) = false
+fires_kept d (command.Import b f flags) = false
+fires_kept d (command.Export f b flags) = false
+fires_kept d (command.Test b u) = false
+fires_kept d (command.Trim b) = false
+fires_kept d (command.Watch f cookie) = false
+fires_kept d (command.Unwatch cookie) = false
+fires_kept d (command.Show b) = false
+fires_kept d command.Report = false
 
 -- each row is of a timeline that was made
 abbrev pub AreRowsMade : ℕ → List TopRow → Type 0
 AreRowsMade made rows = All (λ (r : TopRow). r.ctx ≤ made) rows
 
 -- what is told of a file, by what the desk keeps
-abbrev pub file_row_at : List ℕ → File → FileRow
-file_row_at reach f = record {
+abbrev pub file_row_at : List Clock → File → FileRow
+file_row_at clocks f = record {
   name = f.name;
-  status = status_if (all_reached reach 0 (as_entries f.points));
+  status = common_status clocks f.points;
   count = fence_count f.points;
 }
 
@@ -91,9 +114,18 @@ buffer_rows_at ts bs name = record { name = name; rows = show_rows ts (entries_o
 abbrev pub report_at : List Timeline → List File → List Buffer → Tables
 report_at ts fs bs = record {
   timelines = timeline_rows ts;
-  files = map (file_row_at (reach_of ts)) fs;
+  files = map (file_row_at (clocks_of ts)) fs;
   buffers = map (buffer_rows_at ts bs) (names_of bs);
 }
+
+-- the first of two causes
+abbrev pub first_cause : Option Refusal → Option Refusal → Option Refusal
+first_cause None second = second
+first_cause (Some first) second = Some first
+
+-- an accepted command would change a timeline that is closed
+abbrev pub cause_closed : DeskState → List ℕ → Option Refusal
+cause_closed d t = if is_closed d.timelines t then Some Cancelled else None
 
 -- Why the desk refuses a command, by what it keeps. It is the first of the `causes` that hold in the world of its history:
 -- so says the law `a_desk_refuses_for_the_first_cause`.
@@ -101,9 +133,13 @@ abbrev pub cause_of : DeskState → Command → Option Refusal
 cause_of d (command.Timeline t) =
     if has_timeline d.timelines t then Some Exists else if nat_lt (length d.timelines) CONTEXTS then None else Some (Limit Timelines)
 cause_of d (command.Inc t n) =
-    if has_timeline d.timelines t then (if nat_le (2 ^ 64) (value_of d.timelines t + n) then Some Overflow else None) else Some NoEntry
+    if has_timeline d.timelines t
+    then first_cause (cause_closed d t) (if nat_le (2 ^ 64) (value_of d.timelines t + n) then Some Overflow else None)
+    else Some NoEntry
 cause_of d (command.Value t) = if has_timeline d.timelines t then None else Some NoEntry
-cause_of d (command.Fence f t p) = if has_timeline d.timelines t then cause_to_refuse d.files f else Some NoEntry
+cause_of d (command.Shut t) = if has_timeline d.timelines t then cause_closed d t else Some NoEntry
+cause_of d (command.Fence f t p) =
+    if has_timeline d.timelines t then first_cause (cause_to_refuse d.files f) (cause_closed d t) else Some NoEntry
 cause_of d (command.Merge f a b) = cause_to_refuse_merge d.files f (a ∷ b ∷ [])
 cause_of d (command.Close f) = if has_sync_file d.files f then None else Some NoEntry
 cause_of d (command.Wait f) =

@@ -2,9 +2,8 @@
 use Rattle.std.specs.Prelude.{◌≡◌, ℕ, ◌≤◌, List, length, All}
 use Rattle.point_core.specs.declared.entry.Entry.{Entry}
 use Rattle.point_core.specs.declared.entry.Usage.TheVariants.{Kernel}
-use Rattle.point_core.specs.declared.context.TheConstants.{CONTEXTS}
-use Rattle.point_core.specs.Reach.{IsAtLeast}
-use Rattle.timeline_core.specs.Timeline.{Timeline, reach_of}
+use Rattle.point_core.specs.Reach.{GREATEST, IsAtLeast}
+use Rattle.timeline_core.specs.Timeline.{Timeline, reach_of, AreTimelines}
 use Rattle.desk_core.specs.World.{MadeFile, MadeBuffer, World}
 
 -- an entry is of a timeline that was made
@@ -25,8 +24,10 @@ pub record WasMade (ts : List Timeline) (f : MadeFile) : Type 0 where
 abbrev pub IsOfTimelines : ℕ → MadeBuffer → Type 0
 IsOfTimelines made b = All (IsOfMade made) b.put
 
--- files and buffers have points of what was made, and there are no more timelines than contexts
+-- files and buffers have points of what was made; names are distinct, there are no more timelines than contexts, and no value
+-- passes the greatest
 pub record IsSound (world : World) : Type 0 where
   pub made : All (WasMade world.timelines) world.files
   pub buffers : All (IsOfTimelines (length world.timelines)) world.buffers
-  pub room : length world.timelines ≤ CONTEXTS
+  pub timelines : AreTimelines world.timelines
+  pub values : All (λ (t : Timeline). t.value ≤ GREATEST) world.timelines

@@ -14,6 +14,7 @@ abbrev pub is_watch_of : ℕ → Command → Bool
 is_watch_of cookie (command.Timeline t) = false
 is_watch_of cookie (command.Inc t n) = false
 is_watch_of cookie (command.Value t) = false
+is_watch_of cookie (command.Shut t) = false
 is_watch_of cookie (command.Fence f t p) = false
 is_watch_of cookie (command.Merge f a b) = false
 is_watch_of cookie (command.Close f) = false
@@ -35,6 +36,7 @@ abbrev pub is_unwatch_of : ℕ → Command → Bool
 is_unwatch_of cookie (command.Timeline t) = false
 is_unwatch_of cookie (command.Inc t n) = false
 is_unwatch_of cookie (command.Value t) = false
+is_unwatch_of cookie (command.Shut t) = false
 is_unwatch_of cookie (command.Fence f t p) = false
 is_unwatch_of cookie (command.Merge f a b) = false
 is_unwatch_of cookie (command.Close f) = false

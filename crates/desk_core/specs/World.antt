@@ -8,7 +8,7 @@ use Rattle.resv_core.specs.Resv.{entry_of}
 use Rattle.dmabuf_core.specs.Flags.{exported, imported}
 use Rattle.command_core.specs.declared.command.Command.{Command}
 use Rattle.command_core.specs.declared.command.Command.TheVariants as command
-use Rattle.timeline_core.specs.Timeline.{Timeline, new_timeline, context_of, reach_of, raised}
+use Rattle.timeline_core.specs.Timeline.{Timeline, new_timeline, context_of, reach_of, raised, shut}
 
 -- a sync file, with all that was put into it. A file made of one point lists it whether or not it is signalled
 pub record MadeFile : Type 0 where
@@ -93,17 +93,51 @@ is_due reach x = all_reached reach 0 x.put
 abbrev pub raised_reach : World → List ℕ → ℕ → List ℕ
 raised_reach w name n = reach_of (raised w.timelines name n)
 
--- the pending watches that this increment fires, by registration
+-- what is reached once the timeline of that name is closed
+abbrev pub shut_reach : World → List ℕ → List ℕ
+shut_reach w name = reach_of (shut w.timelines name)
+
+-- the pending watches that are due where so much is reached, by registration
+abbrev pub due_watches : World → List ℕ → List MadeWatch
+due_watches w reach = filter (is_due reach) w.watches
+
+-- those that are not
+abbrev pub other_watches : World → List ℕ → List MadeWatch
+other_watches w reach = filter (λ x. not (is_due reach x)) w.watches
+
+-- whether any is
+abbrev pub has_due_watch : World → List ℕ → Bool
+has_due_watch w reach = list_any (is_due reach) w.watches
+
+-- the pending watches that this increment fires
 abbrev pub fired_watches : World → List ℕ → ℕ → List MadeWatch
-fired_watches w name n = filter (is_due (raised_reach w name n)) w.watches
+fired_watches w name n = due_watches w (raised_reach w name n)
 
--- those that it leaves
-abbrev pub left_watches : World → List ℕ → ℕ → List MadeWatch
-left_watches w name n = filter (λ x. not (is_due (raised_reach w name n) x)) w.watches
+-- the pending watches that this closing fires
+abbrev pub shut_watches : World → List ℕ → List MadeWatch
+shut_watches w name = due_watches w (shut_reach w name)
 
--- whether it fires any
-abbrev pub fires_some : World → List ℕ → ℕ → Bool
-fires_some w name n = list_any (is_due (raised_reach w name n)) w.watches
+-- whether the command fires a watch: an increment and a closing may
+abbrev pub fires_some : World → Command → Bool
+fires_some w (command.Inc t n) = has_due_watch w (raised_reach w t n)
+fires_some w (command.Shut t) = has_due_watch w (shut_reach w t)
+fires_some w (command.Timeline t) = false
+fires_some w (command.Value t) = false
+fires_some w (command.Fence f t p) = false
+fires_some w (command.Merge f a b) = false
+fires_some w (command.Close f) = false
+fires_some w (command.Wait f) = false
+fires_some w (command.Info f) = false
+fires_some w (command.Buffer b) = false
+fires_some w (command.Add b t p u) = false
+fires_some w (command.Import b f flags) = false
+fires_some w (command.Export f b flags) = false
+fires_some w (command.Test b u) = false
+fires_some w (command.Trim b) = false
+fires_some w (command.Watch f cookie) = false
+fires_some w (command.Unwatch cookie) = false
+fires_some w (command.Show b) = false
+fires_some w command.Report = false
 
 abbrev pub cookies_of : List MadeWatch → List ℕ
 cookies_of xs = map (λ (x : MadeWatch). x.cookie) xs
@@ -113,7 +147,11 @@ with_timeline w name = record w { timelines = w.timelines ++ new_timeline name �
 
 -- the timeline of that name has risen by n, and what this fires is no longer pending
 abbrev pub with_raised : World → List ℕ → ℕ → World
-with_raised w name n = record w { timelines = raised w.timelines name n; watches = left_watches w name n }
+with_raised w name n = record w { timelines = raised w.timelines name n; watches = other_watches w (raised_reach w name n) }
+
+-- the timeline of that name is closed, and what this fires is no longer pending
+abbrev pub with_shut : World → List ℕ → World
+with_shut w name = record w { timelines = shut w.timelines name; watches = other_watches w (shut_reach w name) }
 
 abbrev pub with_file : World → List ℕ → List Entry → Bool → World
 with_file w name put is_one_point = record w {
@@ -138,6 +176,7 @@ abbrev pub after : World → Command → World
 after w (command.Timeline t) = with_timeline w t
 after w (command.Inc t n) = with_raised w t n
 after w (command.Value t) = w
+after w (command.Shut t) = with_shut w t
 after w (command.Fence f t p) = with_file w f (as_entry (point_of (context_of w.timelines t) p) ∷ []) true
 after w (command.Merge f a b) = with_file w f (put_set w.files a ++ put_set w.files b) false
 after w (command.Close f) = record w { files = files_without w.files f }

@@ -9,7 +9,7 @@ use fence_core::{Fence, Watches};
 use point_core::{Context, Items, Name, Point, Refusal, Usage};
 use std::alloc::Global;
 use std::marker::Model;
-use syncfile_core::{Files, Status};
+use syncfile_core::Files;
 use timeline_core::Timelines;
 
 /// All timelines, files, buffers and watches of a service. It keeps of each file what was pending when it was made, of each
@@ -63,7 +63,7 @@ impl Desk {
 
     /// The answer of one command: the first refusal whose cause holds, else what the command tells. `Memory` comes
     /// last, where a growth was really refused; `value`, `close`, `wait`, `test`, `trim` and `unwatch` never answer it,
-    /// and `inc` only where it fires a watch. A refused command changes nothing, and fires none.
+    /// and `inc` and `shut` only where they fire a watch. A refused command changes nothing, and fires none.
     #[inline(always)]
     pub fn step(&mut self, command: Command) -> Answer
         ensures answer { Answers self.old command result }
@@ -88,6 +88,7 @@ impl Desk {
             Command::Timeline(name) => self.timeline(*name),
             Command::Inc(name, n) => self.inc(name, *n),
             Command::Value(name) => self.value(name),
+            Command::Shut(name) => self.shut(name),
             Command::Fence(name, timeline, value) => self.fence(*name, timeline, *value),
             Command::Merge(name, first, second) => self.merge(*name, first, second),
             Command::Close(name) => self.close(name),
@@ -168,13 +169,16 @@ impl Desk {
 
     fn inc(&mut self, name: &Name, n: u64) -> Result<Answer, Refusal>
         ensures refused { IsRefusedFor (cause_of self.old (Command.Inc name.now n)) result }
-        ensures sure { fires_kept self.old name.now n ≡ false → IfErr result (λ e. e ≢ Refusal.Memory) }
+        ensures sure { fires_kept self.old (Command.Inc name.now n) ≡ false → IfErr result (λ e. e ≢ Refusal.Memory) }
         ensures done { IfOk result (λ given. IsDone self.old (Command.Inc name.now n) given self.new) }
         ensures unchanged { OnErr result (self.new ≡ self.old) }
     {
         let ctx = self.timelines.context(name).ok_or(Refusal::NoEntry)?;
-        let reach = self.timelines.as_reach();
-        let value = reach.get(ctx).checked_add(n).ok_or(Refusal::Overflow)?;
+        let clock = self.timelines.as_clocks().clock(ctx);
+        if clock.closed {
+            return Err(Refusal::Cancelled);
+        }
+        let value = clock.value.checked_add(n).ok_or(Refusal::Overflow)?;
         let fired = self.watches.after_inc(Point { ctx, value })?;
         self.timelines.raise_to(Point { ctx, value });
         Ok(Answer::Raised(value, Items::of(fired)))
@@ -188,12 +192,35 @@ impl Desk {
         Ok(Answer::Value(self.timelines.value(name)?))
     }
 
+    // The watches are asked first, at the greatest value: where they find no memory, nothing has changed.
+    #[inline(never)]
+    fn shut(&mut self, name: &Name) -> Result<Answer, Refusal>
+        ensures refused { IsRefusedFor (cause_of self.old (Command.Shut name.now)) result }
+        ensures sure { fires_kept self.old (Command.Shut name.now) ≡ false → IfErr result (λ e. e ≢ Refusal.Memory) }
+        ensures done { IfOk result (λ given. IsDone self.old (Command.Shut name.now) given self.new) }
+        ensures unchanged { OnErr result (self.new ≡ self.old) }
+    {
+        let ctx = self.timelines.context(name).ok_or(Refusal::NoEntry)?;
+        let clock = self.timelines.as_clocks().clock(ctx);
+        if clock.closed {
+            return Err(Refusal::Cancelled);
+        }
+        let value = u64::MAX;
+        let fired = self.watches.after_inc(Point { ctx, value })?;
+        let kept = self.timelines.shut(name)?;
+        Ok(Answer::Raised(kept, Items::of(fired)))
+    }
+
     fn fence(&mut self, name: Name, timeline: &Name, value: u64) -> Result<Answer, Refusal>
         ensures refused { IsRefusedFor (cause_of self.old (Command.Fence name timeline.now value)) result }
         ensures done { IfOk result (λ given. IsDone self.old (Command.Fence name timeline.now value) given self.new) }
         ensures unchanged { OnErr result (self.new ≡ self.old) }
     {
         let ctx = self.timelines.context(timeline).ok_or(Refusal::NoEntry)?;
+        if self.timelines.as_clocks().closed(ctx) {
+            self.files.free(&name)?;
+            return Err(Refusal::Cancelled);
+        }
         self.files.create(name, Point { ctx, value })?;
         Ok(Answer::Done)
     }
@@ -223,9 +250,11 @@ impl Desk {
         ensures sure { IfErr result (λ e. e ≢ Refusal.Memory) }
         ensures done { IfOk result (λ given. IsDone self.now (Command.Wait name.now) given self.now) }
     {
-        match self.files.status(name, self.timelines.as_reach())? {
-            Status::Signalled => Ok(Answer::Done),
-            Status::Active => Err(Refusal::TimedOut),
+        let status = self.files.status(name, self.timelines.as_clocks())?;
+        if status.is_signalled() {
+            Ok(Answer::Done)
+        } else {
+            Err(Refusal::TimedOut)
         }
     }
 
@@ -323,18 +352,15 @@ impl Desk {
         ensures done { IfOk result (λ given. IsDone self.old (Command.Watch name.now cookie) given self.new) }
         ensures unchanged { OnErr result (self.new ≡ self.old) }
     {
-        let reach = self.timelines.as_reach();
-        let status = self.files.status(name, reach)?;
+        let status = self.files.status(name, self.timelines.as_clocks())?;
         self.watches.free(cookie)?;
-        match status {
-            Status::Signalled => Err(Refusal::Signalled),
-            Status::Active => {
-                let file = self.files.get(name).unwrap();
-                let fence = Fence::of(self.alloc, file.points.as_slice())?;
-                self.watches.add(cookie, &fence, reach)?;
-                Ok(Answer::Done)
-            }
+        if status.is_signalled() {
+            return Err(Refusal::Signalled);
         }
+        let file = self.files.get(name).unwrap();
+        let fence = Fence::of(self.alloc, file.points.as_slice())?;
+        self.watches.add(cookie, &fence, self.timelines.as_reach())?;
+        Ok(Answer::Done)
     }
 
     fn unwatch(&mut self, cookie: u64) -> Answer

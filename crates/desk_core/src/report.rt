@@ -6,10 +6,9 @@ ghost use Rattle.dmabuf_core.specs.Buffers.{names_of, entries_of};
 ghost use Rattle.desk_core.specs.Answer.{show_row};
 ghost use Rattle.desk_core.specs.Keeping.{AreRowsMade, HasNoneBehind, file_row_at, buffer_rows_at, report_at};
 
-use crate::info::common_status;
 use command_core::{BufferRows, FileRow, Report, ShowRow};
 use dmabuf_core::Buffers;
-use point_core::{Items, Name, Reach, Refusal, TopRow};
+use point_core::{Clocks, Items, Name, Reach, Refusal, TopRow};
 use std::alloc::Global;
 use syncfile_core::{Files, SyncFile};
 use timeline_core::Timelines;
@@ -28,11 +27,12 @@ pub fn of_all(
     ensures report { IfOk result (λ report. report ≡ report_at timelines.now files.now buffers.now) }
     ensures memory { IfErr result (λ e. e ≡ Refusal.Memory) }
 {
-    let reach = timelines.reach();
+    let clocks = timelines.as_clocks();
+    let reach = timelines.as_reach();
     Ok(Report {
         timelines: Items::of(timelines.rows()?),
-        files: Items::of(file_rows(alloc, files, &reach)?),
-        buffers: Items::of(buffer_rows(alloc, buffers, timelines, &reach)?),
+        files: Items::of(file_rows(alloc, files, clocks)?),
+        buffers: Items::of(buffer_rows(alloc, buffers, timelines, reach)?),
     })
 }
 
@@ -67,27 +67,27 @@ fn show_row(top: TopRow, timelines: &Timelines) -> ShowRow
     }
 }
 
-fn file_rows(alloc: Global, files: &Files, reach: &Reach) -> Result<Vec<FileRow>, Refusal>
+fn file_rows(alloc: Global, files: &Files, clocks: &Clocks) -> Result<Vec<FileRow>, Refusal>
     ensures rows { IfOk result (λ rows.
-        rows.items ≡ map (file_row_at reach.now) files.now) }
+        rows.items ≡ map (file_row_at clocks.now) files.now) }
     ensures memory { IfErr result (λ e. e ≡ Refusal.Memory) }
 {
     let names = files.names()?;
     let mut rows = Vec::with_capacity(alloc, names.len())?;
     for name in &names {
-        rows.push_reserved(file_row(files.get(name).unwrap(), reach));
+        rows.push_reserved(file_row(files.get(name).unwrap(), clocks));
     }
     Ok(rows)
 }
 
 /// A file without points is shown as one fence, the stub.
-fn file_row(file: &SyncFile, reach: &Reach) -> FileRow
-    ensures { result ≡ file_row_at reach.now file.now }
+fn file_row(file: &SyncFile, clocks: &Clocks) -> FileRow
+    ensures { result ≡ file_row_at clocks.now file.now }
 {
     let points = file.points.as_slice();
     FileRow {
         name: file.name,
-        status: common_status(points, reach),
+        status: clocks.common_status(points),
         count: points.len().max(1) as u64,
     }
 }

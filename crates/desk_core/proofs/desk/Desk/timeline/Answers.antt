@@ -4,7 +4,7 @@ use Rattle.desk_core.proofs.Inside.{inside-timeline}
 use Rattle.desk_core.proofs.desk.Desk.timeline.Goals as goal
 
 pub invariant_of-self-2 : goal.invariant_of-self-2
-invariant_of-self-2 c = inside-timeline c.create.new.self c.args.name c.in_ok-ctx.ensures.added c.create.ensures.same_values c.self.invariant
+invariant_of-self-2 c = inside-timeline c.create.new.self c.args.name c.in_ok-ctx.ensures.added c.create.ensures.same_reach c.self.invariant
 
 pub returns-clause-done : goal.returns-clause-done
 returns-clause-done c =
