@@ -4,7 +4,7 @@ use Rattle.std.specs.Str.{bytes_eq}
 use Rattle.command_core.specs.declared.command.Command.{Command}
 use Rattle.command_core.specs.declared.command.Command.TheVariants as command
 use Rattle.line_core.specs.declared.table.Kind.{Kind}
-use Rattle.line_core.specs.declared.table.Kind.TheVariants.{Timeline, Inc, Value, Fence, Merge, Close, Wait, Info, Buffer, Add, Import, Export, Test, Trim, Watch, Unwatch, Show, Report}
+use Rattle.line_core.specs.declared.table.Kind.TheVariants.{Timeline, Inc, Value, Shut, Fence, Merge, Close, Wait, Info, Buffer, Add, Import, Export, Test, Trim, Watch, Unwatch, Show, Report}
 use Rattle.line_core.specs.Following.{one_name, one_number, name_and_number, two_names_and_number, three_names, two_names_number_and_usage, two_names_and_flags, name_and_usage}
 use Rattle.line_core.specs.Words.{are_none}
 
@@ -14,6 +14,7 @@ kinds =
     (codes "timeline", Timeline)
     ∷ (codes "inc", Inc)
     ∷ (codes "value", Value)
+    ∷ (codes "shut", Shut)
     ∷ (codes "fence", Fence)
     ∷ (codes "merge", Merge)
     ∷ (codes "close", Close)
@@ -42,6 +43,7 @@ command_by None words = None
 command_by (Some Timeline) words = option_map command.Timeline (one_name words)
 command_by (Some Inc) words = option_map (λ w. command.Inc w.0 w.1) (name_and_number words)
 command_by (Some Value) words = option_map command.Value (one_name words)
+command_by (Some Shut) words = option_map command.Shut (one_name words)
 command_by (Some Fence) words = option_map (λ w. command.Fence w.0 w.1 w.2) (two_names_and_number words)
 command_by (Some Merge) words = option_map (λ w. command.Merge w.0 w.1 w.2) (three_names words)
 command_by (Some Close) words = option_map command.Close (one_name words)

@@ -21,6 +21,7 @@ pub(crate) fn command(word: &[u8], rest: &[u8]) -> Option<Command>
         Some(Kind::Timeline) => timeline(rest),
         Some(Kind::Inc) => inc(rest),
         Some(Kind::Value) => value(rest),
+        Some(Kind::Shut) => shut(rest),
         Some(Kind::Fence) => fence(rest),
         Some(Kind::Merge) => merge(rest),
         Some(Kind::Close) => close(rest),
@@ -46,6 +47,7 @@ enum Kind {
     Timeline,
     Inc,
     Value,
+    Shut,
     Fence,
     Merge,
     Close,
@@ -72,13 +74,15 @@ fn kind_of(word: &[u8]) -> Option<Kind>
         Some(Kind::Inc)
     } else if is(word, "value") {
         Some(Kind::Value)
+    } else if is(word, "shut") {
+        Some(Kind::Shut)
     } else {
         file_kind_of(word)
     }
 }
 
 fn file_kind_of(word: &[u8]) -> Option<Kind>
-    ensures kind { result ≡ kind_at (drop 3 kinds) word.now }
+    ensures kind { result ≡ kind_at (drop 4 kinds) word.now }
 {
     if is(word, "fence") {
         Some(Kind::Fence)
@@ -96,7 +100,7 @@ fn file_kind_of(word: &[u8]) -> Option<Kind>
 }
 
 fn buffer_kind_of(word: &[u8]) -> Option<Kind>
-    ensures kind { result ≡ kind_at (drop 8 kinds) word.now }
+    ensures kind { result ≡ kind_at (drop 9 kinds) word.now }
 {
     if is(word, "buffer") {
         Some(Kind::Buffer)
@@ -116,7 +120,7 @@ fn buffer_kind_of(word: &[u8]) -> Option<Kind>
 }
 
 fn watch_kind_of(word: &[u8]) -> Option<Kind>
-    ensures kind { result ≡ kind_at (drop 14 kinds) word.now }
+    ensures kind { result ≡ kind_at (drop 15 kinds) word.now }
 {
     if is(word, "watch") {
         Some(Kind::Watch)
@@ -128,7 +132,7 @@ fn watch_kind_of(word: &[u8]) -> Option<Kind>
 }
 
 fn table_kind_of(word: &[u8]) -> Option<Kind>
-    ensures kind { result ≡ kind_at (drop 16 kinds) word.now }
+    ensures kind { result ≡ kind_at (drop 17 kinds) word.now }
 {
     if is(word, "show") {
         Some(Kind::Show)
@@ -161,6 +165,13 @@ fn value(rest: &[u8]) -> Option<Command>
     ensures command { result ≡ option_map Command.Value (one_name (words_of rest.now)) }
 {
     Some(Command::Value(one_name(rest)?))
+}
+
+#[inline(never)]
+fn shut(rest: &[u8]) -> Option<Command>
+    ensures command { result ≡ option_map Command.Shut (one_name (words_of rest.now)) }
+{
+    Some(Command::Shut(one_name(rest)?))
 }
 
 #[inline(never)]

@@ -2,4 +2,5 @@ mod Ends
 pub mod Fronts
 pub mod Numbered
 pub mod Placed
+pub mod Statuses
 pub mod Widths

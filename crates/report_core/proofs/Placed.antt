@@ -11,6 +11,17 @@ take-front front rest n size = ap (λ k. take k (front ++ rest)) (sym size) ∙ 
 drop-front : (front rest : List ℕ) (n : ℕ) → length front ≡ n → drop n (front ++ rest) ≡ rest
 drop-front front rest n size = ap (λ k. drop k (front ++ rest)) (sym size) ∙ drop-append_seam front rest
 
+-- a text that is put at a place, from there on and before it
+pub drop-put : (row text put : List ℕ) (place : ℕ) → place ≤ length row → put ≡ take place row ++ text ++ drop (place + length text) row → drop place put ≡ text ++ drop (place + length text) row
+drop-put row text put place within is =
+    let size : length (take place row) ≡ place = length-take-le place row within in
+    ap (drop place) (is ∙ append_assoc (take place row) text (drop (place + length text) row)) ∙ drop-front (take place row) (text ++ drop (place + length text) row) place size
+
+pub take-put : (row text put : List ℕ) (place : ℕ) → place ≤ length row → put ≡ take place row ++ text ++ drop (place + length text) row → take place put ≡ take place row
+take-put row text put place within is =
+    let size : length (take place row) ≡ place = length-take-le place row within in
+    ap (take place) (is ∙ append_assoc (take place row) text (drop (place + length text) row)) ∙ take-front (take place row) (text ++ drop (place + length text) row) place size
+
 -- a text that is put behind another is put with it
 pub put-next : (row one two : List ℕ) (place : ℕ) → place + length one ≤ length row → (first : List ℕ) → first ≡ take place row ++ one ++ drop (place + length one) row → take (place + length one) first ++ two ++ drop (place + length one + length two) first ≡ take place row ++ (one ++ two) ++ drop (place + length (one ++ two)) row
 put-next row one two place room first is =

@@ -1,14 +1,15 @@
 -- How long rows are.
-use Rattle.std.proofs.Common.{◌≡◌, ℕ, ◌+◌, ◌-◌, ◌≤◌, ◌<◌, ◌^◌, List, [], ◌∷◌, ◌++◌, length, arith, replicate, decimal, length-append}
+use Rattle.std.proofs.Common.{◌≡◌, ℕ, ◌+◌, ◌-◌, ◌≤◌, ◌<◌, ◌^◌, List, [], ◌∷◌, ◌++◌, length, arith, sym, ap, replicate, decimal, length-append}
 use Rattle.std.proofs.lemmas.List.{length-replicate}
 use Rattle.std.proofs.lemmas.Fmt.{length-decimal-le}
-use Rattle.point_core.specs.Status.{status_number}
+use Rattle.report_core.specs.Status.{status_text}
 use Rattle.point_core.specs.declared.status.Status.{Status}
-use Rattle.point_core.specs.declared.status.Status.TheVariants.{Active, Signalled}
+use Rattle.point_core.specs.declared.status.Status.TheVariants.{Active, Signalled, Cancelled}
 use Rattle.point_core.specs.declared.entry.Usage.TheVariants.{Kernel, Write, Read, Bookkeep}
 use Rattle.report_core.specs.declared.kind.Kind.{Kind}
-use Rattle.report_core.specs.declared.kind.Kind.TheVariants.{Timeline, File, Buffer, Level}
+use Rattle.report_core.specs.declared.kind.Kind.TheVariants.{Timeline, Closed, File, Buffer, Level}
 use Rattle.report_core.specs.declared.rows.TheConstants.{KIND_WIDTH, SUBJECT_WIDTH, NUMBER_WIDTH, COUNT_WIDTH, ROW_BYTES, FILE_ROW_BYTES}
+use Rattle.report_core.proofs.Statuses.{text-Active, text-Signalled, text-Cancelled}
 use Rattle.report_core.specs.Columns.{left, column, right}
 use Rattle.report_core.specs.Kind.{kind_word}
 use Rattle.command_core.specs.declared.answer.FileRow.{FileRow}
@@ -25,6 +26,7 @@ length-right width text h = omega (arith, length-append (replicate {A = ℕ} (wi
 
 length-kind_word : (kind : Kind) → length (kind_word kind) ≤ KIND_WIDTH
 length-kind_word Timeline = omega arith
+length-kind_word Closed = omega arith
 length-kind_word File = omega arith
 length-kind_word Buffer = omega arith
 length-kind_word (Level Kernel) = omega arith
@@ -38,35 +40,36 @@ length-decimal number n = length-decimal-le 20 number (omega arith) (omega arith
 pub length-kind_column : (kind : Kind) → length (column KIND_WIDTH (kind_word kind)) ≡ KIND_WIDTH + 1
 length-kind_column kind = length-column KIND_WIDTH (kind_word kind) (length-kind_word kind)
 
-length-columns : (kind : Kind) (subject : List ℕ) (number : ℕ) → length subject ≤ SUBJECT_WIDTH → number < 2 ^ 64 → length (columns kind subject number) + 1 ≡ ROW_BYTES
+length-columns : (kind : Kind) (subject number : List ℕ) → length subject ≤ SUBJECT_WIDTH → length number ≤ NUMBER_WIDTH → length (columns kind subject number) + 1 ≡ ROW_BYTES
 length-columns kind subject number s n =
     let first = column KIND_WIDTH (kind_word kind) in
     let second = column SUBJECT_WIDTH subject in
-    let third = right NUMBER_WIDTH (decimal number) in
+    let third = right NUMBER_WIDTH number in
     let whole : length (columns kind subject number) ≡ length (first ++ second) + length third = length-append (first ++ second) third in
     let front : length (first ++ second) ≡ length first + length second = length-append first second in
     let a : length first ≡ KIND_WIDTH + 1 = length-kind_column kind in
     let b : length second ≡ SUBJECT_WIDTH + 1 = length-column SUBJECT_WIDTH subject s in
-    let d : length third ≡ NUMBER_WIDTH = length-right NUMBER_WIDTH (decimal number) (length-decimal number n) in
+    let d : length third ≡ NUMBER_WIDTH = length-right NUMBER_WIDTH number n in
     omega (arith, whole, front, a, b, d)
 
 pub length-row : (old new : List ℕ) (kind : Kind) (subject : List ℕ) (number : ℕ) → length subject ≤ SUBJECT_WIDTH → number < 2 ^ 64 → new ≡ old ++ row_text kind subject number → length new ≡ length old + ROW_BYTES
 length-row old new kind subject number s n e =
     let whole : length (old ++ row_text kind subject number) ≡ length old + length (row_text kind subject number) = length-append old (row_text kind subject number) in
-    let text : length (row_text kind subject number) ≡ length (columns kind subject number) + 1 = length-append (columns kind subject number) (10 ∷ []) in
-    rw e (omega (arith, whole, text, length-columns kind subject number s n))
+    let text : length (row_text kind subject number) ≡ length (columns kind subject (decimal number)) + 1 = length-append (columns kind subject (decimal number)) (10 ∷ []) in
+    rw e (omega (arith, whole, text, length-columns kind subject (decimal number) s (length-decimal number n)))
 
-length-status : (status : Status) → status_number status < 2 ^ 64
-length-status Active = omega arith
-length-status Signalled = omega arith
+length-status : (status : Status) → length (status_text status) ≤ NUMBER_WIDTH
+length-status Active = omega (arith, sym (ap length text-Active))
+length-status Signalled = omega (arith, sym (ap length text-Signalled))
+length-status Cancelled = omega (arith, sym (ap length text-Cancelled))
 
 pub length-file_row : (old new : List ℕ) (file : FileRow) → length file.name ≤ SUBJECT_WIDTH → file.count < 1000 → new ≡ old ++ file_row_text file → length new ≡ length old + FILE_ROW_BYTES
 length-file_row old new file s few e =
-    let first = columns File file.name (status_number file.status) in
+    let first = columns File file.name (status_text file.status) in
     let last = right COUNT_WIDTH (decimal file.count) in
     let whole : length (old ++ file_row_text file) ≡ length old + length (file_row_text file) = length-append old (file_row_text file) in
     let text : length (file_row_text file) ≡ length (first ++ 32 ∷ last) + 1 = length-append (first ++ 32 ∷ last) (10 ∷ []) in
     let front : length (first ++ 32 ∷ last) ≡ length first + length (32 ∷ last) = length-append first (32 ∷ last) in
-    let a : length first + 1 ≡ ROW_BYTES = length-columns File file.name (status_number file.status) s (length-status file.status) in
+    let a : length first + 1 ≡ ROW_BYTES = length-columns File file.name (status_text file.status) s (length-status file.status) in
     let b : length last ≡ COUNT_WIDTH = length-right COUNT_WIDTH (decimal file.count) (length-decimal-le 3 file.count (omega arith) few (omega arith)) in
     rw e (omega (arith, whole, text, front, a, b))

@@ -3,7 +3,7 @@ use Rattle.std.specs.Prelude.{ℕ, List, codes}
 use Rattle.point_core.specs.declared.entry.Usage.{Usage}
 use Rattle.point_core.specs.declared.entry.Usage.TheVariants.{Kernel, Write, Read, Bookkeep}
 use Rattle.report_core.specs.declared.kind.Kind.{Kind}
-use Rattle.report_core.specs.declared.kind.Kind.TheVariants.{Timeline, File, Buffer, Level}
+use Rattle.report_core.specs.declared.kind.Kind.TheVariants.{Timeline, Closed, File, Buffer, Level}
 
 abbrev pub usage_word : Usage → List ℕ
 usage_word Kernel = codes "kernel"
@@ -13,6 +13,7 @@ usage_word Bookkeep = codes "bookkeep"
 
 abbrev pub kind_word : Kind → List ℕ
 kind_word Timeline = codes "timeline"
+kind_word Closed = codes "closed"
 kind_word File = codes "file"
 kind_word Buffer = codes "buffer"
 kind_word (Level usage) = usage_word usage

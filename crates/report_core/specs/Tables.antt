@@ -1,7 +1,9 @@
 -- The texts of tables, row by row.
-use Rattle.std.specs.Prelude.{ℕ, List, ◌++◌, length}
+use Rattle.std.specs.Prelude.{ℕ, if◌then◌else◌, List, ◌++◌, length}
 use Rattle.std.specs.List.{flat_map}
-use Rattle.report_core.specs.declared.kind.Kind.TheVariants.{Timeline, Buffer, Level}
+use Rattle.report_core.specs.declared.kind.Kind.TheVariants.{Timeline, Closed, Buffer, Level}
+use Rattle.report_core.specs.declared.kind.Kind.{Kind}
+use Rattle.point_core.specs.declared.timeline_row.TimelineRow.{TimelineRow}
 use Rattle.command_core.specs.declared.answer.ShowRow.{ShowRow}
 use Rattle.command_core.specs.declared.answer.BufferRows.{BufferRows}
 use Rattle.command_core.specs.Tables.{Tables}
@@ -14,8 +16,12 @@ show_row_text row = row_text (Level row.usage) row.timeline row.point
 abbrev pub show_text : List ShowRow → List ℕ
 show_text rows = flat_map show_row_text rows
 
-abbrev pub timeline_text : List ℕ × ℕ → List ℕ
-timeline_text timeline = row_text Timeline timeline.0 timeline.1
+-- a closed timeline has a kind of its own
+abbrev pub timeline_kind : TimelineRow → Kind
+timeline_kind timeline = if timeline.closed then Closed else Timeline
+
+abbrev pub timeline_text : TimelineRow → List ℕ
+timeline_text timeline = row_text (timeline_kind timeline) timeline.name timeline.value
 
 -- a buffer's row has the number of the rows that follow it
 abbrev pub buffer_text : BufferRows → List ℕ

@@ -29,12 +29,35 @@ pub(crate) fn push_columns(
     number: u64,
     last: u8,
 ) -> Result<(), Refusal>
-    ensures ok { OnOk result (out.new.items ≡ out.old.items ++ (columns kind (subject_text subject.entry) number ++ last ∷ [])) }
+    ensures ok { OnOk result (out.new.items ≡ out.old.items ++ (columns kind (subject_text subject.entry) (decimal number) ++ last ∷ [])) }
     ensures err { OnErr result ((result ≡ Err Memory) × (out.new.items ≡ out.old.items)) }
 {
     let mut row = [b' '; ROW_BYTES];
     row[ROW_BYTES - 1] = last;
     write_digits(number, &mut row, ROW_BYTES - 1);
+    put_subject(&mut row, subject);
+    put_at(&mut row, 0, kind.column());
+    out.extend_from_slice(&row)?;
+    Ok(())
+}
+
+/// Writes the same columns, with a text on the right of the third.
+///
+/// Refused as Memory alone, and `out` is then as it was.
+pub(crate) fn push_text_columns(
+    out: &mut Vec<u8>,
+    kind: Kind,
+    subject: Subject<'_>,
+    text: &[u8],
+    last: u8,
+) -> Result<(), Refusal>
+    requires narrow { length text.now ≤ NUMBER_WIDTH }
+    ensures ok { OnOk result (out.new.items ≡ out.old.items ++ (columns kind (subject_text subject.entry) text.now ++ last ∷ [])) }
+    ensures err { OnErr result ((result ≡ Err Memory) × (out.new.items ≡ out.old.items)) }
+{
+    let mut row = [b' '; ROW_BYTES];
+    row[ROW_BYTES - 1] = last;
+    put_at(&mut row, ROW_BYTES - 1 - text.len(), text);
     put_subject(&mut row, subject);
     put_at(&mut row, 0, kind.column());
     out.extend_from_slice(&row)?;

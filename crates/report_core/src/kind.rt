@@ -10,6 +10,8 @@ use point_core::Usage;
 #[derive(Clone, Copy, Debug, PartialEq, Eq, Hash)]
 pub enum Kind {
     Timeline,
+    /// A timeline that is closed.
+    Closed,
     File,
     Buffer,
     /// The pending points of a buffer at a usage or a stronger one.
@@ -23,6 +25,7 @@ impl Kind {
     {
         match self {
             Kind::Timeline => "timeline",
+            Kind::Closed => "closed",
             Kind::File => "file",
             Kind::Buffer => "buffer",
             Kind::Level(usage) => usage_word(usage),
@@ -36,6 +39,7 @@ impl Kind {
     {
         match self {
             Kind::Timeline => b"timeline ",
+            Kind::Closed => b"closed   ",
             Kind::File => b"file     ",
             Kind::Buffer => b"buffer   ",
             Kind::Level(Usage::Kernel) => b"kernel   ",

@@ -9,6 +9,7 @@ mod line;
 mod report;
 mod rows;
 mod settled;
+mod status;
 mod writing;
 
 pub use kind::Kind;
@@ -18,4 +19,5 @@ pub use rows::{
     COUNT_WIDTH, FILE_ROW_BYTES, KIND_WIDTH, NUMBER_WIDTH, ROW_BYTES, SUBJECT_WIDTH, file_row, row,
 };
 pub use settled::settled_text;
+pub use status::{STATUS_BYTES, status_text};
 pub use writing::write_whole;

@@ -4,12 +4,12 @@ ghost use Rattle.std.specs.List.{flat_map};
 ghost use Rattle.std.specs.Io.{StartsWith};
 ghost use Rattle.point_core.specs.declared.refusal.Refusal.TheVariants.{Memory};
 ghost use Rattle.report_core.specs.Row.{file_row_text};
-ghost use Rattle.report_core.specs.Tables.{show_text, timeline_text, buffer_text, report_text};
+ghost use Rattle.report_core.specs.Tables.{show_text, timeline_kind, timeline_text, buffer_text, report_text};
 
 use crate::kind::Kind;
 use crate::rows::{file_row, row};
 use command_core::{BufferRows, FileRow, Report, ShowRow};
-use point_core::{Name, Refusal};
+use point_core::{Refusal, TimelineRow};
 
 /// Writes the table of one buffer behind `out`, a row each.
 ///
@@ -38,17 +38,27 @@ pub fn report_text(report: &Report, out: &mut Vec<u8>) -> Result<(), Refusal>
     Ok(())
 }
 
-/// Writes a row for each timeline with its value behind `out`.
+/// Writes a row for each timeline with its value after `out`, a closed one as such.
 ///
 /// Refused as Memory alone. `out` then begins with what it was.
-pub fn timelines_text(timelines: &[(Name, u64)], out: &mut Vec<u8>) -> Result<(), Refusal>
+pub fn timelines_text(timelines: &[TimelineRow], out: &mut Vec<u8>) -> Result<(), Refusal>
     ensures ok { OnOk result (out.new.items ≡ out.old.items ++ flat_map timeline_text timelines.now) }
     ensures err { OnErr result ((result ≡ Err Memory) × StartsWith out.new.items out.old.items) }
 {
-    for (name, value) in timelines {
-        row(Kind::Timeline, name, *value, out)?;
+    for timeline in timelines {
+        row(kind_of(timeline), &timeline.name, timeline.value, out)?;
     }
     Ok(())
+}
+
+fn kind_of(timeline: &TimelineRow) -> Kind
+    ensures { result ≡ timeline_kind timeline.now }
+{
+    if timeline.closed {
+        Kind::Closed
+    } else {
+        Kind::Timeline
+    }
 }
 
 fn push_files(out: &mut Vec<u8>, files: &[FileRow]) -> Result<(), Refusal>

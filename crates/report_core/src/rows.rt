@@ -5,9 +5,10 @@ ghost use Rattle.point_core.specs.declared.refusal.Refusal.TheVariants.{Memory};
 ghost use Rattle.report_core.specs.Subject.{subject_text};
 ghost use Rattle.report_core.specs.Row.{row_text, file_row_text};
 
-use crate::columns::{Subject, push_columns, put_number};
+use crate::columns::{Subject, push_columns, push_text_columns, put_number};
 use crate::kind::Kind;
 use crate::line::TextLine;
+use crate::status::status_text;
 use command_core::FileRow;
 use point_core::{NAME_BYTES, Name, Refusal};
 
@@ -77,10 +78,10 @@ fn push_file_row(out: &mut Vec<u8>, file: &FileRow) -> Result<(), Refusal>
     ensures ok { OnOk result (out.new.items ≡ out.old.items ++ file_row_text file.now) }
     ensures err { OnErr result ((result ≡ Err Memory) × StartsWith out.new.items out.old.items) }
 {
-    let status = u64::from(file.status.number());
+    let status = status_text(file.status);
     let mut count = TextLine::new();
     put_number(&mut count, file.count, COUNT_WIDTH);
-    push_columns(out, Kind::File, Subject::Named(&file.name), status, b' ')?;
+    push_text_columns(out, Kind::File, Subject::Named(&file.name), status, b' ')?;
     count.push_to(out)
 }
 
