@@ -1,6 +1,6 @@
 // Sync files that are made, merged, adopted and reported. What their commands show is in the scripts of tests/.
 use crate::values::{context, holds, name, point, reach_at};
-use point_core::{Items, Listing, Name, Point, Reach, Refusal};
+use point_core::{Clocks, Items, Listing, Name, Point, Reach, Refusal};
 use std::alloc::Global;
 use std::process::Abort;
 use syncfile_core::{FenceInfo, Files, Status, SyncFile};
@@ -8,6 +8,8 @@ use syncfile_core::{FenceInfo, Files, Status, SyncFile};
 const ACTIVE: Status = Status::Active;
 
 const SIGNALLED: Status = Status::Signalled;
+
+const CANCELLED: Status = Status::Cancelled;
 
 const STUB: FenceInfo = FenceInfo {
     ctx: None,
@@ -55,15 +57,15 @@ fn has_floor(rt: &impl Abort, files: &Files, bytes: &[u8], floor: &Reach) {
     holds(rt, file(rt, files, bytes).floor.to_reach() == *floor);
 }
 
-/// File information reports these fences, and a status that is signalled where no fence is active.
+/// File information reports these fences, and the status that is given.
 fn reports(
     rt: &impl Abort,
     files: &Files,
     name: Name,
-    reach: &Reach,
+    clocks: &Clocks,
     fences: &[FenceInfo],
 ) -> Status {
-    let info = files.info(&name, reach).expect(rt, "file information");
+    let info = files.info(&name, clocks).expect(rt, "file information");
     holds(rt, info.name == name);
     holds(rt, info.fences.as_slice() == fences);
     info.status
@@ -72,14 +74,14 @@ fn reports(
 fn is_active(rt: &impl Abort, files: &Files, bytes: &[u8], reach: &Reach, fences: &[FenceInfo]) {
     holds(
         rt,
-        reports(rt, files, name(rt, bytes), reach, fences) == ACTIVE,
+        reports(rt, files, name(rt, bytes), &Clocks::open(reach), fences) == ACTIVE,
     );
 }
 
 fn is_the_stub(rt: &impl Abort, files: &Files, bytes: &[u8], reach: &Reach) {
     holds(
         rt,
-        reports(rt, files, name(rt, bytes), reach, &[STUB]) == SIGNALLED,
+        reports(rt, files, name(rt, bytes), &Clocks::open(reach), &[STUB]) == SIGNALLED,
     );
 }
 
@@ -158,8 +160,18 @@ fn merges_many(rt: &impl Abort, files: &mut Files) {
     refuses_merge_many(rt, files, b"none", &[f], Refusal::Exists);
 }
 
+/// The first context was closed at 5.
+fn reports_what_is_cancelled(rt: &impl Abort, files: &Files) {
+    let clocks = Clocks::open(&reach_at(rt, 5)).shut(context(rt, 1));
+    let h = name(rt, b"h");
+    let fences = [fence(rt, 1, 7, CANCELLED)];
+    holds(rt, reports(rt, files, h, &clocks, &fences) == CANCELLED);
+    holds(rt, files.status(&h, &clocks) == Ok(CANCELLED));
+}
+
 fn merges(rt: &impl Abort, files: &mut Files) {
     create_four(rt, files);
+    reports_what_is_cancelled(rt, files);
     merges_to_the_stub(rt, files);
     merges_before_and_after(rt, files);
     merges_many(rt, files);

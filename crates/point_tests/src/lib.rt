@@ -1,8 +1,10 @@
-//! Worked values of points, names, reaches, listings, refusals and timelines.
+//! Worked values of points, names, reaches, clocks, listings, refusals and timelines.
 //!
 //! The crate has tests alone, over the public names of `point_core` and `timeline_core`.
 #![tactic(auto)]
 
+#[cfg(test)]
+mod clocks;
 #[cfg(test)]
 mod listings;
 #[cfg(test)]

@@ -90,14 +90,41 @@ fn usages_have_the_kernels_numbers(rt: HostRuntime) {
     }
 }
 
-fn is_status(is_signalled: bool, status: Status, number: u8) -> bool {
-    Status::of(is_signalled) == status && status.number() == number
+fn is_status(is_signalled: bool, status: Status, number: i32) -> bool {
+    status.is_signalled() == is_signalled && status.number() == number
 }
 
 #[test]
 fn statuses_have_the_kernels_numbers(rt: HostRuntime) {
     holds(
         &rt,
-        is_status(false, Status::Active, 0) && is_status(true, Status::Signalled, 1),
+        is_status(false, Status::Active, 0)
+            && is_status(true, Status::Signalled, 1)
+            && is_status(true, Status::Cancelled, -2),
     );
+    holds(
+        &rt,
+        Status::of(false) == Status::Active && Status::of(true) == Status::Signalled,
+    );
+}
+
+type Together = (Status, Status, Status);
+
+/// Statuses of two fences, and their status together.
+static TOGETHER: [Together; 4] = [
+    (Status::Active, Status::Cancelled, Status::Active),
+    (Status::Cancelled, Status::Signalled, Status::Cancelled),
+    (Status::Signalled, Status::Active, Status::Active),
+    (Status::Signalled, Status::Signalled, Status::Signalled),
+];
+
+fn together() -> &'static [Together] {
+    &TOGETHER
+}
+
+#[test]
+fn statuses_of_two_fences(rt: HostRuntime) {
+    for (one, other, both) in together() {
+        holds(&rt, one.with(*other) == *both && other.with(*one) == *both);
+    }
 }

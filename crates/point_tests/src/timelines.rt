@@ -1,6 +1,6 @@
-// A timeline that is raised, and a context that has none. What commands show of timelines is in the scripts of tests/.
+// Timelines that are raised and closed, and a context that has none. What commands show of timelines is in the scripts of tests/.
 use crate::values::{context, holds, name};
-use point_core::{Name, Refusal};
+use point_core::{Name, Refusal, TimelineRow};
 use std::process::Abort;
 use timeline_core::Timelines;
 
@@ -47,4 +47,43 @@ fn a_value_does_not_wrap(rt: HostRuntime) {
     raises_to_the_greatest(&rt, &mut timelines);
     misses_one(&rt, &mut timelines);
     finds_one(&rt, &timelines);
+}
+
+/// Makes the timeline a, raises it to 3 and closes it.
+fn closes(rt: &impl Abort, timelines: &mut Timelines) {
+    let a = name(rt, b"a");
+    holds(rt, timelines.create(a) == Ok(context(rt, 1)));
+    raises(rt, timelines, &a, 3, Ok(3));
+    holds(rt, timelines.shut(&a) == Ok(3));
+    raises(rt, timelines, &a, 1, Err(Refusal::Cancelled));
+    holds(rt, timelines.shut(&a) == Err(Refusal::Cancelled));
+}
+
+/// The timeline a that was closed at 3 is all that there is.
+fn is_closed(rt: &impl Abort, timelines: &Timelines) {
+    let row = TimelineRow {
+        name: name(rt, b"a"),
+        value: 3,
+        closed: true,
+    };
+    let rows = timelines.rows().expect(rt, "memory");
+    holds(rt, rows.as_slice() == [row].as_slice());
+    holds(rt, timelines.value(&row.name) == Ok(3));
+}
+
+fn has_its_clock(rt: &impl Abort, timelines: &Timelines) {
+    let clocks = timelines.as_clocks();
+    holds(
+        rt,
+        clocks.closed(context(rt, 1)) && timelines.clocks() == *clocks,
+    );
+    holds(rt, timelines.as_reach().get(context(rt, 1)) == u64::MAX);
+}
+
+#[test]
+fn a_closed_timeline_stays(rt: HostRuntime) {
+    let mut timelines = Timelines::new(rt.alloc()).expect(&rt, "timelines");
+    closes(&rt, &mut timelines);
+    is_closed(&rt, &timelines);
+    has_its_clock(&rt, &timelines);
 }

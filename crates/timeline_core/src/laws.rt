@@ -1,6 +1,6 @@
 // What holds of all timelines that `create`, `inc`, `shut` and `raise_to` leave: each law is the contract of a function with an empty body.
 ghost use Rattle.std.specs.Prelude.{◌≡◌, ℕ, List, [], ◌++◌, IsTrue, IsPermutation};
-ghost use Rattle.timeline_core.specs.Timeline.{Timeline, has_timeline, value_of};
+ghost use Rattle.timeline_core.specs.Timeline.{Timeline, has_timeline, timeline_at, value_of, is_closed, AreTimelines};
 ghost use Rattle.timeline_core.specs.Run.{AreSums, Increment, IsRun, Step, all_increments, incremented, last_timelines};
 
 /// After any calls of `create`, `inc`, `shut` and `raise_to`, accepted or refused, each value is the sum of the accepted increments of
@@ -14,4 +14,18 @@ pub fn a_value_is_the_sum_of_the_accepted_increments()
         value_of (last_timelines [] steps) name ≡ incremented (all_increments [] steps) name }
     ensures order { (increments others : List Increment) (name : List ℕ) →
         IsPermutation increments others → incremented increments name ≡ incremented others name }
+{}
+
+/// After any calls of `create`, `inc`, `shut` and `raise_to`, accepted or refused, a timeline that was closed before them is still
+/// closed, with the value that it had.
+pub fn a_closed_timeline_stays_as_it_is()
+    ensures same { (old : List Timeline) (steps : List Step) (name : List ℕ) →
+        AreTimelines old → IsRun old steps → IsTrue (is_closed old name) →
+        timeline_at (last_timelines old steps) name ≡ timeline_at old name }
+    ensures closed { (old : List Timeline) (steps : List Step) (name : List ℕ) →
+        AreTimelines old → IsRun old steps → IsTrue (is_closed old name) →
+        IsTrue (is_closed (last_timelines old steps) name) }
+    ensures value { (old : List Timeline) (steps : List Step) (name : List ℕ) →
+        AreTimelines old → IsRun old steps → IsTrue (is_closed old name) →
+        value_of (last_timelines old steps) name ≡ value_of old name }
 {}

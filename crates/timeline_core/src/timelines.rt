@@ -3,7 +3,9 @@ ghost use Rattle.std.specs.Prelude.{◌≡◌, List, ℕ, ◌+◌, ◌<◌, ◌�
 ghost use Rattle.point_core.specs.declared.context.TheConstants.{CONTEXTS};
 
 use indexmap::IndexSet;
-use point_core::{CONTEXTS, Clocks, Context, LimitKind, Name, Point, Reach, Refusal, TimelineRow};
+use point_core::{
+    CONTEXTS, Clock, Clocks, Context, LimitKind, Name, Point, Reach, Refusal, TimelineRow,
+};
 use std::alloc::Global;
 use std::marker::Model;
 
@@ -125,12 +127,12 @@ impl Timelines {
         ensures err { OnErr result (self.new ≡ self.old) }
     {
         let ctx = self.context(name).ok_or(Refusal::NoEntry)?;
-        let clock = self.clocks.clock(ctx);
-        if clock.closed {
+        let Clock { value, closed } = self.clocks.clock(ctx);
+        if closed {
             return Err(Refusal::Cancelled);
         }
         self.clocks.close(ctx);
-        Ok(clock.value)
+        Ok(value)
     }
 
     /// Raises the value of the open timeline of that context to the point, where it is not there yet: what `inc` does, once the
@@ -192,7 +194,7 @@ impl Timelines {
         ensures value { result ≡ clocks_of self.now }
         ensures timelines { AreTimelines self.now }
     {
-        self.clocks
+        *self.as_clocks()
     }
 
     /// The same, where it lies.

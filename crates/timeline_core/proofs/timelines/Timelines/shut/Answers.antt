@@ -13,16 +13,16 @@ known c = c.context.ensures.found.0 (ap is_some c.in_ok-ctx.ensures.ok_part)
 at_context : (c : goal.After-close) → c.in_ok-ctx.ctx ≡ context_of c.args.self.now c.args.name.now
 at_context c = MatchOption-at_some _ (λ x. x ≡ context_of c.args.self.now c.args.name.now) c.in_ok-ctx.ctx c.in_ok-ctx.ensures.ok_part c.context.ensures.value
 
-its_clock : (c : goal.After-close) → c.clock-clock.result ≡ clock_named c.args.self.now c.args.name.now
-its_clock c = clock_named-stored c.args.self.now c.args.name.now (clocks-seen c.self.invariant c.self.view_is) (at_context c) c.clock-clock.ensures.clock
+its_clock : (c : goal.After-close) → c.clock-value.result ≡ clock_named c.args.self.now c.args.name.now
+its_clock c = clock_named-stored c.args.self.now c.args.name.now (clocks-seen c.self.invariant c.self.view_is) (at_context c) c.clock-value.ensures.clock
 
 still : (c : goal.After-close) → (clock_named c.args.self.now c.args.name.now).closed ≡ false
-still c = ap (λ (clock : Clock). clock.closed) (sym (its_clock c)) ∙ c.if-clock.false
+still c = ap (λ (clock : Clock). clock.closed) (sym (its_clock c)) ∙ c.if-closed.false
 
 low : (c : goal.After-close) → value_of c.args.self.now c.args.name.now ≤ GREATEST
 low c =
-    let same : c.clock-clock.result.value ≡ value_of c.args.self.now c.args.name.now = ap (λ (clock : Clock). clock.value) (its_clock c) in
-    let fits = c.clock-clock.type_inv in
+    let same : c.clock-value.result.value ≡ value_of c.args.self.now c.args.name.now = ap (λ (clock : Clock). clock.value) (its_clock c) in
+    let fits = c.clock-value.type_inv in
     omega (arith, same, fits)
 
 clocks_after : (c : goal.After-close) → c.close.new.self ≡ clocks_of (shut c.args.self.now c.args.name.now)
