@@ -1,5 +1,6 @@
 #!/usr/bin/env bash
-# All files that there can be at a time, and one more by each command that makes one. A close makes room for one.
+# All files that there can be at a time, and one more by each command that makes one. A close makes room for one. Of a closed
+# timeline, too, the limit is reported first.
 set -euo pipefail
 source "$(dirname "$0")/shared"
 
@@ -55,3 +56,15 @@ for number in $(seq "$files"); do
 done
 row file g 0 "   1"
 row buffer B 0 ""
+cat <<END
+shut a
+#= ok 0
+fence h a 1
+#= err 6 Limit files
+fence f1 a 1
+#= err 3 Exists
+close g
+#= ok
+fence h a 1
+#= err 15 Cancelled
+END

@@ -64,6 +64,7 @@ watch E $zeros|ok
 unwatch $zeros|ok 1
 close G|ok
 inc T 18446744073709551615|ok 18446744073709551615
+shut T|ok 18446744073709551615
 END
 lines "info E$tail" "#= ok E$tail 1 1" "#= fence T$tail sw_sync 18446744073709551615 1"
 lines "info E${tail}n" "#= err 1 Syntax line $((line + 1))"

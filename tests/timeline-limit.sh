@@ -1,5 +1,5 @@
 #!/usr/bin/env bash
-# All timelines that there can be, and one more.
+# All timelines that there can be, and one more. A closing makes room for none.
 set -euo pipefail
 source "$(dirname "$0")/shared"
 
@@ -8,6 +8,12 @@ for number in $(seq "$timelines"); do
     printf 'timeline t%d\n#= ok %d\n' "$number" "$number"
 done
 cat <<END
+timeline t$((timelines + 1))
+#= err 6 Limit timelines
+timeline t1
+#= err 3 Exists
+shut t1
+#= ok 0
 timeline t$((timelines + 1))
 #= err 6 Limit timelines
 timeline t1

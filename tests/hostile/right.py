@@ -12,6 +12,8 @@ MEMORY = b"err 16 Memory"
 FAULT = b"fencectl: 16 Memory\n"
 # Memory is refused to none of these.
 NEVER = {b"value", b"close", b"wait", b"test", b"trim", b"unwatch"}
+# Memory is refused to these only where they fire a watch.
+RISING = {b"inc", b"shut"}
 
 
 def text_of(lines):
@@ -125,7 +127,7 @@ class Answers(Words):
         answer = self.answers[number]
         if not answer[0].startswith(b"ok"):
             return f"line {number} is answered Memory, but has the answer {answer[0]}"
-        if self.script.line(number).split()[0] == b"inc" and len(answer) == 1:
+        if self.script.line(number).split()[0] in RISING and len(answer) == 1:
             return f"line {number} is answered Memory, but fires nothing"
         return ""
 
