@@ -1,5 +1,5 @@
 -- The texts of statuses.
-use Rattle.std.proofs.Common.{◌≡◌, ℕ, sym, ap, arith, List, [], ◌∷◌}
+use Rattle.std.proofs.Common.{◌≡◌, sym, ap, arith, [], ◌∷◌}
 use Rattle.std.proofs.lemmas.Fmt.{decimal_digit}
 use Rattle.point_core.specs.declared.status.Status.TheVariants.{Active, Signalled, Cancelled}
 use Rattle.report_core.specs.Status.{status_text}

@@ -1,4 +1,4 @@
-use Rattle.std.proofs.Common.{◌≡◌, ◌+◌, ◌-◌, ◌≤◌, ◌++◌, [], ◌∷◌, refl, sym, length, take, drop, ap, ◌∙◌, arith, ℕ, length-append}
+use Rattle.std.proofs.Common.{◌≡◌, ◌+◌, ◌-◌, ◌≤◌, ◌++◌, [], ◌∷◌, refl, length, drop, ap, ◌∙◌, arith, ℕ, length-append}
 use Rattle.std.proofs.lemmas.List.{length-replicate}
 use Rattle.report_core.specs.declared.rows.TheConstants.{SUBJECT_WIDTH, NUMBER_WIDTH}
 use Rattle.report_core.specs.Columns.{spaces, column, right}
