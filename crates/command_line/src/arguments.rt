@@ -40,6 +40,7 @@ Script commands:
   timeline T         makes timeline T at value 0             ok CONTEXT
   inc T N            adds N to the value of timeline T       ok VALUE, then fired COOKIE lines
   value T            reads the value of timeline T           ok VALUE
+  shut T             closes timeline T for good              ok VALUE, then fired COOKIE lines
   fence F T P        makes file F of point P on timeline T   ok
   merge F A B        makes file F of files A and B           ok
   close F            closes file F; its name is free again   ok
@@ -65,8 +66,8 @@ A refused line is answered `err NUMBER NAME`, and changes nothing:
   1 Syntax    it is no command               7 Signalled  there is nothing to watch
   2 NoEntry   there is none of that name     8 TimedOut   the file is not signalled
   3 Exists    there is one of that name     12 LongLine   it has more than 256 bytes
-  4 Overflow  the value would be too great  16 Memory     memory was refused
-  6 Limit     there are as many as can be
+  4 Overflow  the value would be too great  15 Cancelled  its timeline is closed
+  6 Limit     there are as many as can be   16 Memory     memory was refused
 
 The script language is documented in docs/SCRIPT.md.
 

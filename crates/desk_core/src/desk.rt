@@ -6,7 +6,7 @@ use crate::{info, report};
 use command_core::{Answer, Command};
 use dmabuf_core::{Buffers, SyncFlags};
 use fence_core::{Fence, Watches};
-use point_core::{Context, Items, Name, Point, Refusal, Usage};
+use point_core::{Context, Items, Name, Point, Refusal, Status, Usage};
 use std::alloc::Global;
 use std::marker::Model;
 use syncfile_core::Files;
@@ -38,7 +38,8 @@ impl Model for Desk {
 
 impl Desk {
     ghost use Rattle.desk_core.specs.Answer.{OnRefused, takes_memory};
-    ghost use Rattle.timeline_core.specs.Timeline.{has_timeline, name_at, value_of};
+    ghost use Rattle.point_core.specs.Clocks.{status_at};
+    ghost use Rattle.timeline_core.specs.Timeline.{has_timeline, name_at, clocks_of, value_of};
     ghost use Rattle.syncfile_core.specs.SyncFile.{File};
     ghost use Rattle.syncfile_core.specs.Files.{IsRefusedFor, file_at};
     ghost use Rattle.dmabuf_core.specs.Buffers.{has_buffer};
@@ -126,6 +127,15 @@ impl Desk {
         self.timelines.name(ctx)
     }
 
+    /// The status of a point.
+    ///
+    /// Takes no memory.
+    pub fn point_status(&self, point: Point) -> Status
+        ensures { result ≡ status_at (clocks_of self.now.timelines) point }
+    {
+        self.timelines.as_clocks().status(point)
+    }
+
     /// The points that the file of that name lists.
     ///
     /// Takes no memory.
@@ -205,8 +215,11 @@ impl Desk {
         if clock.closed {
             return Err(Refusal::Cancelled);
         }
-        let value = u64::MAX;
-        let fired = self.watches.after_inc(Point { ctx, value })?;
+        let last = Point {
+            ctx,
+            value: u64::MAX,
+        };
+        let fired = self.watches.after_inc(last)?;
         let kept = self.timelines.shut(name)?;
         Ok(Answer::Raised(kept, Items::of(fired)))
     }
@@ -250,8 +263,8 @@ impl Desk {
         ensures sure { IfErr result (λ e. e ≢ Refusal.Memory) }
         ensures done { IfOk result (λ given. IsDone self.now (Command.Wait name.now) given self.now) }
     {
-        let status = self.files.status(name, self.timelines.as_clocks())?;
-        if status.is_signalled() {
+        let clocks = self.timelines.as_clocks();
+        if self.files.status(name, clocks)?.is_signalled() {
             Ok(Answer::Done)
         } else {
             Err(Refusal::TimedOut)

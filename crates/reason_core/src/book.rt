@@ -11,12 +11,13 @@ use std::collections::HashMap;
 /// The book may have so many cookies more than twice those that stand for a watch.
 const SPARE_COOKIES: usize = 64;
 
-/// The lines that made the names and cookies that stand for something. A cookie stays for a while once its watch has fired or
+/// The lines that made the names and cookies that stand for something, and those that closed timelines. A cookie stays for a while once its watch has fired or
 /// was removed, and gets the line of its new watch when it is registered again. Whenever the book has more than twice as many
 /// cookies as stood for a watch when it last went through them, and `SPARE_COOKIES` more, it takes out those that stand for none.
 #[derive(Drop)]
 pub struct Book {
     timelines: HashMap<Name, u32>,
+    closings: HashMap<Name, u32>,
     files: HashMap<Name, u32>,
     buffers: HashMap<Name, u32>,
     cookies: HashMap<u64, u32>,
@@ -29,6 +30,7 @@ impl Book {
     pub fn new(alloc: Global) -> Book {
         Book {
             timelines: HashMap::new(alloc),
+            closings: HashMap::new(alloc),
             files: HashMap::new(alloc),
             buffers: HashMap::new(alloc),
             cookies: HashMap::new(alloc),
@@ -44,6 +46,7 @@ impl Book {
     {
         match command {
             Command::Close(file) => self.forget_file(file),
+            Command::Shut(timeline) => self.enter_closing(line, timeline)?,
             Command::Watch(_, cookie) => self.enter_cookie(line, *cookie, desk)?,
             _ => self.enter_name(line, command)?,
         }
@@ -62,6 +65,15 @@ impl Book {
             Space::Buffer => self.buffers.insert(name, line),
         }
         .map_err(|_| Refusal::Memory)?;
+        Ok(())
+    }
+
+    fn enter_closing(&mut self, line: u32, timeline: &Name) -> Result<(), Refusal>
+        ensures refusals { IfErr result (λ refusal. refusal ≡ Memory) }
+    {
+        self.closings
+            .insert(*timeline, line)
+            .map_err(|_| Refusal::Memory)?;
         Ok(())
     }
 
@@ -95,6 +107,11 @@ impl Book {
             Space::Buffer => &self.buffers,
         };
         lines.get(name).copied()
+    }
+
+    /// The line that closed the timeline.
+    pub(crate) fn line_of_closing(&self, timeline: &Name) -> Option<u32> {
+        self.closings.get(timeline).copied()
     }
 
     /// The line that registered the cookie last.

@@ -36,9 +36,10 @@ pub(crate) fn made_by(command: &Command) -> Option<(Space, Name)> {
 /// The names that a command looks up, in the order in which they are told as missing.
 pub(crate) fn looked_up(command: &Command) -> [Option<(Space, Name)>; 2] {
     match command {
-        Command::Inc(name, _) | Command::Value(name) | Command::Fence(_, name, _) => {
-            [Some((Space::Timeline, *name)), None]
-        }
+        Command::Inc(name, _)
+        | Command::Value(name)
+        | Command::Shut(name)
+        | Command::Fence(_, name, _) => [Some((Space::Timeline, *name)), None],
         Command::Merge(_, first, second) => {
             [Some((Space::File, *first)), Some((Space::File, *second))]
         }
@@ -62,6 +63,14 @@ pub(crate) fn looked_up(command: &Command) -> [Option<(Space, Name)>; 2] {
         Command::Timeline(_) | Command::Buffer(_) | Command::Unwatch(_) | Command::Report => {
             [None, None]
         }
+    }
+}
+
+/// The timeline that a command would change, which it can't where that is closed.
+pub(crate) fn changed_by(command: &Command) -> Option<Name> {
+    match command {
+        Command::Inc(name, _) | Command::Shut(name) | Command::Fence(_, name, _) => Some(*name),
+        _ => None,
     }
 }
 

@@ -4,7 +4,7 @@ ghost use Rattle.point_core.specs.declared.refusal.Refusal.TheVariants.{Write as
 
 use crate::book::Book;
 use crate::look::{Part, Place, tell, tell_of};
-use crate::names::{Space, is_there, looked_up, made_by};
+use crate::names::{Space, changed_by, is_there, looked_up, made_by};
 use desk_core::{Command, Desk};
 use point_core::{LimitKind, Name, Point, Refusal};
 use std::io::Write;
@@ -29,6 +29,7 @@ pub fn explain_command<N: Write>(
     match refusal {
         Refusal::NoEntry => explain_missing(desk, place, command, notes),
         Refusal::Exists => explain_exists(book, place, command, notes),
+        Refusal::Cancelled => explain_closed(book, place, command, notes),
         Refusal::Overflow => explain_overflow(desk, place, command, notes),
         Refusal::TimedOut => explain_pending(desk, place, command, notes),
         Refusal::Limit(kind) => explain_limit(place, kind, notes),
@@ -143,6 +144,36 @@ fn explain_made<N: Write>(
     tell_of(place, name.as_bytes(), &parts, notes)
 }
 
+fn explain_closed<N: Write>(
+    book: &Book,
+    place: &Place,
+    command: &Command,
+    notes: &mut N,
+) -> Result<(), Refusal>
+    ensures refusals { IfErr result (λ refusal. refusal ≡ WriteFault) }
+{
+    match changed_by(command) {
+        Some(timeline) => explain_closing(book, place, &timeline, notes),
+        None => tell(place, &[Part::Text("its timeline is closed")], notes),
+    }
+}
+
+fn explain_closing<N: Write>(
+    book: &Book,
+    place: &Place,
+    timeline: &Name,
+    notes: &mut N,
+) -> Result<(), Refusal>
+    ensures refusals { IfErr result (λ refusal. refusal ≡ WriteFault) }
+{
+    let line = book.line_of_closing(timeline).unwrap_or(0);
+    let parts = [
+        Part::Text(": the timeline was closed on line "),
+        Part::Number(u64::from(line)),
+    ];
+    tell_of(place, timeline.as_bytes(), &parts, notes)
+}
+
 fn explain_overflow<N: Write>(
     desk: &Desk,
     place: &Place,
@@ -213,7 +244,7 @@ fn explain_points<N: Write>(
     Ok(())
 }
 
-/// Reports how far a point is from being reached, and nothing of one that is.
+/// Reports how far a point is from being reached, and nothing of one that is, or is cancelled.
 fn explain_point<N: Write>(
     desk: &Desk,
     place: &Place,
@@ -226,11 +257,11 @@ fn explain_point<N: Write>(
     let Some(timeline) = desk.timeline_name(point.ctx) else {
         return Ok(());
     };
-    let value = desk.timeline_value(&timeline).unwrap_or(0);
-    if value >= point.value {
+    if desk.point_status(*point).is_signalled() {
         return Ok(());
     }
-    let left = point.value - value;
+    let value = desk.timeline_value(&timeline).unwrap_or(0);
+    let left = point.value.saturating_sub(value);
     let parts = [
         Part::Text(": it waits for point "),
         Part::Number(point.value),

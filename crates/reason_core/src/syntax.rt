@@ -24,6 +24,7 @@ fn commands() -> &'static [(&'static str, &'static [Kind])] {
         ("timeline", &[Kind::Name]),
         ("inc", &[Kind::Name, Kind::Number]),
         ("value", &[Kind::Name]),
+        ("shut", &[Kind::Name]),
         ("fence", &[Kind::Name, Kind::Name, Kind::Number]),
         ("merge", &[Kind::Name, Kind::Name, Kind::Name]),
         ("close", &[Kind::Name]),

@@ -57,9 +57,10 @@ pub(crate) fn push_text_columns(
 {
     let mut row = [b' '; ROW_BYTES];
     row[ROW_BYTES - 1] = last;
+    let word = kind.column();
     put_at(&mut row, ROW_BYTES - 1 - text.len(), text);
     put_subject(&mut row, subject);
-    put_at(&mut row, 0, kind.column());
+    put_at(&mut row, 0, word);
     out.extend_from_slice(&row)?;
     Ok(())
 }

@@ -2,7 +2,7 @@
 use Rattle.std.specs.Prelude.{ℕ, List, [], ◌∷◌, ◌++◌, length, codes, decimal}
 use Rattle.std.specs.List.{join_with_byte, flat_map}
 use Rattle.point_core.specs.Refusal as refusal
-use Rattle.point_core.specs.Status as status
+use Rattle.report_core.specs.Status.{status_text}
 use Rattle.point_core.specs.declared.refusal.Refusal.{Refusal}
 use Rattle.point_core.specs.declared.refusal.Refusal.TheVariants.{Syntax, NoEntry, Exists, Overflow, Flags, Limit, Signalled, TimedOut, Foreign, Torn, NotAll, LongLine, Read, Write, Cancelled, Memory}
 use Rattle.command_core.specs.declared.answer.Answer.{Answer}
@@ -25,11 +25,11 @@ driver_of Stub = codes "stub"
 
 abbrev pub fence_text : FenceRow → List ℕ
 fence_text row = line_text
-    (codes "fence" ∷ row.timeline ∷ driver_of row.driver ∷ decimal row.point ∷ decimal (status.status_number row.status) ∷ [])
+    (codes "fence" ∷ row.timeline ∷ driver_of row.driver ∷ decimal row.point ∷ status_text row.status ∷ [])
 
 abbrev pub info_line : Info → List ℕ
 info_line info = line_text
-    (codes "ok" ∷ info.name ∷ decimal (status.status_number info.status) ∷ decimal (length info.fences) ∷ [])
+    (codes "ok" ∷ info.name ∷ status_text info.status ∷ decimal (length info.fences) ∷ [])
 
 abbrev pub info_text : Info → List ℕ
 info_text info = info_line info ++ flat_map fence_text info.fences

@@ -13,7 +13,7 @@ ghost use Rattle.script_core.specs.declared.text.TheConstants.{DRIVER_BYTES};
 use desk_core::{Answer, FenceRow, Info, Maker, Report, ShowRow};
 use itoa::Buffer;
 use point_core::Refusal;
-use report_core::{NUMBER_WIDTH, TEXT_LINE_BYTES, TextLine, timelines_text};
+use report_core::{NUMBER_WIDTH, TEXT_LINE_BYTES, TextLine, status_text, timelines_text};
 
 /// The most bytes of a driver's name, those of `sw_sync`.
 const DRIVER_BYTES: usize = 7;
@@ -129,7 +129,7 @@ fn push_info_line(info: &Info, out: &mut Vec<u8>) -> Result<(), Refusal>
 {
     let mut line = TextLine::new();
     put_number(&mut line, info.fences.as_slice().len() as u64);
-    put_number(&mut line, u64::from(info.status.number()));
+    put_word(&mut line, status_text(info.status));
     put_word(&mut line, info.name.as_bytes());
     line.put_text(b"ok");
     line.push_to(out)
@@ -141,7 +141,7 @@ fn push_fence(fence: &FenceRow, out: &mut Vec<u8>) -> Result<(), Refusal>
     ensures err { OnErr result ((result ≡ Err Memory) × StartsWith out.new.items out.old.items) }
 {
     let mut line = TextLine::new();
-    put_number(&mut line, u64::from(fence.status.number()));
+    put_word(&mut line, status_text(fence.status));
     put_number(&mut line, fence.point);
     put_driver(&mut line, fence.driver);
     put_word(&mut line, fence.timeline.as_bytes());
