@@ -1,7 +1,7 @@
 // Rows of reports to the byte.
 use crate::values::{context, holds, name};
 use command_core::{BufferRows, FileRow, Report, ShowRow};
-use point_core::{Items, Name, Status, TopRow, Usage};
+use point_core::{Items, Name, Status, TimelineRow, TopRow, Usage};
 use report_core::{Kind, file_row, report_text, row, settled_text, show_text};
 use resv_core::Settled;
 use std::alloc::Global;
@@ -114,10 +114,18 @@ fn buffer_b(rt: &impl Abort, alloc: Global) -> BufferRows {
     }
 }
 
+fn timeline(rt: &impl Abort, of: &[u8], value: u64, closed: bool) -> TimelineRow {
+    TimelineRow {
+        name: name(rt, of),
+        value,
+        closed,
+    }
+}
+
 fn report_of_import(rt: &impl Abort, alloc: Global) -> Report {
     let buffers = Vec::from_array(alloc, [buffer_b(rt, alloc)]).expect(rt, "memory");
     Report {
-        timelines: list(rt, alloc, &[(name(rt, b"a"), 0)]),
+        timelines: list(rt, alloc, &[timeline(rt, b"a", 0, false)]),
         files: list(rt, alloc, &[file(rt, b"f", Status::Active, 1)]),
         buffers: Items::of(buffers),
     }
@@ -141,7 +149,7 @@ fn an_import_is_reported(rt: HostRuntime) {
 fn report_without_buffers(
     rt: &impl Abort,
     alloc: Global,
-    timelines: &[(Name, u64)],
+    timelines: &[TimelineRow],
     files: &[FileRow],
 ) -> Report {
     Report {
@@ -153,16 +161,19 @@ fn report_without_buffers(
 
 const REMADE: &str = "\
 timeline a                                                  0\n\
+closed   b                                                  3\n\
 file     g                                                  0   1\n\
 file     f                                                  1  64\n\
+file     h                                                 -2   2\n\
 ";
 
 #[test]
 fn files_are_reported(rt: HostRuntime) {
-    let timelines = [(name(&rt, b"a"), 0)];
+    let timelines = [timeline(&rt, b"a", 0, false), timeline(&rt, b"b", 3, true)];
     let files = [
         file(&rt, b"g", Status::Active, 1),
         file(&rt, b"f", Status::Signalled, 64),
+        file(&rt, b"h", Status::Cancelled, 2),
     ];
     let report = report_without_buffers(&rt, rt.alloc(), &timelines, &files);
     is_reported_as(&rt, rt.alloc(), &report, REMADE);
