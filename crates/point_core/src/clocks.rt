@@ -46,7 +46,8 @@ impl Model for Clocks {
 impl Clocks {
     ghost use Rattle.std.specs.Prelude.{replicate, map};
     ghost use Rattle.point_core.specs.Reach.{reaching, shut_value};
-    ghost use Rattle.point_core.specs.Clocks.{open_clock, new_clock, clock_at, reach_of_clocks, raised_clock, closed_clock, with_clock, status_at, common_status};
+    ghost use Rattle.point_core.specs.Clocks.{open_clock, new_clock, clock_at, reach_of_clocks, raised_clock, closed_clock};
+    ghost use Rattle.point_core.specs.Clocks.{with_clock, status_at, common_status};
 
     /// Every value is 0, and every context open.
     pub fn zero() -> Clocks
@@ -131,7 +132,8 @@ impl Clocks {
     }
 
     /// The status of points together: active while one is, else cancelled where one is, else signalled. Of no points it is
-    /// signalled. The kernel gives the first error that it finds in a fence array; that one comes after active is our own rule.
+    /// signalled. Linux's `sync_file_ioctl_fence_info` gives that of the first fence that is pending or has an error; that
+    /// an error comes after every pending one is our own rule.
     pub fn common_status(&self, points: &[Point]) -> Status
         ensures { result ≡ common_status self.now points.now }
     {

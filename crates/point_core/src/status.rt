@@ -2,15 +2,15 @@
 ghost use Rattle.std.specs.Prelude.{◌≡◌};
 ghost use Rattle.point_core.specs.Status.{status_number, status_if, status_with, is_signalled};
 
-/// The status of a point or a sync file, as Linux's `dma_fence_get_status` gives it.
+/// The status of a point or a sync file, as Linux's `dma_fence_get_status` gives it. A timeline that is closed
+/// before a point is reached leaves the point with the error `-ENOENT`, as Linux's `sw_sync_debugfs_release` does.
 #[derive(Clone, Copy, Debug, PartialEq, Eq, Hash)]
 pub enum Status {
     /// Some point is not reached.
     Active,
     /// Every point is reached.
     Signalled,
-    /// No point is pending any more, and the timeline of some was closed before its value was there. Linux's
-    /// `sync_timeline_debug_remove` leaves such a fence with the error `-ENOENT`.
+    /// No point is pending any more, and the timeline of some was closed before it was reached.
     Cancelled,
 }
 

@@ -9,9 +9,9 @@ use Rattle.atomic_table.proofs.Lists.{at_map}
 use Rattle.words_core.specs.declared.trace.Step.{Step}
 use Rattle.words_core.specs.declared.trace.View.{View}
 use Rattle.words_core.specs.declared.words.Sizes.{Sizes}
-use Rattle.words_core.specs.Layout.{value_place, claim_place, IsClaimOrFlag}
-use Rattle.words_core.specs.Trace.{on, total, added, is_win, is_test, wins_of, set_once_step}
-use Rattle.words_core.specs.Rule.{context_trace, word_trace, made_in, known_in, wins_on, AddsAsDriver, IsKept}
+use Rattle.words_core.specs.Layout.{value_place, claim_place, mark_place, IsClaimOrFlag}
+use Rattle.words_core.specs.Trace.{on, total, added, is_win, is_test, wins_of, shuts_of, set_once_step}
+use Rattle.words_core.specs.Rule.{context_trace, mark_trace, word_trace, made_in, known_in, wins_on, AddsAsDriver, ShutsAsDriver, IsKept}
 use Rattle.words_core.specs.Plays.{Holder, view_with, tests_by, claims_context, sets_once}
 use Rattle.words_core.proofs.Totals.{total_at, total-append, total-map, Each-at}
 use Rattle.words_core.proofs.Traces.{on-append, added_none}
@@ -46,6 +46,10 @@ added_unclaimed : (z : Sizes) (words : List ℕ) (views : List View) (id c : ℕ
 added_unclaimed z words views id c v low at h idle =
     added_none (on (value_place c) v.trace) (Each-at AddsAsDriver (map (context_trace c) views) id (context_trace c v) (h.values c low).driven (at_map (context_trace c) views id v at) idle)
 
+-- nor has it closed anything
+unshut_unclaimed : (z : Sizes) (words : List ℕ) (views : List View) (id c : ℕ) (v : View) → c < z.contexts → get_elem? views id ≡ some v → IsKept z words views → wins_of (claim_place c) v.trace ≡ 0 → shuts_of (mark_place c) v.trace ≡ 0
+unshut_unclaimed z words views id c v low at h idle = Each-at ShutsAsDriver (map (mark_trace c) views) id (mark_trace c v) (h.marks c low).driven (at_map (mark_trace c) views id v at) idle
+
 -- how often a seat knows that a word was won or lost
 pub tests_by-is : (k : ℕ) (v : View) → tests_by k v ≡ total is_test (on k v.start) + total is_test (on k v.trace)
 tests_by-is k v = ap (total is_test) (on-append k v.start v.trace) ∙ total-append is_test (on k v.start) (on k v.trace)
@@ -69,14 +73,18 @@ pub claims_context-allowed : (z : Sizes) (slots id c : ℕ) (me : Holder) → c 
 claims_context-allowed z slots id c me low live s h homes at small =
     let v : View = me.0 in let k : ℕ = claim_place c in let n : ℕ = slice_index s.words k in let views : List View = s.views in
     let is = IsClaimOrFlag-claim z c low in
-    let back : k - 1 ≡ value_place c = omega arith in (
+    let back : k - 1 ≡ value_place c = omega arith in
+    let on_ : k + 1 ≡ mark_place c = omega arith in (
       view_with v (set_once_step k n),
       keeps,
       tt,
       IsKept-set z s.words views id k v is live at h,
       (
         (refl, λ free. untested z s.words views id k v is at h free),
-        λ free. subst (λ (w : ℕ). added (on w v.trace) ≡ 0) (sym back) (added_unclaimed z s.words views id c v low at h (untested z s.words views id k v is at h free).1),
+        λ free. (
+          subst (λ (w : ℕ). added (on w v.trace) ≡ 0) (sym back) (added_unclaimed z s.words views id c v low at h (untested z s.words views id k v is at h free).1),
+          subst (λ (w : ℕ). shuts_of w v.trace ≡ 0) (sym on_) (unshut_unclaimed z s.words views id c v low at h (untested z s.words views id k v is at h free).1),
+        ),
       ),
     )
 

@@ -1,5 +1,5 @@
 -- A seat with all parts has made all steps.
-use Rattle.std.proofs.Common.{◌≡◌, ℕ, ◌+◌, ◌<◌, ◌≤◌, List, [], map, slice_index, ⊎_elim, refl, ap, ◌∙◌, arith}
+use Rattle.std.proofs.Common.{◌≡◌, ℕ, ◌+◌, ◌-◌, ◌<◌, ◌≤◌, List, [], map, slice_index, ⊎_elim, sym, refl, ap, subst, ◌∙◌, arith}
 use mathlib.Core.Option.{some, none}
 use lib.ListN.{get_elem?}
 use Rattle.atomic_table.specs.Table.{step, Allows, keeps}
@@ -8,18 +8,19 @@ use Rattle.words_core.specs.declared.seat.TheConstants.{PARTS}
 use Rattle.words_core.specs.declared.trace.Step.{Step}
 use Rattle.words_core.specs.declared.trace.View.{View}
 use Rattle.words_core.specs.declared.words.Sizes.{Sizes}
-use Rattle.words_core.specs.Layout.{value_place, claim_place, IsClaimOrFlag, IsBoardWord}
-use Rattle.words_core.specs.Trace.{on, amount_of, total, raised, is_win, is_loss, is_test, is_load_of, is_add_to, is_raise_to, is_sight_of, load, shown, IsDecided}
-use Rattle.words_core.specs.Rule.{WordTrace, context_trace, word_trace, made_in, known_in, wins_on, IsAtMost, RaisesNoMore, parts_of, IsEmptyIfSpent, IsKept}
-use Rattle.words_core.specs.Plays.{Holder, view_with, tests_by, loads_total, loads_flag, loads_top}
+use Rattle.words_core.specs.Layout.{value_place, claim_place, mark_place, IsClaimOrFlag, IsBoardWord}
+use Rattle.words_core.specs.Trace.{on, amount_of, total, raised, is_win, is_loss, is_shut, shut_to, is_test, is_load_of, is_add_to, is_raise_to, is_sight_of, load, shown, IsDecided}
+use Rattle.words_core.specs.Rule.{WordTrace, context_trace, mark_trace, word_trace, made_in, known_in, wins_on, IsAtMost, KnowsZeroOr, RaisesNoMore, parts_of, IsEmptyIfSpent, IsKept}
+use Rattle.words_core.specs.Plays.{Holder, view_with, tests_by, loads_total, loads_total_mark, loads_flag, loads_top}
 use Rattle.words_core.proofs.Totals.{total_at, Each-at, Each-weaker, total_alone, total-map}
 use Rattle.words_core.proofs.Traces.{total-tests, raised_le}
 use Rattle.words_core.proofs.ValueSteps.{IsValue-loaded}
+use Rattle.words_core.proofs.MarkSteps.{IsMark-loaded}
 use Rattle.words_core.proofs.SetOnceSteps.{IsSetOnce-loaded}
 use Rattle.words_core.proofs.EntrySteps.{IsEntry-shown}
 use Rattle.words_core.proofs.WordKinds.{IsClaimOrFlag-claim}
-use Rattle.words_core.proofs.Frames.{IsKept-value, IsKept-set_once, IsKept-entry}
-use Rattle.words_core.proofs.Loading.{seen_by_le}
+use Rattle.words_core.proofs.Frames.{IsKept-value, IsKept-mark, IsKept-set_once, IsKept-entry}
+use Rattle.words_core.proofs.Loading.{seen_by_le, mark_known}
 use Rattle.words_core.proofs.Claiming.{tests_by-is, tests_by_one}
 
 -- a total over all traces, which is 0 of an empty one, is that of the whole seat
@@ -56,7 +57,7 @@ loads_total-allowed z slots id c me low all s h homes at small =
       view_with v (load w n),
       keeps,
       tt,
-      IsKept-value z s.words views id c n v (load w n) low (omega arith) at refl refl h (IsValue-loaded w n traces id (context_trace c v) there fits),
+      IsKept-value z s.words views id c n v (load w n) low (omega arith) at refl refl h (IsValue-loaded w n traces id (context_trace c v) there fits) (h.marks c low),
       (
         refl,
         seen_by_le w n v mine.0 mine.1,
@@ -65,6 +66,32 @@ loads_total-allowed z slots id c me low all s h homes at small =
             let mine : total (is_load_of x) (on w v.start) + total (is_load_of x) (on w v.trace) ≤ total (known_in (is_load_of x)) traces = total_at (known_in (is_load_of x)) traces id (context_trace c v) there in
             let found = fits.traced.found x pos (omega arith) in let same = own (is_add_to x) in omega arith,
         (IsDecided-whole z s.words views id (claim_place c) v (IsClaimOrFlag-claim z c low) at h all).0,
+      ),
+    )
+
+-- of the mark it has made the closing
+pub loads_total_mark-allowed : (z : Sizes) (slots id c : ℕ) (me : Holder) → c < z.contexts → me.0.parts ≡ PARTS → Allows (λ s. IsKept z s.words s.views) slots id me (mark_place c) (λ n. n) (loads_total_mark (step slots (mark_place c) 0 0 none) me)
+loads_total_mark-allowed z slots id c me low all s h homes at small =
+    let v : View = me.0 in let w : ℕ = mark_place c in let n : ℕ = slice_index s.words w in let views : List View = s.views in let traces : List WordTrace = map (mark_trace c) views in
+    let value : ℕ = slice_index s.words (value_place c) in
+    let fits = h.marks c low in let there = at_map (mark_trace c) views id v at in
+    let known = mark_known z s.words views id c v low at h in
+    let own : (f : Step → ℕ) → total (made_in f) traces ≡ total f (on w v.trace) = λ f. total-map (made_in f) (mark_trace c) views ∙ total_whole z s.words views id v (λ steps. total f (on w steps)) refl at h all in
+    let added : value ≡ total amount_of (on (value_place c) v.trace) =
+    (h.values c low).summed ∙ total-map (made_in amount_of) (context_trace c) views ∙ total_whole z s.words views id v (λ steps. total amount_of (on (value_place c) steps)) refl at h all in
+    let back : w - 2 ≡ value_place c = omega arith in
+    let shuts = own is_shut in (
+      view_with v (load w n),
+      keeps,
+      tt,
+      IsKept-mark z s.words views id c n v (load w n) low (omega arith) at refl refl h (IsMark-loaded w value n traces id (mark_trace c v) there fits),
+      (
+        refl,
+        ⊎_elim (λ none. omega arith) (λ is. omega arith) known,
+        fits.left ∙ own shut_to,
+        subst (λ (k : ℕ). k ≤ 1) shuts fits.once,
+        λ some. subst (λ (k : ℕ). n ≡ total amount_of (on k v.trace) + 1) (sym back) (let last = fits.ended (omega arith) in omega arith),
+        (Each-at (KnowsZeroOr n) traces id (mark_trace c v) fits.known there).1,
       ),
     )
 

@@ -10,12 +10,13 @@ use Rattle.atomic_table.proofs.Lists.{at_map, set_again, set_else}
 use Rattle.words_core.specs.declared.trace.Step.{Step}
 use Rattle.words_core.specs.declared.trace.View.{View}
 use Rattle.words_core.specs.declared.words.Sizes.{Sizes}
-use Rattle.words_core.specs.Layout.{value_place, claim_place}
-use Rattle.words_core.specs.Trace.{on, amount_of, total, added, is_add, is_win, is_test, is_load_of, is_add_to, is_raise_to, is_sight_of, HasRunningSums}
-use Rattle.words_core.specs.Rule.{Each, WordTrace, context_trace, word_trace, made_in, known_in, wins_in, wins_on, IsAtMost, RaisesNoMore, HasSums, AddsAsDriver, parts_of, IsEmptyIfSpent, KnowsSizes, IsTraced, IsValue, IsSetOnce, IsEntry, IsKept}
+use Rattle.words_core.specs.Layout.{value_place, claim_place, mark_place}
+use Rattle.words_core.specs.Trace.{on, amount_of, total, added, is_add, is_win, is_shut, shut_to, is_test, is_load_of, is_add_to, is_raise_to, is_sight_of, HasRunningSums}
+use Rattle.words_core.specs.Rule.{Each, WordTrace, claimed_trace, context_trace, mark_trace, word_trace, made_in, known_in, wins_in, wins_on, IsAtMost, RaisesNoMore, HasSums, AddsAsDriver, ShutsAsDriver, KnowsZeroOr, parts_of, IsEmptyIfSpent, KnowsSizes, IsTraced, IsValue, IsMark, IsSetOnce, IsEntry, IsKept}
 use Rattle.words_core.specs.Plays.{Holder, counts_parts, joined_view, joined_from}
 use Rattle.words_core.proofs.Totals.{total-append, total_at, Each-set, Each-at, total-joined, total_two, total-map}
 use Rattle.words_core.proofs.Traces.{on-append, greatest-append_le, raised-append_le, HasRunningSums-append, added_none, HasRunningSums-none}
+use Rattle.words_core.proofs.MarkSteps.{IsZeroOr-append}
 use Rattle.words_core.proofs.Frames.{same_word}
 
 abbrev both_traces : WordTrace → WordTrace → WordTrace
@@ -92,6 +93,29 @@ IsEntry-joined n traces id other t u at apart at' h =
       raises = Each-set (RaisesNoMore n) (set traces id b) other no_trace (Each-set (RaisesNoMore n) traces id b h.raises (raised-append_le t.made u.made n mine theirs)) (omega arith);
     }
 
+IsMark-joined : (value n : ℕ) (traces : List WordTrace) (id other : ℕ) (t u : WordTrace) → get_elem? traces id ≡ some t → other ≢ id → get_elem? traces other ≡ some u → IsMark value n traces → IsMark value n (set (set traces id (both_traces t u)) other no_trace)
+IsMark-joined value n traces id other t u at apart at' h =
+    let b : WordTrace = both_traces t u in
+    let mine = Each-at (KnowsZeroOr n) traces id t h.known at in let theirs = Each-at (KnowsZeroOr n) traces other u h.known at' in
+    let own = Each-at ShutsAsDriver traces id t h.driven at in let others = Each-at ShutsAsDriver traces other u h.driven at' in
+    record {
+      known = Each-set (KnowsZeroOr n) (set traces id b) other no_trace (Each-set (KnowsZeroOr n) traces id b h.known (IsZeroOr-append n t.start u.start mine.0 theirs.0, IsZeroOr-append n t.made u.made mine.1 theirs.1)) (tt, tt);
+      once = rw (total-both is_shut traces id other t u at apart at') h.once;
+      left = h.left ∙ sym (total-both shut_to traces id other t u at apart at');
+      ended = rw (total-both is_shut traces id other t u at apart at') h.ended;
+      driven = Each-set ShutsAsDriver (set traces id b) other no_trace (Each-set ShutsAsDriver traces id b h.driven
+          (λ idle. let c : total is_win (t.claim ++ u.claim) ≡ total is_win t.claim + total is_win u.claim = total-append is_win t.claim u.claim in
+          let m : total is_shut (t.made ++ u.made) ≡ total is_shut t.made + total is_shut u.made = total-append is_shut t.made u.made in
+          let a = own (omega arith) in let d = others (omega arith) in omega arith)) (λ _. refl);
+    }
+
+claimed_trace-joined : (k claim : ℕ) (views : List View) (id other : ℕ) (v w : View)
+    → map (claimed_trace k claim) (set (set views id (joined_view v w)) other joined_from) ≡ set (set (map (claimed_trace k claim) views) id (both_traces (claimed_trace k claim v) (claimed_trace k claim w))) other no_trace
+claimed_trace-joined k claim views id other v w =
+    let b : View = joined_view v w in
+    map-set (claimed_trace k claim) (set views id b) other joined_from ∙ ap (λ (ts : List WordTrace). set ts other no_trace) (map-set (claimed_trace k claim) views id b)
+    ∙ (λ i. set (set (map (claimed_trace k claim) views) id record { start = on-append k v.start w.start i; made = on-append k v.trace w.trace i; claim = on-append claim v.trace w.trace i }) other no_trace)
+
 word_trace-joined : (k : ℕ) (views : List View) (id other : ℕ) (v w : View)
     → map (word_trace k) (set (set views id (joined_view v w)) other joined_from) ≡ set (set (map (word_trace k) views) id (both_traces (word_trace k v) (word_trace k w))) other no_trace
 word_trace-joined k views id other v w =
@@ -100,10 +124,10 @@ word_trace-joined k views id other v w =
     ∙ (λ i. set (set (map (word_trace k) views) id record { start = on-append k v.start w.start i; made = on-append k v.trace w.trace i; claim = [] }) other no_trace)
 
 -- at most one view has won a claim, once
-pub few_wins : (z : Sizes) (words : List ℕ) (views : List View) (c : ℕ) → c < z.contexts → IsKept z words views → total wins_in (map (context_trace c) views) ≤ 1
-few_wins z words views c low h =
-    let few = h.won_once (claim_place c) in
-    let a : total wins_in (map (context_trace c) views) ≡ total (λ (v : View). total is_win (on (claim_place c) v.trace)) views = total-map wins_in (context_trace c) views in
+pub few_wins : (z : Sizes) (words : List ℕ) (views : List View) (k claim : ℕ) → IsKept z words views → total wins_in (map (claimed_trace k claim) views) ≤ 1
+few_wins z words views k claim h =
+    let few = h.won_once claim in
+    let a : total wins_in (map (claimed_trace k claim) views) ≡ total (λ (v : View). total is_win (on claim v.trace)) views = total-map wins_in (claimed_trace k claim) views in
     omega arith
 
 pub join-allowed : (z : Sizes) (id other : ℕ) (v w : View) → 0 < v.parts → Joins {S = Unit {0}} (λ s. IsKept z s.words s.views) id v other w (joined_view v w) joined_from
@@ -118,10 +142,10 @@ join-allowed z id other v w live s h at apart there =
       won_once = λ k. let few = h.won_once k in
           let a : total (wins_on k) (set (set views id b) other joined_from) ≡ total (wins_on k) views = total-joined (wins_on k) views id other v w b joined_from at apart at'
           (ap (total is_win) (on-append k v.trace w.trace) ∙ total-append is_win (on k v.trace) (on k w.trace)) refl in omega arith;
-      values = λ c low. same_word IsValue _ _ _ _ refl
-          (map-set (context_trace c) (set views id b) other joined_from ∙ ap (λ (ts : List WordTrace). set ts other no_trace) (map-set (context_trace c) views id b)
-          ∙ (λ i. set (set (map (context_trace c) views) id record { start = on-append (value_place c) v.start w.start i; made = on-append (value_place c) v.trace w.trace i; claim = on-append (claim_place c) v.trace w.trace i }) other no_trace))
-          (IsValue-joined (slice_index s.words (value_place c)) (map (context_trace c) views) id other (context_trace c v) (context_trace c w) (at_map (context_trace c) views id v at) apart (at_map (context_trace c) views other w at') (few_wins z s.words views c low h) (h.values c low));
+      values = λ c low. same_word IsValue _ _ _ _ refl (claimed_trace-joined (value_place c) (claim_place c) views id other v w)
+          (IsValue-joined (slice_index s.words (value_place c)) (map (context_trace c) views) id other (context_trace c v) (context_trace c w) (at_map (context_trace c) views id v at) apart (at_map (context_trace c) views other w at') (few_wins z s.words views (value_place c) (claim_place c) h) (h.values c low));
+      marks = λ c low. same_word (IsMark (slice_index s.words (value_place c))) _ _ _ _ refl (claimed_trace-joined (mark_place c) (claim_place c) views id other v w)
+          (IsMark-joined (slice_index s.words (value_place c)) (slice_index s.words (mark_place c)) (map (mark_trace c) views) id other (mark_trace c v) (mark_trace c w) (at_map (mark_trace c) views id v at) apart (at_map (mark_trace c) views other w at') (h.marks c low));
       set_once = λ k is. same_word IsSetOnce _ _ _ _ refl (word_trace-joined k views id other v w)
           (IsSetOnce-joined (slice_index s.words k) (map (word_trace k) views) id other (word_trace k v) (word_trace k w) (at_map (word_trace k) views id v at) apart (at_map (word_trace k) views other w at') (h.set_once k is));
       entries = λ k is. same_word IsEntry _ _ _ _ refl (word_trace-joined k views id other v w)

@@ -2,6 +2,7 @@ pub mod Totals
 pub mod Traces
 mod WordKinds
 mod ValueSteps
+mod MarkSteps
 mod SetOnceSteps
 mod EntrySteps
 mod Frames
@@ -12,8 +13,9 @@ mod Joining
 pub mod Driving
 mod Claiming
 mod Adding
+mod Marking
 mod Gathering
-mod LoadingAll
+pub mod LoadingAll
 pub mod Seen
 pub mod Knowing
 pub mod Laying

@@ -1,143 +1,247 @@
 -- One load after another.
-use Rattle.std.proofs.Common.{◌≡◌, ℕ, zero, suc, ◌+◌, ◌-◌, ◌<◌, ◌≤◌, max, List, [], ◌∷◌, ◌++◌, length, get_or, map, refl, sym, ap, ◌∙◌, subst, inl, inr, arith}
+use Rattle.std.proofs.Common.{◌≡◌, ◌≢◌, ℕ, zero, suc, ◌+◌, ◌-◌, ◌<◌, ◌≤◌, max, ◌==◌, nat_lt, Bool, true, false, cond, List, [], ◌∷◌, ◌++◌, length, get_or, set, map, replicate, refl, sym, ap, ◌∙◌, subst, inl, inr, arith}
 use Rattle.std.specs.List.{range_with_len}
-use Rattle.std.proofs.lemmas.Bool.{le-leb, lt-leb, cases_lt}
-use Rattle.std.proofs.lemmas.Grind.{same_number_lists}
+use Rattle.std.proofs.lemmas.Bool.{le-leb, lt-leb, lt-ltb, ne_eqb, cases_lt}
+use Rattle.std.proofs.lemmas.Bool.Decides.{nat_tests}
+use Rattle.std.proofs.lemmas.List.{append-nil, append_assoc, length-set, length-replicate, get_or-set_same, get_or-set_other, ext_get_or}
 use Rattle.std.proofs.lemmas.List.FromFn.{length-map-range_with_len, get_or-map-range_with_len}
+use mathlib.Core.List.{map-map}
 use mathlib.Core.Logic.{dite}
 use native.Mathlib.Decide.{ℕ_discrete}
-use Rattle.std.proofs.lemmas.List.{append_assoc}
+use Rattle.point_core.specs.declared.clocks.Clock.{Clock}
 use Rattle.point_core.specs.declared.context.TheConstants.{CONTEXTS}
 use Rattle.point_core.specs.Agreement.{contexts}
+use Rattle.point_core.specs.Clocks.{clock_of, clock_at, with_clock, raised_clock, closed_clock, open_clock, new_clock, reached_by, reach_of_clocks}
 use Rattle.point_core.specs.Reach.{value_at, with_value, IsAtLeast}
-use Rattle.point_core.proofs.Values.{value_at-with_value_same, value_at-with_value_other, IsAtLeast-below}
+use Rattle.point_core.proofs.Values.{IsAtLeast-below}
 use Rattle.words_core.specs.declared.trace.Step.{Step}
-use Rattle.words_core.specs.Layout.{value_word}
+use Rattle.words_core.specs.Layout.{value_word, mark_word}
 use Rattle.words_core.specs.Trace.{load, on, greatest}
 use Rattle.words_core.specs.Words.{WordsModel}
-use Rattle.words_core.specs.Seat.{SeatModel, seen, with_step, with_steps, loads_of}
-use Rattle.words_core.specs.Loads.{value_seen, reach_seen, HasLoadedAll}
-use Rattle.words_core.proofs.Traces.{on-append_here, on-append_other, greatest-append}
-use Rattle.words_core.proofs.Seen.{seen-with_steps, seen_stays}
+use Rattle.words_core.specs.Seat.{SeatModel, seen, with_steps}
+use Rattle.words_core.specs.Loads.{clock_marked, clock_seen, known_clock, clocks_seen, value_seen, reach_seen, loads_at, loads_of, HasLoadedAll, HasLoadedClocks}
+use Rattle.words_core.proofs.Traces.{on-append_other}
+use Rattle.words_core.proofs.Seen.{seen-with_steps}
 
--- the loads tell the values of these contexts alone
-loads_of-same : (reach other : List ℕ) (n : ℕ) → ((ctx : ℕ) → 1 ≤ ctx → ctx ≤ n → value_at reach ctx ≡ value_at other ctx) → loads_of reach n ≡ loads_of other n
-loads_of-same reach other zero same = refl
-loads_of-same reach other (suc n) same = λ i. loads_of-same reach other n (λ ctx low high. same ctx low (omega arith)) i ++ load (value_word (suc n)) (same (suc n) (omega arith) (omega arith) i) ∷ []
+-- the loads of one context leave what is seen of the others
 
--- the next context's value was loaded, and put into the reach
-pub loads_of-more : (first seat : SeatModel) (reach : List ℕ) (n ctx value : ℕ) → ctx ≡ n + 1 → ctx ≤ length reach → seat ≡ with_steps first (loads_of reach n)
-    → with_step seat (load (value_word ctx) value) ≡ with_steps first (loads_of (with_value reach ctx value) (n + 1))
-loads_of-more first seat reach n ctx value is fits before =
-    let next : n + 1 ≡ suc n = omega arith in
-    let after : List ℕ = with_value reach ctx value in
-    let here : value_at after ctx ≡ value = value_at-with_value_same reach ctx value (omega arith) fits in
-    let last : Step = load (value_word ctx) value in
-    let others : loads_of reach n ≡ loads_of after n = loads_of-same reach after n (λ c low high. sym (value_at-with_value_other reach ctx c value (omega arith) low (λ bad. absurd (omega arith)))) in
-    let more : loads_of after (n + 1) ≡ loads_of after n ++ last ∷ [] = ap (loads_of after) next ∙ ap (λ (c : ℕ). loads_of after n ++ load (value_word c) (value_at after c) ∷ []) (sym (is ∙ next)) ∙ ap (λ (v : ℕ). loads_of after n ++ load (value_word ctx) v ∷ []) here in
-    ap (λ (s : SeatModel). with_step s last) before
-    ∙ ap (λ (steps : List Step). record first { trace = steps }) (append_assoc first.trace (loads_of reach n) (last ∷ []))
-    ∙ ap (λ (steps : List Step). with_steps first steps) (ap (λ (steps : List Step). steps ++ last ∷ []) others ∙ sym more)
+max_zero : (n : ℕ) → max n 0 ≡ n
+max_zero n = grind arith
 
--- the values so far are no less than what was seen at first, and neither is the next one
-pub later-more : (first seat : SeatModel) (reach : List ℕ) (n ctx value : ℕ) → ctx ≡ n + 1 → ctx ≤ length reach → seat ≡ with_steps first (loads_of reach n) → seen seat (value_word ctx) ≤ value
-    → ((c : ℕ) → 1 ≤ c → c ≤ n → seen first (value_word c) ≤ value_at reach c) → (c : ℕ) → 1 ≤ c → c ≤ n + 1 → seen first (value_word c) ≤ value_at (with_value reach ctx value) c
-later-more first seat reach n ctx value is fits before later earlier c low high = dite (ℕ_discrete c ctx)
-    (λ same.
-    let a : seen seat (value_word c) ≤ value = subst (λ (k : ℕ). seen seat (value_word k) ≤ value) (sym same) later in
-    let b : seen first (value_word c) ≤ seen seat (value_word c) = subst (λ (s : SeatModel). seen first (value_word c) ≤ seen s (value_word c)) (sym before) (seen_stays first (value_word c) (loads_of reach n)) in
-    let d : value_at (with_value reach ctx value) c ≡ value = ap (value_at (with_value reach ctx value)) same ∙ value_at-with_value_same reach ctx value (omega arith) fits in
-    omega arith)
-    (λ other. rw (value_at-with_value_other reach ctx c value (omega arith) low other) (earlier c low (omega arith)))
+zero_max : (n : ℕ) → max 0 n ≡ n
+zero_max n = grind arith
 
--- the loads of a context's value
+seen_unloaded : (seat : SeatModel) (w : ℕ) (steps : List Step) → on w steps ≡ [] → seen (with_steps seat steps) w ≡ seen seat w
+seen_unloaded seat w steps none = seen-with_steps seat w steps ∙ ap (λ (l : List Step). max (seen seat w) (greatest l)) none ∙ max_zero (seen seat w)
 
-greatest-loads_of_past : (reach : List ℕ) (n ctx : ℕ) → n < ctx → greatest (on (value_word ctx) (loads_of reach n)) ≡ 0
-greatest-loads_of_past reach zero ctx past = refl
-greatest-loads_of_past reach (suc n) ctx past =
-    ap greatest (on-append_other (value_word ctx) (loads_of reach n) (load (value_word (suc n)) (value_at reach (suc n))) (λ bad. absurd (omega arith)))
-    ∙ greatest-loads_of_past reach n ctx (omega arith)
+loads_at_other : (ctx w : ℕ) (clock : Clock) → mark_word ctx ≢ w → value_word ctx ≢ w → on w (loads_at ctx clock) ≡ []
+loads_at_other ctx w clock m n =
+    elim clock.closed as (λ b. on w (cond b (load (mark_word ctx) (clock.value + 1) ∷ []) (load (mark_word ctx) 0 ∷ load (value_word ctx) clock.value ∷ [])) ≡ []) [
+      | true ↦ on-append_other w [] (load (mark_word ctx) (clock.value + 1)) m
+      | false ↦ on-append_other w (load (mark_word ctx) 0 ∷ []) (load (value_word ctx) clock.value) n ∙ on-append_other w [] (load (mark_word ctx) 0) m
+    ]
 
-greatest-loads_of : (reach : List ℕ) (n ctx : ℕ) → 1 ≤ ctx → ctx ≤ n → greatest (on (value_word ctx) (loads_of reach n)) ≡ value_at reach ctx
-greatest-loads_of reach zero ctx low high = absurd (omega arith)
-greatest-loads_of reach (suc n) ctx low high =
-    let last : Step = load (value_word (suc n)) (value_at reach (suc n)) in
-    dite (ℕ_discrete (suc n) ctx)
-    (λ same.
-    let none : greatest (on (value_word ctx) (loads_of reach n)) ≡ 0 = greatest-loads_of_past reach n ctx (omega arith) in
-    let here : greatest (on (value_word ctx) (loads_of reach n) ++ last ∷ []) ≡ max (greatest (on (value_word ctx) (loads_of reach n))) (max (value_at reach (suc n)) 0) = greatest-append (on (value_word ctx) (loads_of reach n)) (last ∷ []) in
-    let value : value_at reach (suc n) ≡ value_at reach ctx = ap (value_at reach) same in
-    ap greatest (on-append_here (value_word ctx) (loads_of reach n) last (ap value_word same)) ∙ here ∙ (omega arith))
-    (λ other.
-    ap greatest (on-append_other (value_word ctx) (loads_of reach n) last (λ bad. other (omega arith))) ∙ greatest-loads_of reach n ctx low (omega arith))
+clock_seen-other : (seat : SeatModel) (ctx c : ℕ) (clock : Clock) → 1 ≤ ctx → 1 ≤ c → c ≢ ctx → clock_seen (with_steps seat (loads_at ctx clock)) c ≡ clock_seen seat c
+clock_seen-other seat ctx c clock low low' other =
+    let steps : List Step = loads_at ctx clock in
+    let mark = seen_unloaded seat (mark_word c) steps (loads_at_other ctx (mark_word c) clock (λ bad. other (omega arith)) (λ bad. absurd (omega arith))) in
+    let value = seen_unloaded seat (value_word c) steps (loads_at_other ctx (value_word c) clock (λ bad. absurd (omega arith)) (λ bad. other (omega arith))) in
+    λ i. clock_marked (mark i) (value i)
 
-pub seen-loads_of : (first : SeatModel) (reach : List ℕ) (n ctx : ℕ) → 1 ≤ ctx → ctx ≤ n → seen first (value_word ctx) ≤ value_at reach ctx → seen (with_steps first (loads_of reach n)) (value_word ctx) ≡ value_at reach ctx
-seen-loads_of first reach n ctx low high later =
-    let loaded = greatest-loads_of reach n ctx low high in seen-with_steps first (value_word ctx) (loads_of reach n) ∙ (omega arith)
+-- what a seat has seen of a context's clock, by its mark and its value
 
--- the contexts that come after it are as they were
-pub past-more : (reach : List ℕ) (n ctx value : ℕ) → ctx ≡ n + 1 → ((c : ℕ) → n < c → value_at reach c ≡ 0) → (c : ℕ) → n + 1 < c → value_at (with_value reach ctx value) c ≡ 0
-past-more reach n ctx value is before c low = value_at-with_value_other reach ctx c value (omega arith) (omega arith) (λ bad. absurd (omega arith)) ∙ before c (omega arith)
+pub clock_marked-closed : (m v : ℕ) → 0 < m → clock_marked m v ≡ clock_of (m - 1) true
+clock_marked-closed m v set = ap (λ (b : Bool). cond b (open_clock v) (clock_of (m - 1) true)) (ne_eqb m 0 (λ bad. absurd (omega arith)))
+
+pub clock_marked_test : (m v : ℕ) → nat_lt 0 m ≡ (clock_marked m v).closed
+clock_marked_test m v = dite (ℕ_discrete m 0)
+    (λ e. subst (λ (k : ℕ). nat_lt 0 k ≡ (clock_marked k v).closed) (sym e) refl)
+    (λ ne. let set : 0 < m = omega arith in lt-ltb 0 m set ∙ sym (ap (λ (k : Clock). k.closed) (clock_marked-closed m v set)))
+
+pub marked_if_closed : (m v : ℕ) → (clock_marked m v).closed ≡ true → 0 < m
+marked_if_closed m v closed = let b : nat_lt 0 m ≡ true = clock_marked_test m v ∙ closed in grind (arith, nat_tests)
+
+-- a closed clock is the same whatever value was seen
+pub clock_marked_stays : (m n u v : ℕ) → m ≡ n → (clock_marked n u).closed ≡ true → clock_marked m v ≡ clock_marked n u
+clock_marked_stays m n u v same closed =
+    let set = marked_if_closed n u closed in
+    ap (λ (k : ℕ). clock_marked k v) same ∙ clock_marked-closed n v set ∙ sym (clock_marked-closed n u set)
+
+-- a step on the value leaves what is seen of the mark
+pub seen_mark-loaded : (seat : SeatModel) (ctx v : ℕ) → seen (with_steps seat (load (value_word ctx) v ∷ [])) (mark_word ctx) ≡ seen seat (mark_word ctx)
+seen_mark-loaded seat ctx v = seen_unloaded seat (mark_word ctx) (load (value_word ctx) v ∷ []) (on-append_other (mark_word ctx) [] (load (value_word ctx) v) (λ bad. absurd (omega arith)))
+
+-- what a seat has seen a context reach
+abbrev pub reached_seen : SeatModel → ℕ → ℕ
+reached_seen seat ctx = reached_by (clock_seen seat ctx)
+
+pub clock_seen-kept : (seat after : SeatModel) (n ctx : ℕ) (clock : Clock) → ctx ≡ n + 1 → after ≡ with_steps seat (loads_at ctx clock) → (c : ℕ) → 1 ≤ c → c ≤ n → clock_seen after c ≡ clock_seen seat c
+clock_seen-kept seat after n ctx clock is entered c low high = ap (λ (s : SeatModel). clock_seen s c) entered ∙ clock_seen-other seat ctx c clock (omega arith) low (λ bad. absurd (omega arith))
 
 -- a value of 0 is raised to any value
 pub raised_from_zero : (reach : List ℕ) (ctx value : ℕ) → value_at reach ctx ≡ 0 → with_value reach ctx (max (value_at reach ctx) value) ≡ with_value reach ctx value
 raised_from_zero reach ctx value none = let e : max (value_at reach ctx) value ≡ value = omega arith in ap (with_value reach ctx) e
 
--- the values of all contexts, as a list
+loads_of-same : (f g : ℕ → Clock) (n : ℕ) → ((ctx : ℕ) → 1 ≤ ctx → ctx ≤ n → f ctx ≡ g ctx) → loads_of f n ≡ loads_of g n
+loads_of-same f g zero same = refl
+loads_of-same f g (suc n) same = λ i. loads_of-same f g n (λ ctx low high. same ctx low (omega arith)) i ++ loads_at (suc n) (same (suc n) (omega arith) (omega arith) i)
 
-map-contexts : (f : ℕ → ℕ) (n : ℕ) → n ≡ CONTEXTS → map f (range_with_len 1 n) ≡ map f contexts
-unfolding contexts
-map-contexts f n is = ap (λ k. map f (range_with_len 1 k)) is
+-- the clocks of the first n contexts were loaded, and nothing else
+pub record HasLoaded (first seat : SeatModel) (n : ℕ) : Type 0 where
+  pub entered : seat ≡ with_steps first (loads_of (clock_seen seat) n)
+  pub later : (c : ℕ) → 1 ≤ c → c ≤ n → reached_by (clock_seen first c) ≤ reached_by (clock_seen seat c)
+  pub past : (c : ℕ) → n < c → clock_seen seat c ≡ clock_seen first c
 
-length-contexts : (f : ℕ → ℕ) (n : ℕ) → n ≡ CONTEXTS → length (map f contexts) ≡ n
-length-contexts f n is = ap length (sym (map-contexts f n is)) ∙ length-map-range_with_len f 1 n
+pub HasLoaded-none : (seat : SeatModel) → HasLoaded seat seat 0
+HasLoaded-none seat = record {
+  entered = ap (λ (steps : List Step). record seat { trace = steps }) (sym (append-nil seat.trace));
+  later = λ c low high. absurd (omega arith);
+  past = λ c low. refl;
+}
 
-at-contexts : (f : ℕ → ℕ) (n k : ℕ) → n ≡ CONTEXTS → k < n → get_or (map f contexts) k 0 ≡ f (k + 1)
-at-contexts f n k is low = ap (λ l. get_or l k 0) (sym (map-contexts f n is)) ∙ get_or-map-range_with_len f 1 n k (k + 1) 0 low (omega arith)
-
-value_at-next : (reach : List ℕ) (k : ℕ) → value_at reach (k + 1) ≡ get_or reach k 0
-value_at-next reach k = let back : k + 1 - 1 ≡ k = omega arith in ap (λ i. get_or reach i 0) back
-
--- what was loaded is what the seat has seen since, and no less than what it had seen
-
-value_seen-found : (seat : SeatModel) (reach : List ℕ) → ((ctx : ℕ) → 1 ≤ ctx → ctx ≤ seat.words.contexts → seen seat (value_word ctx) ≡ value_at reach ctx) → ((ctx : ℕ) → seat.words.contexts < ctx → value_at reach ctx ≡ 0) → (ctx : ℕ) → 1 ≤ ctx → value_seen seat ctx ≡ value_at reach ctx
-value_seen-found seat reach found past ctx low = elim (cases_lt seat.words.contexts ctx) [
-  | inl after ↦ rw (lt-leb ctx seat.words.contexts after) (sym (past ctx after))
-  | inr within ↦ rw (le-leb ctx seat.words.contexts within) (found ctx low within)
-]
-
-value_seen-before : (seat : SeatModel) (reach : List ℕ) → ((ctx : ℕ) → 1 ≤ ctx → ctx ≤ seat.words.contexts → seen seat (value_word ctx) ≤ value_at reach ctx) → (ctx : ℕ) → 1 ≤ ctx → value_seen seat ctx ≤ value_at reach ctx
-value_seen-before seat reach later ctx low = elim (cases_lt seat.words.contexts ctx) [
-  | inl after ↦ rw (lt-leb ctx seat.words.contexts after) (omega arith)
-  | inr within ↦ rw (le-leb ctx seat.words.contexts within) (later ctx low within)
-]
-
-reach_seen-found : (seat : SeatModel) (reach : List ℕ) → length reach ≡ CONTEXTS → ((ctx : ℕ) → 1 ≤ ctx → value_seen seat ctx ≡ value_at reach ctx) → reach ≡ reach_seen seat
-reach_seen-found seat reach full found =
-    let len : length reach ≡ length (reach_seen seat) = sym (length-contexts (value_seen seat) (length reach) full) in
-    same_number_lists reach (reach_seen seat) len
-    (λ k low. sym (at-contexts (value_seen seat) (length reach) k full low ∙ found (k + 1) (omega arith) ∙ value_at-next reach k))
-
-reach_seen-before : (seat : SeatModel) (reach : List ℕ) → length reach ≡ CONTEXTS → ((ctx : ℕ) → 1 ≤ ctx → value_seen seat ctx ≤ value_at reach ctx) → IsAtLeast reach (reach_seen seat)
-reach_seen-before seat reach full later =
-    let len = length-contexts (value_seen seat) (length reach) full in
-    IsAtLeast-below reach (reach_seen seat) (length reach) (omega arith) (omega (arith, len))
-    (λ k low.
-    let first = at-contexts (value_seen seat) (length reach) k full low in
-    let second = later (k + 1) (omega arith) in
-    let third = value_at-next reach k in
-    omega (arith, first, second, third))
-
-pub HasLoadedAll-loaded : (words : WordsModel) (before after : SeatModel) (reach : List ℕ) → before.words ≡ words → after ≡ with_steps before (loads_of reach words.contexts) → length reach ≡ CONTEXTS
-    → ((ctx : ℕ) → 1 ≤ ctx → ctx ≤ words.contexts → seen before (value_word ctx) ≤ value_at reach ctx) → ((ctx : ℕ) → words.contexts < ctx → value_at reach ctx ≡ 0) → HasLoadedAll before after reach
-HasLoadedAll-loaded words before after reach own entered full later past =
-    let contexts : before.words.contexts ≡ words.contexts = ap (λ (w : WordsModel). w.contexts) own in
-    let contexts' : after.words.contexts ≡ words.contexts = ap (λ (s : SeatModel). s.words.contexts) entered ∙ contexts in
+-- the next context's clock was loaded
+pub HasLoaded-more : (first seat after : SeatModel) (n ctx : ℕ) (clock : Clock) → ctx ≡ n + 1 → HasLoaded first seat n → after ≡ with_steps seat (loads_at ctx clock) → clock ≡ clock_seen after ctx
+    → reached_by (clock_seen seat ctx) ≤ reached_by clock → HasLoaded first after (n + 1)
+HasLoaded-more first seat after n ctx clock is h entered found later =
+    let next : n + 1 ≡ suc n = omega arith in
+    let others : (c : ℕ) → 1 ≤ c → c ≢ ctx → clock_seen after c ≡ clock_seen seat c = λ c low ne. ap (λ (s : SeatModel). clock_seen s c) entered ∙ clock_seen-other seat ctx c clock (omega arith) low ne in
+    let before : loads_of (clock_seen seat) n ≡ loads_of (clock_seen after) n = loads_of-same (clock_seen seat) (clock_seen after) n (λ c low high. sym (others c low (λ bad. absurd (omega arith)))) in
+    let last : loads_at ctx clock ≡ loads_at (suc n) (clock_seen after (suc n)) = ap (loads_at ctx) found ∙ ap (λ (c : ℕ). loads_at c (clock_seen after c)) (is ∙ next) in
     record {
-      entered = subst (λ n. after ≡ with_steps before (loads_of reach n)) (sym contexts) entered;
-      found = reach_seen-found after reach full (value_seen-found after reach
-          (λ ctx low high. subst (λ (s : SeatModel). seen s (value_word ctx) ≡ value_at reach ctx) (sym entered)
-          (seen-loads_of before reach words.contexts ctx low (omega arith) (later ctx low (omega arith))))
-          (λ ctx after. past ctx (omega arith)));
-      later = reach_seen-before before reach full (value_seen-before before reach (λ ctx low high. later ctx low (omega arith)));
+      entered =
+          entered
+          ∙ ap (λ (s : SeatModel). with_steps s (loads_at ctx clock)) h.entered
+          ∙ ap (λ (steps : List Step). record first { trace = steps }) (append_assoc first.trace (loads_of (clock_seen seat) n) (loads_at ctx clock))
+          ∙ (λ i. with_steps first (before i ++ last i))
+          ∙ ap (λ (k : ℕ). with_steps first (loads_of (clock_seen after) k)) (sym next);
+      later = λ c low high. dite (ℕ_discrete c ctx)
+          (λ same.
+          let unloaded : clock_seen seat ctx ≡ clock_seen first ctx = h.past ctx (omega arith) in
+          let a : reached_by (clock_seen first ctx) ≤ reached_by (clock_seen after ctx) = subst (λ (k : Clock). reached_by (clock_seen first ctx) ≤ reached_by k) found (subst (λ (k : Clock). reached_by k ≤ reached_by clock) unloaded later) in
+          subst (λ (k : ℕ). reached_by (clock_seen first k) ≤ reached_by (clock_seen after k)) (sym same) a)
+          (λ other. subst (λ (k : Clock). reached_by (clock_seen first c) ≤ reached_by k) (sym (others c low other)) (h.later c low (omega arith)));
+      past = λ c low. others c (omega arith) (λ bad. absurd (omega arith)) ∙ h.past c (omega arith);
+    }
+
+-- a list has f of the first n contexts, and d of the others
+pub record HasFound {A : Type 0} (f : ℕ → A) (d : A) (n : ℕ) (xs : List A) : Type 0 where
+  pub here : (c : ℕ) → 1 ≤ c → c ≤ n → get_or xs (c - 1) d ≡ f c
+  pub past : (c : ℕ) → n < c → get_or xs (c - 1) d ≡ d
+  pub full : length xs ≡ CONTEXTS
+
+get_or-replicate : {A : Type 0} (n k : ℕ) (d : A) → get_or (replicate n d) k d ≡ d
+get_or-replicate zero k d = refl
+get_or-replicate (suc n) zero d = refl
+get_or-replicate (suc n) (suc k) d = get_or-replicate n k d
+
+pub HasFound-none : {A : Type 0} (f : ℕ → A) (d : A) → HasFound f d 0 (replicate CONTEXTS d)
+HasFound-none {A} f d = record {
+  here = λ c low high. absurd (omega arith);
+  past = λ c low. get_or-replicate CONTEXTS (c - 1) d;
+  full = length-replicate {A = A} CONTEXTS d;
+}
+
+set_twice : {A : Type 0} (xs : List A) (i : ℕ) (x y : A) → set (set xs i x) i y ≡ set xs i y
+set_twice [] i x y = refl
+set_twice (a ∷ xs) zero x y = refl
+set_twice (a ∷ xs) (suc i) x y = ap (λ l. a ∷ l) (set_twice xs i x y)
+
+-- a new clock was raised and closed
+pub put_closed : (clocks raised : List Clock) (ctx : ℕ) (clock : Clock) → clock_at clocks ctx ≡ new_clock → raised ≡ with_clock clocks ctx (raised_clock (clock_at clocks ctx) clock.value) → 1 ≤ ctx → ctx ≤ length clocks → clock.closed ≡ true
+    → with_clock raised ctx (closed_clock (clock_at raised ctx)) ≡ with_clock clocks ctx clock
+put_closed clocks raised ctx clock new was low fits closed =
+    let first : Clock = raised_clock (clock_at clocks ctx) clock.value in
+    let is : first ≡ open_clock clock.value = ap (λ (k : Clock). raised_clock k clock.value) new ∙ ap open_clock (zero_max clock.value) in
+    let there : clock_at raised ctx ≡ first = ap (λ (cs : List Clock). clock_at cs ctx) was ∙ get_or-set_same clocks (ctx - 1) first new_clock (omega arith) in
+    let last : closed_clock (clock_at raised ctx) ≡ clock = ap closed_clock (there ∙ is) ∙ (λ i. clock_of clock.value (sym closed i)) in
+    ap (λ (k : Clock). with_clock raised ctx k) last ∙ ap (λ (cs : List Clock). with_clock cs ctx clock) was ∙ set_twice clocks (ctx - 1) first clock
+
+-- the next one was put into it
+pub HasFound-more : {A : Type 0} (f g : ℕ → A) (d x : A) (n ctx : ℕ) (xs : List A) → ctx ≡ n + 1 → ctx ≤ CONTEXTS → HasFound f d n xs → ((c : ℕ) → 1 ≤ c → c ≤ n → g c ≡ f c) → x ≡ g ctx → HasFound g d (n + 1) (set xs (ctx - 1) x)
+HasFound-more {A} f g d x n ctx xs is fits h same new = record {
+  here = λ c low high. dite (ℕ_discrete c ctx)
+      (λ e. ap (λ (k : ℕ). get_or (set xs (ctx - 1) x) (k - 1) d) e ∙ get_or-set_same xs (ctx - 1) x d (let full = h.full in omega arith) ∙ new ∙ ap g (sym e))
+      (λ ne. get_or-set_other xs (ctx - 1) (c - 1) x d (λ bad. ne (omega arith)) ∙ h.here c low (omega arith) ∙ sym (same c low (omega arith)));
+  past = λ c low. get_or-set_other xs (ctx - 1) (c - 1) x d (λ bad. absurd (omega arith)) ∙ h.past c (omega arith);
+  full = length-set xs (ctx - 1) x ∙ h.full;
+}
+
+-- what is known of all contexts, as a list
+
+module _ {A : Type 0} where
+  map-contexts : (f : ℕ → A) (n : ℕ) → n ≡ CONTEXTS → map f (range_with_len 1 n) ≡ map f contexts
+  unfolding contexts
+  map-contexts f n is = ap (λ k. map f (range_with_len 1 k)) is
+
+  length-contexts : (f : ℕ → A) (n : ℕ) → n ≡ CONTEXTS → length (map f contexts) ≡ n
+  length-contexts f n is = ap length (sym (map-contexts f n is)) ∙ length-map-range_with_len f 1 n
+
+  at-contexts : (f : ℕ → A) (d : A) (n k : ℕ) → n ≡ CONTEXTS → k < n → get_or (map f contexts) k d ≡ f (k + 1)
+  at-contexts f d n k is low = ap (λ l. get_or l k d) (sym (map-contexts f n is)) ∙ get_or-map-range_with_len f 1 n k (k + 1) d low (omega arith)
+
+  -- a list that has f of the contexts up to n, and d past them, which is what g says
+  HasFound-all : (f g : ℕ → A) (d : A) (n : ℕ) (xs : List A) → HasFound f d n xs → ((c : ℕ) → 1 ≤ c → c ≤ n → g c ≡ f c) → ((c : ℕ) → n < c → g c ≡ d) → xs ≡ map g contexts
+  HasFound-all f g d n xs h within past =
+      ext_get_or d xs (map g contexts) (h.full ∙ sym (length-contexts g CONTEXTS refl))
+      (λ k low.
+      let back : k + 1 - 1 ≡ k = omega arith in
+      let there : get_or xs k d ≡ get_or xs (k + 1 - 1) d = ap (λ (i : ℕ). get_or xs i d) (sym back) in
+      let is : get_or xs (k + 1 - 1) d ≡ g (k + 1) = elim (cases_lt n (k + 1)) [
+        | inl after ↦ h.past (k + 1) after ∙ sym (past (k + 1) after)
+        | inr inside ↦ h.here (k + 1) (omega arith) inside ∙ sym (within (k + 1) (omega arith) inside)
+      ] in
+      there ∙ is ∙ sym (at-contexts g d CONTEXTS k refl (let full = h.full in omega arith)))
+
+known_clock-within : (seat : SeatModel) (c : ℕ) → c ≤ seat.words.contexts → known_clock seat c ≡ clock_seen seat c
+known_clock-within seat c le = rw (le-leb c seat.words.contexts le) refl
+
+known_clock-past : (seat : SeatModel) (c : ℕ) → seat.words.contexts < c → known_clock seat c ≡ new_clock
+known_clock-past seat c lt = rw (lt-leb c seat.words.contexts lt) refl
+
+-- what the clocks reach that a seat has seen
+pub reach_seen-is : (seat : SeatModel) → reach_of_clocks (clocks_seen seat) ≡ reach_seen seat
+reach_seen-is seat = map-map reached_by (known_clock seat) contexts
+
+reach_seen-before : (before after : SeatModel) → after.words ≡ before.words → HasLoaded before after before.words.contexts → IsAtLeast (reach_seen after) (reach_seen before)
+reach_seen-before before after own h =
+    let count : after.words.contexts ≡ before.words.contexts = ap (λ (w : WordsModel). w.contexts) own in
+    IsAtLeast-below (reach_seen after) (reach_seen before) CONTEXTS (let l = length-contexts (value_seen after) CONTEXTS refl in omega arith) (let l = length-contexts (value_seen before) CONTEXTS refl in omega arith)
+    (λ k low.
+    let a : get_or (reach_seen after) k 0 ≡ value_seen after (k + 1) = at-contexts (value_seen after) 0 CONTEXTS k refl low in
+    let b : get_or (reach_seen before) k 0 ≡ value_seen before (k + 1) = at-contexts (value_seen before) 0 CONTEXTS k refl low in
+    let le : value_seen before (k + 1) ≤ value_seen after (k + 1) = elim (cases_lt before.words.contexts (k + 1)) [
+      | inl past ↦
+          let p : value_seen before (k + 1) ≡ 0 = ap reached_by (known_clock-past before (k + 1) past) in omega arith
+      | inr inside ↦
+          let p : value_seen before (k + 1) ≡ reached_by (clock_seen before (k + 1)) = ap reached_by (known_clock-within before (k + 1) inside) in
+          let q : value_seen after (k + 1) ≡ reached_by (clock_seen after (k + 1)) = ap reached_by (known_clock-within after (k + 1) (omega arith)) in
+          let r = h.later (k + 1) (omega arith) inside in omega arith
+    ] in omega arith)
+
+pub HasLoadedAll-loaded : (before after : SeatModel) (n : ℕ) (reach : List ℕ) → n ≡ before.words.contexts → HasLoaded before after n → HasFound (reached_seen after) 0 n reach → HasLoadedAll before after reach
+HasLoadedAll-loaded before after n reach all loaded found =
+    let own : after.words ≡ before.words = ap (λ (s : SeatModel). s.words) loaded.entered in
+    let count : after.words.contexts ≡ before.words.contexts = ap (λ (w : WordsModel). w.contexts) own in
+    let is : reach ≡ reach_seen after = HasFound-all (reached_seen after) (value_seen after) 0 n reach found
+    (λ c low high. ap reached_by (known_clock-within after c (omega arith))) (λ c past. ap reached_by (known_clock-past after c (omega arith))) in
+    record {
+      entered = subst (λ (k : ℕ). after ≡ with_steps before (loads_of (clock_seen after) k)) all loaded.entered;
+      found = is;
+      later = subst (λ (r : List ℕ). IsAtLeast r (reach_seen before)) (sym is) (reach_seen-before before after own (subst (HasLoaded before after) all loaded));
+    }
+
+pub HasLoadedClocks-loaded : (before after : SeatModel) (n : ℕ) (clocks : List Clock) → n ≡ before.words.contexts → HasLoaded before after n → HasFound (clock_seen after) new_clock n clocks → HasLoadedClocks before after clocks
+HasLoadedClocks-loaded before after n clocks all loaded found =
+    let own : after.words ≡ before.words = ap (λ (s : SeatModel). s.words) loaded.entered in
+    let count : after.words.contexts ≡ before.words.contexts = ap (λ (w : WordsModel). w.contexts) own in
+    let is : clocks ≡ clocks_seen after = HasFound-all (clock_seen after) (known_clock after) new_clock n clocks found
+    (λ c low high. known_clock-within after c (omega arith)) (λ c past. known_clock-past after c (omega arith)) in
+    let reach : reach_of_clocks clocks ≡ reach_seen after = ap reach_of_clocks is ∙ reach_seen-is after in
+    record {
+      all = record {
+        entered = subst (λ (k : ℕ). after ≡ with_steps before (loads_of (clock_seen after) k)) all loaded.entered;
+        found = reach;
+        later = subst (λ (r : List ℕ). IsAtLeast r (reach_seen before)) (sym reach) (reach_seen-before before after own (subst (HasLoaded before after) all loaded));
+      };
+      found = is;
     }

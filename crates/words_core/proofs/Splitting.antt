@@ -8,12 +8,13 @@ use Rattle.atomic_table.proofs.Lists.{at_map}
 use Rattle.words_core.specs.declared.trace.Step.{Step}
 use Rattle.words_core.specs.declared.trace.View.{View}
 use Rattle.words_core.specs.declared.words.Sizes.{Sizes}
-use Rattle.words_core.specs.Layout.{value_place}
-use Rattle.words_core.specs.Trace.{on, amount_of, total, greatest, is_win, is_test, is_load_of, is_add_to, is_raise_to, is_sight_of}
-use Rattle.words_core.specs.Rule.{WordTrace, context_trace, word_trace, made_in, known_in, wins_on, IsAtMost, RaisesNoMore, HasSums, AddsAsDriver, parts_of, IsEmptyIfSpent, KnowsSizes, IsTraced, IsValue, IsSetOnce, IsEntry, IsKept}
+use Rattle.words_core.specs.Layout.{value_place, claim_place, mark_place}
+use Rattle.words_core.specs.Trace.{on, amount_of, total, greatest, is_win, is_shut, shut_to, is_test, is_load_of, is_add_to, is_raise_to, is_sight_of}
+use Rattle.words_core.specs.Rule.{WordTrace, claimed_trace, context_trace, mark_trace, word_trace, made_in, known_in, wins_on, IsAtMost, RaisesNoMore, HasSums, AddsAsDriver, ShutsAsDriver, KnowsZeroOr, parts_of, IsEmptyIfSpent, KnowsSizes, IsTraced, IsValue, IsMark, IsSetOnce, IsEntry, IsKept}
 use Rattle.words_core.specs.Plays.{parent_view, child_view}
 use Rattle.words_core.proofs.Totals.{total-set, total-append, total_at, Each-set, Each-at, Each-last, map-set_same}
 use Rattle.words_core.proofs.Traces.{on-append, greatest-append_le}
+use Rattle.words_core.proofs.MarkSteps.{IsZeroOr-append}
 use Rattle.words_core.proofs.Frames.{same_word}
 
 -- what a new seat has on a word
@@ -60,6 +61,18 @@ IsValue-parted n traces id t at h =
     IsValue-started n traces (t.start ++ t.made) (greatest-append_le t.start t.made n mine.0 mine.1)
     (λ x. known_by_one (is_load_of x) traces id t at) h
 
+IsMark-parted : (value n : ℕ) (traces : List WordTrace) (id : ℕ) (t : WordTrace) → get_elem? traces id ≡ some t → IsMark value n traces → IsMark value n (traces ++ started (t.start ++ t.made) ∷ [])
+IsMark-parted value n traces id t at h =
+    let new : WordTrace = started (t.start ++ t.made) in
+    let mine = Each-at (KnowsZeroOr n) traces id t h.known at in
+    record {
+      known = Each-last (KnowsZeroOr n) traces new h.known (IsZeroOr-append n t.start t.made mine.0 mine.1, tt);
+      once = rw (total-started is_shut traces (t.start ++ t.made)) h.once;
+      left = h.left ∙ sym (total-started shut_to traces (t.start ++ t.made));
+      ended = rw (total-started is_shut traces (t.start ++ t.made)) h.ended;
+      driven = Each-last ShutsAsDriver traces new h.driven (λ _. refl);
+    }
+
 IsSetOnce-started : (n : ℕ) (traces : List WordTrace) (start : List Step) → greatest start ≤ n → (total is_test start ≤ total (known_in is_test) traces) → IsSetOnce n traces → IsSetOnce n (traces ++ started start ∷ [])
 IsSetOnce-started n traces start low known h =
     let t : WordTrace = started start in
@@ -86,6 +99,14 @@ IsEntry-parted n traces id t at h =
     let mine = Each-at (IsAtMost n) traces id t h.traced.below at in
     IsEntry-started n traces (t.start ++ t.made) (greatest-append_le t.start t.made n mine.0 mine.1) (λ x. known_by_one (is_sight_of x) traces id t at) h
 
+-- what a new seat has on a word and a claim
+claimed_trace-parted : (k claim n : ℕ) (views : List View) (id : ℕ) (v : View) → get_elem? views id ≡ some v
+    → map (claimed_trace k claim) (set views id (parent_view n v) ++ child_view n v ∷ []) ≡ map (claimed_trace k claim) views ++ started (on k v.start ++ on k v.trace) ∷ []
+claimed_trace-parted k claim n views id v at =
+    let l : View = parent_view n v in
+    map-append (claimed_trace k claim) (set views id l) (child_view n v ∷ [])
+    ∙ (λ i. map-set_same (claimed_trace k claim) views id v l at refl i ++ record { start = on-append k v.start v.trace i; made = []; claim = [] } ∷ [])
+
 -- what a new seat has on one word
 word_trace-parted : (k n : ℕ) (views : List View) (id : ℕ) (v : View) → get_elem? views id ≡ some v
     → map (word_trace k) (set views id (parent_view n v) ++ child_view n v ∷ []) ≡ map (word_trace k) views ++ started (on k v.start ++ on k v.trace) ∷ []
@@ -108,9 +129,10 @@ split-allowed z id n v pos less s h at =
           let few = h.won_once w in
           let a : total (wins_on w) vs + wins_on w v ≡ total (wins_on w) views + wins_on w v = total-set (wins_on w) views id v l at in
           let b : total (wins_on w) (vs ++ r ∷ []) ≡ total (wins_on w) vs + (0 + 0) = total-append (wins_on w) vs (r ∷ []) in omega arith;
-      values = λ c low. same_word IsValue _ _ _ _ refl
-          (map-append (context_trace c) vs (r ∷ []) ∙ (λ i. map-set_same (context_trace c) views id v l at refl i ++ record { start = on-append (value_place c) v.start v.trace i; made = []; claim = [] } ∷ []))
+      values = λ c low. same_word IsValue _ _ _ _ refl (claimed_trace-parted (value_place c) (claim_place c) n views id v at)
           (IsValue-parted (slice_index s.words (value_place c)) (map (context_trace c) views) id (context_trace c v) (at_map (context_trace c) views id v at) (h.values c low));
+      marks = λ c low. same_word (IsMark (slice_index s.words (value_place c))) _ _ _ _ refl (claimed_trace-parted (mark_place c) (claim_place c) n views id v at)
+          (IsMark-parted (slice_index s.words (value_place c)) (slice_index s.words (mark_place c)) (map (mark_trace c) views) id (mark_trace c v) (at_map (mark_trace c) views id v at) (h.marks c low));
       set_once = λ k is. same_word IsSetOnce _ _ _ _ refl (word_trace-parted k n views id v at) (IsSetOnce-parted (slice_index s.words k) (map (word_trace k) views) id (word_trace k v) (at_map (word_trace k) views id v at) (h.set_once k is));
       entries = λ k is. same_word IsEntry _ _ _ _ refl (word_trace-parted k n views id v at) (IsEntry-parted (slice_index s.words k) (map (word_trace k) views) id (word_trace k v) (at_map (word_trace k) views id v at) (h.entries k is));
       unused = h.unused;

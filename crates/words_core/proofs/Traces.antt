@@ -7,7 +7,7 @@ use Rattle.std.proofs.lemmas.Bool.Decides.{nat_tests}
 use Rattle.std.proofs.lemmas.List.{append-nil}
 use Rattle.std.proofs.lemmas.List.Elements.{filter-append}
 use Rattle.words_core.specs.declared.trace.Kind.{Kind}
-use Rattle.words_core.specs.declared.trace.Kind.TheVariants.{Load, Add, Won, Lost, Raise, Shown}
+use Rattle.words_core.specs.declared.trace.Kind.TheVariants.{Load, Add, Won, Lost, Raise, Shown, Shut}
 use Rattle.words_core.specs.declared.trace.Step.{Step}
 use Rattle.words_core.specs.Trace.{if_kind, amount_of, is_add, is_win, is_loss, is_test, is_load_of, is_add_to, target_of, is_raise_to, is_sight_of, load, add, raise, shown, total, on, greatest, raised, added, HasRunningSums}
 
@@ -58,6 +58,7 @@ no_amount Won n h = refl
 no_amount Lost n h = refl
 no_amount Raise n h = refl
 no_amount Shown n h = refl
+no_amount Shut n h = refl
 
 pub added_none : (xs : List Step) → total is_add xs ≡ 0 → added xs ≡ 0
 added_none [] h = refl
@@ -115,6 +116,7 @@ raise_to_le Won p x h = absurd (omega arith)
 raise_to_le Lost p x h = absurd (omega arith)
 raise_to_le Raise p x h = let e : p ≡ x = same_value p x h in omega arith
 raise_to_le Shown p x h = absurd (omega arith)
+raise_to_le Shut p x h = absurd (omega arith)
 
 -- what the word was raised to is at most the greatest
 pub raised_le : (x : ℕ) (xs : List Step) → 0 < total (is_raise_to x) xs → x ≤ raised xs

@@ -1,21 +1,56 @@
--- What a seat has seen of the values of all contexts, and a load of each.
-use Rattle.std.specs.Prelude.{◌≡◌, ℕ, nat_le, if◌then◌else◌, List, map}
+-- What a seat has seen of the clocks of all contexts, and a load of each.
+use Rattle.std.specs.Prelude.{◌≡◌, ℕ, zero, suc, ◌+◌, ◌-◌, ◌==◌, Bool, true, nat_le, if◌then◌else◌, List, [], ◌∷◌, ◌++◌, map}
+use Rattle.point_core.specs.declared.clocks.Clock.{Clock}
 use Rattle.point_core.specs.Agreement.{contexts}
+use Rattle.point_core.specs.Clocks.{clock_of, open_clock, new_clock, reached_by, reach_of_clocks}
 use Rattle.point_core.specs.Reach.{IsAtLeast}
-use Rattle.words_core.specs.Layout.{value_word}
-use Rattle.words_core.specs.Seat.{SeatModel, seen, with_steps, loads_of}
+use Rattle.words_core.specs.declared.trace.Step.{Step}
+use Rattle.words_core.specs.Layout.{value_word, mark_word}
+use Rattle.words_core.specs.Seat.{SeatModel, seen, with_steps}
+use Rattle.words_core.specs.Trace.{load}
 
--- what a seat has seen of a context of its words; a context past them has the value 0
-abbrev pub value_seen : SeatModel → ℕ → ℕ
-value_seen seat ctx = if nat_le ctx seat.words.contexts then seen seat (value_word ctx) else 0
+-- of a context whose mark and whose value were seen: a mark above 0 says that it is closed, at 1 less
+abbrev pub clock_marked : ℕ → ℕ → Clock
+clock_marked mark value = if mark == 0 then open_clock value else clock_of (mark - 1) true
+
+-- what a seat has seen of the clock of a context of its words
+abbrev pub clock_seen : SeatModel → ℕ → Clock
+clock_seen seat ctx = clock_marked (seen seat (mark_word ctx)) (seen seat (value_word ctx))
+
+-- of any context: one past the words is new
+abbrev pub known_clock : SeatModel → ℕ → Clock
+known_clock seat ctx = if nat_le ctx seat.words.contexts then clock_seen seat ctx else new_clock
 
 -- of each context
+abbrev pub clocks_seen : SeatModel → List Clock
+clocks_seen seat = map (known_clock seat) contexts
+
+-- what it has seen them reach
+abbrev pub value_seen : SeatModel → ℕ → ℕ
+value_seen seat ctx = reached_by (known_clock seat ctx)
+
 abbrev pub reach_seen : SeatModel → List ℕ
 reach_seen seat = map (value_seen seat) contexts
 
--- one load of each context of the words was entered in the seat's trace, by rising number, and nothing else. The reach is
--- what they found, which is what the seat has now seen, and no less than what it had seen before
+-- the loads that find the clock of a context: one of its mark, and where that is 0 one of its value
+abbrev pub loads_at : ℕ → Clock → List Step
+loads_at ctx clock =
+    if clock.closed then load (mark_word ctx) (clock.value + 1) ∷ []
+    else load (mark_word ctx) 0 ∷ load (value_word ctx) clock.value ∷ []
+
+-- those that find the clocks of the first n contexts, by rising number
+abbrev pub loads_of : (ℕ → Clock) → ℕ → List Step
+loads_of clock zero = []
+loads_of clock (suc n) = loads_of clock n ++ loads_at (suc n) (clock (suc n))
+
+-- The loads of each context of the words were entered in the seat's trace, by rising number, and nothing else. The reach is
+-- what the clocks that they found reach, which are those that the seat has now seen, and no less than what it had seen before
 pub record HasLoadedAll (before after : SeatModel) (reach : List ℕ) : Type 0 where
-  pub entered : after ≡ with_steps before (loads_of reach before.words.contexts)
+  pub entered : after ≡ with_steps before (loads_of (clock_seen after) before.words.contexts)
   pub found : reach ≡ reach_seen after
   pub later : IsAtLeast reach (reach_seen before)
+
+-- the same, with the clocks that were found
+pub record HasLoadedClocks (before after : SeatModel) (clocks : List Clock) : Type 0 where
+  pub all : HasLoadedAll before after (reach_of_clocks clocks)
+  pub found : clocks ≡ clocks_seen after

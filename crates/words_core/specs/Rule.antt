@@ -4,8 +4,8 @@ use Rattle.words_core.specs.declared.seat.TheConstants.{PARTS}
 use Rattle.words_core.specs.declared.trace.Step.{Step}
 use Rattle.words_core.specs.declared.trace.View.{View}
 use Rattle.words_core.specs.declared.words.Sizes.{Sizes}
-use Rattle.words_core.specs.Layout.{value_place, claim_place, word_count, IsClaimOrFlag, IsBoardWord, IsUnused}
-use Rattle.words_core.specs.Trace.{is_add, is_win, is_test, is_load_of, is_add_to, is_raise_to, is_sight_of, total, on, greatest, raised, added, HasRunningSums, wins_of}
+use Rattle.words_core.specs.Layout.{value_place, claim_place, mark_place, word_count, IsClaimOrFlag, IsBoardWord, IsUnused}
+use Rattle.words_core.specs.Trace.{is_add, is_win, is_shut, shut_to, is_test, is_load_of, is_add_to, is_raise_to, is_sight_of, total, on, greatest, raised, added, HasRunningSums, wins_of}
 
 abbrev pub view : Sizes → ℕ → List Step → List Step → View
 view sizes parts start trace = record { sizes = sizes; parts = parts; start = start; trace = trace }
@@ -22,19 +22,24 @@ abbrev pub Each : {A : Type 0} → (A → Type 0) → List A → Type 0
 Each P [] = Unit {0}
 Each P (x ∷ xs) = P x × Each P xs
 
--- what one seat has on a word: the steps that it started with and those that it made; and those on a second word, a context's claim
+-- what one seat has on a word: the steps that it started with and those that it made; and those on a second word, the
+-- claim of whoever may change the first
 pub record WordTrace : Type 0 where
   pub start : List Step
   pub made : List Step
   pub claim : List Step
 
--- on the context at a place
+-- on the word k, which only the winner of a claim may change
+abbrev pub claimed_trace : ℕ → ℕ → View → WordTrace
+claimed_trace k claim v = record { start = on k v.start; made = on k v.trace; claim = on claim v.trace }
+
+-- on the value of the context at a place
 abbrev pub context_trace : ℕ → View → WordTrace
-context_trace place v = record {
-  start = on (value_place place) v.start;
-  made = on (value_place place) v.trace;
-  claim = on (claim_place place) v.trace;
-}
+context_trace place v = claimed_trace (value_place place) (claim_place place) v
+
+-- on its mark
+abbrev pub mark_trace : ℕ → View → WordTrace
+mark_trace place v = claimed_trace (mark_place place) (claim_place place) v
 
 -- on one word alone
 abbrev pub word_trace : ℕ → View → WordTrace
@@ -74,6 +79,18 @@ HasSums t = HasRunningSums 0 t.made
 abbrev pub AddsAsDriver : WordTrace → Type 0
 AddsAsDriver t = wins_in t ≡ 0 → made_in is_add t ≡ 0
 
+-- who has not won the claim has not closed the context
+abbrev pub ShutsAsDriver : WordTrace → Type 0
+ShutsAsDriver t = wins_in t ≡ 0 → made_in is_shut t ≡ 0
+
+-- each value is 0 or n
+abbrev pub IsZeroOr : ℕ → List Step → Type 0
+IsZeroOr n steps = Each (λ (s : Step). (s.value ≡ 0) ⊎ (s.value ≡ n)) steps
+
+-- so is each that is known of the word
+abbrev pub KnowsZeroOr : ℕ → WordTrace → Type 0
+KnowsZeroOr n t = IsZeroOr n t.start × IsZeroOr n t.made
+
 abbrev pub IsEmptyIfSpent : View → Type 0
 IsEmptyIfSpent v = v.parts ≡ 0 → (v.start ≡ []) × (v.trace ≡ [])
 
@@ -98,6 +115,16 @@ pub record IsValue (word : ℕ) (traces : List WordTrace) : Type 0 where
   pub running : Each HasSums traces
   pub driven : Each AddsAsDriver traces
 
+-- the mark of a context with this value: 0 until the context is closed, and from then on the value and 1
+pub record IsMark (value word : ℕ) (traces : List WordTrace) : Type 0 where
+  -- each known value is 0 or the word
+  pub known : Each (KnowsZeroOr word) traces
+  -- it was set once at most, and is what that left
+  pub once : total (made_in is_shut) traces ≤ 1
+  pub left : word ≡ total (made_in shut_to) traces
+  pub ended : 0 < total (made_in is_shut) traces → word ≡ value + 1
+  pub driven : Each ShutsAsDriver traces
+
 -- a claim or a flag: 1 where it was won, and else 0
 pub record IsSetOnce (word : ℕ) (traces : List WordTrace) : Type 0 where
   -- each known value is at most the word
@@ -121,6 +148,8 @@ pub record IsKept (sizes : Sizes) (words : List ℕ) (views : List View) : Type 
   pub won_once : (w : ℕ) → total (wins_on w) views ≤ 1
   pub values : (place : ℕ) → place < sizes.contexts →
       IsValue (slice_index words (value_place place)) (map (context_trace place) views)
+  pub marks : (place : ℕ) → place < sizes.contexts →
+      IsMark (slice_index words (value_place place)) (slice_index words (mark_place place)) (map (mark_trace place) views)
   pub set_once : (k : ℕ) → IsClaimOrFlag sizes k → IsSetOnce (slice_index words k) (map (word_trace k) views)
   pub entries : (k : ℕ) → IsBoardWord sizes k → IsEntry (slice_index words k) (map (word_trace k) views)
   pub unused : (k : ℕ) → IsUnused sizes k → slice_index words k ≡ 0

@@ -1,9 +1,8 @@
 -- A seat, as contracts see it.
-use Rattle.std.specs.Prelude.{ℕ, zero, suc, ◌+◌, ◌-◌, List, [], ◌∷◌, ◌++◌}
-use Rattle.point_core.specs.Reach.{value_at}
+use Rattle.std.specs.Prelude.{ℕ, ◌+◌, ◌-◌, List, [], ◌∷◌, ◌++◌}
 use Rattle.words_core.specs.declared.trace.Step.{Step}
 use Rattle.words_core.specs.Layout.{value_word}
-use Rattle.words_core.specs.Trace.{load, is_test, total, on, greatest, raised, added}
+use Rattle.words_core.specs.Trace.{is_test, total, on, greatest, raised, added}
 use Rattle.words_core.specs.Words.{WordsModel}
 
 -- the words that it is of, its parts, the steps that its parent knew when it was parted, and its own steps
@@ -36,11 +35,6 @@ with_step seat s = record seat { trace = seat.trace ++ s ∷ [] }
 -- the seat with more steps
 abbrev pub with_steps : SeatModel → List Step → SeatModel
 with_steps seat steps = record seat { trace = seat.trace ++ steps }
-
--- one load of each of the first n contexts, by rising number, that found the reach's values
-abbrev pub loads_of : List ℕ → ℕ → List Step
-loads_of reach zero = []
-loads_of reach (suc n) = loads_of reach n ++ load (value_word (suc n)) (value_at reach (suc n)) ∷ []
 
 -- the seat that is left when n parts go
 abbrev pub without_parts : SeatModel → ℕ → SeatModel

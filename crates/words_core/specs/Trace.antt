@@ -1,7 +1,7 @@
 -- Steps, and what a list of them says of one word.
 use Rattle.std.specs.Prelude.{◌≡◌, ℕ, ◌+◌, ◌<◌, ◌≤◌, ◌==◌, max, if◌then◌else◌, filter, List, [], ◌∷◌}
 use Rattle.words_core.specs.declared.trace.Kind.{Kind}
-use Rattle.words_core.specs.declared.trace.Kind.TheVariants.{Load, Add, Won, Lost, Raise, Shown}
+use Rattle.words_core.specs.declared.trace.Kind.TheVariants.{Load, Add, Won, Lost, Raise, Shown, Shut}
 use Rattle.words_core.specs.declared.trace.Step.{Step}
 
 -- the word w was read, and v found
@@ -28,6 +28,10 @@ raise w p v = record { kind = Raise; word = w; operand = p; value = v }
 abbrev pub shown : ℕ → ℕ → Step
 shown w v = record { kind = Shown; word = w; operand = 0; value = v }
 
+-- the mark w was set, which left m
+abbrev pub shut : ℕ → ℕ → Step
+shut w m = record { kind = Shut; word = w; operand = m; value = m }
+
 -- a test-and-set of the word w that found a value
 abbrev pub set_once_step : ℕ → ℕ → Step
 set_once_step w found = if found == 0 then won w else lost w
@@ -40,6 +44,7 @@ if_kind Won Won n = n
 if_kind Lost Lost n = n
 if_kind Raise Raise n = n
 if_kind Shown Shown n = n
+if_kind Shut Shut n = n
 if_kind wanted kind n = 0
 
 -- what a step added
@@ -80,6 +85,14 @@ is_raise_to x s = if_kind Raise s.kind (if s.operand == x then 1 else 0)
 abbrev pub is_sight_of : ℕ → Step → ℕ
 is_sight_of x s = if_kind Raise s.kind (if s.value == x then 1 else 0) + if_kind Shown s.kind (if s.value == x then 1 else 0)
 
+-- 1 at a closing, and else 0
+abbrev pub is_shut : Step → ℕ
+is_shut s = if_kind Shut s.kind 1
+
+-- what a closing left of the mark, or 0
+abbrev pub shut_to : Step → ℕ
+shut_to s = if_kind Shut s.kind s.value
+
 -- f of each, added up
 abbrev pub total : {A : Type 0} → (A → ℕ) → List A → ℕ
 total f [] = 0
@@ -111,6 +124,14 @@ HasRunningSums n (s ∷ steps) = (0 < is_add s → s.value ≡ n + amount_of s) 
 -- how often the word w was won
 abbrev pub wins_of : ℕ → List Step → ℕ
 wins_of w steps = total is_win (on w steps)
+
+-- how often the mark w was set
+abbrev pub shuts_of : ℕ → List Step → ℕ
+shuts_of w steps = total is_shut (on w steps)
+
+-- what that left, or 0
+abbrev pub mark_of : ℕ → List Step → ℕ
+mark_of w steps = total shut_to (on w steps)
 
 -- how often it was found set
 abbrev pub losses_of : ℕ → List Step → ℕ

@@ -1,9 +1,10 @@
 // A driver: the one that advances a context.
 ghost use Rattle.std.specs.Prelude.{◌≡◌, ◌+◌, ◌^◌, ◌<◌, ◌≤◌, ◌↔◌, IfOk, IfErr, IsErr, OnErr};
+ghost use Rattle.point_core.specs.Reach.{GREATEST};
 ghost use Rattle.point_core.specs.declared.refusal.Refusal.TheVariants as refusal;
-ghost use Rattle.words_core.specs.Layout.{value_word, claim_word};
-ghost use Rattle.words_core.specs.Seat.{added_to, with_step};
-ghost use Rattle.words_core.specs.Trace.{add, wins_of};
+ghost use Rattle.words_core.specs.Layout.{value_word, claim_word, mark_word};
+ghost use Rattle.words_core.specs.Seat.{seen, added_to, with_step};
+ghost use Rattle.words_core.specs.Trace.{add, shut, wins_of, shuts_of};
 
 use crate::seat::Seat;
 use crate::words::Words;
@@ -21,9 +22,9 @@ pub struct Driver {
 impl Model for Driver {
     ghost use Rattle.std.specs.Prelude.{◌≡◌, ◌<◌, ◌≤◌};
     ghost use Rattle.words_core.specs.Driver.{DriverModel};
-    ghost use Rattle.words_core.specs.Layout.{claim_word};
+    ghost use Rattle.words_core.specs.Layout.{claim_word, mark_word};
     ghost use Rattle.words_core.specs.Seat.{added_to};
-    ghost use Rattle.words_core.specs.Trace.{wins_of};
+    ghost use Rattle.words_core.specs.Trace.{wins_of, shuts_of};
 
     ghost Value = { DriverModel };
 
@@ -31,7 +32,7 @@ impl Model for Driver {
 
     ghost invariant = { λ d.
         (0 < wins_of (claim_word d.ctx) d.seat.trace) × (d.value ≡ added_to d.seat d.ctx) ×
-        (d.ctx ≤ d.seat.words.contexts) };
+        (d.ctx ≤ d.seat.words.contexts) × (shuts_of (mark_word d.ctx) d.seat.trace ≡ 0) };
 }
 
 impl Driver {
@@ -65,6 +66,32 @@ impl Driver {
         ensures sum { result ≡ added_to self.now.seat self.now.ctx }
     {
         self.value
+    }
+
+    /// Closes the context at its value, by one fetch_or on its mark, and gives its seat back. Its pending points are
+    /// cancelled, as those of a sw_sync timeline are by Linux's `sw_sync_debugfs_release`, and nobody advances it or closes
+    /// it again.
+    ///
+    /// Refuses as `Overflow` alone, at the greatest value, where no point is left to cancel, and hands itself back. No step
+    /// is made then.
+    pub fn close(self, words: &Words) -> Result<Seat, (Refusal, Driver)>
+        requires own { self.seat.words ≡ words.now }
+        ensures shut { IfOk result (λ seat. seat ≡ with_step self.seat (shut (mark_word self.ctx) (self.value + 1))) }
+        ensures unseen { IfOk result (λ _. seen self.seat (mark_word self.ctx) ≡ 0) }
+        ensures first { IfOk result (λ seat. shuts_of (mark_word self.ctx) seat.trace ≡ 1) }
+        ensures overflow { IsErr result ↔ (self.value ≡ GREATEST) }
+        ensures refusal { IfErr result (λ e. (e.0 ≡ refusal.Overflow) × (e.1 ≡ self)) }
+    {
+        if self.value == u64::MAX {
+            return Err((Refusal::Overflow, self));
+        }
+        let Driver {
+            mut seat,
+            ctx,
+            value,
+        } = self;
+        words.shut(&mut seat, ctx, value + 1);
+        Ok(seat)
     }
 
     /// Its seat again, which has won the context's claim. Nobody advances the context afterwards.

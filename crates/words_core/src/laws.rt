@@ -4,7 +4,7 @@ ghost use Rattle.point_core.specs.declared.entry.Usage.{Usage};
 ghost use Rattle.words_core.specs.declared.trace.Step.{Step};
 ghost use Rattle.words_core.specs.declared.words.TheConstants.{LINE_WORDS};
 ghost use Rattle.words_core.specs.declared.words.Sizes.{Sizes};
-ghost use Rattle.words_core.specs.Layout.{board_word, word_count, IsValueOf, IsClaimOrFlag, IsBoardWord, IsUnused};
+ghost use Rattle.words_core.specs.Layout.{board_word, word_count, IsValueOf, IsMarkOf, IsClaimOrFlag, IsBoardWord, IsUnused};
 ghost use Rattle.words_core.specs.Seat.{SeatModel, seen, tests_of, with_step, parted, both_of};
 ghost use Rattle.words_core.specs.Words.{WordsModel};
 
@@ -20,12 +20,13 @@ pub fn entries_lie_apart()
         (buffer ≡ other) × (ctx ≡ other_ctx) }
 {}
 
-/// Each word is the value of a context, a claim or a flag, an entry of the board, or unused. So the rule tells all that
+/// Each word is the value of a context or its mark, a claim or a flag, an entry of the board, or unused. So the rule tells all that
 /// a word can be.
 pub fn each_word_has_a_kind()
     ensures { (sizes : Sizes) (k : ℕ) →
         k < word_count sizes →
-        IsValueOf sizes k (k / LINE_WORDS) ⊎ IsClaimOrFlag sizes k ⊎ IsBoardWord sizes k ⊎ IsUnused sizes k }
+        IsValueOf sizes k (k / LINE_WORDS) ⊎ IsMarkOf sizes k (k / LINE_WORDS) ⊎ IsClaimOrFlag sizes k ⊎
+        IsBoardWord sizes k ⊎ IsUnused sizes k }
 {}
 
 /// What a seat has seen, and what it knows to have been won or lost, stays so, goes to each seat that is parted from

@@ -5,9 +5,11 @@
 #![tactic(auto)]
 
 mod board;
+mod clocks;
 mod driver;
 mod flags;
 mod laws;
+mod marks;
 mod places;
 mod plays;
 mod seat;

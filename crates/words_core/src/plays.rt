@@ -1,7 +1,7 @@
 // The rule of the words, what each kind of step tells, and how views are split and joined.
 ghost use Rattle.std.specs.Prelude.{ℕ};
 ghost use Rattle.words_core.specs.Rule.{IsKept, first_view};
-ghost use Rattle.words_core.specs.Plays.{loads_value, claims_context, adds_to_value, counts_parts, loads_total, sets_once, loads_flag, loads_entry, raises_entry, loads_top, parent_view, child_view, joined_view, joined_from};
+ghost use Rattle.words_core.specs.Plays.{loads_value, claims_context, adds_to_value, loads_mark, shuts_mark, counts_parts, loads_total, loads_total_mark, sets_once, loads_flag, loads_entry, raises_entry, loads_top, parent_view, child_view, joined_view, joined_from};
 
 use crate::trace::View;
 use crate::words::Sizes;
@@ -45,6 +45,25 @@ pub struct LoadsTotal;
 
 impl Play<(), View> for LoadsTotal {
     ghost then = { loads_total };
+}
+
+pub struct LoadsMark;
+
+impl Play<(), View> for LoadsMark {
+    ghost then = { loads_mark };
+}
+
+pub struct ShutsMark;
+
+impl Play<(), View> for ShutsMark {
+    ghost then = { shuts_mark };
+}
+
+// By a seat with all parts.
+pub struct LoadsTotalMark;
+
+impl Play<(), View> for LoadsTotalMark {
+    ghost then = { loads_total_mark };
 }
 
 pub struct SetsOnce;

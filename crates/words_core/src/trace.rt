@@ -16,6 +16,8 @@ pub enum Kind {
     Raise,
     /// Reads it, of an entry of the board.
     Shown,
+    /// Sets it from 0 to the operand, of the mark of a context.
+    Shut,
 }
 
 /// One step of a seat on one word.

@@ -3,10 +3,10 @@ ghost use Rattle.std.specs.Prelude.{◌≡◌, ◌+◌, ◌^◌, ◌<◌, ◌≤
 ghost use Rattle.point_core.specs.declared.context.TheConstants.{CONTEXTS};
 ghost use Rattle.point_core.specs.declared.refusal.Refusal.TheVariants as refusal;
 ghost use Rattle.words_core.specs.declared.seat.TheConstants.{PARTS};
-ghost use Rattle.words_core.specs.Layout.{value_word, claim_word};
+ghost use Rattle.words_core.specs.Layout.{value_word, claim_word, mark_word};
 ghost use Rattle.words_core.specs.Loads.{HasLoadedAll};
 ghost use Rattle.words_core.specs.Seat.{seen, added_to, tests_of, with_step};
-ghost use Rattle.words_core.specs.Trace.{load, add, won, lost, wins_of, LoadsWereLeft, IsDecided};
+ghost use Rattle.words_core.specs.Trace.{load, add, won, lost, wins_of, shuts_of, LoadsWereLeft, IsDecided};
 
 use crate::driver::Driver;
 use crate::plays::{AddsToValue, ClaimsContext, LoadsTotal, LoadsValue};
@@ -46,7 +46,8 @@ impl Words {
             (seat.new ≡ with_step seat.old (won (claim_word ctx)))
             (seat.new ≡ with_step seat.old (lost (claim_word ctx))) }
         ensures first { result ≡ true →
-            (tests_of seat.old (claim_word ctx) ≡ 0) × (wins_of (claim_word ctx) seat.old.trace ≡ 0) × (added_to seat.old ctx ≡ 0) }
+            (tests_of seat.old (claim_word ctx) ≡ 0) × (wins_of (claim_word ctx) seat.old.trace ≡ 0) ×
+            (added_to seat.old ctx ≡ 0) × (shuts_of (mark_word ctx) seat.old.trace ≡ 0) }
     {
         self.table
             .shared
@@ -59,6 +60,7 @@ impl Words {
         requires own { seat.old.words ≡ self.now }
         requires context { ctx ≤ self.now.contexts }
         requires won { 0 < wins_of (claim_word ctx) seat.old.trace }
+        requires open { shuts_of (mark_word ctx) seat.old.trace ≡ 0 }
         requires fits { added_to seat.old ctx + n < 2 ^ 64 }
         ensures value { result ≡ added_to seat.old ctx + n }
         ensures entered { seat.new ≡ with_step seat.old (add (value_word ctx) n result) }
@@ -69,41 +71,19 @@ impl Words {
             + n
     }
 
-    /// The value of a context, by one load. It is no less than any value that the seat has seen.
+    /// The value of a context, by one load. It is no less than any value that the seat has seen, and the last one where
+    /// the seat has seen that the context is closed.
     pub fn load(&self, seat: &mut Seat, ctx: Context) -> u64
         requires own { seat.old.words ≡ self.now }
         requires context { ctx ≤ self.now.contexts }
         ensures entered { seat.new ≡ with_step seat.old (load (value_word ctx) result) }
         ensures later { seen seat.old (value_word ctx) ≤ result }
         ensures seen { seen seat.new (value_word ctx) ≡ result }
+        ensures last { 0 < seen seat.old (mark_word ctx) → seen seat.old (mark_word ctx) ≡ result + 1 }
     {
         self.table
             .shared
             .load::<LoadsValue>(&mut seat.token, LINE_WORDS * ctx.index())
-    }
-
-    /// The values of all contexts, by one load each, in rising order: no one moment need have had them all. Those past
-    /// the last context are 0.
-    pub fn load_all(&self, seat: &mut Seat) -> Reach
-        requires own { seat.old.words ≡ self.now }
-        ensures loaded { HasLoadedAll seat.old seat.new result }
-    {
-        let mut reach = Reach::zero();
-        self.load_all_into(seat, &mut reach);
-        reach
-    }
-
-    /// The same into a reach that is all 0, which saves the copies of a result.
-    pub fn load_all_into(&self, seat: &mut Seat, reach: &mut Reach)
-        requires own { seat.old.words ≡ self.now }
-        requires zero { reach.old ≡ replicate CONTEXTS 0 }
-        ensures loaded { HasLoadedAll seat.old seat.new reach.new }
-    {
-        for index in 0..self.sizes.contexts {
-            let ctx = Context::at(index);
-            let value = self.load(seat, ctx);
-            reach.raise_to(Point { ctx, value });
-        }
     }
 
     // The load of a seat with all parts: the word is all that its trace has added.

@@ -1,8 +1,9 @@
 // A seat with all parts.
-ghost use Rattle.std.specs.Prelude.{◌≡◌, ◌<◌, ◌≤◌, true, if◌then◌else◌};
-ghost use Rattle.words_core.specs.Layout.{value_word, claim_word, board_word, flag_word};
+ghost use Rattle.std.specs.Prelude.{◌≡◌, ◌+◌, ◌<◌, ◌≤◌, true, if◌then◌else◌};
+ghost use Rattle.words_core.specs.Layout.{value_word, claim_word, mark_word, board_word, flag_word};
+ghost use Rattle.words_core.specs.Rule.{IsZeroOr};
 ghost use Rattle.words_core.specs.Seat.{seen, tests_of, with_step, added_to, raised_to};
-ghost use Rattle.words_core.specs.Trace.{load, shown, wins_of, LoadsWereLeft, SightsWereRaised, IsDecided};
+ghost use Rattle.words_core.specs.Trace.{load, shown, on, wins_of, shuts_of, mark_of, LoadsWereLeft, SightsWereRaised, IsDecided};
 
 use crate::seat::Seat;
 use crate::words::Words;
@@ -40,6 +41,21 @@ impl Whole {
         ensures driver { IsDecided (claim_word ctx) self.old.trace }
     {
         words.total(&mut self.seat, ctx)
+    }
+
+    /// Whether a context is closed, by one load of its mark: where its driver has closed it, once, at the value that it had
+    /// left. Each mark that was loaded is 0 or that one.
+    pub fn closed(&mut self, words: &Words, ctx: Context) -> bool
+        requires own { self.old.words ≡ words.now }
+        requires context { ctx ≤ words.now.contexts }
+        ensures entered { self.new ≡
+            with_step self.old (load (mark_word ctx) (mark_of (mark_word ctx) self.old.trace)) }
+        ensures later { seen self.old (mark_word ctx) ≤ mark_of (mark_word ctx) self.old.trace }
+        ensures state { shuts_of (mark_word ctx) self.old.trace ≡ (if result then 1 else 0) }
+        ensures last { result ≡ true → mark_of (mark_word ctx) self.old.trace ≡ added_to self.old ctx + 1 }
+        ensures loaded { IsZeroOr (mark_of (mark_word ctx) self.old.trace) (on (mark_word ctx) self.old.trace) }
+    {
+        words.total_mark(&mut self.seat, ctx) > 0
     }
 
     /// A buffer's entry of the board for a context and a usage, by one load: the greatest point that it was ever raised

@@ -2,8 +2,8 @@ use Rattle.std.proofs.Common.{◌≡◌, ◌+◌, ◌-◌, ◌<◌, ◌^◌, ℕ
 use Rattle.words_core.specs.declared.words.Sizes.{Sizes}
 use Rattle.words_core.specs.Seat.{SeatModel}
 use Rattle.words_core.specs.Words.{WordsModel}
-use Rattle.words_core.specs.Layout.{value_place, claim_place}
-use Rattle.words_core.specs.Trace.{on, added, wins_of}
+use Rattle.words_core.specs.Layout.{value_place, claim_place, mark_place}
+use Rattle.words_core.specs.Trace.{on, added, wins_of, shuts_of}
 use Rattle.words_core.proofs.Adding.{adds_to_value-allowed}
 use Rattle.words_core.proofs.words.Words.add.Goals as goal
 
@@ -20,5 +20,6 @@ fetch_add-requires c =
       omega arith,
       adds_to_value-allowed shared.key shared.table_id.slots token.id place c.args.n token.me (omega arith) (omega arith)
           (subst (λ (k : ℕ). 0 < wins_of (claim_place k) token.me.0.trace) at (subst (λ (s : SeatModel). 0 < wins_of (claim_place (c.args.ctx - 1)) s.trace) (sym seat) c.requires.won))
+          (subst (λ (k : ℕ). shuts_of (mark_place k) token.me.0.trace ≡ 0) at (subst (λ (s : SeatModel). shuts_of (mark_place (c.args.ctx - 1)) s.trace ≡ 0) (sym seat) c.requires.open))
           (subst (λ (k : ℕ). added (on (value_place k) token.me.0.trace) + c.args.n < 2 ^ 64) at (subst (λ (s : SeatModel). added (on (value_place (c.args.ctx - 1)) s.trace) + c.args.n < 2 ^ 64) (sym seat) c.requires.fits)),
     )

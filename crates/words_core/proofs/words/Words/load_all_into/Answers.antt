@@ -1,51 +1,42 @@
-use Rattle.std.proofs.Common.{◌≡◌, ◌+◌, ◌-◌, ◌<◌, ◌≤◌, ℕ, List, length, sym, ap, ◌∙◌, subst, arith}
-use Rattle.std.proofs.lemmas.List.{append-nil, length-set, length-replicate}
-use Rattle.point_core.specs.Reach.{value_at, with_value}
-use Rattle.point_core.proofs.Values.{value_at-replicate}
-use Rattle.point_core.specs.declared.context.TheConstants.{CONTEXTS}
-use Rattle.words_core.specs.declared.trace.Step.{Step}
-use Rattle.words_core.specs.Layout.{value_word}
-use Rattle.words_core.specs.Seat.{seen, with_steps, loads_of}
+use Rattle.std.proofs.Common.{◌≡◌, ◌+◌, ℕ, List, sym, ap, ◌∙◌, subst, arith}
+use Rattle.point_core.specs.Clocks.{reached_by}
+use Rattle.point_core.specs.Reach.{with_value}
 use Rattle.words_core.specs.Words.{WordsModel}
-use Rattle.words_core.proofs.LoadingAll.{loads_of-more, later-more, past-more, raised_from_zero, HasLoadedAll-loaded}
+use Rattle.words_core.proofs.LoadingAll.{reached_seen, clock_seen-kept, raised_from_zero, HasLoaded-none, HasLoaded-more, HasFound, HasFound-none, HasFound-more, HasLoadedAll-loaded}
 use Rattle.words_core.proofs.words.Words.load_all_into.Goals as goal
 
 pub loop-index-init : goal.loop-index-init
-loop-index-init c = record {
-  entered = ap (λ (steps : List Step). record c.args.seat.now { trace = steps }) (sym (append-nil c.args.seat.now.trace));
-  later = λ ctx low high. absurd (omega arith);
-  past = λ ctx low. ap (λ (reach : List ℕ). value_at reach ctx) c.requires.zero ∙ value_at-replicate CONTEXTS ctx;
-  full = ap (λ (reach : List ℕ). length reach) c.requires.zero ∙ length-replicate {A = ℕ} CONTEXTS 0;
-}
+loop-index-init c =
+    let seat = c.args.seat.now in
+    record {
+      loaded = HasLoaded-none seat;
+      found = subst (λ (reach : List ℕ). HasFound (reached_seen seat) 0 0 reach) (sym c.requires.zero) (HasFound-none (reached_seen seat) 0);
+    }
 
 pub loop-index-preserved : goal.loop-index-preserved
 loop-index-preserved c =
-    let first = c.args.seat.now in
     let seat = c.loop-index.seat in
+    let after = c.clock-clock.new.seat in
     let reach = c.loop-index.reach in
     let n = c.loop-index.index in
     let ctx = c.at-ctx.result in
-    let value = c.load-value.result in
+    let clock = c.clock-clock.result in
+    let value = c.reached.result in
     let before = c.loop-index.invariant in
+    let load = c.clock-clock.ensures in
     let is : ctx ≡ n + 1 = c.at-ctx.ensures in
-    let fits : ctx ≤ length reach = omega arith in
-    let after : c.raise_to.new.self ≡ with_value reach ctx value = c.raise_to.ensures.value ∙ raised_from_zero reach ctx value (before.past ctx (omega arith)) in
+    let raised : c.raise_to.new.self ≡ with_value reach ctx value = c.raise_to.ensures.value ∙ raised_from_zero reach ctx value (before.found.past ctx (omega arith)) in
     record {
-      entered = subst (λ (r : List ℕ). c.load-value.new.seat ≡ with_steps first (loads_of r (n + 1))) (sym after) (c.load-value.ensures.entered ∙ loads_of-more first seat reach n ctx value is fits before.entered);
-      later = subst (λ (r : List ℕ). (k : ℕ) → 1 ≤ k → k ≤ n + 1 → seen first (value_word k) ≤ value_at r k) (sym after) (later-more first seat reach n ctx value is fits before.entered c.load-value.ensures.later before.later);
-      past = subst (λ (r : List ℕ). (k : ℕ) → n + 1 < k → value_at r k ≡ 0) (sym after) (past-more reach n ctx value is before.past);
-      full = ap (λ (r : List ℕ). length r) after ∙ (length-set reach (ctx - 1) value ∙ before.full);
+      loaded = HasLoaded-more c.args.seat.now seat after n ctx clock is before.loaded load.entered load.found load.later;
+      found = subst (λ (r : List ℕ). HasFound (reached_seen after) 0 (n + 1) r) (sym raised)
+          (HasFound-more (reached_seen seat) (reached_seen after) 0 value n ctx reach is (omega arith) before.found
+          (λ k low high. ap reached_by (clock_seen-kept seat after n ctx clock is load.entered k low high))
+          (c.reached.ensures ∙ ap reached_by load.found));
     }
 
 pub returns : goal.returns
 returns c =
-    let after = c.loop-index.invariant in
     let contexts = ap (λ (w : WordsModel). w.contexts) c.self.view_is in
-    let all : c.loop-index.index ≡ c.args.self.now.contexts = omega arith in
-    record {
-      loaded = HasLoadedAll-loaded c.args.self.now c.args.seat.now c.loop-index.seat c.loop-index.reach c.requires.own
-          (subst (λ n. c.loop-index.seat ≡ with_steps c.args.seat.now (loads_of c.loop-index.reach n)) all after.entered)
-          after.full
-          (λ ctx low high. after.later ctx low (omega arith))
-          (λ ctx past. after.past ctx (omega arith));
-    }
+    let own = ap (λ (w : WordsModel). w.contexts) c.requires.own in
+    let end = c.loop-index.invariant in
+    record { loaded = HasLoadedAll-loaded c.args.seat.now c.loop-index.seat c.loop-index.index c.loop-index.reach (omega arith) end.loaded end.found }

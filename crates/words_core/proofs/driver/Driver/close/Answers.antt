@@ -1,0 +1,15 @@
+use Rattle.std.proofs.Common.{ℕ, sym, ap, ◌∙◌, ◌+◌, arith}
+use Rattle.words_core.specs.Driver.{DriverModel}
+use Rattle.words_core.specs.Layout.{mark_word}
+use Rattle.words_core.specs.Seat.{SeatModel}
+use Rattle.words_core.specs.Trace.{shuts_of}
+use Rattle.words_core.proofs.Driving.{shuts_of-shut}
+use Rattle.words_core.proofs.driver.Driver.close.Goals as goal
+
+pub returns-clause-first : goal.returns-clause-first
+returns-clause-first c =
+    let w = mark_word c.self.inside.ctx in
+    let none = c.self.invariant.3 in
+    let more = shuts_of-shut c.self.inside.seat w (c.self.inside.value + 1) in
+    let at = ap (λ (d : DriverModel). d.ctx) c.self.view_is in
+    ap (λ (k : ℕ). shuts_of (mark_word k) c.shut.new.seat.trace) (sym at) ∙ ap (λ (s : SeatModel). shuts_of w s.trace) c.shut.ensures.entered ∙ more ∙ omega arith

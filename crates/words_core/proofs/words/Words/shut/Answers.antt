@@ -1,0 +1,25 @@
+use Rattle.std.proofs.Common.{◌≡◌, ◌+◌, ◌-◌, ◌<◌, ℕ, sym, ap, ◌∙◌, subst, arith}
+use Rattle.words_core.specs.declared.words.Sizes.{Sizes}
+use Rattle.words_core.specs.Seat.{SeatModel}
+use Rattle.words_core.specs.Words.{WordsModel}
+use Rattle.words_core.specs.Layout.{value_place, claim_place, mark_place}
+use Rattle.words_core.specs.Trace.{on, added, wins_of, shuts_of}
+use Rattle.words_core.proofs.Marking.{shuts_mark-allowed}
+use Rattle.words_core.proofs.words.Words.shut.Goals as goal
+
+pub fetch_or-requires : goal.fetch_or-requires
+fetch_or-requires c =
+    let shared = c.self.inside.table.shared in
+    let token = c.seat.inside.token in
+    let place = c.index.result in
+    let contexts = ap (λ (w : WordsModel). w.contexts) c.self.view_is in
+    let keyed = ap (λ (z : Sizes). z.contexts) c.self.invariant.0 in
+    let seat = c.seat.view_is in
+    let at : c.args.ctx - 1 ≡ place = omega arith in (
+      ap (λ (s : SeatModel). s.words.table) seat ∙ ap (λ (w : WordsModel). w.table) (c.requires.own ∙ sym c.self.view_is),
+      omega arith,
+      shuts_mark-allowed shared.key shared.table_id.slots token.id place c.args.mark token.me (omega arith) (omega arith)
+          (subst (λ (k : ℕ). 0 < wins_of (claim_place k) token.me.0.trace) at (subst (λ (s : SeatModel). 0 < wins_of (claim_place (c.args.ctx - 1)) s.trace) (sym seat) c.requires.won))
+          (subst (λ (k : ℕ). shuts_of (mark_place k) token.me.0.trace ≡ 0) at (subst (λ (s : SeatModel). shuts_of (mark_place (c.args.ctx - 1)) s.trace ≡ 0) (sym seat) c.requires.open))
+          (subst (λ (k : ℕ). c.args.mark ≡ added (on (value_place k) token.me.0.trace) + 1) at (subst (λ (s : SeatModel). c.args.mark ≡ added (on (value_place (c.args.ctx - 1)) s.trace) + 1) (sym seat) c.requires.last)),
+    )
