@@ -1,7 +1,7 @@
 -- What is told of files beside running timelines.
-use Rattle.std.proofs.Common.{◌≡◌, ℕ, suc, ◌+◌, ◌<◌, ◌≤◌, ◌↔◌, true, nat_le, refl, sym, subst, List, [], ◌∷◌, ◌++◌, All, arith}
+use Rattle.std.proofs.Common.{◌≡◌, ℕ, suc, ◌+◌, ◌<◌, ◌≤◌, ◌≢◌, ◌↔◌, true, false, nat_le, refl, sym, subst, List, [], ◌∷◌, ◌++◌, All, arith}
 use Rattle.std.specs.List.{list_all}
-use Rattle.std.proofs.lemmas.Bool.{and_parts, and_from, leb-true, le-leb}
+use Rattle.std.proofs.lemmas.Bool.{false≢true, and_parts, and_from, leb-true, le-leb}
 use Rattle.std.proofs.lemmas.List.Elements.{All-nil, All-cons, All-head, All-tail}
 use Rattle.point_core.specs.declared.entry.Point.{Point}
 use Rattle.point_core.specs.declared.entry.Entry.{Entry}
@@ -10,9 +10,16 @@ use Rattle.point_core.specs.Latest.{IsLatest, points_above}
 use Rattle.point_core.specs.Reach.{IsAtLeast}
 use Rattle.point_core.proofs.Agreement.{as_entries-append, HasContexts-append, AgreesAbove-trans, AgreesAbove-append, AgreesAbove-same, AgreesAbove-later, AgreesAbove-listing}
 use Rattle.point_core.proofs.Listings.{points_above-IsLatest}
-use Rattle.words_core.specs.Loads.{reach_seen, HasLoadedAll}
+use Rattle.point_core.specs.Status.{is_signalled}
+use Rattle.point_core.specs.declared.status.Status.{Status}
+use Rattle.point_core.specs.declared.status.Status.TheVariants.{Active, Signalled, Cancelled}
+use Rattle.point_core.specs.Agreement.{IsReached}
+use Rattle.point_core.specs.Clocks.{common_status}
+use Rattle.words_core.proofs.LoadingAll.{reach_seen-is}
+use Rattle.words_core.specs.Loads.{clocks_seen, reach_seen, HasLoadedClocks}
 use Rattle.words_core.specs.Seat.{SeatModel}
 use Rattle.syncfile_core.specs.SyncFile.{File, StandsFor}
+use Rattle.syncfile_core.proofs.Reached.{TellsSetsOf-always}
 use Rattle.syncfile_core.specs.Running.{IsBorneOutAt, IsBorneOut, IsActivePoll, HasRunOut, HasPolled}
 
 -- files that the words bear out
@@ -49,6 +56,16 @@ StandsFor-merged reach a b within within' above above' one other stands stands' 
     (AgreesAbove-listing reach (a.points ++ b.points) (subst HasContexts (sym both) (HasContexts-append (as_entries a.points) (as_entries b.points) within within')))
     (AgreesAbove-trans (AgreesAbove-same reach both) (AgreesAbove-append (AgreesAbove-later above stands) (AgreesAbove-later above' stands')))
 
+-- a file that the words bear out is no longer active exactly where each point is reached that it stands for
+pub polled-stands : (seat : SeatModel) (f : File) → IsBorneOut seat f → (set : List Entry) → StandsFor f set → (common_status (clocks_seen seat) f.points ≢ Active) ↔ IsReached set 0 (reach_seen seat)
+polled-stands seat f out set stands =
+    subst (λ reach. IsAtLeast reach f.floor → (common_status (clocks_seen seat) f.points ≢ Active) ↔ IsReached set 0 reach) (reach_seen-is seat) (TellsSetsOf-always f (clocks_seen seat) set stands) out.floor
+
+pub still_active : (status : Status) → is_signalled status ≡ false → status ≡ Active
+still_active Active none = refl
+still_active Signalled bad = absurd (false≢true (sym bad))
+still_active Cancelled bad = absurd (false≢true (sym bad))
+
 -- one poll after another
 
 pub HasRunOut-more : (f : File) (n : ℕ) (before seat after : SeatModel) → HasRunOut f n before seat → IsActivePoll f seat after → HasRunOut f (n + 1) before after
@@ -56,7 +73,7 @@ HasRunOut-more f n before seat after h poll =
     let next : suc n ≡ n + 1 = omega arith in
     subst (λ k. HasRunOut f k before after) next (seat, h, poll)
 
-pub HasPolled-last : (f : File) (n : ℕ) (before seat after : SeatModel) (tries : ℕ) → n < tries → HasRunOut f n before seat → HasLoadedAll seat after (reach_seen after) → HasPolled f tries before after
+pub HasPolled-last : (f : File) (n : ℕ) (before seat after : SeatModel) (tries : ℕ) → n < tries → HasRunOut f n before seat → HasLoadedClocks seat after (clocks_seen after) → HasPolled f tries before after
 HasPolled-last f n before seat after tries low h loaded = record {
   count = n;
   within = low;

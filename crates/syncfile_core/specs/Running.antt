@@ -3,10 +3,10 @@ use Rattle.std.specs.Prelude.{◌≡◌, ℕ, zero, suc, ◌<◌, ◌≤◌, Lis
 use Rattle.point_core.specs.declared.entry.Point.{Point}
 use Rattle.point_core.specs.declared.status.Status.TheVariants.{Active}
 use Rattle.point_core.specs.Reach.{IsAtLeast}
-use Rattle.words_core.specs.Loads.{reach_seen, HasLoadedAll}
+use Rattle.point_core.specs.Clocks.{common_status}
+use Rattle.words_core.specs.Loads.{clocks_seen, reach_seen, HasLoadedClocks}
 use Rattle.words_core.specs.Seat.{SeatModel}
 use Rattle.syncfile_core.specs.SyncFile.{File}
-use Rattle.syncfile_core.specs.Status.{status_of}
 
 -- words of so many contexts that have these values bear the file out: its floor is nowhere above them, and they have each point's context
 pub record IsBorneOutAt (reach : List ℕ) (made : ℕ) (f : File) : Type 0 where
@@ -17,11 +17,11 @@ pub record IsBorneOutAt (reach : List ℕ) (made : ℕ) (f : File) : Type 0 wher
 abbrev pub IsBorneOut : SeatModel → File → Type 0
 IsBorneOut seat f = IsBorneOutAt (reach_seen seat) seat.words.contexts f
 
--- one poll, which loaded all values and found the file borne out and Active
+-- one poll, which loaded all clocks and found the file borne out and Active
 pub record IsActivePoll (f : File) (before after : SeatModel) : Type 0 where
-  pub loaded : HasLoadedAll before after (reach_seen after)
+  pub loaded : HasLoadedClocks before after (clocks_seen after)
   pub borne_out : IsBorneOut after f
-  pub active : status_of f.points (reach_seen after) ≡ Active
+  pub active : common_status (clocks_seen after) f.points ≡ Active
 
 -- so many polls one after another, each of them Active, and no other step
 abbrev pub HasRunOut : File → ℕ → SeatModel → SeatModel → Type 0
@@ -34,4 +34,4 @@ pub record HasPolled (f : File) (tries : ℕ) (before after : SeatModel) : Type 
   pub within : count < tries
   pub seat : SeatModel
   pub active : HasRunOut f count before seat
-  pub last : HasLoadedAll seat after (reach_seen after)
+  pub last : HasLoadedClocks seat after (clocks_seen after)

@@ -1,23 +1,16 @@
 -- What is told of a file by the clocks.
 use Rattle.std.specs.Prelude.{◌≢◌, ◌↔◌, ℕ, List, [], ◌∷◌, map, None, Some}
-use Rattle.std.specs.List.{list_all}
 use Rattle.point_core.specs.declared.entry.Point.{Point}
 use Rattle.point_core.specs.Reach.{IsAtLeast}
-pub use Rattle.point_core.specs.Reach.{is_reached}
 use Rattle.point_core.specs.Agreement.{IsReached}
 use Rattle.point_core.specs.declared.entry.Entry.{Entry}
 use Rattle.point_core.specs.declared.status.Status.{Status}
 use Rattle.point_core.specs.declared.status.Status.TheVariants.{Active, Signalled}
-use Rattle.point_core.specs.Status.{status_if}
 use Rattle.point_core.specs.declared.clocks.Clock.{Clock}
 use Rattle.point_core.specs.Clocks.{reach_of_clocks, status_at, common_status}
 use Rattle.syncfile_core.specs.declared.status.FenceInfo.{FenceInfo}
 use Rattle.syncfile_core.specs.declared.status.FileInfo.{FileInfo}
 use Rattle.syncfile_core.specs.SyncFile.{File, StandsFor}
-
--- at a reach, signalled where each point is, so also where there is none
-abbrev pub status_of : List Point → List ℕ → Status
-status_of points reach = status_if (list_all (is_reached reach) points)
 
 abbrev pub fence_of : List Clock → Point → FenceInfo
 fence_of clocks p = record { ctx = Some p.ctx; point = p.value; status = status_at clocks p }

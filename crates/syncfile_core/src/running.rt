@@ -1,26 +1,25 @@
 // Files beside running timelines: merges, polls and waits by values that a seat loads.
-ghost use Rattle.std.specs.Prelude.{◌≡◌, ◌≤◌, ◌↔◌, ◌⊎◌, List, ◌++◌, All, IsTrue, IfOk, IfErr, OnOk};
+ghost use Rattle.std.specs.Prelude.{◌≡◌, ◌≢◌, ◌≤◌, ◌↔◌, ◌⊎◌, List, ◌++◌, All, IsTrue, IfOk, IfErr, OnOk};
 ghost use Rattle.point_core.specs.declared.entry.Entry.{Entry};
 ghost use Rattle.point_core.specs.declared.refusal.Refusal.TheVariants as refusal;
-ghost use Rattle.point_core.specs.declared.status.Status.TheVariants.{Signalled};
+ghost use Rattle.point_core.specs.declared.status.Status.TheVariants.{Active};
+ghost use Rattle.point_core.specs.Clocks.{common_status};
 ghost use Rattle.point_core.specs.Agreement.{merged, IsReached};
 ghost use Rattle.syncfile_core.specs.SyncFile.{file_of, StandsFor};
-ghost use Rattle.syncfile_core.specs.Status.{status_of};
-ghost use Rattle.words_core.specs.Loads.{reach_seen, HasLoadedAll};
+ghost use Rattle.words_core.specs.Loads.{clocks_seen, reach_seen, HasLoadedAll, HasLoadedClocks};
 ghost use Rattle.syncfile_core.specs.Running.{IsBorneOutAt, IsBorneOut, HasPolled, HasRunOut};
 
-use crate::status;
 use crate::sync_file::SyncFile;
 use point_core::{Floor, Items, LatestPoints, Name, Point, Reach, Refusal, Status};
 use std::alloc::Global;
 use words_core::{Seat, Words};
 
 impl SyncFile {
-    /// Merges two files while timelines run: the latest point of each context of either, where it is above the value
-    /// that was loaded. Each value is loaded once, so no one moment need have had all of them; what was loaded is the
-    /// new file's floor. Linux's `sync_file_merge` asks each fence once too.
+    /// Merges two files while timelines run: the latest point of each context of either, where it is above what was loaded:
+    /// the value of an open context, or the greatest value of a closed one. Each clock is loaded once, so no one moment need
+    /// have had all of them; what was loaded is the new file's floor. Linux's `sync_file_merge` asks each fence once too.
     ///
-    /// Refuses as `Foreign` where a floor is above the value that was loaded, or a point's context or a floor above 0
+    /// Refuses as `Foreign` where a floor is above what was loaded, or a point's context or a floor above 0
     /// is past the words' contexts: such a file was made by other words. Then as `Memory`. The loads stand in the
     /// seat's trace also then.
     pub fn merge_with(
@@ -57,26 +56,28 @@ impl SyncFile {
         })
     }
 
-    /// Whether each of the file's points is signalled, by one load of each value. What is Signalled stays so; what is
-    /// Active was so at a load of this call.
+    /// The file's status, by one load of each clock: active while a point is, else cancelled where the timeline of one was
+    /// closed before it was reached, else signalled. What is no longer Active stays as it is; what is Active was so at a
+    /// load of this call. It is the status of Linux's `struct sync_file_info`.
     ///
     /// Refuses as `Foreign`, as `merge_with` does. Takes no memory.
     pub fn poll(&self, words: &Words, seat: &mut Seat) -> Result<Status, Refusal>
         requires own { seat.old.words ≡ words.now }
         ensures kept { (seat.new.words ≡ seat.old.words) × (seat.new.parts ≡ seat.old.parts) }
-        ensures loaded { HasLoadedAll seat.old seat.new (reach_seen seat.new) }
-        ensures status { IfOk result (λ status. status ≡ status_of self.now.points (reach_seen seat.new)) }
+        ensures loaded { HasLoadedClocks seat.old seat.new (clocks_seen seat.new) }
+        ensures status { IfOk result (λ status. status ≡ common_status (clocks_seen seat.new) self.now.points) }
         ensures borne_out { OnOk result (IsBorneOut seat.new self.now) }
         ensures stands { IfOk result (λ status. (set : List Entry) →
-            StandsFor self.now set → ((status ≡ Signalled) ↔ IsReached set 0 (reach_seen seat.new))) }
+            StandsFor self.now set → ((status ≢ Active) ↔ IsReached set 0 (reach_seen seat.new))) }
         ensures foreign { IfErr result (λ e. (e ≡ refusal.Foreign) × (¬ IsBorneOut seat.new self.now)) }
     {
-        let reach = words.load_all(seat);
-        bear_out(self, words.contexts(), &reach)?;
-        Ok(status::status_of(self.points.as_slice(), &reach))
+        let clocks = words.load_clocks(seat);
+        bear_out(self, words.contexts(), clocks.as_reach())?;
+        Ok(clocks.common_status(self.points.as_slice()))
     }
 
-    /// Polls until a poll is not Active, so many times at most. There is no time, and nobody is woken.
+    /// Polls until a poll is not Active, so many times at most: Ok once each point is signalled or cancelled, as Linux's
+    /// `sync_wait` answers a fence that has an error. There is no time, and nobody is woken.
     ///
     /// Refuses as `TimedOut` after so many polls that were Active, so after none where `tries` is 0; and as
     /// `Foreign` at the first poll that is. Takes no memory.
@@ -85,7 +86,7 @@ impl SyncFile {
         ensures kept { (seat.new.words ≡ seat.old.words) × (seat.new.parts ≡ seat.old.parts) }
         ensures polled { OnOk result (HasPolled self.now tries seat.old seat.new) }
         ensures signalled { OnOk result
-            (IsBorneOut seat.new self.now × (status_of self.now.points (reach_seen seat.new) ≡ Signalled)) }
+            (IsBorneOut seat.new self.now × (common_status (clocks_seen seat.new) self.now.points ≢ Active)) }
         ensures stands { OnOk result ((set : List Entry) →
             StandsFor self.now set → IsReached set 0 (reach_seen seat.new)) }
         ensures refused { IfErr result (λ e.
@@ -94,10 +95,8 @@ impl SyncFile {
             × (¬ IsBorneOut seat.new self.now))) }
     {
         for _ in 0..tries {
-            match self.poll(words, seat)? {
-                Status::Signalled => return Ok(()),
-                Status::Cancelled => return Ok(()),
-                Status::Active => {}
+            if self.poll(words, seat)?.is_signalled() {
+                return Ok(());
             }
         }
         Err(Refusal::TimedOut)

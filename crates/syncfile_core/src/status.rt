@@ -1,8 +1,8 @@
 // Whether a file and its fences are signalled.
 ghost use Rattle.std.specs.Prelude.{◌≡◌, IfOk};
-ghost use Rattle.syncfile_core.specs.Status.{status_of, fence_of, fences_of, stub};
+ghost use Rattle.syncfile_core.specs.Status.{fence_of, fences_of, stub};
 
-use point_core::{Clocks, Context, Items, Name, Point, Reach, Status, is_signalled};
+use point_core::{Clocks, Context, Items, Name, Point, Status};
 use std::alloc::{AllocError, Global};
 
 /// What is told of a file, as Linux's `struct sync_file_info`.
@@ -42,13 +42,6 @@ impl FenceInfo {
             status: Status::Signalled,
         }
     }
-}
-
-/// Signalled once each of the points is, by a reach that knows no closed timeline.
-pub(crate) fn status_of(points: &[Point], reach: &Reach) -> Status
-    ensures status { result ≡ status_of points.now reach.now }
-{
-    Status::of(points.iter().all(|point| is_signalled(*point, reach)))
 }
 
 /// A fence for each of the points, or the stub.
