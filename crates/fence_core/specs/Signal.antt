@@ -1,11 +1,12 @@
 -- What a call that signals a shared fence did.
-use Rattle.std.specs.Prelude.{◌≡◌, ℕ, ◌≤◌, ◌<◌, List, [], ◌∷◌, ◌++◌, map}
-use Rattle.std.specs.List.{zip, AllZip}
+use Rattle.std.specs.Prelude.{◌≡◌, ℕ, ◌≤◌, ◌<◌, List, [], ◌∷◌, ◌++◌}
+use Rattle.point_core.specs.declared.clocks.Clock.{Clock}
+use Rattle.point_core.specs.Clocks.{open_clock, reached_by}
 use Rattle.point_core.specs.declared.entry.Point.{Point}
 use Rattle.words_core.specs.declared.trace.Step.{Step}
-use Rattle.words_core.specs.Layout.{value_word, flag_word}
-use Rattle.words_core.specs.Trace.{load}
-use Rattle.words_core.specs.Seat.{SeatModel, seen, with_steps}
+use Rattle.words_core.specs.Layout.{flag_word}
+use Rattle.words_core.specs.Loads.{clock_seen, loads_at}
+use Rattle.words_core.specs.Seat.{SeatModel, with_step, with_steps}
 use Rattle.words_core.specs.Won.{WonModel}
 use Rattle.fence_core.specs.SharedFence.{SharedFenceModel}
 use Rattle.fence_core.specs.declared.shared_fence.Signal.{Signal}
@@ -26,35 +27,35 @@ IfAlready (NotYet ctx value) P = Unit {0}
 IfAlready (First token) P = Unit {0}
 IfAlready Already P = P
 
--- one load of each point's context, in the points' order, that found the values
-abbrev pub loads_on : List Point → List ℕ → List Step
-loads_on points values = map (λ (both : Point × ℕ). load (value_word both.0.ctx) both.1) (zip points values)
+-- the clock of a point's context was loaded, no less than the seat had seen, and had reached the point
+pub record HasFound (p : Point) (before after : SeatModel) : Type 0 where
+  pub clock : Clock
+  pub entered : after ≡ with_steps before (loads_at p.ctx clock)
+  pub found : clock ≡ clock_seen after p.ctx
+  pub later : reached_by (clock_seen before p.ctx) ≤ reached_by clock
+  pub reached : p.value ≤ reached_by clock
 
--- the point was reached by the value that was found, which is no less than what the seat had seen
-pub record IsFound (before : SeatModel) (p : Point) (value : ℕ) : Type 0 where
-  pub reached : p.value ≤ value
-  pub later : seen before (value_word p.ctx) ≤ value
+-- so was that of each of the points, one after another, and no other step was made
+abbrev pub HaveFound : List Point → SeatModel → SeatModel → Type 0
+HaveFound [] before after = after ≡ before
+HaveFound (p ∷ ps) before after = (seat : SeatModel) × HasFound p before seat × HaveFound ps seat after
 
--- each of the points was
-abbrev pub AllFound : SeatModel → List Point → List ℕ → Type 0
-AllFound before points values = AllZip (IsFound before) points values
-
--- the first points were found reached, one load each, and the next, of this context, was not by this value, which is no less
--- than what the seat had seen
+-- the first points were found reached, and the next, of this context, was not: the context was open at this value, which is
+-- no less than what the seat had seen
 pub record IsPendingAt (points : List Point) (before after : SeatModel) (ctx value : ℕ) : Type 0 where
   pub reached : List Point
-  pub values : List ℕ
   pub point : Point
   pub rest : List Point
   pub points_are : points ≡ reached ++ point ∷ rest
-  pub found : AllFound before reached values
+  pub seat : SeatModel
+  pub found : HaveFound reached before seat
   pub is_of : point.ctx ≡ ctx
   pub is_pending : value < point.value
-  pub later : seen before (value_word ctx) ≤ value
-  pub entered : after ≡ with_steps before (loads_on reached values ++ load (value_word ctx) value ∷ [])
+  pub later : reached_by (clock_seen seat ctx) ≤ value
+  pub entered : after ≡ with_steps seat (loads_at ctx (open_clock value))
 
--- every point was found reached, one load each, and then one test-and-set of the flag was entered
+-- every point was found reached, and then one test-and-set of the flag was entered
 pub record SetsFlag (f : SharedFenceModel) (before after : SeatModel) (told : ℕ → Step) : Type 0 where
-  pub values : List ℕ
-  pub found : AllFound before f.points values
-  pub entered : after ≡ with_steps before (loads_on f.points values ++ told (flag_word f.words f.flag) ∷ [])
+  pub seat : SeatModel
+  pub found : HaveFound f.points before seat
+  pub entered : after ≡ with_step seat (told (flag_word f.words f.flag))

@@ -1,8 +1,9 @@
 // A fence that threads share.
-ghost use Rattle.std.specs.Prelude.{◌≡◌, ◌<◌, ◌≤◌, nat_eq, vec_len, IfOk, IfErr};
+ghost use Rattle.std.specs.Prelude.{◌≡◌, ◌<◌, ◌≤◌, true, false, nat_eq, vec_len, IfOk, IfErr};
 ghost use Rattle.fence_core.specs.declared.callback_list.TheConstants.{CALLBACKS};
 ghost use Rattle.std.specs.List.{IsDistinct};
 ghost use Rattle.point_core.specs.Agreement.{HasRisingContexts};
+ghost use Rattle.point_core.specs.Clocks.{open_clock, reached_by};
 ghost use Rattle.point_core.specs.Refusal.{IsRefusedFor};
 ghost use Rattle.fence_core.specs.SharedFence.{shared_fence_of, token_of, are_within, cause_to_refuse_shared, IsCallbackRefusal};
 ghost use Rattle.fence_core.specs.Signal.{IfNotYet, IfFirst, IfAlready, IsPendingAt, SetsFlag};
@@ -11,7 +12,7 @@ ghost use Rattle.words_core.specs.Trace.{won, lost, wins_of};
 
 use crate::callback_list::CallbackList;
 use crate::fence::Fence;
-use point_core::{Context, Point, Refusal};
+use point_core::{Clock, Context, Point, Refusal};
 use std::alloc::Global;
 use std::marker::Model;
 use std::sync::{Mutex, Wait};
@@ -78,8 +79,8 @@ impl SharedFence {
         })
     }
 
-    /// Loads the values of its contexts by rising number, up to the first whose point is pending. Where none is, it
-    /// sets the flag by one test-and-set, as Linux's `dma_fence_signal` does.
+    /// Loads the clocks of its contexts by rising number, up to the first whose point is pending; no point of a closed
+    /// context is. Where none is, it sets the flag by one test-and-set, as Linux's `dma_fence_signal` does.
     ///
     /// Takes no memory and no lock.
     pub fn signal(&self, words: &Words, seat: &mut Seat) -> Signal
@@ -93,11 +94,11 @@ impl SharedFence {
         ensures already { IfAlready result (SetsFlag self.now seat.old seat.new lost) }
     {
         for point in self.fence.members() {
-            let value = words.load(seat, point.ctx);
-            if value < point.value {
+            let clock = words.clock(seat, point.ctx);
+            if is_pending(clock, *point) {
                 return Signal::NotYet {
                     ctx: point.ctx,
-                    value,
+                    value: clock.value,
                 };
             }
         }
@@ -129,6 +130,14 @@ impl SharedFence {
         drop(token);
         self.callbacks.lock(rt).take()
     }
+}
+
+/// Whether the clock has not reached the point.
+fn is_pending(clock: Clock, point: Point) -> bool
+    ensures pending { result ≡ true → (clock ≡ open_clock clock.value) × (clock.value < point.value) }
+    ensures reached { result ≡ false → point.value ≤ reached_by clock }
+{
+    !clock.closed && clock.value < point.value
 }
 
 fn are_within(points: &[Point], contexts: usize) -> bool
