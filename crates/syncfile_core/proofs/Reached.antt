@@ -1,15 +1,13 @@
 -- When a file is told to be signalled, by what it stands for.
-use Rattle.std.proofs.Common.{◌≡◌, ◌↔◌, ℕ, List}
+use Rattle.std.proofs.Common.{List}
 use Rattle.std.specs.List.{list_all}
-use Rattle.point_core.specs.Reach.{is_reached, IsAtLeast}
+use Rattle.point_core.specs.Reach.{is_reached}
 use Rattle.point_core.specs.declared.clocks.Clock.{Clock}
-use Rattle.point_core.specs.declared.entry.Entry.{Entry}
 use Rattle.point_core.specs.Clocks.{reach_of_clocks, some_cancelled}
 use Rattle.point_core.proofs.Ticking.{status_of-not_active}
-use Rattle.point_core.specs.Agreement.{IsReached}
 use Rattle.point_core.proofs.Agreement.{AgreesAbove-later, AgreesAbove-sym}
 use Rattle.point_core.proofs.Reached.{IsReached-AgreesAbove, list_all-IsReached}
-use Rattle.syncfile_core.specs.SyncFile.{File, StandsFor}
+use Rattle.syncfile_core.specs.SyncFile.{File}
 use Rattle.syncfile_core.specs.Status.{TellsSetsOf}
 
 -- a file is no longer active exactly where each point is reached that it stands for

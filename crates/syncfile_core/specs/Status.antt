@@ -1,10 +1,9 @@
 -- What is told of a file by the clocks.
-use Rattle.std.specs.Prelude.{◌≢◌, ◌↔◌, ℕ, List, [], ◌∷◌, map, None, Some}
+use Rattle.std.specs.Prelude.{◌≢◌, ◌↔◌, List, [], ◌∷◌, map, None, Some}
 use Rattle.point_core.specs.declared.entry.Point.{Point}
 use Rattle.point_core.specs.Reach.{IsAtLeast}
 use Rattle.point_core.specs.Agreement.{IsReached}
 use Rattle.point_core.specs.declared.entry.Entry.{Entry}
-use Rattle.point_core.specs.declared.status.Status.{Status}
 use Rattle.point_core.specs.declared.status.Status.TheVariants.{Active, Signalled}
 use Rattle.point_core.specs.declared.clocks.Clock.{Clock}
 use Rattle.point_core.specs.Clocks.{reach_of_clocks, status_at, common_status}

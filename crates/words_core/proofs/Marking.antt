@@ -9,7 +9,7 @@ use Rattle.words_core.specs.declared.words.Sizes.{Sizes}
 use Rattle.words_core.specs.Layout.{value_place, claim_place, mark_place}
 use Rattle.words_core.specs.Trace.{on, added, shut, wins_of, shuts_of}
 use Rattle.words_core.specs.Rule.{WordTrace, mark_trace, IsMark, IsKept}
-use Rattle.words_core.specs.Plays.{Holder, view_with, seen_by, shuts_mark}
+use Rattle.words_core.specs.Plays.{Holder, view_with, shuts_mark}
 use Rattle.words_core.proofs.ValueSteps.{grown}
 use Rattle.words_core.proofs.MarkSteps.{IsMark-shut, marks_none}
 use Rattle.words_core.proofs.Frames.{IsKept-mark}

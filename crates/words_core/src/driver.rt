@@ -85,12 +85,9 @@ impl Driver {
         if self.value == u64::MAX {
             return Err((Refusal::Overflow, self));
         }
-        let Driver {
-            mut seat,
-            ctx,
-            value,
-        } = self;
-        words.shut(&mut seat, ctx, value + 1);
+        let (ctx, mark) = (self.ctx, self.value + 1);
+        let mut seat = self.finish();
+        words.shut(&mut seat, ctx, mark);
         Ok(seat)
     }
 

@@ -37,7 +37,7 @@ returns-clause-stands c =
     let out = IsBorneOut-seen seat c.args.self.now (c.as_reach.ensures ∙ loaded.all.found) made c.in_ok-bear_out.ensures.borne_out in
     let points = c.as_slice.ensures ∙ ap (λ (f : File). f.points) c.self.view_is in
     let is : c.common_status.result ≡ common_status (clocks_seen seat) c.args.self.now.points =
-        c.common_status.ensures ∙ ap (common_status c.load_clocks-clocks.result) points ∙ ap (λ clocks. common_status clocks c.args.self.now.points) loaded.found in
+    c.common_status.ensures ∙ ap (common_status c.load_clocks-clocks.result) points ∙ ap (λ clocks. common_status clocks c.args.self.now.points) loaded.found in
     λ set stands.
     subst (λ (s : Status). (s ≢ Active) ↔ IsReached set 0 (reach_seen seat)) (sym is) (polled-stands seat c.args.self.now out set stands)
 

@@ -1,4 +1,4 @@
-use Rattle.std.proofs.Common.{◌≡◌, ◌+◌, ◌<◌, ◌∙◌, sym, ap, nat_lt, cond, ℕ, arith}
+use Rattle.std.proofs.Common.{◌+◌, ◌∙◌, sym, ap, arith}
 use Rattle.words_core.specs.Layout.{mark_word}
 use Rattle.words_core.specs.Seat.{SeatModel, added_to}
 use Rattle.words_core.specs.Trace.{shuts_of, mark_of}
