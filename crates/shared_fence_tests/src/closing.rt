@@ -42,7 +42,9 @@ fn signal_and_close(
 )
     requires own { (words.now ≡ fence.now.words) × (driver.seat.words ≡ words.now) × (seat.old.words ≡ words.now) }
 {
-    assert!(rt; matches!(fence.signal(words, seat), Signal::NotYet { ctx, value } if ctx == Context::at(0) && value == 1));
+    assert!(rt;
+        matches!(fence.signal(words, seat), Signal::NotYet { ctx, value } if ctx == Context::at(0) && value == 1)
+    );
     assert!(rt; driver.close(words).is_ok());
     assert!(rt; matches!(fence.signal(words, seat), Signal::First(_)));
 }
@@ -54,5 +56,11 @@ fn a_closed_context_signals_its_fences(rt: HostRuntime) {
     };
     let driving = words.part(&mut seat, 1);
     let driver = drive(&rt, &words, driving);
-    signal_and_close(&rt, &fence_of(&rt, rt.alloc(), &words), &words, driver, &mut seat);
+    signal_and_close(
+        &rt,
+        &fence_of(&rt, rt.alloc(), &words),
+        &words,
+        driver,
+        &mut seat,
+    );
 }

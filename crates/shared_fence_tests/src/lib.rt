@@ -4,4 +4,6 @@
 #[cfg(test)]
 mod callbacks;
 #[cfg(test)]
+mod closing;
+#[cfg(test)]
 mod shared_fences;
