@@ -17,8 +17,9 @@ use Rattle.point_core.proofs.Values.{value_at-with_value_same, value_at-with_val
 use Rattle.resv_core.specs.Resv.{row_of, rows_at, rows_of}
 use Rattle.resv_core.specs.declared.plan.Act.{Act}
 use Rattle.resv_core.specs.Settled.{all_puts, tables_of}
+use Rattle.resv_core.specs.Shared.{HasClosedNone}
 use Rattle.words_core.specs.declared.trace.Step.{Step}
-use Rattle.words_core.specs.Layout.{value_word}
+use Rattle.words_core.specs.Layout.{mark_word, value_word}
 use Rattle.words_core.specs.Trace.{load, on, added, raised, amount_of, is_shut, shuts_of, total}
 use Rattle.words_core.specs.Seat.{SeatModel, added_to, raised_to, with_step, with_steps}
 use Rattle.words_core.proofs.Totals.{total-append}
@@ -86,6 +87,19 @@ pub shuts-HasOnlyLoaded : (first seat : SeatModel) (w : ℕ) → HasOnlyLoaded f
 shuts-HasOnlyLoaded first seat w h =
     let none = h.4 w in
     ap (λ (s : SeatModel). shuts_of w s.trace) h.1 ∙ shuts-append w first.trace h.0 ∙ (omega (arith, none))
+
+-- one more context that is open
+pub HasClosedNone-more : (first seat : SeatModel) (n ctx : ℕ) → ctx ≡ n + 1 → HasOnlyLoaded first seat → shuts_of (mark_word ctx) seat.trace ≡ 0 → HasClosedNone n first → HasClosedNone (n + 1) first
+HasClosedNone-more first seat n ctx is before state earlier c low high = dite (ℕ_discrete c ctx)
+    (λ same. ap (λ (k : ℕ). shuts_of (mark_word k) first.trace) same ∙ sym (shuts-HasOnlyLoaded first seat (mark_word ctx) before) ∙ state)
+    (λ other. earlier c low (omega arith))
+
+-- a context of these that was closed
+pub HasClosedNone-not : (first seat : SeatModel) (contexts ctx : ℕ) → 1 ≤ ctx → ctx ≤ contexts → HasOnlyLoaded first seat → shuts_of (mark_word ctx) seat.trace ≡ 1 → ¬ HasClosedNone contexts first
+HasClosedNone-not first seat contexts ctx low high before state none =
+    let same = shuts-HasOnlyLoaded first seat (mark_word ctx) before in
+    let open_there = none ctx low high in
+    absurd (omega (arith, same, open_there, state))
 
 -- one more value
 pub values-more : (first seat : SeatModel) (reach : List ℕ) (n ctx value : ℕ) → ctx ≡ n + 1 → ctx ≤ length reach → HasOnlyLoaded first seat → value ≡ added_to seat ctx

@@ -140,9 +140,9 @@ raised-loads_at w ctx clock =
     elim (cases_Bool clock.closed) [
       | inl is ↦ rw is (raised-load w (mark_word ctx) (clock.value + 1))
       | inr not ↦
-        let first = raised-load w (mark_word ctx) 0 in
-        let second = raised-load w (value_word ctx) clock.value in
-        rw not (raised-steps w (mark ∷ []) (value ∷ []) ∙ (omega (arith, first, second)))
+          let first = raised-load w (mark_word ctx) 0 in
+          let second = raised-load w (value_word ctx) clock.value in
+          rw not (raised-steps w (mark ∷ []) (value ∷ []) ∙ (omega (arith, first, second)))
     ]
 
 raised-loads : (w : ℕ) (clocks : ℕ → Clock) (n : ℕ) → raised (on w (loads_of clocks n)) ≡ 0
