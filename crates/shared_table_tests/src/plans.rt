@@ -24,7 +24,11 @@ pub(crate) fn plan_of_a_put(rt: &impl Abort, alloc: Global) -> Vec<Plan>
     ensures count { vec_len result ≡ 1 }
 {
     let ctx = Context::at(0);
-    plan_of(rt, alloc, Act::Put(0, Point { ctx, value: 1 }, Usage::Write))
+    plan_of(
+        rt,
+        alloc,
+        Act::Put(0, Point { ctx, value: 1 }, Usage::Write),
+    )
 }
 
 /// The plan of one client, which advances its timeline by 4.
