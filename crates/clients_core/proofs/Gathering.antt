@@ -17,9 +17,10 @@ use Rattle.point_core.proofs.Values.{value_at-with_value_same, value_at-with_val
 use Rattle.resv_core.specs.Resv.{row_of, rows_at, rows_of}
 use Rattle.resv_core.specs.declared.plan.Act.{Act}
 use Rattle.resv_core.specs.Settled.{all_puts, tables_of}
+use Rattle.resv_core.specs.Shared.{HasClosedNone}
 use Rattle.words_core.specs.declared.trace.Step.{Step}
-use Rattle.words_core.specs.Layout.{value_word}
-use Rattle.words_core.specs.Trace.{load, on, added, raised, amount_of}
+use Rattle.words_core.specs.Layout.{mark_word, value_word}
+use Rattle.words_core.specs.Trace.{load, on, added, raised, amount_of, is_shut, shuts_of, total}
 use Rattle.words_core.specs.Seat.{SeatModel, added_to, raised_to, with_step, with_steps}
 use Rattle.words_core.proofs.Totals.{total-append}
 use Rattle.words_core.proofs.Traces.{on-append, raised-append}
@@ -37,12 +38,18 @@ raised-load w v k = elim (cases_Bool (v == w)) [
   | inr not ↦ rw not refl
 ]
 
+shuts-load : (w v k : ℕ) → shuts_of w (load v k ∷ []) ≡ 0
+shuts-load w v k = elim (cases_Bool (v == w)) [
+  | inl is ↦ rw is refl
+  | inr not ↦ rw not refl
+]
+
 -- the seat has only loaded since
 abbrev pub HasOnlyLoaded : SeatModel → SeatModel → Type 0
-HasOnlyLoaded first seat = (steps : List Step) × (seat ≡ with_steps first steps) × ((w : ℕ) → added (on w steps) ≡ 0) × ((w : ℕ) → raised (on w steps) ≡ 0)
+HasOnlyLoaded first seat = (steps : List Step) × (seat ≡ with_steps first steps) × ((w : ℕ) → added (on w steps) ≡ 0) × ((w : ℕ) → raised (on w steps) ≡ 0) × ((w : ℕ) → shuts_of w steps ≡ 0)
 
 pub HasOnlyLoaded-none : (seat : SeatModel) → HasOnlyLoaded seat seat
-HasOnlyLoaded-none seat = ([], ap (λ (steps : List Step). record seat { trace = steps }) (sym (append-nil seat.trace)), (λ w. refl), (λ w. refl))
+HasOnlyLoaded-none seat = ([], ap (λ (steps : List Step). record seat { trace = steps }) (sym (append-nil seat.trace)), (λ w. refl), (λ w. refl), (λ w. refl))
 
 added-append : (w : ℕ) (xs ys : List Step) → added (on w (xs ++ ys)) ≡ added (on w xs) + added (on w ys)
 added-append w xs ys = ap added (on-append w xs ys) ∙ total-append amount_of (on w xs) (on w ys)
@@ -50,13 +57,17 @@ added-append w xs ys = ap added (on-append w xs ys) ∙ total-append amount_of (
 pub raised-steps : (w : ℕ) (xs ys : List Step) → raised (on w (xs ++ ys)) ≡ max (raised (on w xs)) (raised (on w ys))
 raised-steps w xs ys = ap raised (on-append w xs ys) ∙ raised-append (on w xs) (on w ys)
 
-pub HasOnlyLoaded-more : (first seat : SeatModel) (ctx value : ℕ) → HasOnlyLoaded first seat → HasOnlyLoaded first (with_step seat (load (value_word ctx) value))
-HasOnlyLoaded-more first seat ctx value h =
-    let last : Step = load (value_word ctx) value in (
+shuts-append : (w : ℕ) (xs ys : List Step) → shuts_of w (xs ++ ys) ≡ shuts_of w xs + shuts_of w ys
+shuts-append w xs ys = ap (total is_shut) (on-append w xs ys) ∙ total-append is_shut (on w xs) (on w ys)
+
+pub HasOnlyLoaded-more : (first seat : SeatModel) (k value : ℕ) → HasOnlyLoaded first seat → HasOnlyLoaded first (with_step seat (load k value))
+HasOnlyLoaded-more first seat k value h =
+    let last : Step = load k value in (
       h.0 ++ last ∷ [],
       ap (λ (s : SeatModel). with_step s last) h.1 ∙ ap (λ (steps : List Step). record first { trace = steps }) (append_assoc first.trace h.0 (last ∷ [])),
-      (λ w. let rest = h.2 w in let here = added-load w (value_word ctx) value in added-append w h.0 (last ∷ []) ∙ (omega arith)),
-      (λ w. let rest = h.3 w in let here = raised-load w (value_word ctx) value in raised-steps w h.0 (last ∷ []) ∙ (omega (arith, rest, here))),
+      (λ w. let rest = h.2 w in let here = added-load w k value in added-append w h.0 (last ∷ []) ∙ (omega arith)),
+      (λ w. let rest = h.3 w in let here = raised-load w k value in raised-steps w h.0 (last ∷ []) ∙ (omega (arith, rest, here))),
+      (λ w. let rest = h.4 w in let here = shuts-load w k value in shuts-append w h.0 (last ∷ []) ∙ (omega (arith, rest, here))),
     )
 
 -- so it has added what it had
@@ -70,6 +81,25 @@ pub raised_to-HasOnlyLoaded : (first seat : SeatModel) (w : ℕ) → HasOnlyLoad
 raised_to-HasOnlyLoaded first seat w h =
     let none = h.3 w in
     ap (λ (s : SeatModel). raised_to s w) h.1 ∙ raised-steps w first.trace h.0 ∙ (omega (arith, none))
+
+-- and closed what it had
+pub shuts-HasOnlyLoaded : (first seat : SeatModel) (w : ℕ) → HasOnlyLoaded first seat → shuts_of w seat.trace ≡ shuts_of w first.trace
+shuts-HasOnlyLoaded first seat w h =
+    let none = h.4 w in
+    ap (λ (s : SeatModel). shuts_of w s.trace) h.1 ∙ shuts-append w first.trace h.0 ∙ (omega (arith, none))
+
+-- one more context that is open
+pub HasClosedNone-more : (first seat : SeatModel) (n ctx : ℕ) → ctx ≡ n + 1 → HasOnlyLoaded first seat → shuts_of (mark_word ctx) seat.trace ≡ 0 → HasClosedNone n first → HasClosedNone (n + 1) first
+HasClosedNone-more first seat n ctx is before state earlier c low high = dite (ℕ_discrete c ctx)
+    (λ same. ap (λ (k : ℕ). shuts_of (mark_word k) first.trace) same ∙ sym (shuts-HasOnlyLoaded first seat (mark_word ctx) before) ∙ state)
+    (λ other. earlier c low (omega arith))
+
+-- a context of these that was closed
+pub HasClosedNone-not : (first seat : SeatModel) (contexts ctx : ℕ) → 1 ≤ ctx → ctx ≤ contexts → HasOnlyLoaded first seat → shuts_of (mark_word ctx) seat.trace ≡ 1 → ¬ HasClosedNone contexts first
+HasClosedNone-not first seat contexts ctx low high before state none =
+    let same = shuts-HasOnlyLoaded first seat (mark_word ctx) before in
+    let open_there = none ctx low high in
+    absurd (omega (arith, same, open_there, state))
 
 -- one more value
 pub values-more : (first seat : SeatModel) (reach : List ℕ) (n ctx value : ℕ) → ctx ≡ n + 1 → ctx ≤ length reach → HasOnlyLoaded first seat → value ≡ added_to seat ctx

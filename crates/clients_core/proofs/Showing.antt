@@ -7,6 +7,7 @@ use Rattle.std.proofs.lemmas.Grind.{flat_map-append}
 use Rattle.std.proofs.lemmas.List.{map-append, map-id}
 use Rattle.std.proofs.lemmas.List.FromFn.{map-range_with_len_more}
 use Rattle.std.proofs.lemmas.List.Elements.{All-append, All-cons, All-nil, All-weaker}
+use Rattle.point_core.specs.declared.clocks.Clock.{Clock}
 use Rattle.point_core.specs.declared.context.TheConstants.{CONTEXTS}
 use Rattle.point_core.specs.declared.entry.Point.{Point}
 use Rattle.point_core.specs.declared.entry.Entry.{Entry}
@@ -21,10 +22,10 @@ use Rattle.point_core.proofs.Agreement.{listing-contexts}
 use Rattle.point_core.proofs.Latest.{applies-true, raised_to-top-append}
 use Rattle.point_core.proofs.Listings.{filter_map-contexts, filter_map-range_more, filter_map-range_same}
 use Rattle.words_core.specs.declared.trace.Step.{Step}
-use Rattle.words_core.specs.Loads.{HasLoadedAll}
-use Rattle.words_core.specs.Seat.{SeatModel, loads_of, raised_to, seen, with_step, with_steps}
+use Rattle.words_core.specs.Loads.{HasLoadedAll, clock_seen, loads_at, loads_of}
+use Rattle.words_core.specs.Seat.{SeatModel, raised_to, seen, with_step, with_steps}
 use Rattle.words_core.specs.Trace.{load, on, raised, shown, total}
-use Rattle.words_core.specs.Layout.{value_word}
+use Rattle.words_core.specs.Layout.{mark_word, value_word}
 use Rattle.words_core.specs.Words.{WordsModel}
 use Rattle.words_core.proofs.Seen.{seen_stays}
 use Rattle.words_core.proofs.Traces.{on-append, raised-append}
@@ -132,17 +133,29 @@ places_to-more level n ctx is =
     range-more n ctx is = sym (map-id (range_with_len 1 (n + 1))) ∙ map-range_with_len_more (λ (k : ℕ). k) 1 n ctx (omega arith) ∙ ap (λ (ks : List ℕ). ks ++ ctx ∷ []) (map-id (range_with_len 1 n))
 
 -- loads raise nothing
-raised-loads : (w : ℕ) (reach : List ℕ) (n : ℕ) → raised (on w (loads_of reach n)) ≡ 0
-raised-loads w reach zero = refl
-raised-loads w reach (suc n) =
-    let rest = raised-loads w reach n in
-    let last = raised-load w (value_word (suc n)) (value_at reach (suc n)) in
-    raised-steps w (loads_of reach n) (load (value_word (suc n)) (value_at reach (suc n)) ∷ []) ∙ (omega (arith, rest, last))
+raised-loads_at : (w ctx : ℕ) (clock : Clock) → raised (on w (loads_at ctx clock)) ≡ 0
+raised-loads_at w ctx clock =
+    let mark = load (mark_word ctx) 0 in
+    let value = load (value_word ctx) clock.value in
+    elim (cases_Bool clock.closed) [
+      | inl is ↦ rw is (raised-load w (mark_word ctx) (clock.value + 1))
+      | inr not ↦
+          let first = raised-load w (mark_word ctx) 0 in
+          let second = raised-load w (value_word ctx) clock.value in
+          rw not (raised-steps w (mark ∷ []) (value ∷ []) ∙ (omega (arith, first, second)))
+    ]
 
-raised_to-loads : (seat : SeatModel) (w : ℕ) (reach : List ℕ) (n : ℕ) → raised_to (with_steps seat (loads_of reach n)) w ≡ raised_to seat w
-raised_to-loads seat w reach n =
-    let none = raised-loads w reach n in
-    raised-steps w seat.trace (loads_of reach n) ∙ (omega (arith, none))
+raised-loads : (w : ℕ) (clocks : ℕ → Clock) (n : ℕ) → raised (on w (loads_of clocks n)) ≡ 0
+raised-loads w clocks zero = refl
+raised-loads w clocks (suc n) =
+    let rest = raised-loads w clocks n in
+    let last = raised-loads_at w (suc n) (clocks (suc n)) in
+    raised-steps w (loads_of clocks n) (loads_at (suc n) (clocks (suc n))) ∙ (omega (arith, rest, last))
+
+raised_to-loads : (seat : SeatModel) (w : ℕ) (clocks : ℕ → Clock) (n : ℕ) → raised_to (with_steps seat (loads_of clocks n)) w ≡ raised_to seat w
+raised_to-loads seat w clocks n =
+    let none = raised-loads w clocks n in
+    raised-steps w seat.trace (loads_of clocks n) ∙ (omega (arith, none))
 
 -- the looks at one context after another
 
@@ -232,7 +245,8 @@ HasLooked-listed words buffer level first middle last listed few loaded h = reco
       (λ e own.
       let w = word_at words buffer (place_of e) in
       let n = first.words.contexts in
-      IsNoLess-before words buffer first middle (loads_of listed.floor n) e loaded.entered (ap (λ (s : SeatModel). raised_to s w) loaded.entered ∙ raised_to-loads first w listed.floor n) own)
+      let clocks = clock_seen middle in
+      IsNoLess-before words buffer first middle (loads_of clocks n) e loaded.entered (ap (λ (s : SeatModel). raised_to s w) loaded.entered ∙ raised_to-loads first w clocks n) own)
       h.entries
       h.own;
 }

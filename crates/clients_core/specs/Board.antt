@@ -86,7 +86,7 @@ pub record HasListed (words : WordsModel) (buffer : ℕ) (level : Usage) (contex
   pub pending : points ≡ filter_map (pending_point reach entries (usage_number level)) (range_with_len 1 contexts)
   pub own : All (IsNoLess words buffer before) entries
 
--- one load of each value, then one look at each place of the buffer up to the level: the entries that these showed, none
+-- the loads of each clock, then one look at each place of the buffer up to the level: the entries that these showed, none
 -- below what the seat knew of its place, and their listing
 pub record HasLooked (words : WordsModel) (buffer : ℕ) (level : Usage) (before after : SeatModel) (listed : Listing) : Type 0 where
   pub seat : SeatModel

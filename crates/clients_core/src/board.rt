@@ -7,11 +7,11 @@ ghost use Rattle.point_core.specs.declared.refusal.Refusal.TheVariants as refusa
 ghost use Rattle.point_core.specs.Usage.{usage_number};
 ghost use Rattle.resv_core.specs.Resv.{entry_of};
 ghost use Rattle.resv_core.specs.Settled.{gathered_values, tables_of};
-ghost use Rattle.resv_core.specs.Shared.{HasStepped};
+ghost use Rattle.resv_core.specs.Shared.{HasClosedNone, HasStepped};
 ghost use Rattle.clients_core.specs.Board.{AreAsPlanned, HasListed, HasLooked, HasRaised, HasShown, IsRaisedBy, place_to, places_at};
 ghost use Rattle.clients_core.specs.Looks.{shows_all};
 
-use crate::gathered::{gathered, listed};
+use crate::gathered::{gathered_open, listed};
 use crate::raised::{are_as_planned, raised_tables};
 use point_core::{Context, Items, Listing, Point, Reach, Refusal, Usage};
 use resv_core::{Plan, Settled, SharedTable};
@@ -85,8 +85,8 @@ impl Board {
 
     /// The values that the gathered seat knows, and the tables of the plans above them.
     ///
-    /// Refuses as `Torn`, where some buffer's raises say something else above these values than the plans' puts, and then
-    /// as `Memory`.
+    /// Refuses as `Torn` where a context is closed, or where some buffer's raises say something else above these values
+    /// than the plans' puts, and then as `Memory`.
     pub fn settle(
         &self,
         alloc: Global,
@@ -96,13 +96,14 @@ impl Board {
     ) -> Result<Settled, Refusal>
         requires own { (all.old.words ≡ words.now) × (self.now ≡ words.now) }
         ensures stepped { HasStepped all.old all.new }
-        ensures torn { (result ≡ Err refusal.Torn) ↔
-            (¬ AreAsPlanned words.now all.old plans.now (gathered_values words.now.contexts all.old)) }
+        ensures none_closed { IfOk result (λ settled. HasClosedNone words.now.contexts all.old) }
+        ensures torn { (result ≡ Err refusal.Torn) ↔ (¬ (HasClosedNone words.now.contexts all.old ×
+            AreAsPlanned words.now all.old plans.now (gathered_values words.now.contexts all.old))) }
         ensures values { IfOk result (λ settled. settled.values ≡ gathered_values words.now.contexts all.old) }
         ensures tables { IfOk result (λ settled. settled.tables ≡ tables_of words.now.buffers plans.now settled.values) }
         ensures refusals { IfErr result (λ e. (e ≡ refusal.Torn) ⊎ (e ≡ refusal.Memory)) }
     {
-        let reach = gathered(words, all);
+        let reach = gathered_open(words, all)?;
         if !are_as_planned(words, all, plans, &reach) {
             return Err(Refusal::Torn);
         }

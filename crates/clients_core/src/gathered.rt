@@ -1,11 +1,11 @@
 // The values that a seat with all parts knows.
-ghost use Rattle.std.specs.Prelude.{◌≡◌, ℕ, ◌<◌, ◌≤◌, map, IfErr, IfOk};
+ghost use Rattle.std.specs.Prelude.{◌≡◌, ℕ, ◌<◌, ◌≤◌, ◌↔◌, map, IfErr, IfOk, IsTrue, OnErr};
 ghost use Rattle.std.specs.List.{range_with_len};
 ghost use Rattle.point_core.specs.declared.context.TheConstants.{CONTEXTS};
 ghost use Rattle.point_core.specs.declared.refusal.Refusal.TheVariants as refusal;
 ghost use Rattle.point_core.specs.Reach.{value_at};
 ghost use Rattle.words_core.specs.Seat.{added_to, raised_to};
-ghost use Rattle.resv_core.specs.Shared.{HasStepped};
+ghost use Rattle.resv_core.specs.Shared.{HasClosedNone, HasStepped};
 
 use point_core::{Context, Point, Reach, Refusal};
 use std::alloc::Global;
@@ -27,6 +27,42 @@ pub(crate) fn gathered(words: &Words, all: &mut Whole) -> Reach
         reach.raise_to(Point { ctx, value });
     }
     reach
+}
+
+/// The same values, where no context is closed.
+///
+/// Refuses as `Torn` where one is: a floor that was loaded then is the greatest value, above the gathered one.
+pub(crate) fn gathered_open(words: &Words, all: &mut Whole) -> Result<Reach, Refusal>
+    requires own { all.old.words ≡ words.now }
+    ensures stepped { HasStepped all.old all.new }
+    ensures raises { (w : ℕ) → raised_to all.new w ≡ raised_to all.old w }
+    ensures values { IfOk result (λ reach.
+        (ctx : ℕ) → 1 ≤ ctx → ctx ≤ words.now.contexts → value_at reach ctx ≡ added_to all.old ctx) }
+    ensures past { IfOk result (λ reach. (ctx : ℕ) → words.now.contexts < ctx → value_at reach ctx ≡ 0) }
+    ensures none_closed { IfOk result (λ reach. HasClosedNone words.now.contexts all.old) }
+    ensures closed { OnErr result (¬ HasClosedNone words.now.contexts all.old) }
+    ensures refusal { IfErr result (λ e. e ≡ refusal.Torn) }
+{
+    if !are_open(words, all) {
+        return Err(Refusal::Torn);
+    }
+    Ok(gathered(words, all))
+}
+
+/// Whether no context is closed, by one load of each mark up to the first that says so.
+fn are_open(words: &Words, all: &mut Whole) -> bool
+    requires own { all.old.words ≡ words.now }
+    ensures stepped { HasStepped all.old all.new }
+    ensures same { (ctx : ℕ) → added_to all.new ctx ≡ added_to all.old ctx }
+    ensures raises { (w : ℕ) → raised_to all.new w ≡ raised_to all.old w }
+    ensures none_closed { IsTrue result ↔ HasClosedNone words.now.contexts all.old }
+{
+    for index in 0..words.contexts() {
+        if all.closed(words, Context::at(index)) {
+            return false;
+        }
+    }
+    true
 }
 
 /// The values of the first contexts.

@@ -4,7 +4,7 @@ ghost use Rattle.point_core.specs.declared.refusal.Refusal.TheVariants as refusa
 ghost use Rattle.words_core.specs.Loads.{reach_seen, HasLoadedAll};
 
 use crate::expected::expected_in;
-use crate::gathered::{gathered, listed};
+use crate::gathered::{gathered_open, listed};
 use crate::locked_buffer::LockedBuffer;
 use point_core::{Items, Listing, Point, Reach, Refusal, Usage};
 use resv_core::{Plan, Settled, SharedTable};
@@ -89,7 +89,7 @@ impl SharedTable for LockedTable {
         all: &mut Whole,
         plans: &[Plan],
     ) -> Result<Settled, Refusal> {
-        let reach = gathered(words, all);
+        let reach = gathered_open(words, all)?;
         let values = listed(alloc, &reach, words.contexts())?;
         let mut tables = Vec::with_capacity(alloc, self.buffers.len())?;
         for index in 0..self.buffers.len() {

@@ -1,8 +1,9 @@
 -- What a call on a shared table does to its seat.
-use Rattle.std.specs.Prelude.{◌≡◌, ℕ, List}
+use Rattle.std.specs.Prelude.{◌≡◌, ℕ, ◌≤◌, List}
 use Rattle.words_core.specs.declared.trace.Step.{Step}
 use Rattle.words_core.specs.declared.trace.Kind.TheVariants.{Load}
-use Rattle.words_core.specs.Trace.{if_kind, total}
+use Rattle.words_core.specs.Layout.{mark_word}
+use Rattle.words_core.specs.Trace.{if_kind, shuts_of, total}
 use Rattle.words_core.specs.Loads.{HasLoadedAll}
 use Rattle.words_core.specs.Seat.{SeatModel, with_steps}
 
@@ -10,7 +11,11 @@ use Rattle.words_core.specs.Seat.{SeatModel, with_steps}
 abbrev pub HasStepped : SeatModel → SeatModel → Type 0
 HasStepped before after = (steps : List Step) × (after ≡ with_steps before steps)
 
--- 1 at a load of a context's value, and else 0
+-- of a seat with all parts: none of the first contexts was closed
+abbrev pub HasClosedNone : ℕ → SeatModel → Type 0
+HasClosedNone contexts seat = (ctx : ℕ) → 1 ≤ ctx → ctx ≤ contexts → shuts_of (mark_word ctx) seat.trace ≡ 0
+
+-- 1 at a load, as of a context's value or mark, and else 0
 abbrev pub is_load : Step → ℕ
 is_load s = if_kind Load s.kind 1
 

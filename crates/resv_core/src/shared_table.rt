@@ -1,5 +1,5 @@
 // Buffers that clients on threads share.
-ghost use Rattle.std.specs.Prelude.{◌≡◌, ℕ, ◌<◌, ◌≤◌, ◌⊎◌, length, IfErr, IfOk, Result};
+ghost use Rattle.std.specs.Prelude.{◌≡◌, ℕ, ◌<◌, ◌≤◌, ◌⊎◌, length, Err, IfErr, IfOk, Result};
 ghost use Rattle.point_core.specs.declared.entry.Entry.{Entry};
 ghost use Rattle.point_core.specs.declared.entry.Usage.{Usage};
 ghost use Rattle.point_core.specs.declared.listing.Listing.{Listing};
@@ -10,7 +10,7 @@ ghost use Rattle.words_core.specs.Seat.{SeatModel};
 ghost use Rattle.words_core.specs.Words.{WordsModel};
 ghost use Rattle.resv_core.specs.Resv.{entry_of};
 ghost use Rattle.resv_core.specs.Settled.{ArePlansWithin, gathered_values, tables_of};
-ghost use Rattle.resv_core.specs.Shared.{HasLoadedOnce, HasStepped};
+ghost use Rattle.resv_core.specs.Shared.{HasClosedNone, HasLoadedOnce, HasStepped};
 
 use crate::plan::{Plan, Settled};
 use point_core::{Listing, Point, Refusal, Usage};
@@ -83,7 +83,8 @@ pub trait SharedTable: Sync + Sized + Drop {
 
     /// The values that the gathered seat knows, and the tables of the plans above them.
     ///
-    /// Refuses as `Torn`, where what was put is not what the plans put, and as `Memory`, alone.
+    /// Refuses as `Torn` where a context is closed, since a floor that was loaded then is the greatest value, above the
+    /// gathered one; as `Torn` where what was put is not what the plans put, and as `Memory`, alone.
     fn settle<R: Wait>(
         &self,
         rt: &R,
@@ -98,5 +99,7 @@ pub trait SharedTable: Sync + Sized + Drop {
         ensures stepped { HasStepped all.old all.new }
         ensures values { IfOk result (λ settled. settled.values ≡ gathered_values words.now.contexts all.old) }
         ensures tables { IfOk result (λ settled. settled.tables ≡ tables_of words.now.buffers plans.now settled.values) }
+        ensures none_closed { IfOk result (λ settled. HasClosedNone words.now.contexts all.old) }
+        ensures closed { ¬ HasClosedNone words.now.contexts all.old → result ≡ Err refusal.Torn }
         ensures refusals { IfErr result (λ e. (e ≡ refusal.Torn) ⊎ (e ≡ refusal.Memory)) };
 }

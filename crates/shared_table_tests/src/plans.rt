@@ -1,11 +1,12 @@
-// A point and a plan that are put.
-ghost use Rattle.std.specs.Prelude.{◌≡◌, vec_len};
+// Plans, and the seats that they are settled with.
+ghost use Rattle.std.specs.Prelude.{◌≡◌, ◌∷◌, [], vec_len};
 ghost use Rattle.resv_core.specs.Settled.{ArePlansWithin};
 
 use point_core::{Context, Point, Refusal, Usage};
 use resv_core::{Act, Plan};
 use std::alloc::Global;
 use std::process::Abort;
+use words_core::{Seat, Whole};
 
 /// A point of the first context.
 pub(crate) fn point(value: u64) -> Point
@@ -23,11 +24,40 @@ pub(crate) fn plan_of_a_put(rt: &impl Abort, alloc: Global) -> Vec<Plan>
     ensures count { vec_len result ≡ 1 }
 {
     let ctx = Context::at(0);
-    let put = Act::Put(0, Point { ctx, value: 1 }, Usage::Write);
-    let acts = Vec::from_elem(alloc, put, 1).expect(rt, "acts");
+    plan_of(
+        rt,
+        alloc,
+        Act::Put(0, Point { ctx, value: 1 }, Usage::Write),
+    )
+}
+
+/// The plan of one client, which advances its timeline by 4.
+pub(crate) fn plan_of_an_increment(rt: &impl Abort, alloc: Global) -> Vec<Plan>
+    ensures within { ArePlansWithin 1 0 result.items }
+    ensures count { vec_len result ≡ 1 }
+{
+    plan_of(rt, alloc, Act::Inc(4))
+}
+
+/// The plan of one act.
+fn plan_of(rt: &impl Abort, alloc: Global, act: Act) -> Vec<Plan>
+    ensures plan { result.items ≡ (act ∷ []) ∷ [] }
+    ensures count { vec_len result ≡ 1 }
+{
+    let acts = Vec::from_elem(alloc, act, 1).expect(rt, "acts");
     let mut plans = Vec::with_capacity(alloc, 1).expect(rt, "plans");
     plans.push_reserved(Plan::of(acts));
     plans
+}
+
+/// The seat with all parts.
+pub(crate) fn gathered(rt: &impl Abort, seat: Seat) -> Whole
+    ensures words { result.words ≡ seat.words }
+{
+    let Ok(all) = seat.gather() else {
+        panic!(rt; "a part was missing")
+    };
+    all
 }
 
 /// Checks that a call is refused for this cause.

@@ -1,7 +1,7 @@
 // One buffer of each table, and what lies under a lock.
 ghost use Rattle.std.specs.Prelude.{◌≡◌, ◌<◌};
 
-use crate::plans::{check_refused, plan_of_a_put, point};
+use crate::plans::{check_refused, gathered, plan_of_a_put, point};
 use clients_core::{Board, LockedBuffer, LockedTable};
 use point_core::{Entry, Listing, Point, Reach, Refusal, Usage};
 use resv_core::SharedTable;
@@ -84,16 +84,6 @@ fn check_export<R: Wait + Abort, T: SharedTable>(
         .export(rt, alloc, words, seat, buffer, usage)
         .expect(rt, "a look");
     check_listing(rt, &listing, &Reach::zero(), points);
-}
-
-/// The seat with all parts.
-fn gathered(rt: &impl Abort, seat: Seat) -> Whole
-    ensures words { result.words ≡ seat.words }
-{
-    let Ok(all) = seat.gather() else {
-        panic!(rt; "a part was missing")
-    };
-    all
 }
 
 /// Checks that a new table has not settled the plan of a put.

@@ -3,6 +3,7 @@ use Rattle.std.proofs.lemmas.List.{length-set, length-replicate}
 use Rattle.point_core.specs.declared.context.TheConstants.{CONTEXTS}
 use Rattle.point_core.specs.Reach.{value_at, with_value}
 use Rattle.point_core.proofs.Values.{value_at-replicate}
+use Rattle.words_core.specs.Layout.{value_word}
 use Rattle.words_core.specs.Seat.{SeatModel, added_to}
 use Rattle.clients_core.proofs.Gathering.{HasOnlyLoaded, HasOnlyLoaded-none, HasOnlyLoaded-more, added_to-HasOnlyLoaded, raised_to-HasOnlyLoaded, values-more, past-more, raised_from_zero}
 use Rattle.clients_core.proofs.gathered.gathered.Goals as goal
@@ -28,7 +29,7 @@ loop-index-preserved c =
     let fits : ctx ≤ length reach = omega arith in
     let after : c.raise_to.new.self ≡ with_value reach ctx value = c.raise_to.ensures.value ∙ raised_from_zero reach ctx value (before.past ctx (omega arith)) in
     record {
-      loaded = subst (λ (s : SeatModel). HasOnlyLoaded first s) (sym c.value-value.ensures.entered) (HasOnlyLoaded-more first seat ctx value before.loaded);
+      loaded = subst (λ (s : SeatModel). HasOnlyLoaded first s) (sym c.value-value.ensures.entered) (HasOnlyLoaded-more first seat (value_word ctx) value before.loaded);
       values = subst (λ (r : List ℕ). (k : ℕ) → 1 ≤ k → k ≤ n + 1 → value_at r k ≡ added_to first k) (sym after) (values-more first seat reach n ctx value is fits before.loaded c.value-value.ensures.state before.values);
       past = subst (λ (r : List ℕ). (k : ℕ) → n + 1 < k → value_at r k ≡ 0) (sym after) (past-more reach n ctx value is before.past);
       full = ap (λ (r : List ℕ). length r) after ∙ (length-set reach (ctx - 1) value ∙ before.full);

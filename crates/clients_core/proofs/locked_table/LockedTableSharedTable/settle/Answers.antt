@@ -14,7 +14,7 @@ use Rattle.clients_core.proofs.locked_table.LockedTableSharedTable.settle.Goals 
 pub loop-index-preserved : goal.loop-index-preserved
 loop-index-preserved g c =
     let i = c.loop-index.index in
-    let reach = c.gathered-reach.result in
+    let reach = c.in_ok-reach.reach in
     let plans = c.args.plans.now in
     let rows : c.of.result ≡ rows_of (all_puts i plans) reach =
     c.of.ensures
@@ -32,15 +32,15 @@ loop-index-preserved g c =
 
 pub returns-clause-values : goal.returns-clause-values
 returns-clause-values g c =
-    let reach = c.gathered-reach.result in
+    let reach = c.in_ok-reach.reach in
     c.of-2.ensures
     ∙ c.in_ok-values.ensures.values
     ∙ ap (λ (n : ℕ). map (value_at reach) (range_with_len 1 n)) c.contexts.ensures.value
-    ∙ map-contexts (value_at reach) (added_to c.args.all.now) c.args.words.now.contexts c.gathered-reach.ensures.values
+    ∙ map-contexts (value_at reach) (added_to c.args.all.now) c.args.words.now.contexts c.in_ok-reach.ensures.values
 
 pub returns-clause-tables : goal.returns-clause-tables
 returns-clause-tables g c =
-    let reach = c.gathered-reach.result in
+    let reach = c.in_ok-reach.reach in
     let plans = c.args.plans.now in
     let contexts = c.args.words.now.contexts in
     let values : c.of-2.result ≡ map (value_at reach) (range_with_len 1 contexts) =
@@ -52,4 +52,4 @@ returns-clause-tables g c =
     c.of-3.ensures
     ∙ c.loop-index.invariant.tables
     ∙ ap (λ (n : ℕ). map (λ b. rows_of (all_puts b plans) reach) (range_with_len 0 n)) count
-    ∙ tables_of-same_values c.args.words.now.buffers plans reach c.of-2.result (λ ctx low. ap (λ (vs : List ℕ). value_at vs ctx) values ∙ value_at-listed reach contexts ctx c.gathered-reach.ensures.past low)
+    ∙ tables_of-same_values c.args.words.now.buffers plans reach c.of-2.result (λ ctx low. ap (λ (vs : List ℕ). value_at vs ctx) values ∙ value_at-listed reach contexts ctx c.in_ok-reach.ensures.past low)
