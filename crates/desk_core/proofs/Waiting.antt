@@ -12,7 +12,7 @@ use Rattle.point_core.proofs.Ticking.{is_signalled-of}
 use Rattle.point_core.specs.Agreement.{as_entries, all_reached}
 use Rattle.timeline_core.specs.Timeline.{clocks_of, reach_of}
 use Rattle.syncfile_core.specs.SyncFile.{File}
-use Rattle.syncfile_core.specs.Status.{is_reached}
+use Rattle.point_core.specs.Reach.{is_reached}
 use Rattle.syncfile_core.specs.Files.{is_named, has_file as has_sync_file, file_at as sync_file_at, without_file, IsRefusedFor}
 use Rattle.command_core.specs.declared.command.Command.TheVariants as command
 use Rattle.desk_core.specs.Desk.{DeskState}
