@@ -3,8 +3,9 @@
 _fencectl() {
     local word="${COMP_WORDS[COMP_CWORD]}" words="" takes_files=yes
     case "$COMP_CWORD ${COMP_WORDS[1]-}" in
-    "1 "*) words="run check explain clients help --help --version" ;;
-    *" run" | *" explain") words="--help" ;;
+    "1 "*) words="run check explain clients help --help --version --color" ;;
+    *" run") words="--json --help" ;;
+    *" explain") words="--help" ;;
     *" check") words="--quiet --tap --allow-empty --update --help" ;;
     *" clients") words="--locks --help" takes_files="" ;;
     *" help") words="run check explain clients" takes_files="" ;;

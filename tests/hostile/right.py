@@ -138,7 +138,7 @@ class Explanations(Answers):
     WORD = "explain"
 
     def adding(self, run, refused):
-        more = [b"line %d: memory was refused" % number for number in refused]
+        more = [b"line %d: out of memory" % number for number in refused]
         return replace(super().adding(run, refused), errors=with_lines(run.errors, more))
 
 

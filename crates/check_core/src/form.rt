@@ -3,8 +3,9 @@
 /// How a check reports what it finds.
 #[derive(Clone, Copy)]
 pub enum Form {
-    /// A line for each answer that differs and for each script that does not pass, and the counts.
-    Lines,
+    /// A line for each answer that differs and for each script that does not pass, and the counts. Places are in bold where that
+    /// is asked for.
+    Lines { bold: bool },
     /// The counts alone.
     Counts,
     /// The Test Anything Protocol of that version: a test for each script, with the answers that differ.

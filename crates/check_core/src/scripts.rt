@@ -139,7 +139,7 @@ fn check_script<R: Files + Eprint + AllocGlobal, S: Read + Drop, O: Write, W: Wr
                 output,
             )
         }
-        Form::Lines | Form::Counts => {
+        Form::Lines { .. } | Form::Counts => {
             outcome_of(rt, &place, standard_input, &mut Sink::Through(errors))
         }
     }

@@ -27,7 +27,7 @@ pub(crate) fn tell_summary<W: Write>(
     ensures refusals { IfErr result (λ refusal. (refusal ≡ WriteFault) ⊎ (refusal ≡ Memory)) }
 {
     match plan.form {
-        Form::Lines => {
+        Form::Lines { .. } => {
             tell_scripts(alloc, names, outcomes, plan.allows_empty, writer)?;
             tell_totals(outcomes.len(), &totals_of(outcomes), writer)
         }

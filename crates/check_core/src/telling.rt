@@ -20,33 +20,36 @@ pub(crate) fn tell_difference<'a, W: Write>(
     ensures refusals { IfErr result (λ refusal. (refusal ≡ WriteFault) ⊎ (refusal ≡ Memory)) }
 {
     match place.form {
-        Form::Lines => tell_line(alloc, place.name, difference, writer),
+        Form::Lines { bold } => tell_line(alloc, place.name, bold, difference, writer),
         Form::Counts => Ok(()),
         Form::Tap(_) => tell_item(alloc, difference, writer),
     }
 }
 
-/// `FILE:LINE: COMMAND: expected .., came ..`. What is above the first command is told of line 1.
+/// `FILE:LINE: COMMAND: expected .., came ..`. What is before the first command is told of line 1.
 fn tell_line<'a, W: Write>(
     alloc: Global,
     name: &'a str,
+    bold: bool,
     difference: &Difference<'a>,
     writer: &mut W,
 ) -> Result<(), Refusal>
     ensures refusals { IfErr result (λ refusal. (refusal ≡ WriteFault) ⊎ (refusal ≡ Memory)) }
 {
+    let [begin, end] = around(bold);
     let number = u64::from(difference.number.max(1));
     let command = match difference.number {
-        0 => Part::Text("above the first command"),
+        0 => Part::Text("before the first command"),
         _ => Part::Escaped(difference.command),
     };
     let expected = quoted_or(difference.expected, "nothing more");
     let came = quoted_or(first_of(difference.came), "nothing");
     let parts = [
+        Part::Text(begin),
         Part::Text(name),
         Part::Text(":"),
         Part::Number(number),
-        Part::Text(": "),
+        Part::Text(end),
         command,
         Part::Text(": expected "),
         expected,
@@ -57,7 +60,16 @@ fn tell_line<'a, W: Write>(
     tell_parts(alloc, &parts, writer)
 }
 
-/// An item of the list of differences, as YAML has it. What is above the first command is told of line 0.
+/// What stands before and after a place.
+fn around(bold: bool) -> [&'static str; 2] {
+    if bold {
+        ["\x1b[1m", ":\x1b[0m "]
+    } else {
+        ["", ": "]
+    }
+}
+
+/// An item of the list of differences, as YAML has it. What is before the first command is told of line 0.
 fn tell_item<W: Write>(
     alloc: Global,
     difference: &Difference<'_>,

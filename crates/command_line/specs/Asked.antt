@@ -20,6 +20,7 @@ pub record AskedCheck : Type 0 where
 -- a script has the name of its file, or none on standard input; clients have their number and that of their rounds
 pub data Asked : Type 0 where
   Run : Option Text → Asked
+  Json : Option Text → Asked
   Check : AskedCheck → Asked
   Update : List Text → Asked
   Explain : Option Text → Asked
@@ -55,9 +56,16 @@ check_or_update rows =
     if flag_named (one_of (codes "update") rows) then Update (paths_named (all_of (codes "PATH") rows))
     else Check (check_after rows)
 
+abbrev pub script_named : List Row → Option Text
+script_named rows = file_named (first_of (codes "FILE") rows)
+
+abbrev pub run_or_json : List Row → Asked
+run_or_json rows =
+    if flag_named (one_of (codes "json") rows) then Json (script_named rows) else Run (script_named rows)
+
 -- of a script, by the word of a subcommand
-abbrev pub asked_on : Text → Option Text → Asked
-asked_on word file = if bytes_eq word (codes "explain") then Explain file else Run file
+abbrev pub asked_on : Text → List Row → Asked
+asked_on word rows = if bytes_eq word (codes "explain") then Explain (script_named rows) else run_or_json rows
 
 -- by the word of a subcommand, and the values behind it
 abbrev pub asked_after : Text → List Row → Asked
@@ -65,7 +73,7 @@ asked_after word rows =
     if bytes_eq word (codes "clients") then
     Clients (number_named (one_of (codes "N") rows)) (number_named (one_of (codes "ROUNDS") rows))
     else if bytes_eq word (codes "check") then check_or_update rows
-    else asked_on word (file_named (first_of (codes "FILE") rows))
+    else asked_on word rows
 
 -- without a subcommand the script of standard input is run
 abbrev pub asked_by : Option (Text × List Row) → Asked
@@ -82,6 +90,7 @@ asked_of_check check = record {
 -- nothing where the program is to end
 abbrev pub asked_of : Action → Option Asked
 asked_of (action.Run script) = Some (Run (file_of script))
+asked_of (action.Json script) = Some (Json (file_of script))
 asked_of (action.Update paths) = Some (Update (map (λ p. p.now) paths.items))
 asked_of (action.Check check) = Some (Check (asked_of_check check))
 asked_of (action.Explain script) = Some (Explain (file_of script))

@@ -1,4 +1,5 @@
 pub mod Asked
 pub mod Clients
+pub mod Color
 pub mod Fault
 pub mod Words

@@ -25,6 +25,9 @@ flag_rule name = record (new_rule name) { long = Some name; action = Some SetTru
 abbrev pub script_app : Text → App
 script_app word = with_rule (new_app word) file_rule
 
+abbrev pub run_app : App
+run_app = with_rule (script_app (codes "run")) (flag_rule (codes "json"))
+
 -- `check` without the flags that change what it does
 abbrev pub reports_app : App
 reports_app = with_rule (with_rule (with_rule (new_app (codes "check")) paths_rule)
@@ -43,7 +46,7 @@ program_app = record (new_app (codes "fencectl")) { top = record (new_app (codes
 
 abbrev pub fencectl : App
 fencectl = with_subcommand (with_subcommand (with_subcommand (with_subcommand program_app
-    (script_app (codes "run")).top) check_app.top) (script_app (codes "explain")).top) clients_app.top
+    run_app.top) check_app.top) (script_app (codes "explain")).top) clients_app.top
 
 -- the command is that one, and none of its arguments is global
 abbrev pub IsApp : App → Command → Type 0

@@ -10,6 +10,8 @@ use source_core::Script;
 pub enum Action<'a> {
     /// Run a script, and print its answers.
     Run(Script<'a>),
+    /// Run a script, and print its answers as JSON.
+    Json(Script<'a>),
     /// Compare the answers of scripts with those that they expect.
     Check(Check<'a>),
     /// Put scripts in their place that expect what comes: of files, and of those below folders.

@@ -15,6 +15,7 @@ ghost use Rattle.command_line.specs.Words.{
   paths_rule,
   program_app,
   reports_app,
+  run_app,
   script_app,
 };
 
@@ -34,7 +35,10 @@ const VERSION: &str = "0.1.0 (proved in Rattle's logic dac8208d650f15bf)";
 
 const HELP: &str = "\
 A script is read from standard input or from FILE, one command a line; a line that begins with # is a note. A lone FILE that
-is no subcommand is run.
+is no subcommand is run. At a terminal each line is prompted for, and a refused one is explained.
+
+Options of every command:
+  --color <WHEN>  Colours help, checks and explanations: auto, always or never [default: auto]
 
 Script commands:
   timeline T         makes timeline T at value 0             ok CONTEXT
@@ -53,7 +57,7 @@ Script commands:
   test B U           are B's fences up to usage U reached?   ok 1 or ok 0
   trim B             drops needless fences from buffer B     ok
   watch F COOKIE     tells COOKIE once file F is signalled   ok
-  unwatch COOKIE     takes that watch away                   ok 1 or ok 0
+  unwatch COOKIE     removes that watch                      ok 1 or ok 0
   show B             what is pending in buffer B             ok N, then N rows
   report             everything                              ok N, then N rows
 
@@ -77,6 +81,8 @@ word of a refused line is at fault, and why, and what a `wait` waits for.
 
 Clients run on threads, each with a timeline of its own, and share two buffers; docs/CLIENTS.md says what they do. What
 they settle is the same in every run: a row for each timeline, and for each buffer the points that are pending.
+
+`fencectl run --json` writes a JSON object for each answer, on a line of its own.
 
 Exit status:
   0  every line was accepted; of a check: every script passes; of clients: they settled
@@ -104,6 +110,9 @@ pub(crate) const CHECK: &str = "check";
 const CHECK_ABOUT: &str =
     "Runs scripts, and compares their answers with those that their notes expect";
 
+/// Asks for answers as JSON.
+pub(crate) const JSON: &str = "json";
+
 /// The flags of a check.
 pub(crate) const QUIET: &str = "quiet";
 
@@ -115,7 +124,7 @@ pub(crate) const UPDATE: &str = "update";
 
 pub(crate) const EXPLAIN: &str = "explain";
 
-const EXPLAIN_ABOUT: &str = "Runs a script, and tells on standard error why lines were refused";
+const EXPLAIN_ABOUT: &str = "Runs a script, and explains on standard error why lines were refused";
 
 /// The word for a run of clients, and the numbers that follow it.
 pub(crate) const CLIENTS_WORD: &str = "clients";
@@ -182,9 +191,14 @@ fn help() -> &'static str {
 }
 
 fn run<'a>(alloc: Global) -> Result<Command<'a>, AllocError>
-    ensures { IfOk result (IsApp (script_app (codes "run"))) }
+    ensures { IfOk result (IsApp run_app) }
 {
-    Command::new(alloc, RUN).about(RUN_ABOUT).arg(file(alloc))
+    let command = Command::new(alloc, RUN).about(RUN_ABOUT);
+    command.arg(file(alloc))?.arg(flag(
+        alloc,
+        JSON,
+        "Writes a JSON object for each answer, on a line of its own",
+    ))
 }
 
 fn check<'a>(alloc: Global) -> Result<Command<'a>, AllocError>
@@ -251,7 +265,7 @@ fn clients<'a>(alloc: Global) -> Result<Command<'a>, AllocError>
     command.arg(count(alloc))?.arg(rounds(alloc))?.arg(flag(
         alloc,
         LOCKS,
-        "Shares buffers under locks, in the place of a lock-free board",
+        "Shares buffers under locks instead of a lock-free board",
     ))
 }
 

@@ -14,12 +14,13 @@ ghost use Rattle.command_line.specs.Asked.{
   number_named,
   paths_named,
   report_named,
+  run_or_json,
 };
 
 use crate::action::{Action, Check, Clients, Report, Table};
 use crate::arguments::{
-    ALLOW_EMPTY, CHECK, CLIENTS_WORD, COUNT, EXPLAIN, FILE, LOCKS, PATH, QUIET, ROUNDS_WORD, TAP,
-    UPDATE,
+    ALLOW_EMPTY, CHECK, CLIENTS_WORD, COUNT, EXPLAIN, FILE, JSON, LOCKS, PATH, QUIET, ROUNDS_WORD,
+    TAP, UPDATE,
 };
 use clap::ArgMatches;
 use clients_core::{CLIENTS, ROUNDS};
@@ -55,7 +56,7 @@ fn action_after<'a>(
     if word == CHECK {
         return check_action(alloc, matches);
     }
-    Ok(action_on(word, script_of(matches)))
+    Ok(action_on(word, matches))
 }
 
 fn check_action<'a>(alloc: Global, matches: &ArgMatches<'a>) -> Result<Action<'a>, Refusal>
@@ -70,13 +71,23 @@ fn check_action<'a>(alloc: Global, matches: &ArgMatches<'a>) -> Result<Action<'a
 }
 
 /// What a word asks for of a script.
-fn action_on<'a>(word: &str, script: Script<'a>) -> Action<'a>
-    ensures asked { asked_of result ≡ Some (asked_on word.now (file_of script.entry)) }
+fn action_on<'a>(word: &str, matches: &ArgMatches<'a>) -> Action<'a>
+    ensures asked { asked_of result ≡ Some (asked_on word.now (rows_of (found_of matches.now))) }
 {
     if word == EXPLAIN {
-        Action::Explain(script)
+        Action::Explain(script_of(matches))
     } else {
-        Action::Run(script)
+        run_action(matches)
+    }
+}
+
+fn run_action<'a>(matches: &ArgMatches<'a>) -> Action<'a>
+    ensures asked { asked_of result ≡ Some (run_or_json (rows_of (found_of matches.now))) }
+{
+    if has_flag(matches, JSON) {
+        Action::Json(script_of(matches))
+    } else {
+        Action::Run(script_of(matches))
     }
 }
 

@@ -6,10 +6,13 @@ mod action;
 mod arguments;
 mod asked;
 mod clients;
+mod color;
 mod fault;
+mod paint;
 mod usage;
 
 pub use action::{Action, Check, Clients, Report, Table};
 pub use clients::clients_report;
+pub use color::{ColorChoice, Colors, take_color};
 pub use fault::{FAULT, tell_fault};
 pub use usage::{action_of, tell_unread_word};

@@ -8,7 +8,9 @@ ghost use Rattle.command_line.specs.Words.{fencectl};
 use crate::action::Action;
 use crate::arguments::matches_of;
 use crate::asked::action_by;
+use crate::color::Colors;
 use crate::fault::FAULT;
+use crate::paint::painted;
 use clap::Error;
 use clap::error::ErrorKind;
 use point_core::Refusal;
@@ -24,6 +26,7 @@ use std::{fs, io};
 pub fn action_of<'a>(
     rt: &(impl Print + Eprint + Files),
     alloc: Global,
+    colors: Colors,
     words: &'a [String],
 ) -> Result<Action<'a>, Refusal>
     ensures asked { IfOk result (λ action. IfSome (asked_of action) (IsAsked (map string_bytes words.entry.now))) }
@@ -34,13 +37,15 @@ pub fn action_of<'a>(
 {
     match matches_of(alloc, words) {
         Ok(matches) => action_by(alloc, &matches),
-        Err(error) => action_instead(rt, words, &error),
+        Err(error) => action_instead(rt, alloc, colors, words, &error),
     }
 }
 
 /// What words ask for that the command line does not take.
 fn action_instead<'a>(
     rt: &(impl Print + Eprint + Files),
+    alloc: Global,
+    colors: Colors,
     words: &'a [String],
     error: &Error,
 ) -> Result<Action<'a>, Refusal>
@@ -55,7 +60,7 @@ fn action_instead<'a>(
             }
         }
     }
-    Ok(Action::End(tell_error(rt, error)?))
+    Ok(Action::End(tell_error(rt, alloc, colors, error)?))
 }
 
 /// Whether there is a file of that name, and no folder.
@@ -70,19 +75,47 @@ fn is_file(rt: &impl Files, name: &str) -> bool {
 /// subcommand, it tells how a script in a file is run.
 ///
 /// Refuses as `Write` where that could not be printed, and as `Memory` where clap had none.
-fn tell_error(rt: &(impl Print + Eprint), error: &Error) -> Result<u8, Refusal>
+fn tell_error(
+    rt: &(impl Print + Eprint),
+    alloc: Global,
+    colors: Colors,
+    error: &Error,
+) -> Result<u8, Refusal>
     ensures memory { kind_of error.now ≡ ErrorKind.OutOfMemory → result ≡ Err Memory }
 {
     if error.kind() == ErrorKind::OutOfMemory {
         return Err(Refusal::Memory);
     }
-    error.print(rt).map_err(|_| Refusal::Write)?;
+    print_error(rt, alloc, colors, error)?;
     if error.kind() == ErrorKind::InvalidSubcommand {
-        eprintln!(rt; "A script in a file is run by 'fencectl run FILE'.").map_err(
+        eprintln!(rt; "To run the script of a file, use 'fencectl run FILE'.").map_err(
             |_| Refusal::Write,
         )?;
     }
     Ok(error.exit_code() as u8)
+}
+
+/// Prints what clap says where it belongs, coloured where that stream is.
+fn print_error(
+    rt: &(impl Print + Eprint),
+    alloc: Global,
+    colors: Colors,
+    error: &Error,
+) -> Result<(), Refusal> {
+    let printed = match (error.use_stderr(), colors.output, colors.errors) {
+        (true, _, true) => {
+            let text = format!(in alloc; "{error}")?;
+            let text = painted(alloc, text.as_str())?;
+            eprint!(rt; "{text}")
+        }
+        (false, true, _) => {
+            let text = format!(in alloc; "{error}")?;
+            let text = painted(alloc, text.as_str())?;
+            print!(rt; "{text}")
+        }
+        _ => error.print(rt),
+    };
+    printed.map_err(|_| Refusal::Write)
 }
 
 /// Tells that the words of the command line could not be read, which is wrong usage where one is no UTF-8.
@@ -93,7 +126,7 @@ pub fn tell_unread_word(rt: &impl Eprint, error: io::Error) -> Result<u8, Refusa
         return Err(Refusal::Memory);
     }
     eprintln!(rt;
-        "error: a word of the command line is no UTF-8 text\n\nFor more information, try '--help'."
+        "error: a command-line argument is not valid UTF-8\n\nFor more information, try '--help'."
     ).map_err(|_| Refusal::Write)?;
     Ok(FAULT)
 }

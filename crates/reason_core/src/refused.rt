@@ -3,15 +3,17 @@ ghost use Rattle.std.specs.Prelude.{◌≡◌, IfErr};
 ghost use Rattle.point_core.specs.declared.refusal.Refusal.TheVariants.{Write as WriteFault};
 
 use crate::book::Book;
-use crate::look::{Part, Place, tell, tell_of};
+use crate::look::{Part, Place, tell};
 use crate::names::{Space, changed_by, is_there, looked_up, made_by};
 use desk_core::{Command, Desk};
-use point_core::{LimitKind, Name, Point, Refusal};
+use fence_core::WATCHES;
+use point_core::{BUFFERS, CONTEXTS, LimitKind, Name, Point, Refusal};
 use std::io::Write;
+use syncfile_core::FILES;
 
 const UNSIGNALLED: Part<'static> = Part::Text("the file is not signalled");
 
-const NOTHING_TO_WATCH: &str = "every point of the file is reached, so there is nothing to watch";
+const NOTHING_TO_WATCH: &str = "the file is already signalled, so there is nothing to watch";
 
 /// Writes to `notes` why the desk refused a command, which it has just done.
 ///
@@ -34,7 +36,7 @@ pub fn explain_command<N: Write>(
         Refusal::TimedOut => explain_pending(desk, place, command, notes),
         Refusal::Limit(kind) => explain_limit(place, kind, notes),
         Refusal::Signalled => tell(place, &[Part::Text(NOTHING_TO_WATCH)], notes),
-        Refusal::Memory => tell(place, &[Part::Text("memory was refused")], notes),
+        Refusal::Memory => tell(place, &[Part::Text("out of memory")], notes),
         _ => tell(place, &[Part::Text(refusal.name())], notes),
     }
 }
@@ -43,11 +45,24 @@ fn explain_limit<N: Write>(place: &Place, kind: LimitKind, notes: &mut N) -> Res
     ensures refusals { IfErr result (λ refusal. refusal ≡ WriteFault) }
 {
     let parts = [
-        Part::Text("there are as many "),
+        Part::Text("limit reached: "),
+        Part::Number(most_of(kind)),
+        Part::Text(" "),
         Part::Text(kind.word()),
-        Part::Text(" as there can be"),
     ];
     tell(place, &parts, notes)
+}
+
+/// How many there can be of what a command makes.
+fn most_of(kind: LimitKind) -> u64 {
+    let most = match kind {
+        LimitKind::Timelines => CONTEXTS,
+        LimitKind::Files => FILES,
+        LimitKind::Buffers => BUFFERS,
+        LimitKind::Watches => WATCHES,
+        _ => 0,
+    };
+    most as u64
 }
 
 fn explain_missing<N: Write>(
@@ -60,7 +75,7 @@ fn explain_missing<N: Write>(
 {
     match first_missing(desk, command) {
         Some((space, name)) => explain_none(place, space, &name, notes),
-        None => tell(place, &[Part::Text("there is none of that name")], notes),
+        None => tell(place, &[Part::Text("there is nothing of that name")], notes),
     }
 }
 
@@ -73,11 +88,12 @@ fn explain_none<N: Write>(
     ensures refusals { IfErr result (λ refusal. refusal ≡ WriteFault) }
 {
     let parts = [
-        Part::Text(": there is no "),
+        Part::Text("there is no "),
         Part::Text(space.word()),
-        Part::Text(" of that name"),
+        Part::Text(" named "),
+        Part::Bytes(name.as_bytes()),
     ];
-    tell_of(place, name.as_bytes(), &parts, notes)
+    tell(place, &parts, notes)
 }
 
 /// The first name that the command looks up and that stands for nothing.
@@ -103,7 +119,7 @@ fn explain_exists<N: Write>(
     }
     match made_by(command) {
         Some((space, name)) => explain_made(book, place, space, &name, notes),
-        None => tell(place, &[Part::Text("there is one of that name")], notes),
+        None => tell(place, &[Part::Text("the name is taken")], notes),
     }
 }
 
@@ -117,9 +133,9 @@ fn explain_watched<N: Write>(
 {
     let line = book.line_of_cookie(cookie).unwrap_or(0);
     let parts = [
-        Part::Text("a watch of cookie "),
+        Part::Text("cookie "),
         Part::Number(cookie),
-        Part::Text(" was made on line "),
+        Part::Text(" is in use by the watch made on line "),
         Part::Number(u64::from(line)),
     ];
     tell(place, &parts, notes)
@@ -136,12 +152,14 @@ fn explain_made<N: Write>(
 {
     let line = book.line_of(space, name).unwrap_or(0);
     let parts = [
-        Part::Text(": a "),
+        Part::Text("there is already a "),
         Part::Text(space.word()),
-        Part::Text(" of that name was made on line "),
+        Part::Text(" named "),
+        Part::Bytes(name.as_bytes()),
+        Part::Text(", made on line "),
         Part::Number(u64::from(line)),
     ];
-    tell_of(place, name.as_bytes(), &parts, notes)
+    tell(place, &parts, notes)
 }
 
 fn explain_closed<N: Write>(
@@ -168,10 +186,12 @@ fn explain_closing<N: Write>(
 {
     let line = book.line_of_closing(timeline).unwrap_or(0);
     let parts = [
-        Part::Text(": the timeline was closed on line "),
+        Part::Text("timeline "),
+        Part::Bytes(timeline.as_bytes()),
+        Part::Text(" was closed on line "),
         Part::Number(u64::from(line)),
     ];
-    tell_of(place, timeline.as_bytes(), &parts, notes)
+    tell(place, &parts, notes)
 }
 
 fn explain_overflow<N: Write>(
@@ -187,7 +207,11 @@ fn explain_overflow<N: Write>(
             let value = desk.timeline_value(timeline).unwrap_or(0);
             explain_increment(place, timeline, value, *count, notes)
         }
-        _ => tell(place, &[Part::Text("the value would be too great")], notes),
+        _ => tell(
+            place,
+            &[Part::Text("the value would exceed the greatest number")],
+            notes,
+        ),
     }
 }
 
@@ -201,14 +225,16 @@ fn explain_increment<N: Write>(
     ensures refusals { IfErr result (λ refusal. refusal ≡ WriteFault) }
 {
     let parts = [
-        Part::Text(": its value is "),
+        Part::Text("timeline "),
+        Part::Bytes(timeline.as_bytes()),
+        Part::Text(" is at "),
         Part::Number(value),
-        Part::Text(", and "),
+        Part::Text("; adding "),
         Part::Number(count),
-        Part::Text(" more would pass "),
+        Part::Text(" would exceed "),
         Part::Number(u64::MAX),
     ];
-    tell_of(place, timeline.as_bytes(), &parts, notes)
+    tell(place, &parts, notes)
 }
 
 /// Reports each point of the file that is not reached.
@@ -261,17 +287,31 @@ fn explain_point<N: Write>(
         return Ok(());
     }
     let value = desk.timeline_value(&timeline).unwrap_or(0);
-    let left = point.value.saturating_sub(value);
+    explain_wait(place, file, &timeline, point.value, value, notes)
+}
+
+fn explain_wait<'a, N: Write>(
+    place: &Place,
+    file: &'a Name,
+    timeline: &'a Name,
+    point: u64,
+    value: u64,
+    notes: &mut N,
+) -> Result<(), Refusal>
+    ensures refusals { IfErr result (λ refusal. refusal ≡ WriteFault) }
+{
     let parts = [
-        Part::Text(": it waits for point "),
-        Part::Number(point.value),
+        Part::Text("file "),
+        Part::Bytes(file.as_bytes()),
+        Part::Text(" waits for point "),
+        Part::Number(point),
         Part::Text(" of "),
         Part::Bytes(timeline.as_bytes()),
-        Part::Text(", whose value is "),
+        Part::Text(", which is at "),
         Part::Number(value),
         Part::Text(": "),
-        Part::Number(left),
+        Part::Number(point.saturating_sub(value)),
         Part::Text(" to go"),
     ];
-    tell_of(place, file.as_bytes(), &parts, notes)
+    tell(place, &parts, notes)
 }

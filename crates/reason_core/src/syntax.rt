@@ -81,9 +81,9 @@ fn explain_long_line<N: Write>(place: &Place, length: usize, notes: &mut N) -> R
     ensures refusals { IfErr result (λ refusal. refusal ≡ WriteFault) }
 {
     let parts = [
-        Part::Text("it has "),
+        Part::Text("the line is "),
         Part::Number(length as u64),
-        Part::Text(" bytes, and a line has at most "),
+        Part::Text(" bytes long; the limit is "),
         Part::Number(LINE_BYTES as u64),
     ];
     tell(place, &parts, notes)
@@ -93,7 +93,7 @@ fn explain_long_script<N: Write>(place: &Place, notes: &mut N) -> Result<(), Ref
     ensures refusals { IfErr result (λ refusal. refusal ≡ WriteFault) }
 {
     let parts = [
-        Part::Text("the script goes on, and a script has at most "),
+        Part::Text("the script is longer than the limit of "),
         Part::Number(SCRIPT_BYTES as u64),
         Part::Text(" bytes"),
     ];
@@ -137,13 +137,13 @@ fn explain_word<N: Write>(
 /// What is wrong with a word that has a byte which words never have.
 fn strange_byte(word: &[u8]) -> Option<&'static str> {
     if word.starts_with(b"\xef\xbb\xbf") {
-        Some("a byte order mark begins the word")
+        Some("starts with a byte order mark")
     } else if word.contains(&b'\t') {
-        Some("a tab is a byte of the word; words are parted by spaces alone")
+        Some("contains a tab; only spaces separate words")
     } else if word.ends_with(b"\r") {
-        Some("a carriage return ends the word; a line ends with a line feed alone")
+        Some("ends with a carriage return; a line must end with a line feed only")
     } else if word.iter().any(|byte| !byte.is_ascii_graphic()) {
-        Some("the word has a byte that does not print")
+        Some("contains a byte that is not printable ASCII")
     } else {
         None
     }
@@ -173,7 +173,7 @@ fn explain_no_command<N: Write>(
 {
     match nearest(alloc, word)? {
         Some(command) => suggest(place, word, command, notes),
-        None => tell_of(place, word, &[Part::Text(" is no command")], notes),
+        None => tell_of(place, word, &[Part::Text(": unknown command")], notes),
     }
 }
 
@@ -186,7 +186,7 @@ fn suggest<N: Write>(
     ensures refusals { IfErr result (λ refusal. refusal ≡ WriteFault) }
 {
     let parts = [
-        Part::Text(" is no command; did you mean \""),
+        Part::Text(": unknown command; did you mean \""),
         Part::Text(command),
         Part::Text("\"?"),
     ];
@@ -232,7 +232,18 @@ fn explain_words<N: Write>(
             return explain_word(place, word, reason, notes);
         }
     }
-    explain_word(place, command, "a word is missing behind it", notes)
+    explain_word(place, command, missing(kinds.next()), notes)
+}
+
+/// What is missing at the end of a line.
+fn missing(kind: Option<&Kind>) -> &'static str {
+    match kind {
+        Some(Kind::Name) => "a name is missing",
+        Some(Kind::Number) => "a number is missing",
+        Some(Kind::Usage) => "a usage is missing: kernel, write, read or bookkeep",
+        Some(Kind::Flags) => "flags are missing: read, write or rw",
+        None => "a word is missing",
+    }
 }
 
 /// What is wrong with a word in the place of that kind, or behind the last one.
@@ -240,7 +251,7 @@ fn wrong_for(word: &[u8], kind: Option<&Kind>) -> Option<&'static str> {
     match kind {
         Some(kind) if is_of_kind(word, *kind) => None,
         Some(kind) => Some(why_not(*kind)),
-        None => Some("it is a word too many"),
+        None => Some("unexpected extra word"),
     }
 }
 
@@ -264,9 +275,9 @@ fn is_one_of(word: &[u8], texts: &[&str]) -> bool {
 
 fn why_not(kind: Kind) -> &'static str {
     match kind {
-        Kind::Name => "it is no name: a name has 1 to 31 letters, digits, _, . or -",
-        Kind::Number => "it is no number of 1 to 20 digits, up to 18446744073709551615",
-        Kind::Usage => "it is no usage: kernel, write, read or bookkeep",
-        Kind::Flags => "these are no flags: read, write or rw",
+        Kind::Name => "not a name: a name has 1 to 31 letters, digits, _, . or -",
+        Kind::Number => "not a number of 1 to 20 digits, up to 18446744073709551615",
+        Kind::Usage => "not a usage: kernel, write, read or bookkeep",
+        Kind::Flags => "not flags: read, write or rw",
     }
 }

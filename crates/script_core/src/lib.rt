@@ -17,3 +17,4 @@ pub use line_core::{Body, DIGITS, LINE_BYTES, Line, LineCutter, SCRIPT_BYTES, re
 pub use report_core::write_whole;
 pub use text::print;
 pub use totals::Totals;
+pub use writing::{write_many, write_out};

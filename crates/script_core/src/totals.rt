@@ -17,7 +17,8 @@ pub struct Totals {
 impl Totals {
     ghost use Rattle.script_core.specs.Output.{Counts};
 
-    pub(crate) fn new() -> Self
+    /// Of no line.
+    pub fn new() -> Self
         ensures counts { Counts result [] }
     {
         Totals {
@@ -28,7 +29,7 @@ impl Totals {
     }
 
     /// One answer more.
-    pub(crate) fn with(self, answer: &Answer) -> Self
+    pub fn with(self, answer: &Answer) -> Self
         requires { self.lines + 1 < 2 ^ 64 }
         ensures lines { result.lines ≡ self.lines + 1 }
         ensures refused { result.refused ≡ self.refused + (if is_refused answer.now then 1 else 0) }

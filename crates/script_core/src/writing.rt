@@ -13,8 +13,8 @@ const WRITE_BYTES: usize = 8192;
 
 /// Writes the texts, where they are many, and takes them out.
 ///
-/// Refused as `write_whole`.
-pub(crate) fn write_many<W: Write>(writer: &mut W, out: &mut Vec<u8>) -> Result<(), Refusal>
+/// Fails as `write_whole`.
+pub fn write_many<W: Write>(writer: &mut W, out: &mut Vec<u8>) -> Result<(), Refusal>
     ensures ok { OnOk result ((written : List ℕ) × (out.old.items ≡ written ++ out.new.items)
         × Appends (W.contents writer.old) (W.contents writer.new) written) }
     ensures refused { OnErr result (result ≡ Err Write) }
@@ -28,8 +28,8 @@ pub(crate) fn write_many<W: Write>(writer: &mut W, out: &mut Vec<u8>) -> Result<
 
 /// Writes the texts, and takes them out.
 ///
-/// Refused as `write_whole`.
-pub(crate) fn write_out<W: Write>(writer: &mut W, out: &mut Vec<u8>) -> Result<(), Refusal>
+/// Fails as `write_whole`.
+pub fn write_out<W: Write>(writer: &mut W, out: &mut Vec<u8>) -> Result<(), Refusal>
     ensures ok { OnOk result ((written : List ℕ) × (out.old.items ≡ written ++ out.new.items)
         × Appends (W.contents writer.old) (W.contents writer.new) written) }
     ensures none { OnOk result (out.new.items ≡ []) }

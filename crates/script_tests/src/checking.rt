@@ -18,7 +18,7 @@ s:7: info f: expected nothing more, came \"fence a sw_sync 5 0\"
 
 const PLACE: Place<'static> = Place {
     name: "s",
-    form: Form::Lines,
+    form: Form::Lines { bold: false },
 };
 
 #[test]

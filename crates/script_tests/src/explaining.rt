@@ -13,14 +13,14 @@ const REFUSED: &[u8] = b"value a\nvalue b\nvalue c\n";
 
 const ANSWERS: &[u8] = b"err 2 NoEntry\nerr 2 NoEntry\nerr 2 NoEntry\n";
 
-const NOTES: &[u8] = b"line 1: \"a\": there is no timeline of that name
-line 2: \"b\": there is no timeline of that name
-line 3: \"c\": there is no timeline of that name
+const NOTES: &[u8] = b"line 1: there is no timeline named a
+line 2: there is no timeline named b
+line 3: there is no timeline named c
 ";
 
-const NOTES_IN_BOLD: &[u8] = b"\x1b[1mline 1:\x1b[0m \"a\": there is no timeline of that name
-\x1b[1mline 2:\x1b[0m \"b\": there is no timeline of that name
-\x1b[1mline 3:\x1b[0m \"c\": there is no timeline of that name
+const NOTES_IN_BOLD: &[u8] = b"\x1b[1mline 1:\x1b[0m there is no timeline named a
+\x1b[1mline 2:\x1b[0m there is no timeline named b
+\x1b[1mline 3:\x1b[0m there is no timeline named c
 ";
 
 // All of the answers and of the notes are written, and the answers are flushed once.
@@ -59,7 +59,7 @@ fn assert_reason(rt: &impl Abort, alloc: Global, desk: &Desk, refusal: Refusal, 
 #[test]
 fn refusals_beside_scripts(rt: HostRuntime) {
     let desk = Desk::new(rt.alloc()).expect(&rt, "a desk");
-    let memory = b"line 3: memory was refused\n";
+    let memory = b"line 3: out of memory\n";
     assert_reason(&rt, rt.alloc(), &desk, Refusal::Memory, memory);
     assert_reason(&rt, rt.alloc(), &desk, Refusal::Flags, b"line 3: Flags\n");
 }

@@ -2,11 +2,13 @@
 #![tactic(auto)]
 
 mod listing;
+mod prompt;
 mod replace;
 mod script;
 mod source;
 
 pub use listing::script_files;
+pub use prompt::Prompted;
 pub use replace::{read_file, replace_file};
 pub use script::{STANDARD_INPUT, Script};
 pub use source::{Source, reported};

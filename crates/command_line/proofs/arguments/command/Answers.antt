@@ -2,11 +2,11 @@
 use Rattle.std.proofs.Common.{codes}
 use Rattle.std.proofs.lemmas.Result.{IfOk-weaker}
 use Rattle.clap.specs.Words.{App, with_subcommand}
-use Rattle.command_line.specs.Words.{check_app, clients_app, program_app, script_app}
+use Rattle.command_line.specs.Words.{check_app, clients_app, program_app, run_app, script_app}
 use Rattle.command_line.proofs.arguments.command.Goals as goal
 
 abbrev with_run : App
-with_run = with_subcommand program_app (script_app (codes "run")).top
+with_run = with_subcommand program_app run_app.top
 
 abbrev with_check : App
 with_check = with_subcommand with_run check_app.top
@@ -16,7 +16,7 @@ with_explain = with_subcommand with_check (script_app (codes "explain")).top
 
 pub returns : goal.returns
 returns c =
-    let run = c.in_ok-command.ensures program_app (script_app (codes "run")) c.in_ok-program.ensures c.run.ensures in
+    let run = c.in_ok-command.ensures program_app run_app c.in_ok-program.ensures c.run.ensures in
     let check = c.in_ok-command-2.ensures with_run check_app run c.check.ensures in
     let explain = c.in_ok-command-3.ensures with_check (script_app (codes "explain")) check c.explain.ensures in
     IfOk-weaker c.with-4.result _ _ (λ r adds. adds with_explain clients_app explain c.clients.ensures) c.with-4.ensures

@@ -1,0 +1,11 @@
+use Rattle.std.proofs.Common.{ℕ, ◌≤◌, List, length}
+use Rattle.line_core.specs.ScriptLines.{HasGiven, turns_to_come}
+use Rattle.json_core.proofs.engine.answer_lines.Given as goal
+
+abbrev pub invariant-loop-lines : goal.invariant-loop-lines
+invariant-loop-lines g l =
+    (given : List (List ℕ)) × HasGiven (g.R.Read.remaining l.initial.reader) (g.R.Read.remaining l.reader) l.lines given
+    × (l.objects.totals.lines ≤ length given)
+
+abbrev pub decreases-loop-lines : goal.decreases-loop-lines
+decreases-loop-lines g l = turns_to_come l.lines

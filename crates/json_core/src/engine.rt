@@ -1,0 +1,90 @@
+// A script from a reader, and the objects of its answers to a writer.
+ghost use Rattle.std.specs.Prelude.{◌≡◌, ◌+◌, ◌≤◌, ◌⊎◌, List, ℕ, take, IfErr, IfOk, IfSome};
+ghost use Rattle.std.specs.Io.KnownBytes.{Consumes};
+ghost use Rattle.point_core.specs.declared.refusal.Refusal.TheVariants.{Read as ReadFault, Write as WriteFault, Memory};
+ghost use Rattle.line_core.specs.Reading.{ConsumesAtMost, WasRead};
+ghost use Rattle.line_core.specs.declared.script.TheConstants.{SCRIPT_BYTES};
+
+use crate::objects::Objects;
+use line_core::{Ending, ScriptLines, body_of, last_body};
+use point_core::Refusal;
+use script_core::Totals;
+use std::alloc::Global;
+use std::io::{Read, Write};
+
+/// Runs a script as `engine` does, and writes for each line that has an answer a JSON object, on a line of its own: the line's
+/// number and text, and its answer. A line is answered when its end is read, and its object is written before the next read.
+///
+/// Its memory does not grow with the script: of the lines it keeps what the desk holds, and of an answer its text.
+///
+/// Fails with `Read` where a read failed: then the lines whose line feed was read are answered. Fails with `Write` where a write
+/// failed or took no byte, or the flush failed, and with `Memory` where a growth was refused.
+pub fn run_json<R: Read, W: Write>(
+    alloc: Global,
+    reader: &mut R,
+    writer: &mut W,
+) -> Result<Totals, Refusal>
+    // What is read is the script, up to the byte past its limit.
+    ensures reads { IfOk result (λ _. IfSome (R.remaining reader.old) (λ input.
+        Consumes (R.remaining reader.old) (R.remaining reader.new) (take (SCRIPT_BYTES + 1) input))) }
+
+    // Whatever the result, no byte is read past that one.
+    ensures within { ConsumesAtMost (SCRIPT_BYTES + 1) (R.remaining reader.old) (R.remaining reader.new) }
+    ensures refusals { IfErr result (λ refusal.
+        (refusal ≡ ReadFault) ⊎ (refusal ≡ WriteFault) ⊎ (refusal ≡ Memory)) }
+{
+    let mut objects = Objects::new(alloc)?;
+    answer_script(reader, &mut objects, writer)
+}
+
+fn answer_script<R: Read, W: Write>(
+    reader: &mut R,
+    objects: &mut Objects,
+    writer: &mut W,
+) -> Result<Totals, Refusal>
+    requires fresh { objects.old.totals.lines ≤ 0 }
+    ensures reads { IfOk result (λ _. IfSome (R.remaining reader.old) (λ input.
+        Consumes (R.remaining reader.old) (R.remaining reader.new) (take (SCRIPT_BYTES + 1) input))) }
+    ensures within { ConsumesAtMost (SCRIPT_BYTES + 1) (R.remaining reader.old) (R.remaining reader.new) }
+    ensures refusals { IfErr result (λ refusal.
+        (refusal ≡ ReadFault) ⊎ (refusal ≡ WriteFault) ⊎ (refusal ≡ Memory)) }
+{
+    let ending = answer_lines(reader, objects, writer)?;
+    let totals = objects.finish(writer)?;
+    match ending {
+        Ending::Failed => Err(Refusal::Read),
+        Ending::Whole | Ending::TooLong => Ok(totals),
+    }
+}
+
+/// Reads the lines of a script and answers each when its end was read. Nothing is read while an object is not written.
+fn answer_lines<R: Read, W: Write>(
+    reader: &mut R,
+    objects: &mut Objects,
+    writer: &mut W,
+) -> Result<Ending, Refusal>
+    requires fresh { objects.old.totals.lines ≤ 0 }
+    ensures ok { IfOk result (λ ending. (bytes : List ℕ) × WasRead (R.remaining reader.old) (R.remaining reader.new) bytes ending) }
+    ensures within { ConsumesAtMost (SCRIPT_BYTES + 1) (R.remaining reader.old) (R.remaining reader.new) }
+    ensures refusals { IfErr result (λ refusal. (refusal ≡ WriteFault) ⊎ (refusal ≡ Memory)) }
+{
+    let mut lines = ScriptLines::new();
+    loop {
+        if lines.advance() {
+            let line = lines.line();
+            objects.answer(line.number, line.bytes, body_of(line.bytes), writer)?;
+        } else {
+            objects.write(writer)?;
+            if let Some(ending) = lines.read(reader) {
+                let line = lines.line();
+                objects.answer(
+                    line.number,
+                    line.bytes,
+                    last_body(ending, line.bytes),
+                    writer,
+                )?;
+                return Ok(ending);
+            }
+        }
+    }
+}

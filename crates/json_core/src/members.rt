@@ -1,0 +1,210 @@
+// The object of an answer.
+ghost use Rattle.std.specs.Prelude.{flat_map, ◌≡◌, ◌++◌, IfOk, IfErr, OnOk};
+ghost use Rattle.std.specs.Str.Lossy.{utf8_lossy};
+ghost use Rattle.point_core.specs.declared.refusal.Refusal.TheVariants.{Memory};
+ghost use Rattle.script_core.specs.Text.{driver_of};
+ghost use Rattle.json_core.specs.Part.{Adds};
+ghost use Rattle.json_core.specs.Json.{answer_tokens, info_tokens, limit_of, line_text, line_tokens};
+ghost use Rattle.json_core.specs.Json.{number_tokens, value_tokens, raised_tokens, refusal_tokens, said_tokens, fence_tokens, limit_tokens};
+
+use crate::part::{Part, put_all};
+use crate::tables::{put_report, put_show};
+use command_core::{Answer, FenceRow, Info, Maker};
+use json::Writer;
+use point_core::{LimitKind, Refusal};
+use std::alloc::{AllocError, Global};
+
+/// Writes the object of the answer of the line of that number after the text, and a line feed. Bytes of the line that are no
+/// UTF-8 are written as U+FFFD.
+///
+/// Fails with `Memory` alone.
+pub fn push_line(
+    alloc: Global,
+    number: u32,
+    line: &[u8],
+    answer: &Answer,
+    text: Vec<u8>,
+) -> Result<Vec<u8>, Refusal>
+    ensures ok { IfOk result (λ written. written.items ≡ text.items ++ line_text number (utf8_lossy line.now) answer.now) }
+    ensures err { IfErr result (λ refusal. refusal ≡ Memory) }
+{
+    match str::from_utf8(line) {
+        Ok(line) => push_object(number, line, answer, text),
+        Err(_) => {
+            let line = String::from_utf8_lossy(alloc, line)?;
+            push_object(number, line.as_str(), answer, text)
+        }
+    }
+}
+
+fn push_object(number: u32, line: &str, answer: &Answer, text: Vec<u8>) -> Result<Vec<u8>, Refusal>
+    ensures ok { IfOk result (λ written. written.items ≡ text.items ++ line_text number line.now answer.now) }
+    ensures err { IfErr result (λ refusal. refusal ≡ Memory) }
+{
+    let mut writer = Writer::new(text);
+    put_line(&mut writer, number, line, answer)?;
+    let mut text = writer.into_inner();
+    text.extend_from_slice(b"\n")?;
+    Ok(text)
+}
+
+fn put_line(writer: &mut Writer, number: u32, line: &str, answer: &Answer) -> Result<(), AllocError>
+    ensures added { OnOk result (Adds writer.old writer.new (line_tokens number line.now answer.now)) }
+{
+    put_said(writer, number, line)?;
+    put_answer(writer, answer)?;
+    put_all(writer, &[Part::EndObject])?;
+    Ok(())
+}
+
+fn put_said(writer: &mut Writer, number: u32, line: &str) -> Result<(), AllocError>
+    ensures added { OnOk result (Adds writer.old writer.new (said_tokens number line.now)) }
+{
+    let parts = [
+        Part::BeginObject,
+        Part::Key("line"),
+        Part::Number(u64::from(number)),
+        Part::Key("command"),
+        Part::Text(line),
+    ];
+    put_all(writer, &parts)
+}
+
+fn put_answer(writer: &mut Writer, answer: &Answer) -> Result<(), AllocError>
+    ensures added { OnOk result (Adds writer.old writer.new (answer_tokens answer.now)) }
+{
+    match answer {
+        Answer::Done => put_all(writer, &[Part::Key("ok"), Part::Bool(true)]),
+        Answer::Value(value) => put_value(writer, *value),
+        Answer::Raised(value, fired) => put_raised(writer, *value, fired.as_slice()),
+        Answer::Info(info) => put_info(writer, info),
+        Answer::Show(rows) => put_show(writer, rows.as_slice()),
+        Answer::Report(report) => put_report(writer, report),
+        Answer::Refused(refusal) => put_refusal(writer, *refusal),
+    }
+}
+
+fn put_value(writer: &mut Writer, value: u64) -> Result<(), AllocError>
+    ensures added { OnOk result (Adds writer.old writer.new (value_tokens value)) }
+{
+    let parts = [
+        Part::Key("ok"),
+        Part::Bool(true),
+        Part::Key("value"),
+        Part::Number(value),
+    ];
+    put_all(writer, &parts)
+}
+
+fn put_raised(writer: &mut Writer, value: u64, fired: &[u64]) -> Result<(), AllocError>
+    ensures added { OnOk result (Adds writer.old writer.new (raised_tokens value fired.now)) }
+{
+    put_value(writer, value)?;
+    put_all(writer, &[Part::Key("fired"), Part::BeginArray])?;
+    put_numbers(writer, fired)?;
+    put_all(writer, &[Part::EndArray])?;
+    Ok(())
+}
+
+fn put_numbers(writer: &mut Writer, numbers: &[u64]) -> Result<(), AllocError>
+    ensures added { OnOk result (Adds writer.old writer.new (flat_map number_tokens numbers.now)) }
+{
+    for number in numbers {
+        put_all(writer, &[Part::Number(*number)])?;
+    }
+    Ok(())
+}
+
+fn put_info(writer: &mut Writer, info: &Info) -> Result<(), AllocError>
+    ensures added { OnOk result (Adds writer.old writer.new (info_tokens info.now)) }
+{
+    let file = [
+        Part::Key("ok"),
+        Part::Bool(true),
+        Part::Key("file"),
+        Part::Name(&info.name),
+        Part::Key("status"),
+        Part::Status(info.status),
+        Part::Key("fences"),
+        Part::BeginArray,
+    ];
+    put_all(writer, &file)?;
+    put_fences(writer, info.fences.as_slice())?;
+    put_all(writer, &[Part::EndArray])?;
+    Ok(())
+}
+
+fn put_fences(writer: &mut Writer, fences: &[FenceRow]) -> Result<(), AllocError>
+    ensures added { OnOk result (Adds writer.old writer.new (flat_map fence_tokens fences.now)) }
+{
+    for fence in fences {
+        put_fence(writer, fence)?;
+    }
+    Ok(())
+}
+
+fn put_fence(writer: &mut Writer, fence: &FenceRow) -> Result<(), AllocError>
+    ensures added { OnOk result (Adds writer.old writer.new (fence_tokens fence.now)) }
+{
+    let driver = name_of(fence.driver);
+    let parts = [
+        Part::BeginObject,
+        Part::Key("timeline"),
+        Part::Name(&fence.timeline),
+        Part::Key("driver"),
+        Part::Text(driver),
+        Part::Key("point"),
+        Part::Number(fence.point),
+        Part::Key("status"),
+        Part::Status(fence.status),
+        Part::EndObject,
+    ];
+    put_all(writer, &parts)
+}
+
+fn name_of(driver: Maker) -> &'static str
+    ensures { result.now ≡ driver_of driver }
+{
+    match driver {
+        Maker::SwSync => "sw_sync",
+        Maker::Stub => "stub",
+    }
+}
+
+fn put_refusal(writer: &mut Writer, refusal: Refusal) -> Result<(), AllocError>
+    ensures added { OnOk result (Adds writer.old writer.new (refusal_tokens refusal)) }
+{
+    let error = [
+        Part::Key("ok"),
+        Part::Bool(false),
+        Part::Key("error"),
+        Part::BeginObject,
+        Part::Key("number"),
+        Part::Number(u64::from(refusal.number())),
+        Part::Key("name"),
+        Part::Text(refusal.name()),
+    ];
+    put_all(writer, &error)?;
+    put_limit(writer, limit_of(refusal))?;
+    put_all(writer, &[Part::EndObject])?;
+    Ok(())
+}
+
+fn put_limit(writer: &mut Writer, limit: Option<LimitKind>) -> Result<(), AllocError>
+    ensures added { OnOk result (Adds writer.old writer.new (limit_tokens limit)) }
+{
+    match limit {
+        Some(kind) => put_all(writer, &[Part::Key("limit"), Part::Text(kind.word())]),
+        None => Ok(()),
+    }
+}
+
+/// Which limit was met, where that is the refusal.
+fn limit_of(refusal: Refusal) -> Option<LimitKind>
+    ensures { result ≡ limit_of refusal }
+{
+    match refusal {
+        Refusal::Limit(kind) => Some(kind),
+        _ => None,
+    }
+}

@@ -1,0 +1,132 @@
+// The objects of answers, on their way to a writer.
+ghost use Rattle.std.specs.Prelude.{◌≡◌, ◌+◌, ◌<◌, ◌≤◌, ◌⊎◌, [], IfErr, IfOk, MatchOption, OnOk};
+ghost use Rattle.std.specs.Io.KnownBytes.{Appends};
+ghost use Rattle.std.specs.Str.Lossy.{utf8_lossy};
+ghost use Rattle.desk_core.specs.Desk.{HasHistory};
+ghost use Rattle.script_core.specs.Bytes.{PassesOn};
+ghost use Rattle.json_core.specs.Json.{line_text};
+ghost use Rattle.point_core.specs.declared.refusal.Refusal.TheVariants.{Write as WriteFault, Memory};
+ghost use Rattle.json_core.specs.Telling.{TellsLine};
+
+use crate::members::push_line;
+use desk_core::{Answer, Desk};
+use line_core::Body;
+use point_core::Refusal;
+use script_core::{Totals, answer_line, write_many, write_out};
+use std::alloc::Global;
+use std::io::Write;
+use std::mem;
+
+/// The objects of answers, one after another: a desk, and the texts of its answers on their way to a writer.
+#[derive(Drop)]
+pub(crate) struct Objects {
+    alloc: Global,
+    desk: Desk,
+    // the texts that are not yet written
+    out: Vec<u8>,
+    totals: Totals,
+}
+
+impl Objects {
+    /// Of no line.
+    ///
+    /// Fails with `Memory` alone.
+    pub(crate) fn new(alloc: Global) -> Result<Objects, Refusal>
+        ensures none { IfOk result (λ objects. (HasHistory objects.desk []) × (objects.totals.lines ≤ 0)) }
+        ensures refusals { IfErr result (λ refusal. refusal ≡ Memory) }
+    {
+        Ok(Objects {
+            alloc,
+            desk: Desk::new(alloc)?,
+            out: Vec::new(alloc),
+            totals: Totals::new(),
+        })
+    }
+
+    /// Answers a line that has an answer. Texts are written where they are many.
+    ///
+    /// Fails with `Write` where a write failed or took no byte, and with `Memory` where a growth was refused.
+    pub(crate) fn answer<W: Write>(
+        &mut self,
+        number: u32,
+        line: &[u8],
+        body: Option<Body>,
+        writer: &mut W,
+    ) -> Result<(), Refusal>
+        requires few { self.old.totals.lines < number }
+        ensures told { OnOk result (MatchOption body (self.new ≡ self.old) (λ said.
+            TellsLine number line.now said self.old.desk self.new.desk self.old.out.items self.new.out.items
+            (W.contents writer.old) (W.contents writer.new))) }
+        ensures lines { self.new.totals.lines ≤ self.old.totals.lines + 1 }
+        ensures refusals { IfErr result (λ refusal. (refusal ≡ WriteFault) ⊎ (refusal ≡ Memory)) }
+    {
+        match body {
+            Some(body) => self.answer_body(number, line, body, writer),
+            None => Ok(()),
+        }
+    }
+
+    fn answer_body<W: Write>(
+        &mut self,
+        number: u32,
+        line: &[u8],
+        body: Body,
+        writer: &mut W,
+    ) -> Result<(), Refusal>
+        requires few { self.old.totals.lines < number }
+        ensures told { OnOk result (TellsLine number line.now body self.old.desk self.new.desk
+            self.old.out.items self.new.out.items (W.contents writer.old) (W.contents writer.new)) }
+        ensures lines { self.new.totals.lines ≤ self.old.totals.lines + 1 }
+        ensures refusals { IfErr result (λ refusal. (refusal ≡ WriteFault) ⊎ (refusal ≡ Memory)) }
+    {
+        let answer = answer_line(&mut self.desk, body);
+        self.totals = self.totals.with(&answer);
+        pass_line(self.alloc, number, line, &answer, &mut self.out, writer)
+    }
+
+    /// Writes the texts that are not yet written.
+    ///
+    /// Fails with `Write` where a write failed or took no byte.
+    pub(crate) fn write<W: Write>(&mut self, writer: &mut W) -> Result<(), Refusal>
+        ensures ok { OnOk result (Appends (W.contents writer.old) (W.contents writer.new) self.old.out.items) }
+        ensures none { OnOk result (self.new.out.items ≡ []) }
+        ensures desk { self.new.desk ≡ self.old.desk }
+        ensures lines { self.new.totals ≡ self.old.totals }
+        ensures refusals { IfErr result (λ refusal. refusal ≡ WriteFault) }
+    {
+        write_out(writer, &mut self.out)
+    }
+
+    /// Writes the texts that are not yet written, flushes, and reports how many lines were answered.
+    ///
+    /// Fails with `Write` where a write failed or took no byte, or the flush failed.
+    pub(crate) fn finish<W: Write>(&mut self, writer: &mut W) -> Result<Totals, Refusal>
+        ensures totals { IfOk result (λ totals. totals ≡ self.old.totals) }
+        ensures ok { OnOk result (Appends (W.contents writer.old) (W.contents writer.new) self.old.out.items) }
+        ensures refusals { IfErr result (λ refusal. refusal ≡ WriteFault) }
+    {
+        self.write(writer)?;
+        writer.flush().map_err(|_| Refusal::Write)?;
+        Ok(self.totals)
+    }
+}
+
+/// Puts the object of an answer after `out`, and writes what waits there where it is much.
+///
+/// Fails with `Write` where a write failed or took no byte, and with `Memory` where a growth was refused.
+fn pass_line<W: Write>(
+    alloc: Global,
+    number: u32,
+    line: &[u8],
+    answer: &Answer,
+    out: &mut Vec<u8>,
+    writer: &mut W,
+) -> Result<(), Refusal>
+    ensures ok { OnOk result (PassesOn out.old.items out.new.items
+        (line_text number (utf8_lossy line.now) answer.now) (W.contents writer.old) (W.contents writer.new)) }
+    ensures refusals { IfErr result (λ refusal. (refusal ≡ WriteFault) ⊎ (refusal ≡ Memory)) }
+{
+    let waiting = mem::replace(out, Vec::new(alloc));
+    *out = push_line(alloc, number, line, answer, waiting)?;
+    write_many(writer, out)
+}

@@ -1,0 +1,54 @@
+// A reader at a terminal.
+use std::io;
+use std::io::{Read, Write};
+
+const PROMPT: &[u8] = b"fencectl> ";
+
+/// A reader at a terminal: before a line is read a prompt is written to another writer, and a line feed when the reader ends. A
+/// prompt that can't be written changes nothing of what is read.
+#[derive(Drop)]
+pub struct Prompted<R, W> {
+    reader: R,
+    prompts: W,
+    // whether the next byte begins a line
+    begins: bool,
+}
+
+impl<R: Read + Drop, W: Write + Drop> Prompted<R, W> {
+    /// Of a reader that nothing was read of.
+    pub fn new(reader: R, prompts: W) -> Prompted<R, W> {
+        Prompted {
+            reader,
+            prompts,
+            begins: true,
+        }
+    }
+}
+
+impl<R: Read + Drop, W: Write + Drop> Read for Prompted<R, W> {
+    fn read(&mut self, buf: &mut [u8]) -> io::Result<usize> {
+        if self.begins {
+            show(&mut self.prompts, PROMPT);
+        }
+        let given = self.reader.read(buf);
+        if let Ok(count) = &given {
+            self.begins = ends_line(buf, *count);
+            if *count == 0 {
+                show(&mut self.prompts, b"\n");
+            }
+        }
+        given
+    }
+}
+
+fn ends_line(buf: &[u8], count: usize) -> bool {
+    match buf.get(..count) {
+        Some(bytes) => bytes.ends_with(b"\n"),
+        None => false,
+    }
+}
+
+fn show<W: Write>(writer: &mut W, text: &[u8]) {
+    let _ = writer.write_all(text);
+    let _ = writer.flush();
+}
