@@ -48,25 +48,25 @@ signalled life = record {
 
 -- without one of the fences that are pending
 abbrev pub without_one : Life → Life
-without_one life = settled (record {
+without_one life = record {
   pending = life.pending - 1;
   signalled = life.signalled;
   has_signalled = life.has_signalled;
   born = life.born;
   since = life.since;
-})
+}
 
 -- a fence that was signalled goes first
 abbrev pub destroyed : Life → Life
 destroyed life =
     if life.signalled == 0 then without_one life
-    else settled (record {
+    else record {
       pending = life.pending;
       signalled = life.signalled - 1;
       has_signalled = life.has_signalled;
       born = life.born;
       since = life.since;
-    })
+    }
 
 -- after an event of the key at that time, which so many others came before
 unfoldable pub life_after : Event → ℕ → ℕ → Life → Life

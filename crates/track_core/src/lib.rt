@@ -1,11 +1,23 @@
 //! What traces say of fences: which were made and never signalled, who waits, and what each timeline did.
 //!
 //! It takes the records of a trace one by one, and holds what is alive. What each number is stands as a fold over the events
-//! (`specs/`).
+//! (`specs/History.antt`).
 #![tactic(auto)]
 
+mod contexts;
+mod ledger;
 mod life;
+mod lives;
+mod order;
 mod sighting;
+mod tally;
+mod timelines;
 
+pub use contexts::{Context, Contexts};
+pub use ledger::Ledger;
 pub use life::Life;
-pub use sighting::{FenceKey, Sighting};
+pub use lives::Lives;
+pub use order::Order;
+pub use sighting::{ContextKey, FenceKey, Sighting, TimelineKey};
+pub use tally::{EventCounts, Tally};
+pub use timelines::Timelines;

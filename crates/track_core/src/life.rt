@@ -1,6 +1,6 @@
 // What is known of the fences of one key.
 ghost use Rattle.std.specs.Prelude.{◌≡◌};
-ghost use Rattle.track_core.specs.Life.{unborn, settled, made, emitted, signalled, destroyed, without_one, life_after, is_over, is_pending};
+ghost use Rattle.track_core.specs.Life.{made, emitted, signalled, destroyed, without_one, life_after, is_over, is_pending};
 
 use trace_core::Event;
 
@@ -99,7 +99,6 @@ impl Life {
             signalled: self.signalled - 1,
             ..self
         }
-        .settled()
     }
 
     /// Without one of the fences that are pending.
@@ -110,12 +109,5 @@ impl Life {
             pending: self.pending.saturating_sub(1),
             ..self
         }
-        .settled()
-    }
-
-    fn settled(self) -> Life
-        ensures { result ≡ settled self }
-    {
-        if self.is_over() { Life::UNBORN } else { self }
     }
 }
