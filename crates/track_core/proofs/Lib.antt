@@ -1,3 +1,4 @@
 pub mod Puts
 pub mod Same
 pub mod Numbering
+pub mod Seeing

@@ -1,5 +1,5 @@
 -- A fence that is given a number is taken from those without one.
-use Rattle.std.proofs.Common.{◌≡◌, Bool, true, false, ◌&&◌, cond, refl, sym, ap, ◌∙◌}
+use Rattle.std.proofs.Common.{◌≡◌, Bool, true, ◌&&◌, cond, ap, ◌∙◌}
 use Rattle.track_core.specs.declared.life.Life.{Life}
 use Rattle.track_core.specs.declared.sighting.FenceKey.{FenceKey}
 use Rattle.track_core.specs.Keys.{same_key}

@@ -1,5 +1,5 @@
 -- What a map says of each key after a write, with a value for the keys that it hasn't.
-use Rattle.std.proofs.Common.{◌≡◌, Bool, true, false, cond, Option, None, Some, refl, sym, ap, ◌∙◌}
+use Rattle.std.proofs.Common.{◌≡◌, Bool, true, false, cond, Option, None, Some, refl, ap, ◌∙◌}
 use Rattle.std.specs.Prelude.{unwrap_or}
 
 module _ {X : Type 0} (d : X) where

@@ -1,5 +1,5 @@
 -- Keys that compare as the same are equal.
-use Rattle.std.proofs.Common.{◌≡◌, ℕ, nat_eq, Bool, true, false, ◌&&◌, cond, refl, sym, ap, ◌∙◌}
+use Rattle.std.proofs.Common.{◌≡◌, nat_eq, Bool, true, false, ◌&&◌, cond, refl, ap}
 use Rattle.std.proofs.lemmas.Bool.{eqb-true, and_parts}
 use Rattle.track_core.specs.declared.sighting.ContextKey.{ContextKey}
 use Rattle.track_core.specs.declared.sighting.FenceKey.{FenceKey}

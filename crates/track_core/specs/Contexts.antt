@@ -1,5 +1,5 @@
 -- What the fences of a context did.
-use Rattle.std.specs.Prelude.{unwrap_or}
+use Rattle.std.specs.Prelude.{ℕ, Bool, unwrap_or}
 use Rattle.std.specs.Map.{lookup}
 use Rattle.track_core.specs.declared.contexts.Context.{Context}
 use Rattle.track_core.specs.declared.contexts.Contexts.{Contexts}
@@ -17,9 +17,9 @@ no_context = record { order = no_order; tally = none }
 abbrev pub context_at : Contexts → ContextKey → Context
 context_at contexts key = unwrap_or (lookup (same_context key) contexts.by_key.entries) no_context
 
--- with an event of one of its fences, of whose key that was known before
-abbrev pub context_after : Sighting → Life → Context → Context
-context_after e life context = record {
-  order = order_after e.event e.key.seqno context.order;
-  tally = tally_after e.event e.key.seqno life context.order context.tally;
+-- with an event of one of its fences, which so many others came before, and of whose key that was known
+abbrev pub context_after : Sighting → ℕ → Life → Bool → Context → Context
+context_after e at life sure context = record {
+  order = order_after e.event e.key.seqno at context.order;
+  tally = tally_after e.event e.key.seqno life context.order sure context.tally;
 }

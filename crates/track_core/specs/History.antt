@@ -1,6 +1,5 @@
 -- What a list of events says of fences, as folds over it. The list has the newest event first.
 use Rattle.std.specs.Prelude.{◌≡◌, ℕ, nat_le, Bool, true, ◌&&◌, if◌then◌else◌, List, [], ◌∷◌}
-use Rattle.track_core.specs.declared.contexts.Context.{Context}
 use Rattle.track_core.specs.declared.ledger.Ledger.{Ledger}
 use Rattle.track_core.specs.declared.life.Life.{Life}
 use Rattle.track_core.specs.declared.order.Order.{Order}
@@ -40,11 +39,15 @@ life_in [] key = unborn
 life_in (Seen e ∷ earlier) key = life_step e (events_in earlier) (life_in earlier e.key) key (life_in earlier key)
 life_in (Lost ∷ earlier) key = life_in earlier key
 
+-- whether no events were lost since a fence of the key was made or emitted
+abbrev pub is_sure : List Step → FenceKey → Bool
+is_sure steps key = nat_le (loss_in steps) (life_in steps key).born
+
 -- how far the fences of a context were signalled
 abbrev pub order_in : List Step → ContextKey → Order
 order_in [] key = no_order
 order_in (Seen e ∷ earlier) key =
-    if same_context (context_of e.key) key then order_after e.event e.key.seqno (order_in earlier key) else order_in earlier key
+    if same_context (context_of e.key) key then order_after e.event e.key.seqno (events_in earlier) (order_in earlier key) else order_in earlier key
 order_in (Lost ∷ earlier) key = order_in earlier key
 
 -- what the fences did that pass the test
@@ -52,7 +55,7 @@ abbrev pub tally_in : (FenceKey → Bool) → List Step → Tally
 tally_in test [] = none
 tally_in test (Seen e ∷ earlier) =
     if test e.key
-    then tally_after e.event e.key.seqno (life_in earlier e.key) (order_in earlier (context_of e.key)) (tally_in test earlier)
+    then tally_after e.event e.key.seqno (life_in earlier e.key) (order_in earlier (context_of e.key)) (is_sure earlier e.key) (tally_in test earlier)
     else tally_in test earlier
 tally_in test (Lost ∷ earlier) = tally_in test earlier
 
@@ -77,4 +80,4 @@ pub record IsLedgerOf (ledger : Ledger) (steps : List Step) : Type 0 where
 
 -- a fence of the key hangs: one was made or emitted, none was signalled, and no events were lost since
 abbrev pub hangs : List Step → FenceKey → Bool
-hangs steps key = is_pending (life_in steps key) && nat_le (loss_in steps) (life_in steps key).born
+hangs steps key = is_pending (life_in steps key) && is_sure steps key

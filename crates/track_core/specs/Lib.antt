@@ -6,3 +6,4 @@ pub mod Lives
 pub mod Contexts
 pub mod Timelines
 pub mod History
+pub mod Names

@@ -6,7 +6,7 @@ use Rattle.track_core.specs.declared.order.Order.{Order}
 
 -- none was signalled
 abbrev pub no_order : Order
-no_order = record { some = false; furthest = 0; furthest_wrapped = 0; last = 0 }
+no_order = record { some = false; furthest = 0; furthest_wrapped = 0; at = 0; last = 0 }
 
 -- how far a is ahead of b on the circle of 32 bits
 abbrev pub ahead : ℕ → ℕ → ℕ
@@ -28,24 +28,25 @@ is_late_wrapped order seqno = order.some && is_later order.furthest_wrapped seqn
 abbrev pub is_repeat : Order → ℕ → Bool
 is_repeat order seqno = order.some && order.last == seqno
 
-abbrev pub furthest_wrapped : Order → ℕ → ℕ
-furthest_wrapped order seqno =
-    if not order.some || is_later seqno order.furthest_wrapped then seqno else order.furthest_wrapped
+-- whether the seqno is the furthest so far on the circle
+abbrev pub is_furthest : Order → ℕ → Bool
+is_furthest order seqno = not order.some || is_later seqno order.furthest_wrapped
 
-abbrev pub order_signalled : ℕ → Order → Order
-order_signalled seqno order = record {
+abbrev pub order_signalled : ℕ → ℕ → Order → Order
+order_signalled seqno at order = record {
   some = true;
   furthest = max order.furthest seqno;
-  furthest_wrapped = furthest_wrapped order seqno;
+  furthest_wrapped = if is_furthest order seqno then seqno else order.furthest_wrapped;
+  at = if is_furthest order seqno then at else order.at;
   last = seqno;
 }
 
--- after an event of a fence of that seqno
-unfoldable pub order_after : Event → ℕ → Order → Order
-order_after Init seqno order = order
-order_after Emit seqno order = order
-order_after EnableSignal seqno order = order
-order_after Signaled seqno order = order_signalled seqno order
-order_after WaitStart seqno order = order
-order_after WaitEnd seqno order = order
-order_after Destroy seqno order = order
+-- after an event of a fence of that seqno, which so many others came before
+unfoldable pub order_after : Event → ℕ → ℕ → Order → Order
+order_after Init seqno at order = order
+order_after Emit seqno at order = order
+order_after EnableSignal seqno at order = order
+order_after Signaled seqno at order = order_signalled seqno at order
+order_after WaitStart seqno at order = order
+order_after WaitEnd seqno at order = order
+order_after Destroy seqno at order = order

@@ -54,15 +54,26 @@ none = record {
   out_of_order = 0;
   out_of_order_wrapped = 0;
   repeats = 0;
+  overtaken = 0;
+  signalled_twice = 0;
 }
 
 -- whether the fence that is destroyed was not signalled
 abbrev pub is_end_unsignalled : Event → Life → Bool
 is_end_unsignalled event life = is_destroy event && life.signalled == 0
 
--- with an event of a fence, before which that was known of its key and of its context's order
-unfoldable pub tally_after : Event → ℕ → Life → Order → Tally → Tally
-tally_after event seqno life order t = record {
+-- whether a fence that is pending was made before a later one was signalled
+abbrev pub is_overtaken : Life → Order → ℕ → Bool
+is_overtaken life order seqno = nat_lt 0 life.pending && is_late_wrapped order seqno && nat_lt life.born order.at
+
+-- whether fences of the key were signalled, and none is pending
+abbrev pub is_signalled_only : Life → Bool
+is_signalled_only life = life.pending == 0 && nat_lt 0 life.signalled
+
+-- With an event of a fence, before which that was known of its key and of its context's order. It is sure what became of the
+-- fence where no events were lost since it was made.
+unfoldable pub tally_after : Event → ℕ → Life → Order → Bool → Tally → Tally
+tally_after event seqno life order sure t = record {
   events = counts_after event t.events;
   made_again = count_if t.made_again (is_init event && nat_lt 0 life.pending);
   destroyed_pending = count_if t.destroyed_pending (is_end_unsignalled event life && nat_lt 0 life.pending);
@@ -71,4 +82,6 @@ tally_after event seqno life order t = record {
   out_of_order = count_if t.out_of_order (is_signal event && is_late order seqno);
   out_of_order_wrapped = count_if t.out_of_order_wrapped (is_signal event && is_late_wrapped order seqno);
   repeats = count_if t.repeats (is_signal event && is_repeat order seqno);
+  overtaken = count_if t.overtaken (is_signal event && sure && is_overtaken life order seqno);
+  signalled_twice = count_if t.signalled_twice (is_signal event && sure && is_signalled_only life);
 }

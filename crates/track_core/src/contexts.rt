@@ -27,14 +27,16 @@ impl Context {
         tally: Tally::NONE,
     };
 
-    /// With an event of one of its fences, of whose key that was known before.
-    pub fn after(self, sighting: &Sighting, life: Life) -> Context
-        ensures { result ≡ context_after sighting.now life self }
+    /// With an event of one of its fences, which so many others came before. Of its key that was known, for sure or not.
+    pub fn after(self, sighting: &Sighting, at: u64, life: Life, sure: bool) -> Context
+        ensures { result ≡ context_after sighting.now at life sure self }
     {
         let seqno = sighting.key.seqno;
         Context {
-            order: self.order.after(sighting.event, seqno),
-            tally: self.tally.after(sighting.event, seqno, life, self.order),
+            order: self.order.after(sighting.event, seqno, at),
+            tally: self
+                .tally
+                .after(sighting.event, seqno, life, self.order, sure),
         }
     }
 }

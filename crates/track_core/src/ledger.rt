@@ -2,13 +2,13 @@
 ghost use Rattle.std.specs.Prelude.{◌≡◌, List, [], ◌∷◌, OnOk, IfErr};
 ghost use Rattle.point_core.specs.declared.refusal.Refusal.TheVariants.{Memory};
 ghost use Rattle.track_core.specs.Contexts.{context_at};
-ghost use Rattle.track_core.specs.History.{Step, Seen, Lost, IsLedgerOf};
+ghost use Rattle.track_core.specs.History.{Step, Seen, Lost, IsLedgerOf, events_in, every, hangs, is_of_timeline, life_in, loss_in, tally_in};
 ghost use Rattle.track_core.specs.Lives.{life_at};
 
 use crate::contexts::Contexts;
 use crate::life::Life;
 use crate::lives::Lives;
-use crate::sighting::Sighting;
+use crate::sighting::{FenceKey, Sighting, TimelineKey};
 use crate::tally::Tally;
 use crate::timelines::Timelines;
 use point_core::Refusal;
@@ -55,16 +55,85 @@ impl Ledger {
         let timeline_key = sighting.key.timeline_key();
         let timeline = self.timelines.tally(&timeline_key);
         let (event, seqno) = (sighting.event, sighting.key.seqno);
+        let sure = self.loss <= life.born;
         self.lives.see(sighting, self.events)?;
-        self.contexts
-            .put(context_key, context.after(sighting, life))?;
+        self.contexts.put(
+            context_key,
+            context.after(sighting, self.events, life, sure),
+        )?;
         self.timelines.put(
             timeline_key,
-            timeline.after(event, seqno, life, context.order),
+            timeline.after(event, seqno, life, context.order, sure),
         )?;
-        self.total = self.total.after(event, seqno, life, context.order);
+        self.total = self.total.after(event, seqno, life, context.order, sure);
         self.events = self.events.saturating_add(1);
         Ok(())
+    }
+
+    /// What is known of the key.
+    pub fn life(&self, key: &FenceKey) -> Life
+        ensures known { (steps : List Step) → IsLedgerOf self.now steps → result ≡ life_in steps key.now }
+    {
+        self.lives.life(key)
+    }
+
+    /// Whether a fence of the key hangs: one was made or emitted, none was signalled, and no events were lost since.
+    pub fn hangs(&self, key: &FenceKey) -> bool
+        ensures told { (steps : List Step) → IsLedgerOf self.now steps → result ≡ hangs steps key.now }
+    {
+        let life = self.lives.life(key);
+        life.is_pending() && self.loss <= life.born
+    }
+
+    /// What the timeline did.
+    pub fn timeline(&self, key: &TimelineKey) -> Tally
+        ensures counted { (steps : List Step) → IsLedgerOf self.now steps →
+            result ≡ tally_in (is_of_timeline key.now) steps }
+    {
+        self.timelines.tally(key)
+    }
+
+    /// What all fences did.
+    pub fn total(&self) -> Tally
+        ensures counted { (steps : List Step) → IsLedgerOf self.now steps → result ≡ tally_in every steps }
+    {
+        self.total
+    }
+
+    /// How many events were seen.
+    pub fn events(&self) -> u64
+        ensures counted { (steps : List Step) → IsLedgerOf self.now steps → result ≡ events_in steps }
+    {
+        self.events
+    }
+
+    /// How many events were seen before events were lost the last time: of what was made earlier, missing signals prove
+    /// nothing.
+    pub fn loss(&self) -> u64
+        ensures counted { (steps : List Step) → IsLedgerOf self.now steps → result ≡ loss_in steps }
+    {
+        self.loss
+    }
+
+    /// The keys of fences that are alive.
+    pub fn lives(&self) -> &Lives
+        ensures { result.now ≡ self.now.lives }
+    {
+        &self.lives
+    }
+
+    /// The contexts, by first sight.
+    pub fn contexts(&self) -> &Contexts
+        ensures { result.now ≡ self.now.contexts }
+    {
+        &self.contexts
+    }
+
+    /// The timelines, by first sight.
+    pub fn timelines(&self) -> &Timelines
+        ensures { result.now ≡ self.now.timelines }
+    {
+        &self.timelines
     }
 
     /// Takes in that events were lost here.

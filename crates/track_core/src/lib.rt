@@ -5,19 +5,27 @@
 #![tactic(auto)]
 
 mod contexts;
+mod delays;
 mod ledger;
 mod life;
 mod lives;
+mod names;
 mod order;
 mod sighting;
 mod tally;
+mod task;
 mod timelines;
+mod waits;
 
 pub use contexts::{Context, Contexts};
+pub use delays::{Delay, Delays};
 pub use ledger::Ledger;
 pub use life::Life;
 pub use lives::Lives;
+pub use names::Names;
 pub use order::Order;
 pub use sighting::{ContextKey, FenceKey, Sighting, TimelineKey};
 pub use tally::{EventCounts, Tally};
+pub use task::{TASK_BYTES, TaskName};
 pub use timelines::Timelines;
+pub use waits::{LONGEST_WAITS, Wait, WaitKey, WaitSum, Waits};

@@ -51,10 +51,7 @@ impl Lives {
     {
         let own = self.life(&sighting.key);
         self.number(sighting, own)?;
-        self.put(
-            sighting.key,
-            own.after(sighting.event, born, sighting.time),
-        )
+        self.put(sighting.key, own.after(sighting.event, born, sighting.time))
     }
 
     /// Takes one away from the context's fences without a number, where the event gives it one.

@@ -1,6 +1,6 @@
 // The order in which the fences of a context were signalled.
 ghost use Rattle.std.specs.Prelude.{◌≡◌};
-ghost use Rattle.track_core.specs.Order.{is_late, is_late_wrapped, is_repeat, order_after, order_signalled, furthest_wrapped, is_later};
+ghost use Rattle.track_core.specs.Order.{is_late, is_late_wrapped, is_repeat, order_after, order_signalled, is_furthest, is_later};
 
 use trace_core::Event;
 
@@ -17,6 +17,8 @@ pub struct Order {
     pub furthest: u32,
     /// The furthest on the circle of 32 bits.
     pub furthest_wrapped: u32,
+    /// How many events came before that one's signal.
+    pub at: u64,
     /// The last that was signalled.
     pub last: u32,
 }
@@ -27,6 +29,7 @@ impl Order {
         some: false,
         furthest: 0,
         furthest_wrapped: 0,
+        at: 0,
         last: 0,
     };
 
@@ -51,13 +54,13 @@ impl Order {
         self.some && self.last == seqno
     }
 
-    /// After an event of a fence of that seqno.
+    /// After an event of a fence of that seqno, which so many others came before.
     #[tactic(auto, unfolding(crate::specs::Order::order_after))]
-    pub fn after(self, event: Event, seqno: u32) -> Order
-        ensures { result ≡ order_after event seqno self }
+    pub fn after(self, event: Event, seqno: u32, at: u64) -> Order
+        ensures { result ≡ order_after event seqno at self }
     {
         match event {
-            Event::Signaled => self.signalled(seqno),
+            Event::Signaled => self.signalled(seqno, at),
             Event::Init
             | Event::Emit
             | Event::EnableSignal
@@ -67,25 +70,27 @@ impl Order {
         }
     }
 
-    fn signalled(self, seqno: u32) -> Order
-        ensures { result ≡ order_signalled seqno self }
+    fn signalled(self, seqno: u32, at: u64) -> Order
+        ensures { result ≡ order_signalled seqno at self }
     {
+        let is_furthest = self.is_furthest(seqno);
         Order {
             some: true,
             furthest: self.furthest.max(seqno),
-            furthest_wrapped: self.furthest_wrapped(seqno),
+            furthest_wrapped: if is_furthest {
+                seqno
+            } else {
+                self.furthest_wrapped
+            },
+            at: if is_furthest { at } else { self.at },
             last: seqno,
         }
     }
 
-    fn furthest_wrapped(&self, seqno: u32) -> u32
-        ensures { result ≡ furthest_wrapped self.now seqno }
+    fn is_furthest(&self, seqno: u32) -> bool
+        ensures { result ≡ is_furthest self.now seqno }
     {
-        if !self.some || is_later(seqno, self.furthest_wrapped) {
-            seqno
-        } else {
-            self.furthest_wrapped
-        }
+        !self.some || is_later(seqno, self.furthest_wrapped)
     }
 }
 

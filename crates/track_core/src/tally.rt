@@ -1,6 +1,6 @@
 // Counts of events and of what they did.
 ghost use Rattle.std.specs.Prelude.{◌≡◌, ℕ};
-ghost use Rattle.track_core.specs.Tally.{counts_after, tally_after, none, count_if};
+ghost use Rattle.track_core.specs.Tally.{counts_after, tally_after, none, count_if, is_overtaken, is_signalled_only};
 
 use crate::life::Life;
 use crate::order::Order;
@@ -85,6 +85,11 @@ pub struct Tally {
     pub out_of_order_wrapped: u64,
     /// Signals of the seqno that was signalled last in its context.
     pub repeats: u64,
+    /// Signals of fences that were made before a later one of their context was signalled, as far as that is known: a driver
+    /// has to signal them in order.
+    pub overtaken: u64,
+    /// Signals of fences that had been signalled and are not destroyed, as far as that is known.
+    pub signalled_twice: u64,
 }
 
 impl Tally {
@@ -98,12 +103,15 @@ impl Tally {
         out_of_order: 0,
         out_of_order_wrapped: 0,
         repeats: 0,
+        overtaken: 0,
+        signalled_twice: 0,
     };
 
-    /// With an event of a fence, before which that was known of its key and of its context's order.
+    /// With an event of a fence, before which that was known of its key and of its context's order. It is sure what became of
+    /// the fence where no events were lost since it was made.
     #[tactic(auto, unfolding(crate::specs::Tally::tally_after))]
-    pub fn after(self, event: Event, seqno: u32, life: Life, order: Order) -> Tally
-        ensures { result ≡ tally_after event seqno life order self }
+    pub fn after(self, event: Event, seqno: u32, life: Life, order: Order, sure: bool) -> Tally
+        ensures { result ≡ tally_after event seqno life order sure self }
     {
         let is_init = matches!(event, Event::Init);
         let is_signal = matches!(event, Event::Signaled);
@@ -121,8 +129,30 @@ impl Tally {
                 is_signal && order.is_late_wrapped(seqno),
             ),
             repeats: count_if(self.repeats, is_signal && order.is_repeat(seqno)),
+            overtaken: count_if(
+                self.overtaken,
+                is_signal && sure && is_overtaken(life, order, seqno),
+            ),
+            signalled_twice: count_if(
+                self.signalled_twice,
+                is_signal && sure && is_signalled_only(life),
+            ),
         }
     }
+}
+
+/// Whether a fence that is pending was made before a later one was signalled.
+fn is_overtaken(life: Life, order: Order, seqno: u32) -> bool
+    ensures { result ≡ is_overtaken life order seqno }
+{
+    life.pending > 0 && order.is_late_wrapped(seqno) && life.born < order.at
+}
+
+/// Whether fences of the key were signalled, and none is pending.
+fn is_signalled_only(life: Life) -> bool
+    ensures { result ≡ is_signalled_only life }
+{
+    life.pending == 0 && life.signalled > 0
 }
 
 fn count_if(count: u64, one_more: bool) -> u64

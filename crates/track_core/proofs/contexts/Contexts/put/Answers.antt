@@ -1,6 +1,5 @@
 use Rattle.std.specs.Map.{lookup}
 use Rattle.track_core.specs.Contexts.{no_context}
-use Rattle.track_core.specs.Tally.{none}
 use Rattle.track_core.specs.Keys.{same_context}
 use Rattle.track_core.proofs.Puts.{kept}
 use Rattle.track_core.proofs.contexts.Contexts.put.Goals as goal

@@ -1,4 +1,3 @@
-use Rattle.std.proofs.Common.{true}
 use Rattle.track_core.specs.Keys.{unnumbered}
 use Rattle.track_core.specs.Lives.{life_at, gives_number}
 use Rattle.track_core.proofs.Numbering.{numbered}

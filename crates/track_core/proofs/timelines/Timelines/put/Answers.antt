@@ -1,5 +1,4 @@
 use Rattle.std.specs.Map.{lookup}
-use Rattle.track_core.specs.Contexts.{no_context}
 use Rattle.track_core.specs.Tally.{none}
 use Rattle.track_core.specs.Keys.{same_timeline}
 use Rattle.track_core.proofs.Puts.{kept}
