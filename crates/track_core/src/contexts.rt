@@ -67,6 +67,13 @@ impl Contexts {
         }
     }
 
+    /// The contexts with what they did, by first sight.
+    pub fn by_key(&self) -> &IndexMap<ContextKey, Context>
+        ensures { result.now ≡ self.now.by_key }
+    {
+        &self.by_key
+    }
+
     /// Keeps what the context did.
     ///
     /// Refuses as `Memory` alone, and then nothing has changed.

@@ -40,6 +40,13 @@ impl Lives {
         }
     }
 
+    /// The keys of fences that are alive, each with what is known of it, in no order.
+    pub fn by_key(&self) -> &IndexMap<FenceKey, Life>
+        ensures { result.now ≡ self.now.by_key }
+    {
+        &self.by_key
+    }
+
     /// Takes in an event, which so many others came before.
     ///
     /// Refuses as `Memory` alone; then it is not to be used further.

@@ -38,6 +38,13 @@ impl Timelines {
         }
     }
 
+    /// The timelines with what they did, by first sight.
+    pub fn by_key(&self) -> &IndexMap<TimelineKey, Tally>
+        ensures { result.now ≡ self.now.by_key }
+    {
+        &self.by_key
+    }
+
     /// Keeps what the timeline did.
     ///
     /// Refuses as `Memory` alone, and then nothing has changed.
