@@ -28,6 +28,16 @@ pub struct FenceKey {
     pub seqno: u32,
 }
 
+impl ContextKey {
+    /// The timeline of the context.
+    pub fn timeline_key(&self) -> TimelineKey {
+        TimelineKey {
+            driver: self.driver,
+            timeline: self.timeline,
+        }
+    }
+}
+
 impl FenceKey {
     /// The timeline of the fence.
     pub fn timeline_key(&self) -> TimelineKey
