@@ -2,3 +2,4 @@ pub mod Puts
 pub mod Same
 pub mod Numbering
 pub mod Seeing
+pub mod Naming

@@ -1,6 +1,7 @@
 // Names by number.
-ghost use Rattle.std.specs.Prelude.{◌≡◌, IfOk, IfErr};
+ghost use Rattle.std.specs.Prelude.{◌≡◌, List, ℕ, Some, IfOk, IfErr};
 ghost use Rattle.point_core.specs.declared.refusal.Refusal.TheVariants.{Memory};
+ghost use Rattle.track_core.specs.Names.{name_at};
 
 use indexmap::IndexSet;
 use point_core::Refusal;
@@ -32,10 +33,13 @@ impl Names {
     ///
     /// Refuses as `Memory` alone, at the latest where all numbers of 32 bits are given; then nothing has changed.
     pub fn number(&mut self, name: &[u8]) -> Result<u32, Refusal>
+        ensures named { IfOk result (λ n. name_at self.new n ≡ Some name.now) }
+        ensures kept { (n : ℕ) (other : List ℕ) → name_at self.old n ≡ Some other → name_at self.new n ≡ Some other }
         ensures memory { IfErr result (λ e. e ≡ Memory) }
     {
-        if let Some(index) = self.names.get_index_of(name) {
-            return small(index);
+        if let Some((index, _found)) = self.names.get_full(name) {
+            let number = small(index)?;
+            return Ok(number);
         }
         let number = small(self.names.len())?;
         let mut owned = Vec::with_capacity(*self.names.allocator(), name.len())?;
