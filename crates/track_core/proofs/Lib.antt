@@ -1,0 +1,5 @@
+pub mod Puts
+pub mod Same
+pub mod Numbering
+pub mod Seeing
+pub mod Naming

@@ -1,0 +1,155 @@
+// How long fences took from making or emitting to signalling.
+use crate::sighting::TimelineKey;
+use indexmap::IndexMap;
+use point_core::Refusal;
+use std::alloc::Global;
+
+/// Each doubling of a time has so many steps, so that a middle value is told to within a sixteenth.
+const STEPS: u64 = 16;
+
+/// The first bits of a time that say its step.
+const STEP_BITS: u32 = 4;
+
+/// The last step, that of the greatest time.
+const LAST_STEP: u32 = 975;
+
+/// Times of a timeline that fall into one step.
+#[derive(Clone, Copy, Debug, PartialEq, Eq, Hash)]
+struct StepKey {
+    timeline: TimelineKey,
+    step: u32,
+}
+
+/// How many times of a timeline there are, and the longest, in microseconds.
+#[derive(Clone, Copy, Debug)]
+struct Span {
+    count: u64,
+    longest: u64,
+}
+
+/// The middle, the 95th percentile and the longest of a timeline's times, in microseconds.
+#[derive(Clone, Copy, Debug)]
+pub struct Delay {
+    pub count: u64,
+    /// To within a sixteenth.
+    pub median: u64,
+    /// To within a sixteenth.
+    pub percentile_95: u64,
+    pub longest: u64,
+}
+
+/// The times of each timeline, counted by steps.
+#[derive(Drop)]
+pub struct Delays {
+    steps: IndexMap<StepKey, u64>,
+    spans: IndexMap<TimelineKey, Span>,
+}
+
+impl Delays {
+    /// No times. It takes no memory.
+    pub fn new(alloc: Global) -> Delays {
+        Delays {
+            steps: IndexMap::new(alloc),
+            spans: IndexMap::new(alloc),
+        }
+    }
+
+    /// Counts a time.
+    ///
+    /// Refuses as `Memory` alone.
+    pub fn add(&mut self, timeline: TimelineKey, time: u64) -> Result<(), Refusal> {
+        let key = StepKey {
+            timeline,
+            step: step_of(time),
+        };
+        let count = match self.steps.get(&key) {
+            Some(count) => *count,
+            None => 0,
+        };
+        let Ok(_old) = self.steps.insert(key, count.saturating_add(1)) else {
+            return Err(Refusal::Memory);
+        };
+        let span = self.span(&timeline);
+        let longer = Span {
+            count: span.count.saturating_add(1),
+            longest: span.longest.max(time),
+        };
+        let Ok(_old_span) = self.spans.insert(timeline, longer) else {
+            return Err(Refusal::Memory);
+        };
+        Ok(())
+    }
+
+    /// What is known of the times of a timeline.
+    pub fn delay(&self, timeline: &TimelineKey) -> Delay {
+        let span = self.span(timeline);
+        Delay {
+            count: span.count,
+            median: self.time_at(timeline, span.count / 2).min(span.longest),
+            percentile_95: self
+                .time_at(timeline, span.count.saturating_sub(span.count / 20 + 1))
+                .min(span.longest),
+            longest: span.longest,
+        }
+    }
+
+    fn span(&self, timeline: &TimelineKey) -> Span {
+        match self.spans.get(timeline) {
+            Some(span) => *span,
+            None => Span {
+                count: 0,
+                longest: 0,
+            },
+        }
+    }
+
+    /// The greatest time of the step that the time of that place falls into, when they are put in order.
+    fn time_at(&self, timeline: &TimelineKey, place: u64) -> u64 {
+        let mut key = StepKey {
+            timeline: *timeline,
+            step: 0,
+        };
+        let mut passed: u64 = 0;
+        for step in 0..LAST_STEP + 1 {
+            key.step = step;
+            if let Some(count) = self.steps.get(&key) {
+                passed = passed.saturating_add(*count);
+                if passed > place {
+                    return end_of(step);
+                }
+            }
+        }
+        u64::MAX
+    }
+}
+
+/// The step that a time falls into.
+fn step_of(time: u64) -> u32 {
+    if time < STEPS {
+        return small(time);
+    }
+    let shift = time.ilog2().saturating_sub(STEP_BITS);
+    let first = small(time.checked_shr(shift).unwrap_or(0));
+    shift
+        .saturating_mul(1 << STEP_BITS)
+        .saturating_add(first)
+        .min(LAST_STEP)
+}
+
+/// The greatest time of a step.
+fn end_of(step: u32) -> u64 {
+    if u64::from(step) < STEPS {
+        return u64::from(step);
+    }
+    let shift = (step >> STEP_BITS).saturating_sub(1);
+    let first = u64::from(step % (1 << STEP_BITS)).saturating_add(STEPS);
+    let width = 1u64.checked_shl(shift).unwrap_or(u64::MAX);
+    first
+        .saturating_add(1)
+        .saturating_mul(width)
+        .saturating_sub(1)
+}
+
+fn small(number: u64) -> u32 {
+    u32::try_from(number).unwrap_or(u32::MAX)
+}

@@ -1,0 +1,145 @@
+// What the events of a trace say of its fences.
+ghost use Rattle.std.specs.Prelude.{◌≡◌, List, [], ◌∷◌, OnOk, IfErr};
+ghost use Rattle.point_core.specs.declared.refusal.Refusal.TheVariants.{Memory};
+ghost use Rattle.track_core.specs.Contexts.{context_at};
+ghost use Rattle.track_core.specs.History.{Step, Seen, Lost, IsLedgerOf, events_in, every, hangs, is_of_timeline, life_in, loss_in, tally_in};
+ghost use Rattle.track_core.specs.Lives.{life_at};
+
+use crate::contexts::Contexts;
+use crate::life::Life;
+use crate::lives::Lives;
+use crate::sighting::{FenceKey, Sighting, TimelineKey};
+use crate::tally::Tally;
+use crate::timelines::Timelines;
+use point_core::Refusal;
+use std::alloc::Global;
+
+/// What the events of a trace say of its fences, context by context and timeline by timeline.
+#[derive(Drop)]
+pub struct Ledger {
+    events: u64,
+    // how many events came before events were lost the last time
+    loss: u64,
+    lives: Lives,
+    contexts: Contexts,
+    timelines: Timelines,
+    total: Tally,
+}
+
+impl Ledger {
+    /// Nothing was seen. It takes no memory.
+    pub fn new(alloc: Global) -> Ledger
+        ensures { IsLedgerOf result [] }
+    {
+        Ledger {
+            events: 0,
+            loss: 0,
+            lives: Lives::new(alloc),
+            contexts: Contexts::new(alloc),
+            timelines: Timelines::new(alloc),
+            total: Tally::NONE,
+        }
+    }
+
+    /// Takes in an event.
+    ///
+    /// Refuses as `Memory` alone; then it is not to be used further.
+    pub fn see(&mut self, sighting: &Sighting) -> Result<(), Refusal>
+        ensures seen { OnOk result ((steps : List Step) →
+            IsLedgerOf self.old steps → IsLedgerOf self.new (Seen sighting.now ∷ steps)) }
+        ensures memory { IfErr result (λ e. e ≡ Memory) }
+    {
+        let life = self.lives.life(&sighting.key);
+        let context_key = sighting.key.context_key();
+        let context = self.contexts.context(&context_key);
+        let timeline_key = sighting.key.timeline_key();
+        let timeline = self.timelines.tally(&timeline_key);
+        let (event, seqno) = (sighting.event, sighting.key.seqno);
+        let sure = self.loss <= life.born;
+        self.lives.see(sighting, self.events)?;
+        self.contexts.put(
+            context_key,
+            context.after(sighting, self.events, life, sure),
+        )?;
+        self.timelines.put(
+            timeline_key,
+            timeline.after(event, seqno, life, context.order, sure),
+        )?;
+        self.total = self.total.after(event, seqno, life, context.order, sure);
+        self.events = self.events.saturating_add(1);
+        Ok(())
+    }
+
+    /// What is known of the key.
+    pub fn life(&self, key: &FenceKey) -> Life
+        ensures known { (steps : List Step) → IsLedgerOf self.now steps → result ≡ life_in steps key.now }
+    {
+        self.lives.life(key)
+    }
+
+    /// Whether a fence of the key hangs: one was made or emitted, none was signalled, and no events were lost since.
+    pub fn hangs(&self, key: &FenceKey) -> bool
+        ensures told { (steps : List Step) → IsLedgerOf self.now steps → result ≡ hangs steps key.now }
+    {
+        let life = self.lives.life(key);
+        life.is_pending() && self.loss <= life.born
+    }
+
+    /// What the timeline did.
+    pub fn timeline(&self, key: &TimelineKey) -> Tally
+        ensures counted { (steps : List Step) → IsLedgerOf self.now steps →
+            result ≡ tally_in (is_of_timeline key.now) steps }
+    {
+        self.timelines.tally(key)
+    }
+
+    /// What all fences did.
+    pub fn total(&self) -> Tally
+        ensures counted { (steps : List Step) → IsLedgerOf self.now steps → result ≡ tally_in every steps }
+    {
+        self.total
+    }
+
+    /// How many events were seen.
+    pub fn events(&self) -> u64
+        ensures counted { (steps : List Step) → IsLedgerOf self.now steps → result ≡ events_in steps }
+    {
+        self.events
+    }
+
+    /// How many events were seen before events were lost the last time: of what was made earlier, missing signals prove
+    /// nothing.
+    pub fn loss(&self) -> u64
+        ensures counted { (steps : List Step) → IsLedgerOf self.now steps → result ≡ loss_in steps }
+    {
+        self.loss
+    }
+
+    /// The keys of fences that are alive.
+    pub fn lives(&self) -> &Lives
+        ensures { result.now ≡ self.now.lives }
+    {
+        &self.lives
+    }
+
+    /// The contexts, by first sight.
+    pub fn contexts(&self) -> &Contexts
+        ensures { result.now ≡ self.now.contexts }
+    {
+        &self.contexts
+    }
+
+    /// The timelines, by first sight.
+    pub fn timelines(&self) -> &Timelines
+        ensures { result.now ≡ self.now.timelines }
+    {
+        &self.timelines
+    }
+
+    /// Takes in that events were lost here.
+    pub fn lose(&mut self)
+        ensures lost { (steps : List Step) → IsLedgerOf self.old steps → IsLedgerOf self.new (Lost ∷ steps) }
+    {
+        self.loss = self.events;
+    }
+}

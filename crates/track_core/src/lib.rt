@@ -1,0 +1,35 @@
+//! What traces say of fences: which were made and never signalled, who waits, and what each timeline did.
+//!
+//! It takes the records of a trace one by one, and holds what is alive. What each number is stands as a fold over the events
+//! (`specs/History.antt`).
+#![tactic(auto)]
+
+mod contexts;
+mod delays;
+mod ledger;
+mod life;
+mod lives;
+mod names;
+mod order;
+mod sighting;
+mod tally;
+mod summary;
+mod task;
+mod timelines;
+mod tracker;
+mod waits;
+
+pub use contexts::{Context, Contexts};
+pub use delays::{Delay, Delays};
+pub use ledger::Ledger;
+pub use life::Life;
+pub use lives::Lives;
+pub use names::Names;
+pub use order::Order;
+pub use sighting::{ContextKey, FenceKey, Sighting, TimelineKey};
+pub use summary::{Clock, Counts, Summary};
+pub use tally::{EventCounts, Tally};
+pub use task::{TASK_BYTES, TaskName};
+pub use timelines::Timelines;
+pub use tracker::Tracker;
+pub use waits::{LONGEST_WAITS, Wait, WaitKey, WaitSum, Waits};

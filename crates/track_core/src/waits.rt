@@ -1,0 +1,198 @@
+// Waits for fences.
+use crate::sighting::{FenceKey, Sighting, TimelineKey};
+use crate::task::TaskName;
+use indexmap::IndexMap;
+use point_core::Refusal;
+use std::alloc::Global;
+
+/// How many of the longest waits are kept.
+pub const LONGEST_WAITS: usize = 10;
+
+/// A wait for a fence.
+#[derive(Clone, Copy, Debug)]
+pub struct Wait {
+    pub pid: u32,
+    pub task: TaskName,
+    pub key: FenceKey,
+    /// When it began, in microseconds.
+    pub start: u64,
+    /// How long it was, in microseconds.
+    pub length: u64,
+}
+
+/// Waits that ended: how many, how long together, and the longest. Times are microseconds.
+#[derive(Clone, Copy, Debug)]
+pub struct WaitSum {
+    pub count: u64,
+    pub total: u64,
+    pub longest: u64,
+}
+
+impl WaitSum {
+    const NONE: WaitSum = WaitSum {
+        count: 0,
+        total: 0,
+        longest: 0,
+    };
+
+    fn with(self, length: u64) -> WaitSum {
+        WaitSum {
+            count: self.count.saturating_add(1),
+            total: self.total.saturating_add(length),
+            longest: self.longest.max(length),
+        }
+    }
+}
+
+/// One of the waits of a thread for a key. A thread that began the same wait several times ends the last of them first.
+#[derive(Clone, Copy, Debug, PartialEq, Eq, Hash)]
+pub struct WaitKey {
+    pub pid: u32,
+    pub key: FenceKey,
+    /// How many of the same had begun before.
+    pub nth: u32,
+}
+
+/// Who waits, and what the waits were that ended.
+#[derive(Drop)]
+pub struct Waits {
+    open: IndexMap<WaitKey, Wait>,
+    by_timeline: IndexMap<TimelineKey, WaitSum>,
+    longest: Vec<Wait>,
+    ended: WaitSum,
+    without_start: u64,
+    unsignalled: u64,
+}
+
+impl Waits {
+    /// Nobody waits. It takes no memory.
+    pub fn new(alloc: Global) -> Waits {
+        Waits {
+            open: IndexMap::new(alloc),
+            by_timeline: IndexMap::new(alloc),
+            longest: Vec::new(alloc),
+            ended: WaitSum::NONE,
+            without_start: 0,
+            unsignalled: 0,
+        }
+    }
+
+    /// The waits that have not ended, by their start, but for gaps that ends leave.
+    pub fn open(&self) -> &IndexMap<WaitKey, Wait> {
+        &self.open
+    }
+
+    /// The sums of each timeline, by the first end.
+    pub fn by_timeline(&self) -> &IndexMap<TimelineKey, WaitSum> {
+        &self.by_timeline
+    }
+
+    /// The longest waits that ended, the longest first.
+    pub fn longest(&self) -> &[Wait] {
+        self.longest.as_slice()
+    }
+
+    /// The sum of all that ended and whose start was seen.
+    pub fn ended(&self) -> WaitSum {
+        self.ended
+    }
+
+    /// How many ends had no start.
+    pub fn without_start(&self) -> u64 {
+        self.without_start
+    }
+
+    /// How many ended before a signal of the fence: a timeout, or a signal to the task.
+    pub fn unsignalled(&self) -> u64 {
+        self.unsignalled
+    }
+
+    /// A wait begins.
+    ///
+    /// Refuses as `Memory` alone.
+    pub fn start(&mut self, sighting: &Sighting, task: TaskName) -> Result<(), Refusal> {
+        let wait = Wait {
+            pid: sighting.pid,
+            task,
+            key: sighting.key,
+            start: sighting.time,
+            length: 0,
+        };
+        let key = self.next_key(sighting);
+        let Ok(_none) = self.open.insert(key, wait) else {
+            return Err(Refusal::Memory);
+        };
+        Ok(())
+    }
+
+    /// A wait ends, of a fence that is pending or not.
+    ///
+    /// Refuses as `Memory` alone.
+    pub fn end(&mut self, sighting: &Sighting, is_pending: bool) -> Result<(), Refusal> {
+        let next = self.next_key(sighting);
+        let last = WaitKey {
+            nth: next.nth.saturating_sub(1),
+            ..next
+        };
+        let Some(mut wait) = self.open.shift_remove(&last) else {
+            self.without_start = self.without_start.saturating_add(1);
+            return Ok(());
+        };
+        wait.length = sighting.time.saturating_sub(wait.start);
+        if is_pending {
+            self.unsignalled = self.unsignalled.saturating_add(1);
+        }
+        self.ended = self.ended.with(wait.length);
+        self.keep_longest(wait)?;
+        self.add(sighting.key.timeline_key(), wait.length)
+    }
+
+    fn add(&mut self, key: TimelineKey, length: u64) -> Result<(), Refusal> {
+        let sum = match self.by_timeline.get(&key) {
+            Some(sum) => *sum,
+            None => WaitSum::NONE,
+        };
+        let Ok(_old) = self.by_timeline.insert(key, sum.with(length)) else {
+            return Err(Refusal::Memory);
+        };
+        Ok(())
+    }
+
+    /// The key of the next wait of that thread for that fence.
+    fn next_key(&self, sighting: &Sighting) -> WaitKey {
+        let mut key = WaitKey {
+            pid: sighting.pid,
+            key: sighting.key,
+            nth: 0,
+        };
+        for nth in 0..u32::MAX {
+            key.nth = nth;
+            if !self.open.contains_key(&key) {
+                return key;
+            }
+        }
+        key
+    }
+
+    /// Keeps the wait among the longest, where it is one of them.
+    fn keep_longest(&mut self, wait: Wait) -> Result<(), Refusal> {
+        let mut place = self.longest.len();
+        for (index, other) in self.longest.as_slice().iter().enumerate() {
+            if other.length < wait.length {
+                place = index;
+                break;
+            }
+        }
+        if place >= LONGEST_WAITS {
+            return Ok(());
+        }
+        if self.longest.len() >= LONGEST_WAITS {
+            self.longest.pop();
+        }
+        let place = self.longest.len().min(place);
+        let Ok(()) = self.longest.insert(place, wait) else {
+            return Err(Refusal::Memory);
+        };
+        Ok(())
+    }
+}
