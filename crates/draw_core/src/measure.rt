@@ -1,0 +1,30 @@
+// How long texts are.
+
+use crate::waiting::Waiting;
+use itoa::Buffer;
+use point_core::Name;
+
+/// The width of a character, which each text is drawn with.
+const CHARACTER: u64 = 7;
+
+/// How many characters a number has.
+pub(crate) fn digits(number: u64) -> u64 {
+    Buffer::new().format(number).len() as u64
+}
+
+pub(crate) fn name_length(name: &Name) -> u64 {
+    name.as_bytes().len() as u64
+}
+
+/// As in `gpu 5: 3 to go`.
+pub(crate) fn waiting_length(waiting: &Waiting) -> u64 {
+    name_length(&waiting.timeline)
+        .saturating_add(digits(waiting.point))
+        .saturating_add(digits(waiting.to_go))
+        .saturating_add(9)
+}
+
+/// The width of so many characters.
+pub(crate) fn text_width(length: u64) -> u64 {
+    length.saturating_mul(CHARACTER)
+}

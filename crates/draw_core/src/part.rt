@@ -1,0 +1,34 @@
+// Documents that are put together of parts.
+
+use crate::escape::push_escaped;
+use itoa::Buffer;
+use point_core::Refusal;
+
+/// A part of a document.
+#[derive(Clone, Copy)]
+pub(crate) enum Part<'a> {
+    /// The document's own words.
+    Own(&'static str),
+    Number(u64),
+    /// A text that stays within its place.
+    Text(&'a [u8]),
+}
+
+/// Writes the parts to a document.
+///
+/// Fails with `Memory` alone.
+pub(crate) fn push_parts(parts: &[Part<'_>], out: &mut Vec<u8>) -> Result<(), Refusal> {
+    for part in parts {
+        push_part(part, out)?;
+    }
+    Ok(())
+}
+
+fn push_part(part: &Part<'_>, out: &mut Vec<u8>) -> Result<(), Refusal> {
+    match part {
+        Part::Own(words) => out.extend_from_slice(words.as_bytes())?,
+        Part::Number(number) => out.extend_from_slice(Buffer::new().format(*number).as_bytes())?,
+        Part::Text(text) => push_escaped(text, out)?,
+    }
+    Ok(())
+}

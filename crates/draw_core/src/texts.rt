@@ -1,0 +1,33 @@
+// The texts of a script's lines.
+use line_core::first_line;
+
+/// The lines of a script, by rising number.
+#[derive(Drop)]
+pub(crate) struct Texts<'a> {
+    rest: &'a [u8],
+    // of the line that `rest` begins with
+    number: u32,
+}
+
+impl<'a> Texts<'a> {
+    pub(crate) fn of(script: &'a [u8]) -> Texts<'a> {
+        Texts {
+            rest: script,
+            number: 1,
+        }
+    }
+
+    /// The line of that number, which is not below the last that was asked for.
+    pub(crate) fn line(&mut self, number: u32) -> &'a [u8] {
+        for _ in self.number..number {
+            if let Some((_, rest)) = first_line(self.rest) {
+                self.rest = rest;
+            }
+        }
+        self.number = number;
+        match first_line(self.rest) {
+            Some((line, _)) => line,
+            None => self.rest,
+        }
+    }
+}

@@ -1,0 +1,42 @@
+// What a pending file still waits for.
+ghost use Rattle.std.specs.Prelude.{◌≡◌, IfSome};
+ghost use Rattle.draw_core.specs.Drawn.{IsToGo, IsWaitingFor};
+
+use desk_core::Desk;
+use point_core::{Name, Point};
+
+/// A point that is not reached.
+#[derive(Clone, Copy)]
+pub struct Waiting {
+    pub timeline: Name,
+    pub point: u64,
+    /// How much the timeline's value has to grow.
+    pub to_go: u64,
+}
+
+/// How far a point is from being reached. None of a point that is, or that is cancelled.
+pub fn waiting_for(desk: &Desk, point: &Point) -> Option<Waiting>
+    ensures { IfSome result (λ waiting. IsWaitingFor desk.now point.now waiting) }
+{
+    let timeline = desk.timeline_name(point.ctx)?;
+    if desk.point_status(*point).is_signalled() {
+        return None;
+    }
+    waiting_on(desk, &timeline, point.value)
+}
+
+/// How far a timeline is from that value. None where it is there.
+pub fn waiting_on(desk: &Desk, timeline: &Name, point: u64) -> Option<Waiting>
+    ensures { IfSome result (λ waiting. IsToGo desk.now timeline.now point waiting) }
+{
+    let value = desk.timeline_value(timeline)?;
+    let to_go = point.saturating_sub(value);
+    if to_go == 0 {
+        return None;
+    }
+    Some(Waiting {
+        timeline: *timeline,
+        point,
+        to_go,
+    })
+}

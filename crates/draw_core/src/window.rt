@@ -1,0 +1,50 @@
+// Which lines of a script are drawn.
+ghost use Rattle.std.specs.Prelude.{◌≡◌, ◌≤◌, IfSome};
+ghost use Rattle.draw_core.specs.Columns.{is_in_window};
+
+/// The lines of these numbers, both of them too.
+#[derive(Clone, Copy)]
+pub struct Window {
+    pub first: u32,
+    pub last: u32,
+}
+
+impl Window {
+    /// Every line.
+    pub fn whole() -> Window {
+        Window {
+            first: 1,
+            last: u32::MAX,
+        }
+    }
+
+    /// No line, after that one.
+    pub fn after(line: u32) -> Window
+        ensures { result.last ≡ line }
+    {
+        Window {
+            first: line.saturating_add(1),
+            last: line,
+        }
+    }
+
+    /// Reads `A..B`, two numbers of lines of which the first is not above the second.
+    pub fn read(text: &str) -> Option<Window>
+        ensures { IfSome result (λ window. (1 ≤ window.first) × (window.first ≤ window.last)) }
+    {
+        let (first, last) = text.split_once("..")?;
+        let first: u32 = first.parse().ok()?;
+        let last: u32 = last.parse().ok()?;
+        if first == 0 || first > last {
+            return None;
+        }
+        Some(Window { first, last })
+    }
+
+    /// Whether it has the line of that number.
+    pub fn has(&self, line: u32) -> bool
+        ensures { result ≡ is_in_window self.now line }
+    {
+        self.first <= line && line <= self.last
+    }
+}
