@@ -8,18 +8,23 @@ mod status;
 
 use check_core::{Form, Plan, check_scripts, update_scripts};
 use command_line::{
-    Action, Check, Report, action_of, clients_report, tell_fault, tell_unread_word,
+    Action, Check, ColorChoice, Colors, FAULT, Report, action_of, clients_report, take_color,
+    tell_fault, tell_unread_word,
 };
 use explain_core::Look;
 use point_core::Refusal;
-use scripts::{explain_script, run_script};
-use source_core::{Script, Source, script_files};
+use scripts::{explain_script, json_script, run_script};
+use source_core::{Prompted, Script, Source, script_files};
 use status::{ACCEPTED, status_of_verdict};
 use std::env;
 use std::io::IsTerminal;
 use std::process::ExitCode;
 use std::sync::Wait;
 use std::thread::Threads;
+
+/// What a session at a terminal begins with.
+const GREETING: &str =
+    "fencectl: type one command a line; Ctrl-D leaves, and 'fencectl --help' lists the commands";
 
 fn main(rt: HostRuntime) -> ExitCode {
     let status = start(&rt, &rt).unwrap_or_else(|refusal| tell_fault(&refusal, &mut rt.stderr()));
@@ -30,24 +35,61 @@ fn main(rt: HostRuntime) -> ExitCode {
 fn start<T: Threads + Wait + Sync>(rt: &HostRuntime, threads: &T) -> Result<u8, Refusal> {
     match env::args(rt) {
         Ok(words) => {
-            let words: Vec<String> = words.collect(rt.alloc())?;
-            act(rt, threads, action_of(rt, rt.alloc(), words.as_slice())?)
+            let mut words: Vec<String> = words.collect(rt.alloc())?;
+            match take_color(rt, &mut words)? {
+                Some(choice) => start_by(rt, threads, choice, words.as_slice()),
+                None => Ok(FAULT),
+            }
         }
         Err(error) => tell_unread_word(rt, error),
     }
+}
+
+fn start_by<T: Threads + Wait + Sync>(
+    rt: &HostRuntime,
+    threads: &T,
+    choice: ColorChoice,
+    words: &[String],
+) -> Result<u8, Refusal> {
+    let plain = is_plain(rt);
+    let colors = Colors {
+        output: choice.is_on(rt.stdout().is_terminal(), plain),
+        errors: choice.is_on(rt.stderr().is_terminal(), plain),
+    };
+    act(
+        rt,
+        threads,
+        colors,
+        action_of(rt, rt.alloc(), colors, words)?,
+    )
+}
+
+/// Whether the environment asks for output without colours: by `NO_COLOR`, or by a terminal that has none.
+fn is_plain(rt: &HostRuntime) -> bool {
+    let no_color = match env::var(rt, "NO_COLOR") {
+        Ok(value) => !value.is_empty(),
+        Err(_) => false,
+    };
+    let dumb = match env::var(rt, "TERM") {
+        Ok(value) => value.as_str() == "dumb",
+        Err(_) => false,
+    };
+    no_color || dumb
 }
 
 /// Does it. Gives the exit status.
 fn act<T: Threads + Wait + Sync>(
     rt: &HostRuntime,
     threads: &T,
+    colors: Colors,
     action: Action,
 ) -> Result<u8, Refusal> {
     match action {
-        Action::Run(script) => run(rt, script),
-        Action::Check(asked) => check(rt, &asked),
+        Action::Run(script) => run(rt, colors, script),
+        Action::Json(script) => json(rt, script),
+        Action::Check(asked) => check(rt, colors, &asked),
         Action::Update(paths) => update(rt, paths.as_slice()),
-        Action::Explain(script) => explain(rt, script),
+        Action::Explain(script) => explain(rt, colors, script),
         Action::Clients(clients) => {
             clients_report(threads, rt.alloc(), &clients, &mut rt.stdout())?;
             Ok(ACCEPTED)
@@ -56,15 +98,45 @@ fn act<T: Threads + Wait + Sync>(
     }
 }
 
-fn run(rt: &HostRuntime, script: Script) -> Result<u8, Refusal> {
+/// Runs a script. One that is typed at a terminal is asked for line by line, and explained.
+fn run(rt: &HostRuntime, colors: Colors, script: Script) -> Result<u8, Refusal> {
+    if is_typed(rt, script) {
+        return converse(rt, colors);
+    }
     let mut source = Source::open(rt, script, rt.stdin())?;
     Ok(run_script(rt.alloc(), &mut source, &mut rt.stdout(), &mut rt.stderr()))
 }
 
-fn check(rt: &HostRuntime, asked: &Check) -> Result<u8, Refusal> {
+/// Whether the script is typed at a terminal, and errors are seen there.
+fn is_typed(rt: &HostRuntime, script: Script) -> bool {
+    match script {
+        Script::StandardInput => rt.stdin().is_terminal() && rt.stderr().is_terminal(),
+        Script::File(_) => false,
+    }
+}
+
+/// Answers and explains what is typed, line by line.
+fn converse(rt: &HostRuntime, colors: Colors) -> Result<u8, Refusal> {
+    eprintln!(rt; "{GREETING}").map_err(|_| Refusal::Write)?;
+    let mut reader = Prompted::new(rt.stdin(), rt.stderr());
+    Ok(explain_script(
+        rt.alloc(),
+        look(colors),
+        &mut reader,
+        &mut rt.stdout(),
+        &mut rt.stderr(),
+    ))
+}
+
+fn json(rt: &HostRuntime, script: Script) -> Result<u8, Refusal> {
+    let mut source = Source::open(rt, script, rt.stdin())?;
+    Ok(json_script(rt.alloc(), &mut source, &mut rt.stdout(), &mut rt.stderr()))
+}
+
+fn check(rt: &HostRuntime, colors: Colors, asked: &Check) -> Result<u8, Refusal> {
     let names = script_files(rt, asked.paths.as_slice())?;
     let plan = Plan {
-        form: form_of(rt, asked.report),
+        form: form_of(rt, colors, asked.report),
         allows_empty: asked.allows_empty,
     };
     let verdict = check_scripts(
@@ -84,9 +156,11 @@ fn update(rt: &HostRuntime, paths: &[&str]) -> Result<u8, Refusal> {
     Ok(status_of_verdict(verdict))
 }
 
-fn form_of(rt: &HostRuntime, report: Report) -> Form {
+fn form_of(rt: &HostRuntime, colors: Colors, report: Report) -> Form {
     match report {
-        Report::All => Form::Lines,
+        Report::All => Form::Lines {
+            bold: colors.errors,
+        },
         Report::Counts => Form::Counts,
         Report::Tap => Form::Tap(tap_version(rt)),
     }
@@ -100,20 +174,20 @@ fn tap_version(rt: &HostRuntime) -> u64 {
     }
 }
 
-fn explain(rt: &HostRuntime, script: Script) -> Result<u8, Refusal> {
+fn explain(rt: &HostRuntime, colors: Colors, script: Script) -> Result<u8, Refusal> {
     let mut source = Source::open(rt, script, rt.stdin())?;
     Ok(explain_script(
         rt.alloc(),
-        look(rt),
+        look(colors),
         &mut source,
         &mut rt.stdout(),
         &mut rt.stderr(),
     ))
 }
 
-/// Bold at a terminal, else plain.
-fn look(rt: &HostRuntime) -> Look {
-    if rt.stderr().is_terminal() {
+/// Bold where errors are coloured, else plain.
+fn look(colors: Colors) -> Look {
+    if colors.errors {
         Look::Bold
     } else {
         Look::Plain

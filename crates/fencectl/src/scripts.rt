@@ -6,6 +6,7 @@ ghost use Rattle.fencectl.specs.Ends.{EndsRun, ReportsFault, run_status};
 
 use crate::status::status_of_run;
 use explain_core::{Look, explain};
+use json_core::run_json;
 use script_core::engine;
 use std::alloc::Global;
 use std::io::{Read, Write};
@@ -22,6 +23,20 @@ pub(crate) fn run_script<R: Read, W: Write, E: Write>(
         × ReportsFault ended (E.contents errors.old) (E.contents errors.new) }
 {
     let ended = engine(alloc, reader, writer);
+    status_of_run(ended, errors)
+}
+
+/// Runs the script of a reader, and writes its answers as JSON. A fault is reported on `errors`.
+pub(crate) fn json_script<R: Read, W: Write, E: Write>(
+    alloc: Global,
+    reader: &mut R,
+    writer: &mut W,
+    errors: &mut E,
+) -> u8
+    ensures ended { (ended : Result Totals Refusal) × (result ≡ run_status ended)
+        × ReportsFault ended (E.contents errors.old) (E.contents errors.new) }
+{
+    let ended = run_json(alloc, reader, writer);
     status_of_run(ended, errors)
 }
 
