@@ -7,6 +7,7 @@ ghost use Rattle.command_line.specs.Asked.{
   asked_by,
   asked_of,
   asked_of_check,
+  asked_of_trace,
   asked_on,
   check_after,
   check_or_update,
@@ -14,12 +15,13 @@ ghost use Rattle.command_line.specs.Asked.{
   number_named,
   paths_named,
   report_named,
+  trace_after,
 };
 
-use crate::action::{Action, Check, Clients, Report, Table};
+use crate::action::{Action, Check, Clients, Report, Table, Trace};
 use crate::arguments::{
-    ALLOW_EMPTY, CHECK, CLIENTS_WORD, COUNT, EXPLAIN, FILE, LOCKS, PATH, QUIET, ROUNDS_WORD, TAP,
-    UPDATE,
+    ALLOW_EMPTY, CHECK, CLIENTS_WORD, COUNT, EXPLAIN, FILE, JSON, LOCKS, PATH, QUIET, ROUNDS_WORD,
+    TAP, TRACE, UPDATE,
 };
 use clap::ArgMatches;
 use clients_core::{CLIENTS, ROUNDS};
@@ -55,6 +57,9 @@ fn action_after<'a>(
     if word == CHECK {
         return check_action(alloc, matches);
     }
+    if word == TRACE {
+        return Ok(Action::Trace(trace_of(matches)));
+    }
     Ok(action_on(word, script_of(matches)))
 }
 
@@ -77,6 +82,15 @@ fn action_on<'a>(word: &str, script: Script<'a>) -> Action<'a>
         Action::Explain(script)
     } else {
         Action::Run(script)
+    }
+}
+
+fn trace_of<'a>(matches: &ArgMatches<'a>) -> Trace<'a>
+    ensures asked { asked_of_trace result ≡ trace_after (rows_of (found_of matches.now)) }
+{
+    Trace {
+        text: script_of(matches),
+        is_json: has_flag(matches, JSON),
     }
 }
 
