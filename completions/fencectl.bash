@@ -1,18 +1,19 @@
 # Completion of fencectl for bash.
 
 _fencectl() {
-    local word="${COMP_WORDS[COMP_CWORD]}" words="" takes_files=yes
+    local word="${COMP_WORDS[COMP_CWORD]}" words="" takes_files=yes files="*.fence"
     case "$COMP_CWORD ${COMP_WORDS[1]-}" in
-    "1 "*) words="run check explain clients help --help --version --color" ;;
+    "1 "*) words="run check explain trace clients help --help --version --color" ;;
     *" run") words="--json --help" ;;
     *" explain") words="--help" ;;
     *" check") words="--quiet --tap --allow-empty --update --help" ;;
+    *" trace") words="--json --help" files="*" ;;
     *" clients") words="--locks --help" takes_files="" ;;
-    *" help") words="run check explain clients" takes_files="" ;;
+    *" help") words="run check explain trace clients" takes_files="" ;;
     *) takes_files="" ;;
     esac
     mapfile -t COMPREPLY < <(compgen -W "$words" -- "$word")
-    [ -z "$takes_files" ] || mapfile -t -O "${#COMPREPLY[@]}" COMPREPLY < <(compgen -d -- "$word"; compgen -f -X '!*.fence' -- "$word")
+    [ -z "$takes_files" ] || mapfile -t -O "${#COMPREPLY[@]}" COMPREPLY < <(compgen -d -- "$word"; compgen -f -X "!$files" -- "$word")
 }
 
 complete -o filenames -F _fencectl fencectl

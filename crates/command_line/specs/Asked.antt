@@ -8,6 +8,7 @@ use Rattle.command_line.specs.Words.{fencectl}
 use Rattle.command_line.specs.declared.action.Action.{Action}
 use Rattle.command_line.specs.declared.action.Action.TheVariants as action
 use Rattle.command_line.specs.declared.action.Check.{Check as CheckAction}
+use Rattle.command_line.specs.declared.action.Trace.{Trace as TraceAction}
 use Rattle.command_line.specs.declared.action.Report.{Report}
 use Rattle.command_line.specs.declared.action.Report.TheVariants as report
 
@@ -17,6 +18,11 @@ pub record AskedCheck : Type 0 where
   pub report : Report
   pub allows_empty : Bool
 
+-- a trace: the name of its file, or none on standard input, and whether a JSON document is asked for
+pub record AskedTrace : Type 0 where
+  pub file : Option Text
+  pub is_json : Bool
+
 -- a script has the name of its file, or none on standard input; clients have their number and that of their rounds
 pub data Asked : Type 0 where
   Run : Option Text → Asked
@@ -24,6 +30,7 @@ pub data Asked : Type 0 where
   Check : AskedCheck → Asked
   Update : List Text → Asked
   Explain : Option Text → Asked
+  Trace : AskedTrace → Asked
   Clients : ℕ → ℕ → Asked
 
 abbrev pub number_named : Option Text → ℕ
@@ -63,6 +70,12 @@ abbrev pub run_or_json : List Row → Asked
 run_or_json rows =
     if flag_named (one_of (codes "json") rows) then Json (script_named rows) else Run (script_named rows)
 
+abbrev pub trace_after : List Row → AskedTrace
+trace_after rows = record {
+  file = file_named (first_of (codes "FILE") rows);
+  is_json = flag_named (one_of (codes "json") rows);
+}
+
 -- of a script, by the word of a subcommand
 abbrev pub asked_on : Text → List Row → Asked
 asked_on word rows = if bytes_eq word (codes "explain") then Explain (script_named rows) else run_or_json rows
@@ -73,6 +86,7 @@ asked_after word rows =
     if bytes_eq word (codes "clients") then
     Clients (number_named (one_of (codes "N") rows)) (number_named (one_of (codes "ROUNDS") rows))
     else if bytes_eq word (codes "check") then check_or_update rows
+    else if bytes_eq word (codes "trace") then Trace (trace_after rows)
     else asked_on word rows
 
 -- without a subcommand the script of standard input is run
@@ -87,6 +101,9 @@ asked_of_check check = record {
   allows_empty = check.allows_empty;
 }
 
+abbrev pub asked_of_trace : TraceAction → AskedTrace
+asked_of_trace trace = record { file = file_of trace.text; is_json = trace.is_json }
+
 -- nothing where the program is to end
 abbrev pub asked_of : Action → Option Asked
 asked_of (action.Run script) = Some (Run (file_of script))
@@ -94,6 +111,7 @@ asked_of (action.Json script) = Some (Json (file_of script))
 asked_of (action.Update paths) = Some (Update (map (λ p. p.now) paths.items))
 asked_of (action.Check check) = Some (Check (asked_of_check check))
 asked_of (action.Explain script) = Some (Explain (file_of script))
+asked_of (action.Trace trace) = Some (Trace (asked_of_trace trace))
 asked_of (action.Clients clients) = Some (Clients clients.count clients.rounds)
 asked_of (action.End status) = None
 

@@ -40,13 +40,16 @@ abbrev pub clients_app : App
 clients_app = with_rule (with_rule (with_rule (new_app (codes "clients"))
     (number_rule (codes "N") CLIENTS)) (number_rule (codes "ROUNDS") ROUNDS)) (flag_rule (codes "locks"))
 
+abbrev pub trace_app : App
+trace_app = with_rule (script_app (codes "trace")) (flag_rule (codes "json"))
+
 -- without its subcommands
 abbrev pub program_app : App
 program_app = record (new_app (codes "fencectl")) { top = record (new_app (codes "fencectl")).top { has_version = true } }
 
 abbrev pub fencectl : App
-fencectl = with_subcommand (with_subcommand (with_subcommand (with_subcommand program_app
-    run_app.top) check_app.top) (script_app (codes "explain")).top) clients_app.top
+fencectl = with_subcommand (with_subcommand (with_subcommand (with_subcommand (with_subcommand program_app
+    run_app.top) check_app.top) (script_app (codes "explain")).top) trace_app.top) clients_app.top
 
 -- the command is that one, and none of its arguments is global
 abbrev pub IsApp : App → Command → Type 0

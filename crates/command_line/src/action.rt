@@ -18,6 +18,8 @@ pub enum Action<'a> {
     Update(Vec<&'a str>),
     /// Run a script, print its answers, and explain why lines were refused.
     Explain(Script<'a>),
+    /// Read a trace, and report what hangs.
+    Trace(Trace<'a>),
     /// Run clients on threads, and print what they settle.
     Clients(Clients),
     /// End with this status: help or the version is printed, or wrong usage is reported.
@@ -43,6 +45,15 @@ pub enum Report {
     Counts,
     /// Tests of the Test Anything Protocol.
     Tap,
+}
+
+/// Where a trace is read from, and how the report is written.
+#[derive(Clone, Copy)]
+pub struct Trace<'a> {
+    /// A file, or standard input.
+    pub text: Script<'a>,
+    /// Whether the report is a JSON document.
+    pub is_json: bool,
 }
 
 /// How many clients, how many rounds each of them makes, and what they share.

@@ -17,6 +17,7 @@ ghost use Rattle.command_line.specs.Words.{
   reports_app,
   run_app,
   script_app,
+  trace_app,
 };
 
 use clap::error::ErrorKind;
@@ -79,14 +80,19 @@ After a command a note `#= TEXT` expects TEXT as a line of its answer. `fencectl
 *.fence files below folders, and reports each answer that differs on standard error. `fencectl explain` reports there which
 word of a refused line is at fault, and why, and what a `wait` waits for.
 
+`fencectl trace` reads the text of ftrace's dma_fence events, as tracefs, trace-cmd or perf print them, and reports which
+fences were never signalled, who waits for them, and what each timeline did; docs/TRACES.md says how to record one.
+
 Clients run on threads, each with a timeline of its own, and share two buffers; docs/CLIENTS.md says what they do. What
 they settle is the same in every run: a row for each timeline, and for each buffer the points that are pending.
 
 `fencectl run --json` writes a JSON object for each answer, on a line of its own.
 
 Exit status:
-  0  every line was accepted; of a check: every script passes; of clients: they settled
-  1  a line was refused; of a check: an answer differs, or a script expects nothing
+  0  every line was accepted; of a check: every script passes; of clients: they settled;
+     of a trace: nothing hangs
+  1  a line was refused; of a check: an answer differs, or a script expects nothing;
+     of a trace: a fence hangs, or a rule is broken
   2  wrong usage, or a fault of reading, writing, memory or threads
 
 Examples:
@@ -126,6 +132,14 @@ pub(crate) const EXPLAIN: &str = "explain";
 
 const EXPLAIN_ABOUT: &str = "Runs a script, and explains on standard error why lines were refused";
 
+pub(crate) const TRACE: &str = "trace";
+
+const TRACE_ABOUT: &str =
+    "Reads a trace of the kernel's dma_fence events, and reports what hangs and who waits";
+
+/// Asks for a JSON document.
+pub(crate) const JSON: &str = "json";
+
 /// The word for a run of clients, and the numbers that follow it.
 pub(crate) const CLIENTS_WORD: &str = "clients";
 
@@ -152,14 +166,15 @@ pub(crate) fn matches_of<'a>(alloc: Global, words: &'a [String]) -> Result<ArgMa
     command.try_get_matches_from(words)
 }
 
-/// The program's command line: `run`, `check` or `explain`, with a file or without, or nothing to run the script of standard
-/// input; or `clients` with two numbers.
+/// The program's command line: `run`, `check`, `explain` or `trace`, with a file or without, or nothing to run the script of
+/// standard input; or `clients` with two numbers.
 fn command<'a>(alloc: Global) -> Result<Command<'a>, AllocError>
     ensures { IfOk result (IsApp fencectl) }
 {
     let command = with(program(alloc)?, run(alloc))?;
     let command = with(command, check(alloc))?;
     let command = with(command, explain(alloc))?;
+    let command = with(command, trace(alloc))?;
     with(command, clients(alloc))
 }
 
@@ -234,6 +249,24 @@ fn explain<'a>(alloc: Global) -> Result<Command<'a>, AllocError>
     Command::new(alloc, EXPLAIN)
         .about(EXPLAIN_ABOUT)
         .arg(file(alloc))
+}
+
+/// `trace`, its file and the form of its report.
+fn trace<'a>(alloc: Global) -> Result<Command<'a>, AllocError>
+    ensures { IfOk result (IsApp trace_app) }
+{
+    let command = Command::new(alloc, TRACE).about(TRACE_ABOUT);
+    command.arg(trace_file(alloc))?.arg(flag(alloc, JSON, "Writes the report as one JSON document"))
+}
+
+/// The file of a trace.
+fn trace_file<'a>(alloc: Global) -> Arg<'a>
+    ensures rule { rule_of result ≡ file_rule }
+    ensures local { result.global ≡ false }
+{
+    Arg::new(alloc, FILE)
+        .default_value(STANDARD_INPUT)
+        .help("The trace's text, or - for standard input")
 }
 
 /// The file of a script.

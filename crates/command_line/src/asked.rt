@@ -7,6 +7,7 @@ ghost use Rattle.command_line.specs.Asked.{
   asked_by,
   asked_of,
   asked_of_check,
+  asked_of_trace,
   asked_on,
   check_after,
   check_or_update,
@@ -15,12 +16,13 @@ ghost use Rattle.command_line.specs.Asked.{
   paths_named,
   report_named,
   run_or_json,
+  trace_after,
 };
 
-use crate::action::{Action, Check, Clients, Report, Table};
+use crate::action::{Action, Check, Clients, Report, Table, Trace};
 use crate::arguments::{
     ALLOW_EMPTY, CHECK, CLIENTS_WORD, COUNT, EXPLAIN, FILE, JSON, LOCKS, PATH, QUIET, ROUNDS_WORD,
-    TAP, UPDATE,
+    TAP, TRACE, UPDATE,
 };
 use clap::ArgMatches;
 use clients_core::{CLIENTS, ROUNDS};
@@ -56,6 +58,9 @@ fn action_after<'a>(
     if word == CHECK {
         return check_action(alloc, matches);
     }
+    if word == TRACE {
+        return Ok(Action::Trace(trace_of(matches)));
+    }
     Ok(action_on(word, matches))
 }
 
@@ -88,6 +93,15 @@ fn run_action<'a>(matches: &ArgMatches<'a>) -> Action<'a>
         Action::Json(script_of(matches))
     } else {
         Action::Run(script_of(matches))
+    }
+}
+
+fn trace_of<'a>(matches: &ArgMatches<'a>) -> Trace<'a>
+    ensures asked { asked_of_trace result ≡ trace_after (rows_of (found_of matches.now)) }
+{
+    Trace {
+        text: script_of(matches),
+        is_json: has_flag(matches, JSON),
     }
 }
 

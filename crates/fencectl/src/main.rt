@@ -1,10 +1,11 @@
 //! `fencectl`: reads a script of fence commands from standard input or a file, and prints their answers on standard
-//! output, compares them with those that the script expects, or explains them; or runs clients on threads, and prints what
-//! they settle.
+//! output, as text or JSON, compares them with those that the script expects, or explains them; or reports what hangs in
+//! a trace of a kernel; or runs clients on threads, and prints what they settle.
 #![tactic(auto)]
 
 mod scripts;
 mod status;
+mod traces;
 
 use check_core::{Form, Plan, check_scripts, update_scripts};
 use command_line::{
@@ -21,6 +22,7 @@ use std::io::IsTerminal;
 use std::process::ExitCode;
 use std::sync::Wait;
 use std::thread::Threads;
+use traces::report;
 
 /// What a session at a terminal begins with.
 const GREETING: &str =
@@ -90,6 +92,7 @@ fn act<T: Threads + Wait + Sync>(
         Action::Check(asked) => check(rt, colors, &asked),
         Action::Update(paths) => update(rt, paths.as_slice()),
         Action::Explain(script) => explain(rt, colors, script),
+        Action::Trace(asked) => report(rt, &asked),
         Action::Clients(clients) => {
             clients_report(threads, rt.alloc(), &clients, &mut rt.stdout())?;
             Ok(ACCEPTED)

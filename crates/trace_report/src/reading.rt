@@ -1,0 +1,30 @@
+// A trace from a reader.
+use point_core::Refusal;
+use std::io::Read;
+use trace_core::{Pieces, Progress};
+use track_core::Tracker;
+
+/// Takes in a text to its end.
+///
+/// Refuses as `Read` where the reader fails, and as `Memory`.
+pub(crate) fn read_trace<R: Read>(tracker: &mut Tracker, reader: &mut R) -> Result<(), Refusal> {
+    let mut pieces = Pieces::new();
+    for _ in 0..u64::MAX {
+        match pieces.next() {
+            Some(piece) => {
+                tracker.take(&piece)?;
+                let length = piece.length;
+                pieces.pass(length);
+            }
+            None => {
+                if pieces.is_whole() {
+                    return Ok(());
+                }
+                if pieces.read(reader) == Progress::Failed {
+                    return Err(Refusal::Read);
+                }
+            }
+        }
+    }
+    Ok(())
+}

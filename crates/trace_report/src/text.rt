@@ -1,0 +1,337 @@
+// The report as text.
+use crate::found::{Found, Pending};
+use crate::page::{Page, Part};
+use crate::table::{Timelines, latest, names_of};
+use point_core::Refusal;
+use std::io::Write;
+use track_core::{FenceKey, Summary, Tally, TimelineKey, Tracker, Wait};
+
+/// Writes what was read, what hangs, who waits, which rules were broken, and what each timeline did.
+pub(crate) fn write_text<W: Write>(
+    page: &mut Page,
+    tracker: &Tracker,
+    found: &Found,
+    timelines: &Timelines,
+    writer: &mut W,
+) -> Result<(), Refusal> {
+    add_read(page, tracker);
+    add_losses(page, &tracker.summary);
+    add_hangs(page, found);
+    write_pending(page, tracker, found.hangs.as_slice(), writer)?;
+    add_first(page, tracker, found.hangs.as_slice());
+    add_unknown(page, found);
+    write_pending(page, tracker, found.unknown.as_slice(), writer)?;
+    write_waits(page, tracker, writer)?;
+    add_broken(page, &tracker.ledger.total());
+    write_timelines(page, tracker, timelines, writer)
+}
+
+fn add_read(page: &mut Page, tracker: &Tracker) {
+    let summary = &tracker.summary;
+    page.add(&[
+        Part::Text("read: "),
+        Part::Number(summary.lines),
+        Part::Text(" lines, "),
+        Part::Number(summary.bytes),
+        Part::Text(" bytes: "),
+        Part::Number(tracker.ledger.events()),
+        Part::Text(" events of fences, "),
+        Part::Number(summary.others),
+        Part::Text(" other records, "),
+        Part::Number(summary.unread),
+        Part::Text(" lines that are no records\n"),
+    ]);
+    let events = tracker.ledger.total().events;
+    page.add(&[
+        Part::Text("  "),
+        Part::Number(events.init),
+        Part::Text(" init, "),
+        Part::Number(events.emit),
+        Part::Text(" emit, "),
+        Part::Number(events.enable_signal),
+        Part::Text(" enable_signal, "),
+        Part::Number(events.signaled),
+        Part::Text(" signaled, "),
+        Part::Number(events.wait_start),
+        Part::Text(" wait_start, "),
+        Part::Number(events.wait_end),
+        Part::Text(" wait_end, "),
+        Part::Number(events.destroy),
+        Part::Text(" destroy\n"),
+    ]);
+}
+
+fn add_losses(page: &mut Page, summary: &Summary) {
+    if let Some(clock) = summary.clock {
+        page.add(&[
+            Part::Text("  "),
+            Part::Seconds(clock.latest.saturating_sub(clock.first)),
+            Part::Text(" s, from "),
+            Part::Seconds(clock.first),
+            Part::Text(" on\n"),
+        ]);
+        add_count(page, clock.steps_back, "times the time steps back");
+    }
+    if let Some(counts) = summary.counts {
+        let lost = counts.written.saturating_sub(counts.in_buffer);
+        add_count(
+            page,
+            lost,
+            "events were overwritten before the text was saved",
+        );
+    }
+    add_count(
+        page,
+        summary.lost_events,
+        "events were lost, as lines of the text say",
+    );
+    add_count(
+        page,
+        summary.unnumbered_losses,
+        "lines say that events were lost, and not how many",
+    );
+    let late = summary.late_buffers.len() as u64;
+    add_count(
+        page,
+        late,
+        "lines say that the events of a processor begin there",
+    );
+}
+
+/// A line, where there are any.
+fn add_count(page: &mut Page, count: u64, text: &str) {
+    if count > 0 {
+        page.add(&[
+            Part::Text("  "),
+            Part::Number(count),
+            Part::Text(" "),
+            Part::Text(text),
+            Part::Text("\n"),
+        ]);
+    }
+}
+
+fn add_hangs(page: &mut Page, found: &Found) {
+    if found.hangs.is_empty() {
+        page.add(&[Part::Text("\nwhat hangs: nothing\n")]);
+        return;
+    }
+    page.add(&[
+        Part::Text("\nwhat hangs: "),
+        Part::Number(found.hangs.len() as u64),
+        Part::Text(" made or emitted, and never signalled\n"),
+    ]);
+}
+
+/// Says which of several fences is the first.
+fn add_first(page: &mut Page, tracker: &Tracker, pending: &[Pending]) {
+    if pending.len() < 2 {
+        return;
+    }
+    if let Some(first) = pending.first() {
+        page.add(&[Part::Text("  The first is ")]);
+        add_fence(page, tracker, &first.key());
+        page.add(&[Part::Text("; the others were made after it, and may wait for it.\n")]);
+    }
+}
+
+fn add_unknown(page: &mut Page, found: &Found) {
+    if !found.unknown.is_empty() {
+        page.add(&[
+            Part::Text("\nnot known: "),
+            Part::Number(found.unknown.len() as u64),
+            Part::Text(
+                " made or emitted before events were lost; their signals may be among those\n",
+            ),
+        ]);
+    }
+}
+
+/// The fences, a line each, and a line for each task that waits for it.
+fn write_pending<W: Write>(
+    page: &mut Page,
+    tracker: &Tracker,
+    pending: &[Pending],
+    writer: &mut W,
+) -> Result<(), Refusal> {
+    for fence in pending {
+        let key = fence.key();
+        page.add(&[Part::Text("  ")]);
+        add_fence(page, tracker, &key);
+        page.add(&[
+            Part::Text(" since "),
+            Part::Seconds(fence.since),
+            Part::Text(" for "),
+            Part::Seconds(latest(tracker).saturating_sub(fence.since)),
+            Part::Text(" s\n"),
+        ]);
+        add_waiters(page, tracker, &key);
+        page.write_block(writer)?;
+    }
+    Ok(())
+}
+
+fn add_waiters(page: &mut Page, tracker: &Tracker, key: &FenceKey) {
+    for (_, wait) in tracker.waits.open().iter() {
+        if wait.key == *key {
+            page.add(&[
+                Part::Text("    "),
+                Part::Name(wait.task.as_bytes()),
+                Part::Text("-"),
+                Part::Number(u64::from(wait.pid)),
+                Part::Text(" waits for it since "),
+                Part::Seconds(wait.start),
+                Part::Text("\n"),
+            ]);
+        }
+    }
+}
+
+/// `DRIVER/TIMELINE context N seqno N`.
+fn add_fence(page: &mut Page, tracker: &Tracker, key: &FenceKey) {
+    let (driver, timeline) = names_of(tracker, &key.timeline_key());
+    page.add(&[
+        Part::Name(driver),
+        Part::Text("/"),
+        Part::Name(timeline),
+        Part::Text(" context "),
+        Part::Number(u64::from(key.context)),
+        Part::Text(" seqno "),
+        Part::Number(u64::from(key.seqno)),
+    ]);
+}
+
+fn write_waits<W: Write>(
+    page: &mut Page,
+    tracker: &Tracker,
+    writer: &mut W,
+) -> Result<(), Refusal> {
+    let open = tracker.waits.open();
+    page.add(&[
+        Part::Text("\nwho waits: "),
+        Part::Number(open.len() as u64),
+        Part::Text(" not ended\n"),
+    ]);
+    for (_, wait) in open.iter() {
+        add_wait(
+            page,
+            tracker,
+            wait,
+            latest(tracker).saturating_sub(wait.start),
+        );
+        page.write_block(writer)?;
+    }
+    add_longest(page, tracker);
+    Ok(())
+}
+
+fn add_longest(page: &mut Page, tracker: &Tracker) {
+    let ended = tracker.waits.ended();
+    page.add(&[
+        Part::Text("  "),
+        Part::Number(ended.count),
+        Part::Text(" ended after "),
+        Part::Seconds(ended.total),
+        Part::Text(" s together, "),
+        Part::Number(tracker.waits.unsignalled()),
+        Part::Text(" of them before a signal; the longest:\n"),
+    ]);
+    for wait in tracker.waits.longest() {
+        add_wait(page, tracker, wait, wait.length);
+    }
+}
+
+fn add_wait(page: &mut Page, tracker: &Tracker, wait: &Wait, length: u64) {
+    page.add(&[
+        Part::Text("  "),
+        Part::Seconds(length),
+        Part::Text(" s "),
+        Part::Name(wait.task.as_bytes()),
+        Part::Text("-"),
+        Part::Number(u64::from(wait.pid)),
+        Part::Text(" for "),
+    ]);
+    add_fence(page, tracker, &wait.key);
+    page.add(&[
+        Part::Text(" since "),
+        Part::Seconds(wait.start),
+        Part::Text("\n"),
+    ]);
+}
+
+fn add_broken(page: &mut Page, total: &Tally) {
+    let count = total.overtaken.saturating_add(total.signalled_twice);
+    page.add(&[
+        Part::Text("\nrules broken: "),
+        Part::Number(count),
+        Part::Text("\n"),
+    ]);
+    add_count(
+        page,
+        total.overtaken,
+        "signalled after a later one of their context, which was made after them",
+    );
+    add_count(page, total.signalled_twice, "signalled twice");
+    let late = total.out_of_order_wrapped.saturating_sub(total.overtaken);
+    add_count(
+        page,
+        late,
+        "made behind a point that was signalled, which is ordinary",
+    );
+    add_count(
+        page,
+        total.destroyed_pending,
+        "destroyed and never signalled, which is ordinary",
+    );
+}
+
+fn write_timelines<W: Write>(
+    page: &mut Page,
+    tracker: &Tracker,
+    timelines: &Timelines,
+    writer: &mut W,
+) -> Result<(), Refusal> {
+    page.add(&[Part::Text(
+        "\ntimelines, with the seconds from making or emitting to signalling:\n",
+    )]);
+    for (key, tally) in tracker.ledger.timelines().by_key().iter() {
+        add_timeline(page, tracker, key, tally, timelines);
+        page.write_block(writer)?;
+    }
+    Ok(())
+}
+
+fn add_timeline(
+    page: &mut Page,
+    tracker: &Tracker,
+    key: &TimelineKey,
+    tally: &Tally,
+    timelines: &Timelines,
+) {
+    let (driver, timeline) = names_of(tracker, key);
+    let row = timelines.row(key);
+    let delay = tracker.delays.delay(key);
+    page.add(&[
+        Part::Text("  "),
+        Part::Name(driver),
+        Part::Text("/"),
+        Part::Name(timeline),
+        Part::Text(": "),
+        Part::Number(row.contexts),
+        Part::Text(" contexts, "),
+        Part::Number(tally.events.init),
+        Part::Text(" made, "),
+        Part::Number(tally.events.signaled),
+        Part::Text(" signalled, "),
+        Part::Number(row.pending),
+        Part::Text(" pending; median "),
+    ]);
+    page.add(&[
+        Part::Seconds(delay.median),
+        Part::Text(", 95 % "),
+        Part::Seconds(delay.percentile_95),
+        Part::Text(", longest "),
+        Part::Seconds(delay.longest),
+        Part::Text("\n"),
+    ]);
+}
