@@ -116,7 +116,7 @@ pub(crate) const CHECK: &str = "check";
 const CHECK_ABOUT: &str =
     "Runs scripts, and compares their answers with those that their notes expect";
 
-/// Asks for answers as JSON.
+/// Asks for JSON: answers, or a report of a trace.
 pub(crate) const JSON: &str = "json";
 
 /// The flags of a check.
@@ -136,9 +136,6 @@ pub(crate) const TRACE: &str = "trace";
 
 const TRACE_ABOUT: &str =
     "Reads a trace of the kernel's dma_fence events, and reports what hangs and who waits";
-
-/// Asks for a JSON document.
-pub(crate) const JSON: &str = "json";
 
 /// The word for a run of clients, and the numbers that follow it.
 pub(crate) const CLIENTS_WORD: &str = "clients";
