@@ -3,3 +3,4 @@ pub mod Same
 pub mod Numbering
 pub mod Seeing
 pub mod Naming
+pub mod Tracking

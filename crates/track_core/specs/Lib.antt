@@ -7,3 +7,4 @@ pub mod Contexts
 pub mod Timelines
 pub mod History
 pub mod Names
+pub mod Tracker

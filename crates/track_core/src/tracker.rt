@@ -1,4 +1,9 @@
 // A trace, piece by piece.
+ghost use Rattle.std.specs.Prelude.{◌≡◌, List, [], ◌∷◌, IfOk, OnOk};
+ghost use Rattle.trace_core.specs.Item.{Told, told, Event as EventTold};
+ghost use Rattle.trace_core.specs.Record.{printed};
+ghost use Rattle.track_core.specs.Tracker.{Keeps, Says, Tracks};
+
 use crate::delays::Delays;
 use crate::ledger::Ledger;
 use crate::names::Names;
@@ -24,7 +29,9 @@ pub struct Tracker {
 
 impl Tracker {
     /// Nothing was read. It takes no memory.
-    pub fn new(alloc: Global) -> Tracker {
+    pub fn new(alloc: Global) -> Tracker
+        ensures none { Tracks result [] }
+    {
         Tracker {
             summary: Summary::new(alloc),
             drivers: Names::new(alloc),
@@ -38,7 +45,10 @@ impl Tracker {
     /// Takes in the next piece of the text.
     ///
     /// Refuses as `Memory` alone; then it is not to be used further.
-    pub fn take(&mut self, piece: &Piece<'_>) -> Result<(), Refusal> {
+    pub fn take(&mut self, piece: &Piece<'_>) -> Result<(), Refusal>
+        ensures more { OnOk result ((items : List Told) →
+            Tracks self.old items → Tracks self.new (told piece.now.item ∷ items)) }
+    {
         self.summary.take(piece)?;
         match &piece.item {
             Item::Event(record) => self.see(record)?,
@@ -55,30 +65,43 @@ impl Tracker {
         Ok(())
     }
 
-    fn see(&mut self, record: &Record<'_>) -> Result<(), Refusal> {
-        let sighting = self.sighting(record)?;
-        self.time(&sighting, record.task)?;
-        self.ledger.see(&sighting)
+    fn see(&mut self, event: &Record<'_>) -> Result<(), Refusal>
+        ensures seen { OnOk result ((items : List Told) →
+            Tracks self.old items → Tracks self.new (EventTold (printed event.now) ∷ items)) }
+    {
+        let sighting = self.sighting(event)?;
+        self.time(&sighting, event.task)?;
+        self.ledger.see(&sighting)?;
+        Ok(())
     }
 
-    fn sighting(&mut self, record: &Record<'_>) -> Result<Sighting, Refusal> {
-        let driver = self.drivers.number(record.driver)?;
-        let timeline = self.timelines.number(record.timeline)?;
+    fn sighting(&mut self, event: &Record<'_>) -> Result<Sighting, Refusal>
+        ensures says { IfOk result (λ e. Says self.new.drivers self.new.timelines e (printed event.now)) }
+        ensures drivers { Keeps self.old.drivers self.new.drivers }
+        ensures timelines { Keeps self.old.timelines self.new.timelines }
+        ensures ledger { self.new.ledger ≡ self.old.ledger }
+    {
+        let driver = self.drivers.number(event.driver)?;
+        let timeline = self.timelines.number(event.timeline)?;
         Ok(Sighting {
-            event: record.event,
+            event: event.event,
             key: FenceKey {
                 driver,
                 timeline,
-                context: record.context,
-                seqno: record.seqno,
+                context: event.context,
+                seqno: event.seqno,
             },
-            time: record.time,
-            pid: record.pid,
+            time: event.time,
+            pid: event.pid,
         })
     }
 
     /// What the event says of waits and of times.
-    fn time(&mut self, sighting: &Sighting, task: &[u8]) -> Result<(), Refusal> {
+    fn time(&mut self, sighting: &Sighting, task: &[u8]) -> Result<(), Refusal>
+        ensures drivers { self.new.drivers ≡ self.old.drivers }
+        ensures timelines { self.new.timelines ≡ self.old.timelines }
+        ensures ledger { self.new.ledger ≡ self.old.ledger }
+    {
         let life = self.ledger.life(&sighting.key);
         match sighting.event {
             Event::WaitStart => self.waits.start(sighting, TaskName::new(task)),

@@ -1,0 +1,36 @@
+-- What a tracker keeps, when names are added and an event is seen.
+use Rattle.std.proofs.Common.{◌≡◌, sym, subst, List, [], ◌∷◌, Option, None, Some}
+use Rattle.trace_core.specs.Item.{Told, Event}
+use Rattle.trace_core.specs.Record.{Printed}
+use Rattle.track_core.specs.declared.names.Names.{Names}
+use Rattle.track_core.specs.declared.sighting.Sighting.{Sighting}
+use Rattle.track_core.specs.History.{Step, Seen, Lost}
+use Rattle.track_core.specs.Tracker.{Says, IsStep, AreSteps, Keeps, steps_told}
+
+module _ (d e t u : Names) (drivers : Keeps d e) (timelines : Keeps t u) where
+  says-kept : (s : Sighting) (r : Printed) → Says d t s r → Says e u s r
+  says-kept s r says = record {
+    event = says.event;
+    driver = drivers s.key.driver r.driver says.driver;
+    timeline = timelines s.key.timeline r.timeline says.timeline;
+    context = says.context;
+    seqno = says.seqno;
+    time = says.time;
+    pid = says.pid;
+  }
+
+  step-kept : (told : Option Printed) (step : Step) → IsStep d t told step → IsStep e u told step
+  step-kept (Some r) (Seen s) is = says-kept s r is
+  step-kept (Some r) Lost is = is
+  step-kept None (Seen s) is = is
+  step-kept None Lost is = is
+
+  pub steps-kept : (told : List (Option Printed)) (steps : List Step) → AreSteps d t told steps → AreSteps e u told steps
+  steps-kept [] [] are = are
+  steps-kept [] (step ∷ steps) are = are
+  steps-kept (x ∷ more) [] are = are
+  steps-kept (x ∷ more) (step ∷ steps) are = (step-kept x step are.0, steps-kept more steps are.1)
+
+pub seen : (d d1 d2 t t1 t2 : Names) (items : List Told) (s : Sighting) (r : Printed) (steps : List Step) → AreSteps d t (steps_told items) steps → Keeps d d1 → Keeps t t1 → Says d1 t1 s r → d2 ≡ d1 → t2 ≡ t1 → AreSteps d2 t2 (steps_told (Event r ∷ items)) (Seen s ∷ steps)
+seen d d1 d2 t t1 t2 items s r steps are drivers timelines says d-is t-is =
+    subst (λ x. AreSteps x t2 (Some r ∷ steps_told items) (Seen s ∷ steps)) (sym d-is) (subst (λ x. AreSteps d1 x (Some r ∷ steps_told items) (Seen s ∷ steps)) (sym t-is) (says, steps-kept d d1 t t1 drivers timelines (steps_told items) steps are))

@@ -1,0 +1,53 @@
+-- What a tracker keeps of the items of a text.
+use Rattle.std.specs.Prelude.{◌≡◌, ℕ, ⊤, List, [], ◌∷◌, Option, None, Some}
+use Rattle.trace_core.specs.Item.{Told, Event, Other, Unread, Lost as LostEvents, BufferStarted, Counts, Note}
+use Rattle.trace_core.specs.Record.{Printed}
+use Rattle.track_core.specs.declared.names.Names.{Names}
+use Rattle.track_core.specs.declared.sighting.Sighting.{Sighting}
+use Rattle.track_core.specs.declared.tracker.Tracker.{Tracker}
+use Rattle.track_core.specs.History.{Step, Seen, Lost, IsLedgerOf}
+use Rattle.track_core.specs.Names.{name_at}
+
+-- the event is that of the record, with its names by number
+pub record Says (drivers timelines : Names) (e : Sighting) (r : Printed) : Type 0 where
+  pub event : e.event ≡ r.event
+  pub driver : name_at drivers e.key.driver ≡ Some r.driver
+  pub timeline : name_at timelines e.key.timeline ≡ Some r.timeline
+  pub context : e.key.context ≡ r.context
+  pub seqno : e.key.seqno ≡ r.seqno
+  pub time : e.time ≡ r.time
+  pub pid : e.pid ≡ r.pid
+
+-- what the items say of fences: the record of an event, or none where events were lost
+abbrev pub steps_told : List Told → List (Option Printed)
+steps_told [] = []
+steps_told (Event r ∷ items) = Some r ∷ steps_told items
+steps_told (LostEvents cpu events ∷ items) = None ∷ steps_told items
+steps_told (BufferStarted cpu ∷ items) = None ∷ steps_told items
+steps_told (Other ∷ items) = steps_told items
+steps_told (Unread ∷ items) = steps_told items
+steps_told (Counts held written processors ∷ items) = steps_told items
+steps_told (Note ∷ items) = steps_told items
+
+abbrev pub IsStep : Names → Names → Option Printed → Step → Type 0
+IsStep drivers timelines (Some r) (Seen e) = Says drivers timelines e r
+IsStep drivers timelines (Some r) Lost = ⊥
+IsStep drivers timelines None (Seen e) = ⊥
+IsStep drivers timelines None Lost = ⊤
+
+-- one after another, the newest first in both
+abbrev pub AreSteps : Names → Names → List (Option Printed) → List Step → Type 0
+AreSteps drivers timelines [] [] = ⊤
+AreSteps drivers timelines [] (step ∷ steps) = ⊥
+AreSteps drivers timelines (told ∷ more) [] = ⊥
+AreSteps drivers timelines (told ∷ more) (step ∷ steps) = IsStep drivers timelines told step × AreSteps drivers timelines more steps
+
+-- a name keeps its number
+abbrev pub Keeps : Names → Names → Type 0
+Keeps old new = (n : ℕ) (name : List ℕ) → name_at old n ≡ Some name → name_at new n ≡ Some name
+
+-- the ledger is that of the items' events and losses, each once and in order
+pub record Tracks (t : Tracker) (items : List Told) : Type 0 where
+  pub steps : List Step
+  pub are : AreSteps t.drivers t.timelines (steps_told items) steps
+  pub ledger : IsLedgerOf t.ledger steps
