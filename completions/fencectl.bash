@@ -3,11 +3,12 @@
 _fencectl() {
     local word="${COMP_WORDS[COMP_CWORD]}" words="" takes_files=yes
     case "$COMP_CWORD ${COMP_WORDS[1]-}" in
-    "1 "*) words="run check explain clients help --help --version" ;;
+    "1 "*) words="run check explain draw clients help --help --version" ;;
     *" run" | *" explain") words="--help" ;;
     *" check") words="--quiet --tap --allow-empty --update --help" ;;
+    *" draw") words="--graph --line --lines --output --help" ;;
     *" clients") words="--locks --help" takes_files="" ;;
-    *" help") words="run check explain clients" takes_files="" ;;
+    *" help") words="run check explain draw clients" takes_files="" ;;
     *) takes_files="" ;;
     esac
     mapfile -t COMPREPLY < <(compgen -W "$words" -- "$word")

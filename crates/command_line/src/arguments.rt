@@ -8,10 +8,13 @@ ghost use Rattle.command_line.specs.Words.{
   IsApp,
   check_app,
   clients_app,
+  draw_app,
+  drawing_app,
   fencectl,
   file_rule,
   flag_rule,
   number_rule,
+  option_rule,
   paths_rule,
   program_app,
   reports_app,
@@ -73,7 +76,8 @@ The script language is documented in docs/SCRIPT.md.
 
 After a command a note `#= TEXT` expects TEXT as a line of its answer. `fencectl check` compares these in files and in the
 *.fence files below folders, and reports each answer that differs on standard error. `fencectl explain` reports there which
-word of a refused line is at fault, and why, and what a `wait` waits for.
+word of a refused line is at fault, and why, and what a `wait` waits for. `fencectl draw` writes a picture of a run as SVG, which
+docs/PICTURES.md explains, and with --graph what waits for what as Graphviz DOT.
 
 Clients run on threads, each with a timeline of its own, and share two buffers; docs/CLIENTS.md says what they do. What
 they settle is the same in every run: a row for each timeline, and for each buffer the points that are pending.
@@ -87,6 +91,7 @@ Examples:
   printf 'timeline gpu\\nfence frame gpu 5\\ninfo frame\\n' | fencectl
   fencectl examples/merge.fence
   fencectl check examples
+  fencectl draw --output first.svg examples/first.fence
   fencectl clients 2 3
 ";
 
@@ -117,6 +122,19 @@ pub(crate) const EXPLAIN: &str = "explain";
 
 const EXPLAIN_ABOUT: &str = "Runs a script, and tells on standard error why lines were refused";
 
+pub(crate) const DRAW: &str = "draw";
+
+const DRAW_ABOUT: &str = "Draws what a script does as SVG, or what it leaves as a graph";
+
+/// The options of a drawing.
+pub(crate) const GRAPH: &str = "graph";
+
+pub(crate) const LINE: &str = "line";
+
+pub(crate) const LINES: &str = "lines";
+
+pub(crate) const OUTPUT: &str = "output";
+
 /// The word for a run of clients, and the numbers that follow it.
 pub(crate) const CLIENTS_WORD: &str = "clients";
 
@@ -143,7 +161,7 @@ pub(crate) fn matches_of<'a>(alloc: Global, words: &'a [String]) -> Result<ArgMa
     command.try_get_matches_from(words)
 }
 
-/// The program's command line: `run`, `check` or `explain`, with a file or without, or nothing to run the script of standard
+/// The program's command line: `run`, `check`, `explain` or `draw`, with a file or without, or nothing to run the script of standard
 /// input; or `clients` with two numbers.
 fn command<'a>(alloc: Global) -> Result<Command<'a>, AllocError>
     ensures { IfOk result (IsApp fencectl) }
@@ -151,6 +169,7 @@ fn command<'a>(alloc: Global) -> Result<Command<'a>, AllocError>
     let command = with(program(alloc)?, run(alloc))?;
     let command = with(command, check(alloc))?;
     let command = with(command, explain(alloc))?;
+    let command = with(command, draw(alloc))?;
     with(command, clients(alloc))
 }
 
@@ -220,6 +239,46 @@ fn explain<'a>(alloc: Global) -> Result<Command<'a>, AllocError>
     Command::new(alloc, EXPLAIN)
         .about(EXPLAIN_ABOUT)
         .arg(file(alloc))
+}
+
+fn draw<'a>(alloc: Global) -> Result<Command<'a>, AllocError>
+    ensures { IfOk result (IsApp draw_app) }
+{
+    drawing(alloc)?
+        .arg(option(alloc, LINES, "A..B", "Draws these lines alone"))?
+        .arg(option(
+            alloc,
+            OUTPUT,
+            "PICTURE",
+            "Writes this file, as a whole or not at all",
+        ))
+}
+
+/// `draw`, its file, and the options of a graph.
+fn drawing<'a>(alloc: Global) -> Result<Command<'a>, AllocError>
+    ensures { IfOk result (IsApp drawing_app) }
+{
+    let command = Command::new(alloc, DRAW).about(DRAW_ABOUT);
+    command
+        .arg(file(alloc))?
+        .arg(flag(
+            alloc,
+            GRAPH,
+            "Draws what waits for what at the end, as a graph in DOT",
+        ))?
+        .arg(option(alloc, LINE, "N", "Draws the graph after line N"))
+}
+
+/// An option of that name, with a value.
+fn option<'a>(alloc: Global, name: &'a str, value: &'a str, help: &'a str) -> Arg<'a>
+    ensures rule { rule_of result ≡ option_rule name.entry.now }
+    ensures local { result.global ≡ false }
+{
+    Arg::new(alloc, name)
+        .long(name)
+        .action(ArgAction::Set)
+        .value_name(value)
+        .help(help)
 }
 
 /// The file of a script.

@@ -9,7 +9,7 @@ mod clients;
 mod fault;
 mod usage;
 
-pub use action::{Action, Check, Clients, Report, Table};
+pub use action::{Action, Check, Clients, Draw, Report, Table};
 pub use clients::clients_report;
 pub use fault::{FAULT, tell_fault};
 pub use usage::{action_of, tell_unread_word};

@@ -1,8 +1,9 @@
 //! `fencectl`: reads a script of fence commands from standard input or a file, and prints their answers on standard
-//! output, compares them with those that the script expects, or explains them; or runs clients on threads, and prints what
-//! they settle.
+//! output, compares them with those that the script expects, explains them, or draws what they did; or runs clients on
+//! threads, and prints what they settle.
 #![tactic(auto)]
 
+mod drawing;
 mod scripts;
 mod status;
 
@@ -10,6 +11,7 @@ use check_core::{Form, Plan, check_scripts, update_scripts};
 use command_line::{
     Action, Check, Report, action_of, clients_report, tell_fault, tell_unread_word,
 };
+use drawing::draw;
 use explain_core::Look;
 use point_core::Refusal;
 use scripts::{explain_script, run_script};
@@ -48,6 +50,7 @@ fn act<T: Threads + Wait + Sync>(
         Action::Check(asked) => check(rt, &asked),
         Action::Update(paths) => update(rt, paths.as_slice()),
         Action::Explain(script) => explain(rt, script),
+        Action::Draw(asked) => draw(rt, &asked),
         Action::Clients(clients) => {
             clients_report(threads, rt.alloc(), &clients, &mut rt.stdout())?;
             Ok(ACCEPTED)

@@ -11,7 +11,7 @@ use std::io::Write;
 /// Every line was accepted, every answer was as expected, or the clients settled.
 pub(crate) const ACCEPTED: u8 = 0;
 /// A line was refused, or an answer differs.
-const REFUSED: u8 = 1;
+pub(crate) const REFUSED: u8 = 1;
 
 /// The status of a script that was answered to its end: 0 where every line was accepted, 1 where one was refused.
 fn status_of_totals(totals: Totals) -> u8
