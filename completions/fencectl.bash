@@ -3,13 +3,14 @@
 _fencectl() {
     local word="${COMP_WORDS[COMP_CWORD]}" words="" takes_files=yes files="*.fence"
     case "$COMP_CWORD ${COMP_WORDS[1]-}" in
-    "1 "*) words="run check explain trace clients help --help --version --color" ;;
+    "1 "*) words="run check explain trace draw clients help --help --version --color" ;;
     *" run") words="--json --help" ;;
     *" explain") words="--help" ;;
     *" check") words="--quiet --tap --allow-empty --update --help" ;;
     *" trace") words="--json --help" files="*" ;;
+    *" draw") words="--graph --line --lines --output --help" ;;
     *" clients") words="--locks --help" takes_files="" ;;
-    *" help") words="run check explain trace clients" takes_files="" ;;
+    *" help") words="run check explain trace draw clients" takes_files="" ;;
     *) takes_files="" ;;
     esac
     mapfile -t COMPREPLY < <(compgen -W "$words" -- "$word")

@@ -1,5 +1,5 @@
 -- What the words of a command line ask for.
-use Rattle.std.specs.Prelude.{◌≡◌, ◌≢◌, ◌⊎◌, ◌∷◌, ℕ, Bool, true, false, List, [], Option, Some, None, codes, map, if◌then◌else◌}
+use Rattle.std.specs.Prelude.{◌≡◌, ◌≢◌, ◌⊎◌, ◌∷◌, ℕ, Bool, true, false, List, [], Option, Some, None, codes, map, option_map, if◌then◌else◌}
 use Rattle.std.specs.Str.Parse.{digits_value, without_leading_plus}
 use Rattle.std.specs.Str.{bytes_eq}
 use Rattle.clap.specs.Words.{Row, Text, all_of, first_of, one_of, subcommand_of, takes}
@@ -8,6 +8,7 @@ use Rattle.command_line.specs.Words.{fencectl}
 use Rattle.command_line.specs.declared.action.Action.{Action}
 use Rattle.command_line.specs.declared.action.Action.TheVariants as action
 use Rattle.command_line.specs.declared.action.Check.{Check as CheckAction}
+use Rattle.command_line.specs.declared.action.Draw.{Draw as DrawAction}
 use Rattle.command_line.specs.declared.action.Trace.{Trace as TraceAction}
 use Rattle.command_line.specs.declared.action.Report.{Report}
 use Rattle.command_line.specs.declared.action.Report.TheVariants as report
@@ -23,6 +24,14 @@ pub record AskedTrace : Type 0 where
   pub file : Option Text
   pub is_json : Bool
 
+-- a drawing of a script: of its file, or of standard input; a graph or not, and the texts of the options
+pub record AskedDraw : Type 0 where
+  pub file : Option Text
+  pub graph : Bool
+  pub line : Option Text
+  pub lines : Option Text
+  pub output : Option Text
+
 -- a script has the name of its file, or none on standard input; clients have their number and that of their rounds
 pub data Asked : Type 0 where
   Run : Option Text → Asked
@@ -31,6 +40,7 @@ pub data Asked : Type 0 where
   Update : List Text → Asked
   Explain : Option Text → Asked
   Trace : AskedTrace → Asked
+  Draw : AskedDraw → Asked
   Clients : ℕ → ℕ → Asked
 
 abbrev pub number_named : Option Text → ℕ
@@ -76,6 +86,15 @@ trace_after rows = record {
   is_json = flag_named (one_of (codes "json") rows);
 }
 
+abbrev pub draw_after : List Row → AskedDraw
+draw_after rows = record {
+  file = file_named (first_of (codes "FILE") rows);
+  graph = flag_named (one_of (codes "graph") rows);
+  line = first_of (codes "line") rows;
+  lines = first_of (codes "lines") rows;
+  output = first_of (codes "output") rows;
+}
+
 -- of a script, by the word of a subcommand
 abbrev pub asked_on : Text → List Row → Asked
 asked_on word rows = if bytes_eq word (codes "explain") then Explain (script_named rows) else run_or_json rows
@@ -87,6 +106,7 @@ asked_after word rows =
     Clients (number_named (one_of (codes "N") rows)) (number_named (one_of (codes "ROUNDS") rows))
     else if bytes_eq word (codes "check") then check_or_update rows
     else if bytes_eq word (codes "trace") then Trace (trace_after rows)
+    else if bytes_eq word (codes "draw") then Draw (draw_after rows)
     else asked_on word rows
 
 -- without a subcommand the script of standard input is run
@@ -104,6 +124,15 @@ asked_of_check check = record {
 abbrev pub asked_of_trace : TraceAction → AskedTrace
 asked_of_trace trace = record { file = file_of trace.text; is_json = trace.is_json }
 
+abbrev pub asked_of_draw : DrawAction → AskedDraw
+asked_of_draw draw = record {
+  file = file_of draw.script;
+  graph = draw.graph;
+  line = option_map (λ t. t.now) draw.line;
+  lines = option_map (λ t. t.now) draw.lines;
+  output = option_map (λ t. t.now) draw.output;
+}
+
 -- nothing where the program is to end
 abbrev pub asked_of : Action → Option Asked
 asked_of (action.Run script) = Some (Run (file_of script))
@@ -112,6 +141,7 @@ asked_of (action.Update paths) = Some (Update (map (λ p. p.now) paths.items))
 asked_of (action.Check check) = Some (Check (asked_of_check check))
 asked_of (action.Explain script) = Some (Explain (file_of script))
 asked_of (action.Trace trace) = Some (Trace (asked_of_trace trace))
+asked_of (action.Draw draw) = Some (Draw (asked_of_draw draw))
 asked_of (action.Clients clients) = Some (Clients clients.count clients.rounds)
 asked_of (action.End status) = None
 

@@ -4,7 +4,7 @@ use Rattle.std.specs.declared.alloc.AllocError.{AllocError}
 use Rattle.clap.specs.declared.builder.command.Command.{Command}
 use Rattle.clap.specs.declared.builder.command.Command.TheViews.{out-Command}
 use Rattle.clap.specs.Words.{App, app_of, Rule, Text, new_app, new_rule, with_rule, with_subcommand}
-use Rattle.clap.specs.declared.builder.ArgAction.TheVariants.{Append, SetTrue}
+use Rattle.clap.specs.declared.builder.ArgAction.TheVariants.{Append, Set, SetTrue}
 use Rattle.clap.specs.declared.builder.value_parser.ValueParser.TheVariants as parser
 use Rattle.clients_core.specs.declared.plans.TheConstants.{CLIENTS}
 use Rattle.clients_core.specs.declared.rounds.TheConstants.{ROUNDS}
@@ -21,6 +21,9 @@ paths_rule = record (new_rule (codes "PATH")) { action = Some Append; defaults =
 abbrev pub flag_rule : Text → Rule
 flag_rule name = record (new_rule name) { long = Some name; action = Some SetTrue }
 
+abbrev pub option_rule : Text → Rule
+option_rule name = record (new_rule name) { long = Some name; action = Some Set; value_names = 1 }
+
 -- a subcommand that takes a file
 abbrev pub script_app : Text → App
 script_app word = with_rule (new_app word) file_rule
@@ -36,6 +39,14 @@ reports_app = with_rule (with_rule (with_rule (new_app (codes "check")) paths_ru
 abbrev pub check_app : App
 check_app = with_rule (with_rule reports_app (flag_rule (codes "allow-empty"))) (flag_rule (codes "update"))
 
+-- `draw` without the options of what is written
+abbrev pub drawing_app : App
+drawing_app = with_rule (with_rule (with_rule (new_app (codes "draw")) file_rule)
+    (flag_rule (codes "graph"))) (option_rule (codes "line"))
+
+abbrev pub draw_app : App
+draw_app = with_rule (with_rule drawing_app (option_rule (codes "lines"))) (option_rule (codes "output"))
+
 abbrev pub clients_app : App
 clients_app = with_rule (with_rule (with_rule (new_app (codes "clients"))
     (number_rule (codes "N") CLIENTS)) (number_rule (codes "ROUNDS") ROUNDS)) (flag_rule (codes "locks"))
@@ -48,8 +59,8 @@ abbrev pub program_app : App
 program_app = record (new_app (codes "fencectl")) { top = record (new_app (codes "fencectl")).top { has_version = true } }
 
 abbrev pub fencectl : App
-fencectl = with_subcommand (with_subcommand (with_subcommand (with_subcommand (with_subcommand program_app
-    run_app.top) check_app.top) (script_app (codes "explain")).top) trace_app.top) clients_app.top
+fencectl = with_subcommand (with_subcommand (with_subcommand (with_subcommand (with_subcommand (with_subcommand program_app
+    run_app.top) check_app.top) (script_app (codes "explain")).top) trace_app.top) draw_app.top) clients_app.top
 
 -- the command is that one, and none of its arguments is global
 abbrev pub IsApp : App → Command → Type 0

@@ -20,6 +20,8 @@ pub enum Action<'a> {
     Explain(Script<'a>),
     /// Read a trace, and report what hangs.
     Trace(Trace<'a>),
+    /// Draw a picture of a script's run, or a graph of what it leaves.
+    Draw(Draw<'a>),
     /// Run clients on threads, and print what they settle.
     Clients(Clients),
     /// End with this status: help or the version is printed, or wrong usage is reported.
@@ -34,6 +36,20 @@ pub struct Check<'a> {
     pub report: Report,
     /// Whether a script may expect nothing.
     pub allows_empty: bool,
+}
+
+/// What is drawn of a script, and where. The texts are those of the command line.
+#[derive(Clone, Copy)]
+pub struct Draw<'a> {
+    pub script: Script<'a>,
+    /// A graph in the place of a picture.
+    pub graph: bool,
+    /// The line after which a graph is drawn.
+    pub line: Option<&'a str>,
+    /// The lines that a picture has.
+    pub lines: Option<&'a str>,
+    /// The file that is written.
+    pub output: Option<&'a str>,
 }
 
 /// What a check reports.

@@ -8,10 +8,13 @@ ghost use Rattle.command_line.specs.Words.{
   IsApp,
   check_app,
   clients_app,
+  draw_app,
+  drawing_app,
   fencectl,
   file_rule,
   flag_rule,
   number_rule,
+  option_rule,
   paths_rule,
   program_app,
   reports_app,
@@ -78,7 +81,8 @@ The script language is documented in docs/SCRIPT.md.
 
 After a command a note `#= TEXT` expects TEXT as a line of its answer. `fencectl check` compares these in files and in the
 *.fence files below folders, and reports each answer that differs on standard error. `fencectl explain` reports there which
-word of a refused line is at fault, and why, and what a `wait` waits for.
+word of a refused line is at fault, and why, and what a `wait` waits for. `fencectl draw` writes a picture of a run as SVG, which
+docs/PICTURES.md explains, and with --graph what waits for what as Graphviz DOT.
 
 `fencectl trace` reads the text of ftrace's dma_fence events, as tracefs, trace-cmd or perf print them, and reports which
 fences were never signalled, who waits for them, and what each timeline did; docs/TRACES.md says how to record one.
@@ -99,6 +103,7 @@ Examples:
   printf 'timeline gpu\\nfence frame gpu 5\\ninfo frame\\n' | fencectl
   fencectl examples/merge.fence
   fencectl check examples
+  fencectl draw --output first.svg examples/first.fence
   fencectl clients 2 3
 ";
 
@@ -137,6 +142,19 @@ pub(crate) const TRACE: &str = "trace";
 const TRACE_ABOUT: &str =
     "Reads a trace of the kernel's dma_fence events, and reports what hangs and who waits";
 
+pub(crate) const DRAW: &str = "draw";
+
+const DRAW_ABOUT: &str = "Draws what a script does as SVG, or what it leaves as a graph";
+
+/// The options of a drawing.
+pub(crate) const GRAPH: &str = "graph";
+
+pub(crate) const LINE: &str = "line";
+
+pub(crate) const LINES: &str = "lines";
+
+pub(crate) const OUTPUT: &str = "output";
+
 /// The word for a run of clients, and the numbers that follow it.
 pub(crate) const CLIENTS_WORD: &str = "clients";
 
@@ -163,8 +181,8 @@ pub(crate) fn matches_of<'a>(alloc: Global, words: &'a [String]) -> Result<ArgMa
     command.try_get_matches_from(words)
 }
 
-/// The program's command line: `run`, `check`, `explain` or `trace`, with a file or without, or nothing to run the script of
-/// standard input; or `clients` with two numbers.
+/// The program's command line: `run`, `check`, `explain`, `trace` or `draw`, with a file or without, or nothing to run the
+/// script of standard input; or `clients` with two numbers.
 fn command<'a>(alloc: Global) -> Result<Command<'a>, AllocError>
     ensures { IfOk result (IsApp fencectl) }
 {
@@ -172,6 +190,7 @@ fn command<'a>(alloc: Global) -> Result<Command<'a>, AllocError>
     let command = with(command, check(alloc))?;
     let command = with(command, explain(alloc))?;
     let command = with(command, trace(alloc))?;
+    let command = with(command, draw(alloc))?;
     with(command, clients(alloc))
 }
 
@@ -264,6 +283,46 @@ fn trace_file<'a>(alloc: Global) -> Arg<'a>
     Arg::new(alloc, FILE)
         .default_value(STANDARD_INPUT)
         .help("The trace's text, or - for standard input")
+}
+
+fn draw<'a>(alloc: Global) -> Result<Command<'a>, AllocError>
+    ensures { IfOk result (IsApp draw_app) }
+{
+    drawing(alloc)?
+        .arg(option(alloc, LINES, "A..B", "Draws these lines alone"))?
+        .arg(option(
+            alloc,
+            OUTPUT,
+            "PICTURE",
+            "Writes this file, as a whole or not at all",
+        ))
+}
+
+/// `draw`, its file, and the options of a graph.
+fn drawing<'a>(alloc: Global) -> Result<Command<'a>, AllocError>
+    ensures { IfOk result (IsApp drawing_app) }
+{
+    let command = Command::new(alloc, DRAW).about(DRAW_ABOUT);
+    command
+        .arg(file(alloc))?
+        .arg(flag(
+            alloc,
+            GRAPH,
+            "Draws what waits for what at the end, as a graph in DOT",
+        ))?
+        .arg(option(alloc, LINE, "N", "Draws the graph after line N"))
+}
+
+/// An option of that name, with a value.
+fn option<'a>(alloc: Global, name: &'a str, value: &'a str, help: &'a str) -> Arg<'a>
+    ensures rule { rule_of result ≡ option_rule name.entry.now }
+    ensures local { result.global ≡ false }
+{
+    Arg::new(alloc, name)
+        .long(name)
+        .action(ArgAction::Set)
+        .value_name(value)
+        .help(help)
 }
 
 /// The file of a script.

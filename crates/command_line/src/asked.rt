@@ -1,5 +1,5 @@
 // What the matches of a command line ask for.
-ghost use Rattle.std.specs.Prelude.{◌≡◌, ◌≤◌, IfOk, Some, codes, map};
+ghost use Rattle.std.specs.Prelude.{◌≡◌, ◌≤◌, IfOk, Some, codes, map, option_map};
 ghost use Rattle.clap.specs.Words.{all_of, found_of, first_of, one_of, rows_of, subcommand_rows_of};
 ghost use Rattle.source_core.specs.Script.{file_named, file_of};
 ghost use Rattle.command_line.specs.Asked.{
@@ -7,10 +7,12 @@ ghost use Rattle.command_line.specs.Asked.{
   asked_by,
   asked_of,
   asked_of_check,
+  asked_of_draw,
   asked_of_trace,
   asked_on,
   check_after,
   check_or_update,
+  draw_after,
   flag_named,
   number_named,
   paths_named,
@@ -19,10 +21,10 @@ ghost use Rattle.command_line.specs.Asked.{
   trace_after,
 };
 
-use crate::action::{Action, Check, Clients, Report, Table, Trace};
+use crate::action::{Action, Check, Clients, Draw, Report, Table, Trace};
 use crate::arguments::{
-    ALLOW_EMPTY, CHECK, CLIENTS_WORD, COUNT, EXPLAIN, FILE, JSON, LOCKS, PATH, QUIET, ROUNDS_WORD,
-    TAP, TRACE, UPDATE,
+    ALLOW_EMPTY, CHECK, CLIENTS_WORD, COUNT, DRAW, EXPLAIN, FILE, GRAPH, JSON, LINE, LINES, LOCKS,
+    OUTPUT, PATH, QUIET, ROUNDS_WORD, TAP, TRACE, UPDATE,
 };
 use clap::ArgMatches;
 use clients_core::{CLIENTS, ROUNDS};
@@ -60,6 +62,9 @@ fn action_after<'a>(
     }
     if word == TRACE {
         return Ok(Action::Trace(trace_of(matches)));
+    }
+    if word == DRAW {
+        return Ok(Action::Draw(draw_of(matches)));
     }
     Ok(action_on(word, matches))
 }
@@ -112,6 +117,25 @@ fn script_of<'a>(matches: &ArgMatches<'a>) -> Script<'a>
         Some(name) => Script::named(name),
         None => Script::StandardInput,
     }
+}
+
+fn draw_of<'a>(matches: &ArgMatches<'a>) -> Draw<'a>
+    ensures asked { asked_of_draw result ≡ draw_after (rows_of (found_of matches.now)) }
+{
+    Draw {
+        script: script_of(matches),
+        graph: has_flag(matches, GRAPH),
+        line: text_of(matches, LINE),
+        lines: text_of(matches, LINES),
+        output: text_of(matches, OUTPUT),
+    }
+}
+
+/// The text of that name.
+fn text_of<'a>(matches: &ArgMatches<'a>, name: &str) -> Option<&'a str>
+    ensures { option_map (λ t. t.now) result ≡ first_of name.now (rows_of (found_of matches.now)) }
+{
+    matches.get_str(name)
 }
 
 fn check_of<'a>(alloc: Global, matches: &ArgMatches<'a>) -> Result<Check<'a>, Refusal>

@@ -11,7 +11,7 @@ mod fault;
 mod paint;
 mod usage;
 
-pub use action::{Action, Check, Clients, Report, Table, Trace};
+pub use action::{Action, Check, Clients, Draw, Report, Table, Trace};
 pub use clients::clients_report;
 pub use color::{ColorChoice, Colors, take_color};
 pub use fault::{FAULT, tell_fault};

@@ -1,8 +1,9 @@
 //! `fencectl`: reads a script of fence commands from standard input or a file, and prints their answers on standard
-//! output, as text or JSON, compares them with those that the script expects, or explains them; or reports what hangs in
-//! a trace of a kernel; or runs clients on threads, and prints what they settle.
+//! output, as text or JSON, compares them with those that the script expects, explains them, or draws what they did; or
+//! reports what hangs in a trace of a kernel; or runs clients on threads, and prints what they settle.
 #![tactic(auto)]
 
+mod drawing;
 mod scripts;
 mod status;
 mod traces;
@@ -12,6 +13,7 @@ use command_line::{
     Action, Check, ColorChoice, Colors, FAULT, Report, action_of, clients_report, take_color,
     tell_fault, tell_unread_word,
 };
+use drawing::draw;
 use explain_core::Look;
 use point_core::Refusal;
 use scripts::{explain_script, json_script, run_script};
@@ -93,6 +95,7 @@ fn act<T: Threads + Wait + Sync>(
         Action::Update(paths) => update(rt, paths.as_slice()),
         Action::Explain(script) => explain(rt, colors, script),
         Action::Trace(asked) => report(rt, &asked),
+        Action::Draw(asked) => draw(rt, &asked),
         Action::Clients(clients) => {
             clients_report(threads, rt.alloc(), &clients, &mut rt.stdout())?;
             Ok(ACCEPTED)

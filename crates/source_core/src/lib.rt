@@ -9,6 +9,6 @@ mod source;
 
 pub use listing::script_files;
 pub use prompt::Prompted;
-pub use replace::{read_file, replace_file};
+pub use replace::{put_file, read_file, replace_file};
 pub use script::{STANDARD_INPUT, Script};
 pub use source::{Source, reported};

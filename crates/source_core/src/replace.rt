@@ -29,6 +29,39 @@ pub fn replace_file<R: Files + AllocGlobal>(rt: &R, name: &str, bytes: &[u8]) ->
     replaced
 }
 
+/// Puts bytes in the place of a file as `replace_file` does, or makes the file where there is none of that name.
+pub fn put_file<R: Files + AllocGlobal>(rt: &R, name: &str, bytes: &[u8]) -> io::Result<()> {
+    match fs::metadata(rt, name) {
+        Ok(_) => replace_file(rt, name, bytes),
+        Err(error) if error.kind() == io::ErrorKind::NotFound => make_file(rt, name, bytes),
+        Err(error) => Err(error),
+    }
+}
+
+fn make_file<R: Files + AllocGlobal>(rt: &R, name: &str, bytes: &[u8]) -> io::Result<()> {
+    let mut beside = String::from_str(rt.alloc(), name)?;
+    beside.push_str(".new")?;
+    let file = File::create_new(rt, beside.as_str())?;
+    let made = make(rt, name, beside.as_str(), file, bytes);
+    if made.is_err() {
+        // Whether it can be removed changes nothing of what failed.
+        let _ = fs::remove_file(rt, beside.as_str());
+    }
+    made
+}
+
+fn make<R: Files>(
+    rt: &R,
+    name: &str,
+    beside: &str,
+    mut file: R::File,
+    bytes: &[u8],
+) -> io::Result<()> {
+    file.write_all(bytes)?;
+    file.sync_all()?;
+    fs::rename(rt, beside, name)
+}
+
 fn replace<R: Files>(
     rt: &R,
     path: &str,

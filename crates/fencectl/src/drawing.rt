@@ -1,0 +1,168 @@
+// Pictures and graphs of a script's run.
+
+use crate::status::{ACCEPTED, REFUSED};
+use command_line::{Draw, FAULT};
+use draw_core::{COLUMNS, Run, Window, count_lines, dot_text, picture_of, svg_text};
+use line_core::SCRIPT_BYTES;
+use point_core::Refusal;
+use report_core::write_whole;
+use source_core::{Script, Source, put_file, reported};
+use std::io::{Read, Write};
+
+/// Draws a script's run, and writes the picture or the graph to standard output or to a file, which is written as a whole or not
+/// at all. Gives the status: 1 where a line was refused. Options that don't fit are reported, with the status of a fault.
+pub(crate) fn draw(rt: &HostRuntime, asked: &Draw<'_>) -> Result<u8, Refusal> {
+    match window_of(asked) {
+        Some(window) => draw_lines(rt, asked, &window),
+        None => tell(rt, wrong_options(asked)),
+    }
+}
+
+// What owns much stands alone in its function, which hands on a reference to it.
+
+fn draw_lines(rt: &HostRuntime, asked: &Draw<'_>, window: &Window) -> Result<u8, Refusal> {
+    let script = script_of(rt, asked.script)?;
+    draw_script(rt, asked, window, script.as_slice())
+}
+
+fn draw_script(
+    rt: &HostRuntime,
+    asked: &Draw<'_>,
+    window: &Window,
+    script: &[u8],
+) -> Result<u8, Refusal> {
+    if is_too_long(rt, asked, script)? {
+        return tell(rt, TOO_LONG);
+    }
+    let mut run = Run::of(rt.alloc(), script, window)?;
+    draw_run(rt, asked, &mut run)
+}
+
+fn draw_run(rt: &HostRuntime, asked: &Draw<'_>, run: &mut Run) -> Result<u8, Refusal> {
+    let document = document_of(rt, asked.graph, run)?;
+    write_document(rt, asked.output, document.as_slice(), status_of(run))
+}
+
+fn status_of(run: &Run) -> u8 {
+    if run.history().refused {
+        REFUSED
+    } else {
+        ACCEPTED
+    }
+}
+
+const TOO_LONG: &str =
+    "fencectl: the script has more than 500 commands; choose the lines with --lines A..B";
+
+/// The lines that are drawn, or none where the options say no such.
+fn window_of(asked: &Draw<'_>) -> Option<Window> {
+    if asked.graph {
+        graph_window(asked)
+    } else {
+        picture_window(asked)
+    }
+}
+
+fn picture_window(asked: &Draw<'_>) -> Option<Window> {
+    if asked.line.is_some() {
+        return None;
+    }
+    match asked.lines {
+        Some(lines) => Window::read(lines),
+        None => Some(Window::whole()),
+    }
+}
+
+/// A graph has no columns.
+fn graph_window(asked: &Draw<'_>) -> Option<Window> {
+    if asked.lines.is_some() {
+        return None;
+    }
+    match asked.line {
+        Some(line) => Some(Window::after(line.parse().ok()?)),
+        None => Some(Window::after(u32::MAX)),
+    }
+}
+
+fn wrong_options(asked: &Draw<'_>) -> &'static str {
+    if asked.graph && asked.lines.is_some() {
+        "fencectl: a graph is drawn after one line, with --line N"
+    } else if asked.graph {
+        "fencectl: --line takes the number of a line"
+    } else if asked.line.is_some() {
+        "fencectl: --line goes with --graph; a picture has --lines A..B"
+    } else {
+        "fencectl: --lines takes A..B, the numbers of a first and a last line"
+    }
+}
+
+fn tell(rt: &HostRuntime, message: &str) -> Result<u8, Refusal> {
+    eprintln!(rt; "{message}").map_err(|_| Refusal::Write)?;
+    Ok(FAULT)
+}
+
+fn script_of(rt: &HostRuntime, script: Script<'_>) -> Result<Vec<u8>, Refusal> {
+    let mut source = Source::open(rt, script, rt.stdin())?;
+    read_script(rt, &mut source)
+}
+
+/// The script, up to one byte past its limit.
+fn read_script<S: Read>(rt: &HostRuntime, source: &mut S) -> Result<Vec<u8>, Refusal> {
+    let mut script = Vec::new(rt.alloc());
+    let most = SCRIPT_BYTES as u64;
+    match source.take(most.saturating_add(1)).read_to_end(&mut script) {
+        Ok(_) => Ok(script),
+        Err(_) => Err(Refusal::Read),
+    }
+}
+
+/// Whether a picture would have too many columns, whose lines are not chosen.
+fn is_too_long(rt: &HostRuntime, asked: &Draw<'_>, script: &[u8]) -> Result<bool, Refusal> {
+    if asked.graph || asked.lines.is_some() {
+        return Ok(false);
+    }
+    Ok(count_lines(rt.alloc(), script)? > COLUMNS)
+}
+
+fn document_of(rt: &HostRuntime, graph: bool, run: &mut Run) -> Result<Vec<u8>, Refusal> {
+    if graph {
+        graph_of(rt, run)
+    } else {
+        svg_of(rt, run)
+    }
+}
+
+fn graph_of(rt: &HostRuntime, run: &mut Run) -> Result<Vec<u8>, Refusal> {
+    let graph = run.graph()?;
+    dot_text(rt.alloc(), &graph)
+}
+
+fn svg_of(rt: &HostRuntime, run: &Run) -> Result<Vec<u8>, Refusal> {
+    let picture = picture_of(rt.alloc(), run.history())?;
+    svg_text(rt.alloc(), &picture, run.history())
+}
+
+/// Gives that status where the document is written.
+fn write_document(
+    rt: &HostRuntime,
+    output: Option<&str>,
+    document: &[u8],
+    status: u8,
+) -> Result<u8, Refusal> {
+    match output {
+        Some(name) => match reported(rt, name, put_file(rt, name, document)) {
+            Ok(()) => Ok(status),
+            Err(_) => Err(Refusal::Write),
+        },
+        None => write_output(rt, document, status),
+    }
+}
+
+fn write_output(rt: &HostRuntime, document: &[u8], status: u8) -> Result<u8, Refusal> {
+    let mut output = rt.stdout();
+    write_whole(&mut output, document)?;
+    match output.flush() {
+        Ok(()) => Ok(status),
+        Err(_) => Err(Refusal::Write),
+    }
+}
