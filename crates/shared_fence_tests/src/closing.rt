@@ -32,7 +32,26 @@ fn drive(rt: &impl Abort, words: &Words, seat: Seat) -> Driver
     driver
 }
 
-/// Signals the fence while its context is open at 1, and once it is closed there.
+/// Whether a fence waits for the first context, which is at 1.
+fn is_pending(signal: &Signal) -> bool {
+    matches!(*signal, Signal::NotYet { ctx, value } if ctx == Context::at(0) && value == 1)
+}
+
+fn is_first(signal: &Signal) -> bool {
+    matches!(signal, Signal::First(_))
+}
+
+/// Closes a driver's context, and loses its seat.
+fn close(rt: &impl Abort, words: &Words, driver: Driver)
+    requires own { driver.seat.words ≡ words.now }
+{
+    let Ok(seat) = driver.close(words) else {
+        panic!(rt; "the context was at the greatest value")
+    };
+    drop(seat);
+}
+
+/// Signals a fence while its context is open at 1, and once it is closed there.
 fn signal_and_close(
     rt: &impl Abort,
     fence: &SharedFence,
@@ -42,11 +61,9 @@ fn signal_and_close(
 )
     requires own { (words.now ≡ fence.now.words) × (driver.seat.words ≡ words.now) × (seat.old.words ≡ words.now) }
 {
-    assert!(rt;
-        matches!(fence.signal(words, seat), Signal::NotYet { ctx, value } if ctx == Context::at(0) && value == 1)
-    );
-    assert!(rt; driver.close(words).is_ok());
-    assert!(rt; matches!(fence.signal(words, seat), Signal::First(_)));
+    assert!(rt; is_pending(&fence.signal(words, seat)));
+    close(rt, words, driver);
+    assert!(rt; is_first(&fence.signal(words, seat)));
 }
 
 #[test]
