@@ -1,129 +1,228 @@
--- Files in a map by name: what an insertion and a removal leave.
-use Rattle.std.proofs.Common.{◌≡◌, ℕ, ◌+◌, ◌<◌, ◌≤◌, Bool, true, false, is_some, refl, sym, ap, ◌∙◌, subst, List, [], ◌∷◌, ◌++◌, length, None, Some, arith, ◌&&◌, get_or, take, zero, suc, ◌-◌, ◌∷◌, cond, option_map, reverse, Option, option_copied, Bor}
-use Rattle.std.specs.List.{list_all, cons_option, IsDistinct}
+-- Files in a map by name, each with the number of its making: what an insertion and a removal leave.
+use Rattle.std.proofs.Common.{◌≡◌, ℕ, ◌+◌, ◌<◌, Bool, true, false, is_some, refl, sym, ap, ◌∙◌, subst, List, [], ◌∷◌, ◌++◌, length, None, Some, arith, ◌&&◌, ◌||◌, get_or, take, zero, suc, cond, map, nat_eq, inl, inr, option_map, position, Option, option_copied, Bor}
+use Rattle.std.specs.List.{list_all, list_any, cons_option, IsDistinct, AllByRecursion}
+use Rattle.std.specs.List.Sorted.{IsPermutation, IsNonDecreasingBy}
+use Rattle.std.specs.Map.{keys_of, lookup, remove_entry}
+use Rattle.std.specs.Cmp.{nat_eq_equiv}
+use Rattle.std.specs.Cmp.Lexicographic.{nat_list_eq_equiv, same_text}
 use Rattle.std.proofs.Math.Bool.{and-false}
-use Rattle.std.proofs.lemmas.List.{take_more, take_all, reverse-append, length-reverse}
-use Rattle.std.proofs.lemmas.List.Elements.{filter_map-append}
+use Rattle.std.proofs.lemmas.Bool.{cases_Bool}
+use Rattle.std.proofs.lemmas.List.{take_more, map-append, length-map, get_or-map, get_or_default}
+use Rattle.std.proofs.lemmas.List.Quantifiers.{position-Some}
+use Rattle.std.proofs.lemmas.List.Elements.{filter_map-append, All-nil, All-push, All-tail, All-weaker, recursion_from_All}
 use Rattle.std.proofs.lemmas.List.Folds.{list_all-append}
-use Rattle.std.specs.Map.{keys_of, lookup, lookup_entry, remove_entry}
-use Rattle.lru.specs.LruCache.{LruCache, lru_cache, put_entries}
-use Rattle.point_core.specs.Named.{same_name, things_in, HasDistinctNames as HaveDistinctNames}
-use Rattle.point_core.proofs.Named.{named-things_in, is_some-named, length-things_in, things_in-remove_entry, IsKeyed-remove_entry}
-use Rattle.syncfile_core.proofs.Reversed.{map-reverse, named-reverse, without_named-reverse, HasDistinctNames-reverse}
-use Rattle.std.specs.List.{AllByRecursion}
-use Rattle.std.specs.Option.{option_map_or}
-use Rattle.std.proofs.lemmas.Iterator.Adapters.{option_map_id}
-use Rattle.std.proofs.lemmas.Map.Keys.{IsDistinct-cons, IsDistinct-head, IsDistinct-tail}
-use Rattle.syncfile_core.specs.declared.files.TheConstants.{FILES}
+use Rattle.std.proofs.lemmas.List.Sorted.{IsPermutation-sym, IsPermutation-trans, IsPermutation-cons, IsPermutation-map, IsPermutation-swap_remove, All-permutation, length_permutation}
+use Rattle.std.proofs.lemmas.Map.Keys.{IsDistinct-IsPermutation, IsDistinct-head, IsDistinct-tail, IsDistinct-push}
+use Rattle.std.proofs.lemmas.Map.Views.{exact_unsigned_eq}
+use Rattle.indexmap.specs.IndexMap.{insert_entry, swap_remove_entry}
+use Rattle.indexmap.proofs.MapLemmas.{lookup_permutation, swap_remove_entry-found, swap_remove_entry-missing, Missing-position, insert_entry-absent, absent_from_lookup}
+use Rattle.point_core.specs.Named.{same_name, things_in, IsKeyed}
+use Rattle.point_core.proofs.Named.{named-things_in, has_named-things_in, is_some-named, length-things_in, things_in-append, things_in-remove_entry, without_named-absent}
+use Rattle.syncfile_core.specs.declared.by_making.Made.{Made}
+use Rattle.syncfile_core.specs.declared.by_making.Place.{Place}
+use Rattle.syncfile_core.specs.Numbered.{put_in, by_number}
 use Rattle.syncfile_core.specs.SyncFile.{File}
-use Rattle.syncfile_core.specs.Files.{file_name, has_file, file_at, without_file, names_of, files_behind, HasDistinctNames, IsKept, cause_to_refuse}
+use Rattle.syncfile_core.specs.Files.{file_name, has_file, file_at, without_file, names_of, number_of, place_of, files_made, AreKept, HasDistinctNames, cause_to_refuse}
 use Rattle.syncfile_core.specs.Merge.{files_at}
-use Rattle.syncfile_core.proofs.Causes.{is_none, new-by_cause, room-by_cause}
-
-none_by : {X Y : Type 0} (b : Bool) (x : X) (y : Y) (o : Option X) (p : Option Y) → cond b (Some x) o ≡ None → (o ≡ None → p ≡ None) → cond b (Some y) p ≡ None
-none_by true x y o p is same = absurd (cc)
-none_by false x y o p is same = same is
-
-both_by : {X : Type 0} (b : Bool) (x : X) (o : Option X) → cond b (Some x) o ≡ None → (b ≡ false) × (o ≡ None)
-both_by true x o is = absurd (cc)
-both_by false x o is = (refl, is)
-
-shorter_by : {X : Type 0} (b : Bool) (x : X) (xs less : List X) → length less ≤ length xs → length (cond b xs (x ∷ less)) ≤ length (x ∷ xs)
-shorter_by true x xs less low = omega arith
-shorter_by false x xs less low = omega (arith, low)
-
-apart_by : {X : Type 0} (key : List ℕ) (b : Bool) (e : List ℕ × X) (es less : List (List ℕ × X)) → AllByRecursion (λ other. same_name key other ≡ false) (keys_of (e ∷ es)) → AllByRecursion (λ other. same_name key other ≡ false) (keys_of less)
-    → AllByRecursion (λ other. same_name key other ≡ false) (keys_of (cond b es (e ∷ less)))
-apart_by key true e es less apart rest = apart.1
-apart_by key false e es less apart rest = (apart.0, rest)
-
-distinct_by : {X : Type 0} (b : Bool) (e : List ℕ × X) (es less : List (List ℕ × X)) → IsDistinct same_name (keys_of es) → IsDistinct same_name (keys_of (e ∷ less)) → IsDistinct same_name (keys_of (cond b es (e ∷ less)))
-distinct_by true e es less rest kept = rest
-distinct_by false e es less rest kept = kept
+use Rattle.syncfile_core.proofs.Causes.{is_none, new-by_cause}
+use Rattle.syncfile_core.proofs.InOrder.{Rises, IsPermutation-by_number, Rises-by_number, by_number-permuted, by_number-last, same_rising, Rises-from, remove_entry-put_in}
 
 is_some-option_map : {X Y : Type 0} (f : X → Y) (o : Option X) → is_some (option_map f o) ≡ is_some o
 is_some-option_map f None = refl
 is_some-option_map f (Some x) = refl
 
-module _ {X : Type 0} (test : List ℕ → Bool) where
-  lookup_entry-None : (es : List (List ℕ × X)) → lookup test es ≡ None → lookup_entry test es ≡ None
-  lookup_entry-None [] none = refl
-  lookup_entry-None (e ∷ es) none = none_by (test e.0) e.1 e (lookup test es) (lookup_entry test es) none (lookup_entry-None es)
+abbrev Entries : Type 0
+Entries = List (List ℕ × Made)
 
-  apart-by_lookup : (es : List (List ℕ × X)) → lookup test es ≡ None → AllByRecursion (λ key. test key ≡ false) (keys_of es)
-  apart-by_lookup [] none = tt
-  apart-by_lookup (e ∷ es) none = let parts = both_by (test e.0) e.1 (lookup test es) none in (parts.0, apart-by_lookup es parts.1)
+abbrev file_in : Made → File
+file_in m = m.file
 
-  length-remove_entry : (es : List (List ℕ × X)) → length (remove_entry test es) ≤ length es
-  length-remove_entry [] = omega arith
-  length-remove_entry (e ∷ es) = shorter_by (test e.0) e es (remove_entry test es) (length-remove_entry es)
+abbrev IsUnderItsName : List ℕ × Made → Type 0
+IsUnderItsName e = e.0 ≡ e.1.file.name
 
-  apart-remove_entry : (key : List ℕ) (es : List (List ℕ × X)) → AllByRecursion (λ other. same_name key other ≡ false) (keys_of es) → AllByRecursion (λ other. same_name key other ≡ false) (keys_of (remove_entry test es))
-  apart-remove_entry key [] apart = apart
-  apart-remove_entry key (e ∷ es) apart = apart_by key (test e.0) e es (remove_entry test es) apart (apart-remove_entry key es apart.1)
+keyed-from : (es : Entries) → AllByRecursion IsUnderItsName es → IsKeyed file_name file_in es
+keyed-from [] all = refl
+keyed-from (e ∷ es) all =
+    let own : e.0 ≡ e.1.file.name = all.0 in
+    let rest : IsKeyed file_name file_in es = keyed-from es all.1 in
+    cc
 
-  distinct-remove_entry : (es : List (List ℕ × X)) → IsDistinct same_name (keys_of es) → IsDistinct same_name (keys_of (remove_entry test es))
-  distinct-remove_entry [] distinct = distinct
-  distinct-remove_entry (e ∷ es) distinct =
-      let apart = IsDistinct-head same_name e.0 (keys_of es) distinct in
-      let rest = IsDistinct-tail same_name e.0 (keys_of es) distinct in
-      distinct_by (test e.0) e es (remove_entry test es) rest (IsDistinct-cons same_name e.0 (keys_of (remove_entry test es)) (apart-remove_entry e.0 es apart) (distinct-remove_entry es rest))
+pub AreKept-none : (es : Entries) (next : ℕ) → es ≡ [] → AreKept es next
+unfolding IsDistinct
+AreKept-none es next is = subst (λ ds. AreKept ds next) (sym is) (record {
+  keyed = All-nil IsUnderItsName;
+  distinct = tt;
+  numbered = tt;
+  below = All-nil (λ e. number_of e < next);
+})
 
-module _ (m : LruCache (List ℕ) File) (kept : IsKept m) where
-  distinct-things_in : HaveDistinctNames file_name (things_in (λ f. f) m.entries)
-  distinct-things_in = subst (IsDistinct same_name) kept.keyed kept.distinct
-
-  -- of the list that such entries are seen as
-  pub HasDistinctNames-behind : HasDistinctNames (files_behind m.entries)
-  HasDistinctNames-behind = HasDistinctNames-reverse file_name (things_in (λ f. f) m.entries) distinct-things_in
-
-  pub names_of-behind : names_of (files_behind m.entries) ≡ reverse (keys_of m.entries)
-  names_of-behind = map-reverse file_name (things_in (λ f. f) m.entries) ∙ ap reverse (sym kept.keyed)
-
-  pub file_at-behind : (name : List ℕ) → file_at (files_behind m.entries) name ≡ lookup (same_name name) m.entries
-  file_at-behind name = named-reverse file_name (things_in (λ f. f) m.entries) name distinct-things_in ∙ named-things_in file_name (λ f. f) name m.entries kept.keyed ∙ option_map_id (lookup (same_name name) m.entries)
-
-  pub has_file-behind : (name : List ℕ) → has_file (files_behind m.entries) name ≡ is_some (lookup (same_name name) m.entries)
-  has_file-behind name = sym (is_some-named file_name (files_behind m.entries) name) ∙ ap is_some (file_at-behind name)
-
-  -- a file that is taken out moves no other
-  pub files_behind-remove_entry : (name : List ℕ) → files_behind (remove_entry (same_name name) m.entries) ≡ without_file (files_behind m.entries) name
-  files_behind-remove_entry name = ap reverse (things_in-remove_entry file_name (λ f. f) name m.entries kept.keyed kept.distinct) ∙ without_named-reverse file_name (things_in (λ f. f) m.entries) name
-
-  pub IsKept-remove_entry : (name : List ℕ) → IsKept (lru_cache (remove_entry (same_name name) m.entries) m.cap)
-  IsKept-remove_entry name = record {
-    keyed = IsKeyed-remove_entry file_name (λ f. f) (same_name name) m.entries kept.keyed;
-    distinct = distinct-remove_entry (same_name name) m.entries kept.distinct;
-    within = omega (arith, kept.within, length-remove_entry (same_name name) m.entries);
-    room = kept.room;
+-- of entries in another order
+module _ (es fs : Entries) (next : ℕ) (moved : IsPermutation es fs) (kept : AreKept es next) where
+  pub AreKept-permuted : AreKept fs next
+  AreKept-permuted = record {
+    keyed = All-permutation IsUnderItsName es fs moved kept.keyed;
+    distinct = IsDistinct-IsPermutation same_name nat_list_eq_equiv.symm (keys_of es) (keys_of fs) (IsPermutation-map (λ (e : List ℕ × Made). e.0) es fs moved) kept.distinct;
+    numbered = IsDistinct-IsPermutation nat_eq nat_eq_equiv.symm (map number_of es) (map number_of fs) (IsPermutation-map number_of es fs moved) kept.numbered;
+    below = All-permutation (λ e. number_of e < next) es fs moved kept.below;
   }
 
-pub length-behind : (es : List (List ℕ × File)) → length (files_behind es) ≡ length es
-length-behind es = length-reverse (things_in (λ f. f) es) ∙ length-things_in file_name (λ f. f) es
+module _ (es : Entries) (next : ℕ) (kept : AreKept es next) where
+  ordered : AreKept (by_number number_of es) next
+  ordered = AreKept-permuted es (by_number number_of es) next (IsPermutation-by_number number_of es) kept
 
-module _ (m : LruCache (List ℕ) File) (kept : IsKept m) (x : File) (none : cause_to_refuse (files_behind m.entries) x.name ≡ None) where
-  absent : lookup (same_name x.name) m.entries ≡ None
-  absent = is_none (lookup (same_name x.name) m.entries) (sym (has_file-behind m kept x.name) ∙ new-by_cause (files_behind m.entries) x.name none)
+  keyed : IsKeyed file_name file_in (by_number number_of es)
+  keyed = keyed-from (by_number number_of es) (recursion_from_All IsUnderItsName (by_number number_of es) ordered.keyed)
 
-  low : length m.entries < FILES
-  low = omega (arith, length-behind m.entries, room-by_cause (files_behind m.entries) x.name none)
+  -- the list that such entries are seen as
 
-  -- a new file goes first, and puts none out
-  put-new : put_entries same_name m x.name x ≡ (x.name, x) ∷ m.entries
-  put-new =
-      ap (λ o. option_map_or (λ (e : List ℕ × File). (e.0, x) ∷ remove_entry (same_name x.name) m.entries) o ((x.name, x) ∷ take (m.cap - 1) m.entries)) (lookup_entry-None (same_name x.name) m.entries absent)
-      ∙ ap (λ es. (x.name, x) ∷ es) (take_all (m.cap - 1) m.entries (omega (arith, low, kept.room)))
+  pub HasDistinctNames-made : HasDistinctNames (files_made es)
+  HasDistinctNames-made = subst (IsDistinct same_name) keyed ordered.distinct
 
-  pub files_behind-put_entries : files_behind (put_entries same_name m x.name x) ≡ files_behind m.entries ++ x ∷ []
-  files_behind-put_entries = ap files_behind put-new ∙ reverse-append (x ∷ []) (things_in (λ f. f) m.entries)
+  found-in_order : (name : List ℕ) → lookup (same_name name) (by_number number_of es) ≡ lookup (same_name name) es
+  found-in_order name = lookup_permutation nat_list_eq_equiv es (by_number number_of es) (IsPermutation-by_number number_of es) ordered.distinct (same_name name) (nat_list_eq_equiv.congr name)
 
-  pub IsKept-put_entries : IsKept (lru_cache (put_entries same_name m x.name x) m.cap)
-  IsKept-put_entries = subst (λ es. IsKept (lru_cache es m.cap)) (sym put-new) (record {
-    keyed = ap (λ keys. x.name ∷ keys) kept.keyed;
-    distinct = IsDistinct-cons same_name x.name (keys_of m.entries) (apart-by_lookup (same_name x.name) m.entries absent) kept.distinct;
-    within = omega (arith, low);
-    room = kept.room;
-  })
+  pub file_at-made : (name : List ℕ) → file_at (files_made es) name ≡ option_map file_in (lookup (same_name name) es)
+  file_at-made name = named-things_in file_name file_in name (by_number number_of es) keyed ∙ ap (option_map file_in) (found-in_order name)
+
+  pub has_file-made : (name : List ℕ) → has_file (files_made es) name ≡ is_some (lookup (same_name name) es)
+  has_file-made name = has_named-things_in file_name file_in name (by_number number_of es) keyed ∙ ap is_some (found-in_order name)
+
+  -- names and numbers, put in order
+
+  map-keys : (ds : Entries) → map (λ (p : Place). p.name) (map place_of ds) ≡ keys_of ds
+  map-keys [] = refl
+  map-keys (d ∷ ds) = ap (λ ns. d.0 ∷ ns) (map-keys ds)
+
+  map-numbers : (ds : Entries) → map (λ (p : Place). p.number) (map place_of ds) ≡ map number_of ds
+  map-numbers [] = refl
+  map-numbers (d ∷ ds) = ap (λ ns. number_of d ∷ ns) (map-numbers ds)
+
+  all-places : (n : ℕ) (ds : Entries) → AllByRecursion (λ d. n < number_of d) ds → AllByRecursion (λ (p : Place). n < p.number) (map place_of ds)
+  all-places n [] all = tt
+  all-places n (d ∷ ds) all = (all.0, all-places n ds all.1)
+
+  Rises-places : (ds : Entries) → Rises number_of ds → Rises (λ (p : Place). p.number) (map place_of ds)
+  Rises-places [] rises = tt
+  Rises-places (d ∷ ds) rises = (all-places (number_of d) ds rises.0, Rises-places ds rises.1)
+
+  pub names_of-places : (ps : List Place) → IsPermutation (map place_of es) ps → IsNonDecreasingBy (λ (p : Place). p.number) ps → map (λ (p : Place). p.name) ps ≡ names_of (files_made es)
+  names_of-places ps moved rising =
+      let number : Place → ℕ = λ p. p.number in
+      let numbered = subst (IsDistinct nat_eq) (sym (map-numbers es)) kept.numbered in
+      let rises = Rises-from number ps rising (IsDistinct-IsPermutation nat_eq nat_eq_equiv.symm (map number (map place_of es)) (map number ps) (IsPermutation-map number (map place_of es) ps moved) numbered) in
+      let turned = IsPermutation-map place_of es (by_number number_of es) (IsPermutation-by_number number_of es) in
+      let is = same_rising number ps (map place_of (by_number number_of es)) rises (Rises-places (by_number number_of es) (Rises-by_number number_of es kept.numbered))
+      (IsPermutation-trans ps (map place_of es) (map place_of (by_number number_of es)) (IsPermutation-sym (map place_of es) ps moved) turned) in
+      ap (map (λ (p : Place). p.name)) is ∙ map-keys (by_number number_of es) ∙ keyed
+
+  -- a new file goes last
+  module _ (x : File) (none : cause_to_refuse (files_made es) x.name ≡ None) where
+    abbrev pub made : Made
+    made = record { file = x; number = next }
+
+    pub absent : lookup (same_name x.name) es ≡ None
+    absent = is_none (lookup (same_name x.name) es) (sym (has_file-made x.name) ∙ new-by_cause (files_made es) x.name none)
+
+    no_key : (ds : Entries) → lookup (same_name x.name) ds ≡ None → list_any (same_name x.name) (keys_of ds) ≡ false
+    no_key [] is = refl
+    no_key (d ∷ ds) is = by (same_name x.name d.0) is (no_key ds)
+      where
+        by : (b : Bool) → cond b (Some d.1) (lookup (same_name x.name) ds) ≡ None → (lookup (same_name x.name) ds ≡ None → list_any (same_name x.name) (keys_of ds) ≡ false) → (b || list_any (same_name x.name) (keys_of ds)) ≡ false
+        by true bad rest = absurd (cc)
+        by false is rest = rest is
+
+    unequal : (m n : ℕ) → n < m → nat_eq m n ≡ false
+    unequal m n low = elim (cases_Bool (nat_eq m n)) [
+      | inl is ↦ let same = exact_unsigned_eq m n is in absurd (omega (arith, low, same))
+      | inr apart ↦ apart
+    ]
+
+    no_number : (ds : Entries) → AllByRecursion (λ d. number_of d < next) ds → list_any (nat_eq next) (map number_of ds) ≡ false
+    no_number [] low = refl
+    no_number (d ∷ ds) low = rw (unequal next (number_of d) low.0) (no_number ds low.1)
+
+    pub files_made-append : files_made (es ++ (x.name, made) ∷ []) ≡ files_made es ++ x ∷ []
+    files_made-append =
+        ap (things_in file_in) (by_number-last number_of es (x.name, made) (recursion_from_All (λ e. number_of e < next) es kept.below))
+        ∙ things_in-append file_name file_in (by_number number_of es) ((x.name, made) ∷ [])
+
+    pub AreKept-append : AreKept (es ++ (x.name, made) ∷ []) (next + 1)
+    AreKept-append = record {
+      keyed = All-push IsUnderItsName es (x.name, made) kept.keyed refl;
+      distinct = subst (IsDistinct same_name) (sym (map-append (λ (e : List ℕ × Made). e.0) es ((x.name, made) ∷ []))) (IsDistinct-push nat_list_eq_equiv (keys_of es) x.name kept.distinct (no_key es absent));
+      numbered = subst (IsDistinct nat_eq) (sym (map-append number_of es ((x.name, made) ∷ []))) (IsDistinct-push nat_eq_equiv (map number_of es) next kept.numbered (no_number es (recursion_from_All (λ e. number_of e < next) es kept.below)));
+      below = All-push (λ e. number_of e < next + 1) es (x.name, made) (All-weaker (λ e. number_of e < next) (λ e. number_of e < next + 1) (λ e low. omega (arith, low)) es kept.below) (omega arith);
+    }
+
+    put-new : insert_entry same_name es x.name made ≡ es ++ (x.name, made) ∷ []
+    put-new = insert_entry-absent same_name x.name made es (absent_from_lookup (same_name x.name) es absent)
+
+    pub files_made-insert_entry : files_made (insert_entry same_name es x.name made) ≡ files_made es ++ x ∷ []
+    files_made-insert_entry = ap files_made put-new ∙ files_made-append
+
+    pub AreKept-insert_entry : AreKept (insert_entry same_name es x.name made) (next + 1)
+    AreKept-insert_entry = subst (λ ds. AreKept ds (next + 1)) (sym put-new) AreKept-append
+
+  -- the file of that name is taken out, and moves no other
+  module _ (name : List ℕ) where
+    taken_out : (ds : Entries) (i : ℕ) → position (same_name name) (keys_of ds) ≡ Some i → (entry : List ℕ × Made) × (same_name name entry.0 ≡ true) × IsPermutation ds (entry ∷ swap_remove_entry (same_name name) ds)
+    taken_out [] i is = absurd (cc)
+    taken_out (d ∷ ds) i is =
+        let e = get_or (d ∷ ds) i d in
+        let found = position-Some (same_name name) (keys_of (d ∷ ds)) i d.0 is in
+        let within : i < length (d ∷ ds) = omega (arith, found.0, length-map (d ∷ ds) (λ (c : List ℕ × Made). c.0)) in (
+          e,
+          ap (same_name name) (sym (get_or-map (λ (c : List ℕ × Made). c.0) (d ∷ ds) i d d.0 within)) ∙ found.1,
+          subst (λ left. IsPermutation (d ∷ ds) (e ∷ left)) (sym (swap_remove_entry-found (same_name name) (d ∷ ds) i e is))
+              (IsPermutation-swap_remove (d ∷ ds) i e within (get_or_default (d ∷ ds) i d e within)),
+        )
+
+    module _ (e : List ℕ × Made) (left : Entries) (here : same_name name e.0 ≡ true) (moved : IsPermutation es (e ∷ left)) where
+      both : AreKept (e ∷ left) next
+      both = AreKept-permuted es (e ∷ left) next moved kept
+
+      AreKept-left : AreKept left next
+      AreKept-left = record {
+        keyed = All-tail IsUnderItsName e left both.keyed;
+        distinct = IsDistinct-tail same_name e.0 (keys_of left) both.distinct;
+        numbered = IsDistinct-tail nat_eq (number_of e) (map number_of left) both.numbered;
+        below = All-tail (λ d. number_of d < next) e left both.below;
+      }
+
+      order : by_number number_of es ≡ put_in number_of e (by_number number_of left)
+      order = by_number-permuted number_of es (e ∷ left) kept.numbered moved
+
+      others : AllByRecursion (λ key. same_name name key ≡ false) (keys_of (by_number number_of left))
+      others =
+          let turned = IsPermutation-cons e left (by_number number_of left) (IsPermutation-by_number number_of left) in
+          let all = AreKept-permuted (e ∷ left) (e ∷ by_number number_of left) next turned both in
+          subst (λ key. AllByRecursion (λ other. same_name key other ≡ false) (keys_of (by_number number_of left))) (sym (same_text name e.0 (sym here)))
+          (IsDistinct-head same_name e.0 (keys_of (by_number number_of left)) all.distinct)
+
+      files_made-left : files_made left ≡ without_file (files_made es) name
+      files_made-left =
+          ap (things_in file_in) (sym (remove_entry-put_in number_of (same_name name) e (by_number number_of left) here others) ∙ ap (remove_entry (same_name name)) (sym order))
+          ∙ things_in-remove_entry file_name file_in name (by_number number_of es) keyed ordered.distinct
+
+    pub AreKept-swap_remove_entry : AreKept (swap_remove_entry (same_name name) es) next
+    AreKept-swap_remove_entry = by (position (same_name name) (keys_of es)) refl
+      where
+        by : (o : Option ℕ) → position (same_name name) (keys_of es) ≡ o → AreKept (swap_remove_entry (same_name name) es) next
+        by None is = subst (λ ds. AreKept ds next) (sym (swap_remove_entry-missing (same_name name) es is)) kept
+        by (Some i) is = let out = taken_out es i is in AreKept-left out.0 (swap_remove_entry (same_name name) es) out.1 out.2
+
+    pub files_made-swap_remove_entry : files_made (swap_remove_entry (same_name name) es) ≡ without_file (files_made es) name
+    files_made-swap_remove_entry = by (position (same_name name) (keys_of es)) refl
+      where
+        by : (o : Option ℕ) → position (same_name name) (keys_of es) ≡ o → files_made (swap_remove_entry (same_name name) es) ≡ without_file (files_made es) name
+        by None is =
+            let absent = (Missing-position (same_name name) es is).value in
+            ap files_made (swap_remove_entry-missing (same_name name) es is)
+            ∙ sym (without_named-absent file_name (files_made es) name (has_file-made name ∙ ap is_some absent))
+        by (Some i) is = let out = taken_out es i is in files_made-left out.0 (swap_remove_entry (same_name name) es) out.1 out.2
+
+pub length-made : (es : Entries) → length (files_made es) ≡ length es
+length-made es = length-things_in file_name file_in (by_number number_of es) ∙ length_permutation es (by_number number_of es) (IsPermutation-by_number number_of es)
 
 pub has_file-copied : (fs : List File) (name : List ℕ) (found : Option (Bor File)) → option_copied found ≡ file_at fs name → is_some found ≡ has_file fs name
 has_file-copied fs name found is = sym (is_some-option_map (λ b. b.now) found) ∙ ap is_some is ∙ is_some-named file_name fs name

@@ -1,9 +1,10 @@
 pub mod Causes
+pub mod InOrder
 pub mod Kept
 pub mod Merging
 pub mod Polling
 pub mod Reached
-pub mod Reversed
+pub mod Renumbering
 pub mod Standing
 pub mod Statuses
 pub mod Unions

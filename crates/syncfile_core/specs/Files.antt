@@ -1,15 +1,17 @@
 -- The files by name, in the order of making.
-use Rattle.std.specs.Prelude.{ℕ, ◌≤◌, ◌<◌, Bool, nat_lt, if◌then◌else◌, List, [], map, length, reverse, Option, None, Some, MatchOption}
+use Rattle.std.specs.Prelude.{◌≡◌, ℕ, ◌<◌, Bool, nat_eq, nat_lt, if◌then◌else◌, List, All, map, length, Option, None, Some, MatchOption}
 use Rattle.std.specs.List.{IsDistinct}
 use Rattle.std.specs.Map.{keys_of}
-use Rattle.lru.specs.LruCache.{LruCache}
 use Rattle.point_core.specs.declared.refusal.Refusal.{Refusal}
 use Rattle.point_core.specs.declared.refusal.Refusal.TheVariants.{Exists, Limit}
 use Rattle.point_core.specs.declared.refusal.LimitKind.TheVariants.{Files as FilesKind}
-use Rattle.point_core.specs.Named.{same_name, is_named as has_the_name, has_named, named, without_named, HasDistinctNames as HaveDistinctNames, things_in, IsKeyed}
+use Rattle.point_core.specs.Named.{same_name, is_named as has_the_name, has_named, named, without_named, HasDistinctNames as HaveDistinctNames, things_in}
 pub use Rattle.point_core.specs.Refusal.{IsRefusedFor}
 use Rattle.point_core.specs.declared.entry.Entry.{Entry}
 use Rattle.syncfile_core.specs.declared.files.TheConstants.{FILES}
+use Rattle.syncfile_core.specs.declared.by_making.Made.{Made}
+use Rattle.syncfile_core.specs.declared.by_making.Place.{Place}
+use Rattle.syncfile_core.specs.Numbered.{by_number}
 use Rattle.syncfile_core.specs.SyncFile.{File, StandsFor}
 
 abbrev pub file_name : File → List ℕ
@@ -41,18 +43,21 @@ HasStanding fs name set = MatchOption (file_at fs name) ⊥ (λ f. StandsFor f s
 abbrev pub cause_to_refuse : List File → List ℕ → Option Refusal
 cause_to_refuse fs name = if has_file fs name then Some Exists else if nat_lt (length fs) FILES then None else Some (Limit FilesKind)
 
--- the files behind entries that stand the newest first, by the order of making
-abbrev pub files_behind : List (List ℕ × File) → List File
-files_behind es = reverse (things_in (λ f. f) es)
+-- the number of an entry's making
+abbrev pub number_of : List ℕ × Made → ℕ
+number_of e = e.1.number
 
--- each file is kept under its own name, no name comes twice, and the files are not more than there can be, so none is put out for another
-pub record IsKept (m : LruCache (List ℕ) File) : Type 0 where
-  pub keyed : IsKeyed file_name (λ f. f) m.entries
-  pub distinct : IsDistinct same_name (keys_of m.entries)
-  pub within : length m.entries ≤ FILES
-  pub room : FILES < m.cap
+-- the files of such entries, by the order of making
+abbrev pub files_made : List (List ℕ × Made) → List File
+files_made es = things_in (λ m. m.file) (by_number number_of es)
 
--- the files, none where none was made yet
-abbrev pub files_of : Option (List File) → List File
-files_of None = []
-files_of (Some fs) = fs
+-- each file is kept under its own name, no name and no number comes twice, and the next number is above them all
+pub record AreKept (es : List (List ℕ × Made)) (next : ℕ) : Type 0 where
+  pub keyed : All (λ e. e.0 ≡ e.1.file.name) es
+  pub distinct : IsDistinct same_name (keys_of es)
+  pub numbered : IsDistinct nat_eq (map number_of es)
+  pub below : All (λ e. number_of e < next) es
+
+-- the name of an entry, and the number of its making
+abbrev pub place_of : List ℕ × Made → Place
+place_of e = record { name = e.0; number = e.1.number }

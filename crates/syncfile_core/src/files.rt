@@ -26,18 +26,16 @@ const _: () = prove!(FILES == 1024);
 #[derive(Drop)]
 pub struct Files {
     alloc: Global,
-    // None until the first file is made, since it takes memory.
-    made: Option<ByMaking>,
+    made: ByMaking,
 }
 
 impl Model for Files {
     ghost use Rattle.std.specs.Prelude.{List};
     ghost use Rattle.syncfile_core.specs.SyncFile.{File};
-    ghost use Rattle.syncfile_core.specs.Files.{files_of};
 
     ghost Value = { List File };
 
-    ghost view = { λ fs. files_of fs.made };
+    ghost view = { λ fs. fs.made };
 }
 
 impl Files {
@@ -45,7 +43,10 @@ impl Files {
     pub fn new(alloc: Global) -> Result<Files, Refusal>
         ensures empty { result ≡ Ok [] }
     {
-        Ok(Files { alloc, made: None })
+        Ok(Files {
+            alloc,
+            made: ByMaking::new(alloc),
+        })
     }
 
     /// The file of that name.
@@ -54,10 +55,7 @@ impl Files {
     pub fn get(&self, name: &Name) -> Option<&SyncFile>
         ensures found { option_copied result ≡ file_at self.now name.now }
     {
-        match &self.made {
-            Some(made) => made.get(name),
-            None => None,
-        }
+        self.made.get(name)
     }
 
     /// The names, by the order of making.
@@ -68,10 +66,7 @@ impl Files {
         ensures distinct { HasDistinctNames self.now }
         ensures memory { IfErr result (λ e. e ≡ Memory) }
     {
-        match &self.made {
-            Some(made) => made.names(self.alloc),
-            None => Ok(Vec::new(self.alloc)),
-        }
+        self.made.names(self.alloc)
     }
 
     /// The file's status: active while a point is, else cancelled where one is, else signalled. A file without points is
@@ -88,7 +83,7 @@ impl Files {
         Ok(clocks.common_status(file.points.as_slice()))
     }
 
-    /// The file's name, its status, and a fence for each of its points. A file without points is told as one fence,
+    /// The file's name, its status, and a fence for each of its points. A file without points is shown as one fence,
     /// the stub, as the kernel does.
     ///
     /// Refuses as `NoEntry`, then as `Memory`.
@@ -201,10 +196,7 @@ impl Files {
         ensures known { MatchBool (has_file self.old name.now) (IsOk result) (result ≡ Err NoEntry) }
         ensures without { self.new ≡ without_file self.old name.now }
     {
-        match &mut self.made {
-            Some(made) => made.remove(name),
-            None => Err(Refusal::NoEntry),
-        }
+        self.made.remove(name)
     }
 
     fn known(&self, name: &Name) -> Result<&SyncFile, Refusal>
@@ -224,10 +216,7 @@ impl Files {
     fn count(&self) -> usize
         ensures { result ≡ length self.now }
     {
-        match &self.made {
-            Some(made) => made.count(),
-            None => 0,
-        }
+        self.made.count()
     }
 
     // Puts a new file last.
@@ -237,14 +226,6 @@ impl Files {
         ensures unchanged { OnErr result (self.new ≡ self.old) }
         ensures memory { IfErr result (λ e. e ≡ Memory) }
     {
-        match &mut self.made {
-            Some(made) => made.insert(file),
-            None => {
-                let mut made = ByMaking::new(self.alloc)?;
-                made.insert(file)?;
-                self.made = Some(made);
-                Ok(())
-            }
-        }
+        self.made.insert(file)
     }
 }

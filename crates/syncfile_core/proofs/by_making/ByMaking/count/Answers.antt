@@ -1,6 +1,6 @@
 use Rattle.std.proofs.Common.{length, sym, ap, ◌∙◌}
-use Rattle.syncfile_core.proofs.Kept.{length-behind}
+use Rattle.syncfile_core.proofs.Kept.{length-made}
 use Rattle.syncfile_core.proofs.by_making.ByMaking.count.Goals as goal
 
 pub returns : goal.returns
-returns c = c.len.ensures.len ∙ sym (length-behind c.self.inside.newest_first.entries) ∙ ap length c.self.view_is
+returns c = c.len.ensures.len ∙ sym (length-made c.self.inside.by_name.entries) ∙ ap length c.self.view_is

@@ -1,0 +1,13 @@
+-- Lists in the order of their numbers.
+use Rattle.std.specs.Prelude.{ℕ, nat_lt, if◌then◌else◌, List, [], ◌∷◌}
+
+module _ {X : Type 0} (number : X → ℕ) where
+  -- x, before the first of a greater number
+  abbrev pub put_in : X → List X → List X
+  put_in x [] = x ∷ []
+  put_in x (y ∷ ys) = if nat_lt (number x) (number y) then x ∷ y ∷ ys else y ∷ put_in x ys
+
+  -- by rising number
+  abbrev pub by_number : List X → List X
+  by_number [] = []
+  by_number (x ∷ xs) = put_in x (by_number xs)
