@@ -1,0 +1,5 @@
+mod AsBox
+mod Opened
+mod Over
+mod Room
+mod Stepped

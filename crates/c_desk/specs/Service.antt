@@ -1,0 +1,68 @@
+-- A desk and the cookies that wait to be taken, and what one command makes of both.
+use Rattle.std.specs.Prelude.{◌≡◌, ◌⊎◌, ℕ, ◌+◌, ◌≤◌, Bool, true, false, List, [], ◌++◌, length}
+use Rattle.point_core.specs.declared.refusal.Refusal.TheVariants.{Memory}
+use Rattle.command_core.specs.declared.command.Command.{Command}
+use Rattle.command_core.specs.declared.command.Command.TheVariants as command
+use Rattle.command_core.specs.declared.answer.Answer.{Answer}
+use Rattle.command_core.specs.declared.answer.Answer.TheVariants as answer
+use Rattle.fence_core.specs.declared.watches.TheConstants.{WATCHES}
+use Rattle.desk_core.specs.Answer.{OnRefused}
+use Rattle.desk_core.specs.Desk.{DeskState, HasHistory, Answers}
+use Rattle.desk_core.specs.History.{history_after}
+
+pub record ServiceState : Type 0 where
+  pub desk : DeskState
+  pub fired : List ℕ
+
+-- the cookies that the answer fires
+abbrev pub cookies_of : Answer → List ℕ
+cookies_of (answer.Raised n fired) = fired
+cookies_of answer.Done = []
+cookies_of (answer.Value n) = []
+cookies_of (answer.Info i) = []
+cookies_of (answer.Show rows) = []
+cookies_of (answer.Report report) = []
+cookies_of (answer.Refused r) = []
+
+-- the command registers a watch
+abbrev pub registers_watch : Command → Bool
+registers_watch (command.Watch f cookie) = true
+registers_watch (command.Timeline t) = false
+registers_watch (command.Inc t n) = false
+registers_watch (command.Value t) = false
+registers_watch (command.Shut t) = false
+registers_watch (command.Fence f t p) = false
+registers_watch (command.Merge f a b) = false
+registers_watch (command.Close f) = false
+registers_watch (command.Wait f) = false
+registers_watch (command.Info f) = false
+registers_watch (command.Buffer b) = false
+registers_watch (command.Add b t p u) = false
+registers_watch (command.Import b f flags) = false
+registers_watch (command.Export f b flags) = false
+registers_watch (command.Test b u) = false
+registers_watch (command.Trim b) = false
+registers_watch (command.Unwatch cookie) = false
+registers_watch (command.Show b) = false
+registers_watch command.Report = false
+
+-- a command that registers a watch finds room for all watches that can be pending
+abbrev pub IsReadyFor : Command → ℕ → ℕ → Type 0
+IsReadyFor command len capacity = registers_watch command ≡ true → len + WATCHES ≤ capacity
+
+-- the queue has room for each pending watch
+pub record HasRoom (desk : DeskState) (len capacity : ℕ) : Type 0 where
+  pub history : List Command
+  pub stands : HasHistory desk history
+  pub room : len + length desk.watches.pending ≤ capacity
+
+-- the command is a watch, and there was no memory for its cookie
+abbrev pub IsOutOfRoom : Command → Answer → Type 0
+IsOutOfRoom command given = (registers_watch command ≡ true) × (given ≡ answer.Refused Memory)
+
+-- the command was answered as a desk answers it, and what it fired waits after what waited before
+pub record IsStep (old new : ServiceState) (command : Command) (given : Answer) : Type 0 where
+  pub answered : Answers old.desk command given ⊎ IsOutOfRoom command given
+  pub stands : (history : List Command) → HasHistory old.desk history → HasHistory new.desk (history_after history command given)
+  pub unchanged : OnRefused given (new ≡ old)
+  pub kept : new.fired ≡ old.fired ++ cookies_of given

@@ -1,0 +1,63 @@
+-- What an answer tells, as C programs see it.
+use Rattle.std.specs.Prelude.{◌≡◌, ℕ, ℤ, pos, ◌-◌, List, ◌++◌, length, map, replicate, codes}
+use Rattle.point_core.specs.Status.{status_number}
+use Rattle.point_core.specs.Usage.{usage_number}
+use Rattle.command_core.specs.declared.answer.Answer.{Answer}
+use Rattle.command_core.specs.declared.answer.Answer.TheVariants as answer
+use Rattle.command_core.specs.declared.answer.FenceRow.{FenceRow}
+use Rattle.command_core.specs.declared.answer.ShowRow.{ShowRow}
+use Rattle.command_core.specs.declared.answer.Info.{Info}
+use Rattle.command_core.specs.declared.answer.Maker.{Maker}
+use Rattle.command_core.specs.declared.answer.Maker.TheVariants.{SwSync, Stub}
+use Rattle.c_desk.specs.declared.rows.TheConstants.{NAME_ROOM, DRIVER_ROOM}
+use Rattle.c_desk.specs.declared.rows.FenceInfo.{FenceInfo}
+use Rattle.c_desk.specs.declared.rows.BufferRow.{BufferRow}
+use Rattle.c_desk.specs.Rows.{over}
+
+-- the text, and zeros after it
+abbrev pub filled_to : ℕ → List ℕ → List ℕ
+filled_to room text = text ++ replicate (room - length text) 0
+
+abbrev pub filled : List ℕ → List ℕ
+filled name = filled_to NAME_ROOM name
+
+abbrev pub driver_text : Maker → List ℕ
+driver_text SwSync = filled_to DRIVER_ROOM (codes "sw_sync")
+driver_text Stub = filled_to DRIVER_ROOM (codes "stub")
+
+abbrev pub fence_info : FenceRow → FenceInfo
+fence_info r = record { timeline = filled r.timeline; point = r.point; driver = driver_text r.driver; status = status_number r.status }
+
+abbrev pub buffer_row : ShowRow → BufferRow
+buffer_row r = record { usage = pos (usage_number r.usage); timeline = filled r.timeline; point = r.point }
+
+-- what is made of file information where the answer is that, or what stood there
+abbrev pub info_or : {A : Type 0} → Answer → (Info → A) → A → A
+info_or (answer.Info i) made old = made i
+info_or answer.Done made old = old
+info_or (answer.Value n) made old = old
+info_or (answer.Raised n fired) made old = old
+info_or (answer.Show rows) made old = old
+info_or (answer.Report report) made old = old
+info_or (answer.Refused r) made old = old
+
+-- what is made of a buffer's table where the answer is that, or what stood there
+abbrev pub table_or : {A : Type 0} → Answer → (List ShowRow → A) → A → A
+table_or (answer.Show rows) made old = made rows
+table_or answer.Done made old = old
+table_or (answer.Value n) made old = old
+table_or (answer.Raised n fired) made old = old
+table_or (answer.Info i) made old = old
+table_or (answer.Report report) made old = old
+table_or (answer.Refused r) made old = old
+
+-- a file's status, the number of its fences, and as many of them as there is room for
+pub record StoresInfo (given : Answer) (old_status new_status : ℤ) (old_rows new_rows : List FenceInfo) (old_count new_count : ℕ) : Type 0 where
+  pub status : new_status ≡ info_or given (λ i. status_number i.status) old_status
+  pub rows : new_rows ≡ info_or given (λ i. over (map fence_info i.fences) old_rows) old_rows
+  pub count : new_count ≡ info_or given (λ i. length i.fences) old_count
+
+-- the number of a table's rows, and as many of them as there is room for
+pub record StoresTable (given : Answer) (old_rows new_rows : List BufferRow) (old_count new_count : ℕ) : Type 0 where
+  pub rows : new_rows ≡ table_or given (λ table. over (map buffer_row table) old_rows) old_rows
+  pub count : new_count ≡ table_or given (λ table. length table) old_count

@@ -1,0 +1,281 @@
+//! The desk for C programs: one export for each command, and one that takes the cookies of fired watches.
+//!
+//! `include/bimphlai.h` has the signatures. A name is a pointer and a length.
+#![tactic(auto)]
+
+ghost use Rattle.std.specs.Prelude.{◌≡◌, false, IfOk, IfErr, ⊤};
+ghost use Rattle.c_desk.specs.Asked.{asked_timeline, asked_inc, asked_shut, asked_value, asked_fence, asked_merge, asked_close, asked_wait, asked_info, asked_buffer, asked_add, asked_import, asked_export, asked_test, asked_trim, asked_show, asked_watch, asked_unwatch};
+ghost use Rattle.c_desk.specs.Call.{IsCall, told_or, yes_or, IsNew, IsOpening, IsTaking};
+ghost use Rattle.c_desk.specs.Told.{StoresInfo, StoresTable};
+ghost use Rattle.c_desk.specs.Handle.{is_open};
+
+mod answers;
+mod asked;
+mod handle;
+mod parts;
+mod rows;
+mod service;
+
+use crate::answers::{number, refused, store, store_if, store_info, store_table};
+use crate::handle::DeskHandle;
+use crate::rows::{BufferRow, FenceInfo};
+use crate::service::Service;
+use command_core::Command;
+use point_core::Refusal;
+use std::alloc::Global;
+
+/// Opens a desk with nothing in it at a closed handle.
+///
+/// Refuses as `Exists` where the handle is open, then as `Memory`; the handle stays as it was then.
+#[unsafe(no_mangle)]
+pub extern "C" fn bim_desk_open(alloc: Global, desk: &mut DeskHandle) -> i32
+    ensures { IsOpening desk.old desk.new result }
+{
+    if desk.is_open() {
+        return refused(Refusal::Exists);
+    }
+    match open(alloc) {
+        Ok(handle) => {
+            *desk = handle;
+            0
+        }
+        Err(refusal) => refused(refusal),
+    }
+}
+
+fn open(alloc: Global) -> Result<DeskHandle, Refusal>
+    ensures done { IfOk result (λ handle. IsNew handle) }
+    ensures memory { IfErr result (λ e. e ≡ Refusal.Memory) }
+{
+    let service = Service::new(alloc)?;
+    match Box::new(alloc, service) {
+        Ok(service) => Ok(DeskHandle::of(service)),
+        Err(_) => Err(Refusal::Memory),
+    }
+}
+
+/// Closes a desk, with all that is in it. Its memory is free again. A closed handle stays closed.
+#[unsafe(no_mangle)]
+pub extern "C" fn bim_desk_close(alloc: Global, desk: &mut DeskHandle)
+    ensures { is_open desk.new ≡ false }
+{
+    if desk.is_open() {
+        desk.close(alloc);
+    }
+}
+
+/// `timeline T`, as libsync's `sw_sync_timeline_create`: stores the timeline's context.
+#[unsafe(no_mangle)]
+pub extern "C" fn bim_timeline_n(desk: &mut DeskHandle, timeline: &[u8], context: &mut u64) -> i32
+    ensures { IsCall desk.old desk.new (asked_timeline timeline.now) result (λ given.
+        context.new ≡ told_or given context.old) }
+{
+    let answer = desk.ask(asked::timeline(timeline));
+    store(&answer, context);
+    number(&answer)
+}
+
+/// `inc T N`, as libsync's `sw_sync_timeline_inc`: stores the timeline's new value.
+#[unsafe(no_mangle)]
+pub extern "C" fn bim_inc_n(desk: &mut DeskHandle, timeline: &[u8], n: u64, value: &mut u64) -> i32
+    ensures { IsCall desk.old desk.new (asked_inc timeline.now n) result (λ given.
+        value.new ≡ told_or given value.old) }
+{
+    let answer = desk.ask(asked::inc(timeline, n));
+    store(&answer, value);
+    number(&answer)
+}
+
+/// `value T`: stores the timeline's value.
+#[unsafe(no_mangle)]
+pub extern "C" fn bim_value_n(desk: &mut DeskHandle, timeline: &[u8], value: &mut u64) -> i32
+    ensures { IsCall desk.old desk.new (asked_value timeline.now) result (λ given.
+        value.new ≡ told_or given value.old) }
+{
+    let answer = desk.ask(asked::value(timeline));
+    store(&answer, value);
+    number(&answer)
+}
+
+/// `shut T`, as the close of a sw_sync timeline's descriptor: stores the timeline's value.
+#[unsafe(no_mangle)]
+pub extern "C" fn bim_shut_n(desk: &mut DeskHandle, timeline: &[u8], value: &mut u64) -> i32
+    ensures { IsCall desk.old desk.new (asked_shut timeline.now) result (λ given.
+        value.new ≡ told_or given value.old) }
+{
+    let answer = desk.ask(asked::shut(timeline));
+    store(&answer, value);
+    number(&answer)
+}
+
+/// `fence F T P`, as libsync's `sw_sync_fence_create`.
+#[unsafe(no_mangle)]
+pub extern "C" fn bim_fence_n(
+    desk: &mut DeskHandle,
+    file: &[u8],
+    timeline: &[u8],
+    point: u64,
+) -> i32
+    ensures { IsCall desk.old desk.new (asked_fence file.now timeline.now point) result (λ _. ⊤) }
+{
+    number(&desk.ask(asked::fence(file, timeline, point)))
+}
+
+/// `merge F A B`, as libsync's `sync_merge`.
+#[unsafe(no_mangle)]
+pub extern "C" fn bim_merge_n(
+    desk: &mut DeskHandle,
+    file: &[u8],
+    first: &[u8],
+    second: &[u8],
+) -> i32
+    ensures { IsCall desk.old desk.new (asked_merge file.now first.now second.now) result (λ _. ⊤) }
+{
+    number(&desk.ask(asked::merge(file, first, second)))
+}
+
+/// `close F`, as the close of a sync file's last descriptor.
+#[unsafe(no_mangle)]
+pub extern "C" fn bim_close_n(desk: &mut DeskHandle, file: &[u8]) -> i32
+    ensures { IsCall desk.old desk.new (asked_close file.now) result (λ _. ⊤) }
+{
+    number(&desk.ask(asked::close(file)))
+}
+
+/// `wait F`, as libsync's `sync_wait` with a timeout of 0.
+#[unsafe(no_mangle)]
+pub extern "C" fn bim_wait_n(desk: &mut DeskHandle, file: &[u8]) -> i32
+    ensures { IsCall desk.old desk.new (asked_wait file.now) result (λ _. ⊤) }
+{
+    number(&desk.ask(asked::wait(file)))
+}
+
+/// `info F`, as libsync's `sync_file_info`: stores the file's status, the number of its fences, and the first of them, as many
+/// as there is room for.
+#[unsafe(no_mangle)]
+pub extern "C" fn bim_info_n(
+    desk: &mut DeskHandle,
+    file: &[u8],
+    status: &mut i32,
+    rows: &mut [FenceInfo],
+    count: &mut usize,
+) -> i32
+    ensures { IsCall desk.old desk.new (asked_info file.now) result (λ given.
+        StoresInfo given status.old status.new rows.old rows.new count.old count.new) }
+{
+    let answer = desk.ask(asked::info(file));
+    store_info(&answer, status, rows, count);
+    number(&answer)
+}
+
+/// `buffer B`, as Linux's `dma_resv_init`.
+#[unsafe(no_mangle)]
+pub extern "C" fn bim_buffer_n(desk: &mut DeskHandle, buffer: &[u8]) -> i32
+    ensures { IsCall desk.old desk.new (asked_buffer buffer.now) result (λ _. ⊤) }
+{
+    number(&desk.ask(asked::buffer(buffer)))
+}
+
+/// `add B T P U`, as Linux's `dma_resv_add_fence`. The usage is a number of Linux's `enum dma_resv_usage`.
+#[unsafe(no_mangle)]
+pub extern "C" fn bim_add_n(
+    desk: &mut DeskHandle,
+    buffer: &[u8],
+    timeline: &[u8],
+    point: u64,
+    usage: i32,
+) -> i32
+    ensures { IsCall desk.old desk.new (asked_add buffer.now timeline.now point usage) result (λ _. ⊤) }
+{
+    number(&desk.ask(asked::add(buffer, timeline, point, usage)))
+}
+
+/// `import B F FLAGS`, as Linux's `DMA_BUF_IOCTL_IMPORT_SYNC_FILE`.
+#[unsafe(no_mangle)]
+pub extern "C" fn bim_import_n(desk: &mut DeskHandle, buffer: &[u8], file: &[u8], flags: u32) -> i32
+    ensures { IsCall desk.old desk.new (asked_import buffer.now file.now flags) result (λ _. ⊤) }
+{
+    number(&desk.ask(asked::import(buffer, file, flags)))
+}
+
+/// `export F B FLAGS`, as Linux's `DMA_BUF_IOCTL_EXPORT_SYNC_FILE`.
+#[unsafe(no_mangle)]
+pub extern "C" fn bim_export_n(desk: &mut DeskHandle, file: &[u8], buffer: &[u8], flags: u32) -> i32
+    ensures { IsCall desk.old desk.new (asked_export file.now buffer.now flags) result (λ _. ⊤) }
+{
+    number(&desk.ask(asked::export(file, buffer, flags)))
+}
+
+/// `test B U`, as Linux's `dma_resv_test_signaled`: stores 1 for yes and 0 for no.
+#[unsafe(no_mangle)]
+pub extern "C" fn bim_test_n(
+    desk: &mut DeskHandle,
+    buffer: &[u8],
+    usage: i32,
+    signalled: &mut i32,
+) -> i32
+    ensures { IsCall desk.old desk.new (asked_test buffer.now usage) result (λ given.
+        signalled.new ≡ yes_or given signalled.old) }
+{
+    let answer = desk.ask(asked::test(buffer, usage));
+    store_if(&answer, signalled);
+    number(&answer)
+}
+
+/// `trim B`. The kernel has no such call.
+#[unsafe(no_mangle)]
+pub extern "C" fn bim_trim_n(desk: &mut DeskHandle, buffer: &[u8]) -> i32
+    ensures { IsCall desk.old desk.new (asked_trim buffer.now) result (λ _. ⊤) }
+{
+    number(&desk.ask(asked::trim(buffer)))
+}
+
+/// `show B`, as Linux's debugfs lists a buffer's reservation: stores the number of the rows of its table, and the first of
+/// them, as many as there is room for.
+#[unsafe(no_mangle)]
+pub extern "C" fn bim_show_n(
+    desk: &mut DeskHandle,
+    buffer: &[u8],
+    rows: &mut [BufferRow],
+    count: &mut usize,
+) -> i32
+    ensures { IsCall desk.old desk.new (asked_show buffer.now) result (λ given.
+        StoresTable given rows.old rows.new count.old count.new) }
+{
+    let answer = desk.ask(asked::show(buffer));
+    store_table(&answer, rows, count);
+    number(&answer)
+}
+
+/// `watch F COOKIE`, as Linux's `dma_fence_add_callback`.
+#[unsafe(no_mangle)]
+pub extern "C" fn bim_watch_n(desk: &mut DeskHandle, file: &[u8], cookie: u64) -> i32
+    ensures { IsCall desk.old desk.new (asked_watch file.now cookie) result (λ _. ⊤) }
+{
+    number(&desk.ask(asked::watch(file, cookie)))
+}
+
+/// `unwatch COOKIE`, as Linux's `dma_fence_remove_callback`: stores 1 where there was such a watch, else 0.
+#[unsafe(no_mangle)]
+pub extern "C" fn bim_unwatch(desk: &mut DeskHandle, cookie: u64, was_there: &mut i32) -> i32
+    ensures { IsCall desk.old desk.new (asked_unwatch cookie) result (λ given.
+        was_there.new ≡ yes_or given was_there.old) }
+{
+    let answer = desk.ask(Ok(Command::Unwatch(cookie)));
+    store_if(&answer, was_there);
+    number(&answer)
+}
+
+/// Takes the first cookies that fired, as many as there is room for, and returns how many. A closed handle has none.
+///
+/// Takes no memory.
+#[unsafe(no_mangle)]
+pub extern "C" fn bim_take_fired(desk: &mut DeskHandle, cookies: &mut [u64]) -> usize
+    ensures { IsTaking desk.old desk.new cookies.old cookies.new result }
+{
+    if desk.is_open() {
+        desk.get_mut().take(cookies)
+    } else {
+        0
+    }
+}

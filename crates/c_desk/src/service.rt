@@ -1,0 +1,125 @@
+// A desk, and the cookies that it fired.
+ghost use Rattle.std.specs.Prelude.{◌≡◌, ◌≤◌, ◌+◌, [], ◌++◌, length, drop, min, true, IsOk, IfOk, OnOk, OnErr};
+ghost use Rattle.std.specs.VecDeque.{deque_len, deque_capacity};
+ghost use Rattle.command_core.specs.declared.command.Command.{Command};
+ghost use Rattle.desk_core.specs.Desk.{HasHistory};
+ghost use Rattle.fence_core.specs.declared.watches.TheConstants.{WATCHES};
+ghost use Rattle.c_desk.specs.Rows.{over};
+ghost use Rattle.c_desk.specs.Service.{IsStep, cookies_of, registers_watch, IsReadyFor};
+
+use desk_core::{Answer, Command, Desk};
+use fence_core::WATCHES;
+use point_core::Refusal;
+use std::alloc::Global;
+use std::collections::VecDeque;
+use std::marker::Model;
+
+/// A desk, and the cookies of its fired watches until they are taken. The queue has room for each pending watch, so a
+/// watch that fires takes no memory.
+#[derive(Drop)]
+pub struct Service {
+    desk: Desk,
+    fired: VecDeque<u64>,
+}
+
+impl Model for Service {
+    ghost use Rattle.std.specs.VecDeque.{deque_len, deque_capacity};
+    ghost use Rattle.c_desk.specs.Service.{ServiceState, HasRoom};
+
+    ghost Value = { ServiceState };
+
+    ghost view = { λ s. record { desk = s.desk; fired = s.fired.items } };
+
+    ghost invariant = { λ s. HasRoom s.desk (deque_len s.fired) (deque_capacity s.fired) };
+}
+
+impl Service {
+    /// A desk with nothing in it. It takes no memory yet, so it is never refused.
+    pub fn new(alloc: Global) -> Result<Service, Refusal>
+        ensures taken { IsOk result }
+        ensures empty { IfOk result (λ service. HasHistory service.desk [] × (service.fired ≡ [])) }
+    {
+        Ok(Service {
+            desk: Desk::new(alloc)?,
+            fired: VecDeque::new(alloc),
+        })
+    }
+
+    /// The answer of one command, as `Desk::step`. What it fires waits in the queue.
+    ///
+    /// A watch fails with `Memory` before anything else if the queue can't grow.
+    #[inline(always)]
+    pub fn step(&mut self, command: Command) -> Answer
+        ensures { IsStep self.old self.new command result }
+    {
+        if reserve(&mut self.fired, &command).is_err() {
+            return Answer::Refused(Refusal::Memory);
+        }
+        let answer = self.desk.step(command);
+        keep(&mut self.fired, &answer);
+        answer
+    }
+
+    /// Takes the first cookies that fired, as many as there is room for, and returns how many.
+    ///
+    /// Takes no memory.
+    pub fn take(&mut self, cookies: &mut [u64]) -> usize
+        ensures count { result ≡ min (length cookies.old) (length self.old.fired) }
+        ensures taken { cookies.new ≡ over self.old.fired cookies.old }
+        ensures left { self.new.fired ≡ drop result self.old.fired }
+        ensures desk { self.new.desk ≡ self.old.desk }
+    {
+        take(&mut self.fired, cookies)
+    }
+}
+
+/// Makes room for all watches that can be pending, if the command registers one.
+fn reserve(fired: &mut VecDeque<u64>, command: &Command) -> Result<(), Refusal>
+    ensures items { fired.new.items ≡ fired.old.items }
+    ensures len { deque_len fired.new ≡ deque_len fired.old }
+    ensures capacity { deque_capacity fired.old ≤ deque_capacity fired.new }
+    ensures ready { OnOk result (IsReadyFor command.now (deque_len fired.new) (deque_capacity fired.new)) }
+    ensures watch { OnErr result (registers_watch command.now ≡ true) }
+{
+    if let Command::Watch(_, _) = command {
+        fired.reserve(WATCHES)?;
+    }
+    Ok(())
+}
+
+/// Puts what the answer fired into the queue.
+fn keep(fired: &mut VecDeque<u64>, answer: &Answer)
+    requires room { deque_len fired.old + length (cookies_of answer.now) ≤ deque_capacity fired.old }
+    ensures items { fired.new.items ≡ fired.old.items ++ cookies_of answer.now }
+    ensures len { deque_len fired.new ≡ deque_len fired.old + length (cookies_of answer.now) }
+    ensures capacity { deque_capacity fired.new ≡ deque_capacity fired.old }
+{
+    if let Answer::Raised(_, cookies) = answer {
+        push_all(fired, cookies.as_slice());
+    }
+}
+
+fn push_all(fired: &mut VecDeque<u64>, cookies: &[u64])
+    requires room { deque_len fired.old + length cookies.now ≤ deque_capacity fired.old }
+    ensures items { fired.new.items ≡ fired.old.items ++ cookies.now }
+    ensures len { deque_len fired.new ≡ deque_len fired.old + length cookies.now }
+    ensures capacity { deque_capacity fired.new ≡ deque_capacity fired.old }
+{
+    for cookie in cookies {
+        fired.push_back_reserved(*cookie);
+    }
+}
+
+fn take(fired: &mut VecDeque<u64>, cookies: &mut [u64]) -> usize
+    ensures count { result ≡ min (length cookies.old) (length fired.old.items) }
+    ensures taken { cookies.new ≡ over fired.old.items cookies.old }
+    ensures left { fired.new.items ≡ drop result fired.old.items }
+    ensures len { deque_len fired.new ≤ deque_len fired.old }
+    ensures capacity { deque_capacity fired.new ≡ deque_capacity fired.old }
+{
+    let count = cookies.len().min(fired.len());
+    for index in 0..count {
+        cookies[index] = fired.pop_front().unwrap();
+    }
+    count
+}

@@ -1,0 +1,8 @@
+mod AsBox
+mod AsFileBox
+mod FileMoved
+mod Moved
+mod NoFile
+mod NoMember
+mod Owning
+mod Signed

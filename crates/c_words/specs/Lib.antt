@@ -1,0 +1,12 @@
+pub mod Answers
+pub mod FileCalls
+pub mod FileLending
+pub mod Files
+pub mod Handle
+pub mod Held
+pub mod HeldFile
+pub mod Lending
+pub mod Member
+pub mod Merges
+pub mod Seats
+pub mod Shares

@@ -1,0 +1,11 @@
+// How the parts of words are shared among C's seats.
+
+/// The parts that each seat has at least: one to look with, and one to drive with.
+pub const LEAST_PARTS: u32 = 2;
+
+const _: () = prove!(LEAST_PARTS == 2);
+
+/// A seat gives one part of so many to the next.
+pub const SHARE: u32 = 1_024;
+
+const _: () = prove!(SHARE == 1_024);

@@ -1,0 +1,56 @@
+// A sync file that handles share.
+ghost use Rattle.std.specs.Prelude.{◌≡◌, IfOk, IfErr};
+ghost use Rattle.point_core.specs.declared.refusal.Refusal.TheVariants as refusal;
+
+use point_core::Refusal;
+use std::alloc::Global;
+use std::marker::Model;
+use std::sync::Arc;
+use syncfile_core::SyncFile;
+
+/// A sync file, which nobody changes and all its handles share.
+#[derive(Drop)]
+pub struct SharedFile {
+    file: Arc<SyncFile>,
+}
+
+impl Model for SharedFile {
+    ghost use Rattle.syncfile_core.specs.SyncFile.{File};
+
+    ghost Value = { File };
+
+    ghost view = { λ f. f.file.value };
+}
+
+impl SharedFile {
+    /// The first of a file.
+    ///
+    /// Fails with `Memory` alone.
+    pub fn of(alloc: Global, file: SyncFile) -> Result<SharedFile, Refusal>
+        ensures file { IfOk result (λ f. f ≡ file) }
+        ensures memory { IfErr result (λ e. e ≡ refusal.Memory) }
+    {
+        match Arc::new(alloc, file) {
+            Ok(file) => Ok(SharedFile { file }),
+            Err(_) => Err(Refusal::Memory),
+        }
+    }
+
+    /// Another of the same file.
+    ///
+    /// Fails with `Memory` alone.
+    pub fn copied(&self) -> Result<SharedFile, Refusal>
+        ensures file { IfOk result (λ f. f ≡ self.now) }
+        ensures memory { IfErr result (λ e. e ≡ refusal.Memory) }
+    {
+        let file = Arc::try_clone(&self.file)?;
+        Ok(SharedFile { file })
+    }
+
+    /// The file.
+    pub fn get(&self) -> &SyncFile
+        ensures { result.now ≡ self.now }
+    {
+        &self.file
+    }
+}

@@ -1,0 +1,558 @@
+/* Calls every function of the header with good and bad arguments. A refused call leaves its out-parameters as they
+ * were. */
+#include <bimphlai.h>
+
+#include "expect.h"
+#include <stdlib.h>
+#include <string.h>
+
+#define LONGEST "a234567890123456789012345678901"
+#define TOO_LONG LONGEST "2"
+/* What out-parameters hold where a refusal has to leave them. */
+enum { KEPT = 77 };
+
+static void texts(void)
+{
+    HOLDS(strcmp(bim_version(), BIM_VERSION) == 0);
+    HOLDS(strcmp(bim_refusal_name(BIM_OK), "Ok") == 0);
+    HOLDS(strcmp(bim_refusal_name(BIM_NO_ENTRY), "NoEntry") == 0);
+    HOLDS(strcmp(bim_refusal_name(BIM_MEMORY), "Memory") == 0);
+    HOLDS(strcmp(bim_refusal_name(-1), "?") == 0);
+    HOLDS(strcmp(bim_refusal_name(BIM_MEMORY + 1), "?") == 0);
+}
+
+static void closed_desk(void)
+{
+    bim_desk desk = BIM_DESK_INIT;
+    uint64_t number = KEPT;
+    int32_t status = KEPT;
+    int flag = KEPT;
+    size_t count = KEPT;
+    bim_fence_info info;
+    bim_row row;
+
+    EXPECT(bim_timeline(&desk, "a", &number), BIM_NO_ENTRY);
+    EXPECT(bim_inc(&desk, "a", 1, &number), BIM_NO_ENTRY);
+    EXPECT(bim_shut(&desk, "a", &number), BIM_NO_ENTRY);
+    EXPECT(bim_value(&desk, "a", &number), BIM_NO_ENTRY);
+    EXPECT(bim_fence(&desk, "f", "a", 1), BIM_NO_ENTRY);
+    EXPECT(bim_merge(&desk, "f", "a", "b"), BIM_NO_ENTRY);
+    EXPECT(bim_close(&desk, "f"), BIM_NO_ENTRY);
+    EXPECT(bim_wait(&desk, "f"), BIM_NO_ENTRY);
+    EXPECT(bim_info(&desk, "f", &status, &info, 1, &count), BIM_NO_ENTRY);
+    EXPECT(bim_buffer(&desk, "b"), BIM_NO_ENTRY);
+    EXPECT(bim_add(&desk, "b", "a", 1, BIM_READ), BIM_NO_ENTRY);
+    EXPECT(bim_import(&desk, "b", "f", BIM_SYNC_READ), BIM_NO_ENTRY);
+    EXPECT(bim_export(&desk, "f", "b", BIM_SYNC_READ), BIM_NO_ENTRY);
+    EXPECT(bim_test(&desk, "b", BIM_READ, &flag), BIM_NO_ENTRY);
+    EXPECT(bim_trim(&desk, "b"), BIM_NO_ENTRY);
+    EXPECT(bim_show(&desk, "b", &row, 1, &count), BIM_NO_ENTRY);
+    EXPECT(bim_watch(&desk, "f", 1), BIM_NO_ENTRY);
+    EXPECT(bim_unwatch(&desk, 1, &flag), BIM_NO_ENTRY);
+    EXPECT(bim_take_fired(&desk, &number, 1), 0);
+    bim_desk_close(&desk);
+    EXPECT(number, KEPT);
+    EXPECT(status, KEPT);
+    EXPECT(flag, KEPT);
+    EXPECT(count, KEPT);
+    HOLDS(desk.at == NULL);
+}
+
+static void timelines(bim_desk *desk)
+{
+    static const char *const none[] = { "", " ", "a b", "a\n", "a/b", "\xff", TOO_LONG };
+    uint64_t number = KEPT;
+
+    for (size_t i = 0; i < sizeof none / sizeof none[0]; i++) {
+        EXPECT(bim_timeline(desk, none[i], &number), BIM_SYNTAX);
+        EXPECT(bim_inc(desk, none[i], 1, &number), BIM_SYNTAX);
+        EXPECT(bim_shut(desk, none[i], &number), BIM_SYNTAX);
+        EXPECT(bim_value(desk, none[i], &number), BIM_SYNTAX);
+    }
+    EXPECT(bim_inc(desk, "a", 1, &number), BIM_NO_ENTRY);
+    EXPECT(bim_shut(desk, "a", &number), BIM_NO_ENTRY);
+    EXPECT(bim_value(desk, "a", &number), BIM_NO_ENTRY);
+    EXPECT(number, KEPT);
+
+    EXPECT(bim_timeline(desk, "a", &number), BIM_OK);
+    EXPECT(number, 1);
+    EXPECT(bim_timeline(desk, LONGEST, &number), BIM_OK);
+    EXPECT(number, 2);
+    EXPECT(bim_timeline(desk, "a", &number), BIM_EXISTS);
+    EXPECT(number, 2);
+    EXPECT(bim_inc(desk, "a", 5, &number), BIM_OK);
+    EXPECT(number, 5);
+    EXPECT(bim_inc(desk, "a", UINT64_MAX - 4, &number), BIM_OVERFLOW);
+    EXPECT(number, 5);
+    EXPECT(bim_inc(desk, LONGEST, UINT64_MAX, &number), BIM_OK);
+    HOLDS(number == UINT64_MAX);
+    EXPECT(bim_value(desk, "a", &number), BIM_OK);
+    EXPECT(number, 5);
+    number = KEPT;
+    EXPECT(bim_shut(desk, LONGEST, &number), BIM_OK);
+    HOLDS(number == UINT64_MAX);
+    EXPECT(bim_shut(desk, LONGEST, &number), BIM_CANCELLED);
+    EXPECT(bim_inc(desk, LONGEST, 0, &number), BIM_CANCELLED);
+    HOLDS(number == UINT64_MAX);
+}
+
+/* The desk has timeline a at 5. */
+static void files(bim_desk *desk)
+{
+    bim_fence_info rows[3];
+    int32_t status = KEPT;
+    size_t count = KEPT;
+    uint64_t number;
+
+    EXPECT(bim_timeline(desk, "b", &number), BIM_OK);
+    EXPECT(bim_fence(desk, "f f", "a", 6), BIM_SYNTAX);
+    EXPECT(bim_fence(desk, "f", "", 6), BIM_SYNTAX);
+    EXPECT(bim_fence(desk, "f", "c", 6), BIM_NO_ENTRY);
+    EXPECT(bim_fence(desk, "f", LONGEST, 6), BIM_CANCELLED);
+    EXPECT(bim_fence(desk, "f", "a", 6), BIM_OK);
+    EXPECT(bim_fence(desk, "f", "a", 7), BIM_EXISTS);
+    EXPECT(bim_fence(desk, "g", "b", 3), BIM_OK);
+    EXPECT(bim_merge(desk, "m", "f", "g"), BIM_OK);
+    EXPECT(bim_merge(desk, "m", "f", "g"), BIM_EXISTS);
+    EXPECT(bim_merge(desk, "n", "f", "h"), BIM_NO_ENTRY);
+    EXPECT(bim_merge(desk, "n", "f", "h?"), BIM_SYNTAX);
+    EXPECT(bim_merge(desk, "n", "", "g"), BIM_SYNTAX);
+    EXPECT(bim_merge(desk, TOO_LONG, "f", "g"), BIM_SYNTAX);
+
+    memset(rows, KEPT, sizeof rows);
+    EXPECT(bim_info(desk, "none", &status, rows, 3, &count), BIM_NO_ENTRY);
+    EXPECT(bim_info(desk, "no ne", &status, rows, 3, &count), BIM_SYNTAX);
+    EXPECT(status, KEPT);
+    EXPECT(count, KEPT);
+    EXPECT(bim_info(desk, "m", &status, NULL, 0, &count), BIM_OK);
+    EXPECT(status, BIM_IS_ACTIVE);
+    EXPECT(count, 2);
+    HOLDS(rows[0].timeline[0] == KEPT);
+    EXPECT(bim_info(desk, "m", &status, rows, 1, &count), BIM_OK);
+    EXPECT(count, 2);
+    HOLDS(strcmp(rows[0].timeline, "a") == 0 && strcmp(rows[0].driver, "sw_sync") == 0);
+    EXPECT(rows[0].point, 6);
+    HOLDS(rows[1].timeline[0] == KEPT);
+    EXPECT(bim_inc(desk, "b", 3, &number), BIM_OK);
+    EXPECT(bim_info(desk, "m", &status, rows, 3, &count), BIM_OK);
+    EXPECT(count, 2);
+    HOLDS(strcmp(rows[1].timeline, "b") == 0);
+    EXPECT(rows[0].status, BIM_IS_ACTIVE);
+    EXPECT(rows[1].status, BIM_IS_SIGNALLED);
+    HOLDS(rows[2].timeline[0] == KEPT);
+
+    EXPECT(bim_wait(desk, "m"), BIM_TIMED_OUT);
+    EXPECT(bim_wait(desk, "none"), BIM_NO_ENTRY);
+    EXPECT(bim_wait(desk, "?"), BIM_SYNTAX);
+    EXPECT(bim_wait(desk, "g"), BIM_OK);
+    EXPECT(bim_merge(desk, "stub", "g", "g"), BIM_OK);
+    EXPECT(bim_info(desk, "stub", &status, rows, 3, &count), BIM_OK);
+    EXPECT(status, BIM_IS_SIGNALLED);
+    EXPECT(count, 1);
+    HOLDS(strcmp(rows[0].timeline, "stub") == 0 && strcmp(rows[0].driver, "stub") == 0);
+    EXPECT(bim_close(desk, "stub"), BIM_OK);
+    EXPECT(bim_close(desk, "stub"), BIM_NO_ENTRY);
+    EXPECT(bim_close(desk, ""), BIM_SYNTAX);
+}
+
+/* The desk has timelines a at 5 and b at 3, and file m of points 6 of a and 3 of b. */
+static void buffers(bim_desk *desk)
+{
+    bim_row rows[5];
+    size_t count = KEPT;
+    int flag = KEPT;
+
+    EXPECT(bim_buffer(desk, ""), BIM_SYNTAX);
+    EXPECT(bim_buffer(desk, "B"), BIM_OK);
+    EXPECT(bim_buffer(desk, "B"), BIM_EXISTS);
+    EXPECT(bim_add(desk, "B", "b", 9, BIM_BOOKKEEP), BIM_OK);
+    EXPECT(bim_add(desk, "B", "b", 9, BIM_BOOKKEEP + 1), BIM_FLAGS);
+    EXPECT(bim_add(desk, "B", "b", 9, -1), BIM_FLAGS);
+    EXPECT(bim_add(desk, "B", "c", 9, BIM_READ), BIM_NO_ENTRY);
+    EXPECT(bim_add(desk, "C", "b", 9, BIM_READ), BIM_NO_ENTRY);
+    EXPECT(bim_add(desk, "B", "?", 9, BIM_READ), BIM_SYNTAX);
+    EXPECT(bim_add(desk, "?", "b", 9, BIM_READ), BIM_SYNTAX);
+    EXPECT(bim_import(desk, "B", "m", BIM_SYNC_WRITE), BIM_OK);
+    EXPECT(bim_import(desk, "B", "m", 0), BIM_FLAGS);
+    EXPECT(bim_import(desk, "B", "m", 4), BIM_FLAGS);
+    EXPECT(bim_import(desk, "B", "none", BIM_SYNC_RW), BIM_NO_ENTRY);
+    EXPECT(bim_import(desk, "none", "m", BIM_SYNC_RW), BIM_NO_ENTRY);
+    EXPECT(bim_import(desk, "B", "?", BIM_SYNC_RW), BIM_SYNTAX);
+    EXPECT(bim_import(desk, "?", "m", BIM_SYNC_RW), BIM_SYNTAX);
+
+    EXPECT(bim_test(desk, "B", BIM_WRITE, &flag), BIM_OK);
+    EXPECT(flag, 0);
+    EXPECT(bim_test(desk, "B", BIM_KERNEL, &flag), BIM_OK);
+    EXPECT(flag, 1);
+    flag = KEPT;
+    EXPECT(bim_test(desk, "B", 4, &flag), BIM_FLAGS);
+    EXPECT(bim_test(desk, "C", BIM_READ, &flag), BIM_NO_ENTRY);
+    EXPECT(bim_test(desk, "?", BIM_READ, &flag), BIM_SYNTAX);
+    EXPECT(flag, KEPT);
+
+    EXPECT(bim_export(desk, "x", "B", BIM_SYNC_READ), BIM_OK);
+    EXPECT(bim_wait(desk, "x"), BIM_TIMED_OUT);
+    EXPECT(bim_export(desk, "x", "B", BIM_SYNC_READ), BIM_EXISTS);
+    EXPECT(bim_export(desk, "y", "B", 0), BIM_FLAGS);
+    EXPECT(bim_export(desk, "y", "C", BIM_SYNC_RW), BIM_NO_ENTRY);
+    EXPECT(bim_export(desk, "y", "?", BIM_SYNC_RW), BIM_SYNTAX);
+    EXPECT(bim_export(desk, "?", "B", BIM_SYNC_RW), BIM_SYNTAX);
+
+    memset(rows, KEPT, sizeof rows);
+    EXPECT(bim_show(desk, "C", rows, 5, &count), BIM_NO_ENTRY);
+    EXPECT(bim_show(desk, "?", rows, 5, &count), BIM_SYNTAX);
+    EXPECT(count, KEPT);
+    EXPECT(bim_show(desk, "B", NULL, 0, &count), BIM_OK);
+    EXPECT(count, 4);
+    EXPECT(bim_show(desk, "B", rows, 5, &count), BIM_OK);
+    EXPECT(count, 4);
+    EXPECT(rows[0].usage, BIM_WRITE);
+    EXPECT(rows[1].usage, BIM_READ);
+    EXPECT(rows[2].usage, BIM_BOOKKEEP);
+    EXPECT(rows[3].usage, BIM_BOOKKEEP);
+    HOLDS(strcmp(rows[3].timeline, "b") == 0);
+    EXPECT(rows[3].point, 9);
+    HOLDS(rows[4].timeline[0] == KEPT);
+    EXPECT(bim_trim(desk, "B"), BIM_OK);
+    EXPECT(bim_trim(desk, "C"), BIM_NO_ENTRY);
+    EXPECT(bim_trim(desk, "?"), BIM_SYNTAX);
+}
+
+/* The same desk, where file f waits for point 6 of a. */
+static void watches(bim_desk *desk)
+{
+    uint64_t cookies[4] = { KEPT, KEPT, KEPT, KEPT }, number;
+    int was_there = KEPT;
+
+    EXPECT(bim_watch(desk, "?", 1), BIM_SYNTAX);
+    EXPECT(bim_watch(desk, "none", 1), BIM_NO_ENTRY);
+    EXPECT(bim_watch(desk, "g", 1), BIM_SIGNALLED);
+    for (uint64_t cookie = 0; cookie < 6; cookie++)
+        EXPECT(bim_watch(desk, "f", UINT64_MAX - cookie), BIM_OK);
+    EXPECT(bim_watch(desk, "f", UINT64_MAX), BIM_EXISTS);
+    EXPECT(bim_unwatch(desk, UINT64_MAX - 1, &was_there), BIM_OK);
+    EXPECT(was_there, 1);
+    EXPECT(bim_unwatch(desk, UINT64_MAX - 1, &was_there), BIM_OK);
+    EXPECT(was_there, 0);
+    EXPECT(bim_take_fired(desk, cookies, 4), 0);
+    EXPECT(bim_inc(desk, "a", 1, &number), BIM_OK);
+
+    /* Whatever the room is, each cookie comes once, in order. */
+    EXPECT(bim_take_fired(desk, cookies, 0), 0);
+    EXPECT(cookies[0], KEPT);
+    EXPECT(bim_take_fired(desk, cookies, 2), 2);
+    HOLDS(cookies[0] == UINT64_MAX && cookies[1] == UINT64_MAX - 2);
+    EXPECT(cookies[2], KEPT);
+    EXPECT(bim_fence(desk, "last", "a", 9), BIM_OK);
+    EXPECT(bim_watch(desk, "last", 1), BIM_OK);
+    EXPECT(bim_shut(desk, "a", &number), BIM_OK);
+    EXPECT(bim_take_fired(desk, cookies, 4), 4);
+    HOLDS(cookies[0] == UINT64_MAX - 3 && cookies[2] == UINT64_MAX - 5);
+    EXPECT(cookies[3], 1);
+    EXPECT(bim_take_fired(desk, cookies, 4), 0);
+    EXPECT(bim_info(desk, "last", &(int32_t){ 0 }, &(bim_fence_info){ .point = 0 }, 1, &(size_t){ 0 }), BIM_OK);
+}
+
+/* One more than each limit. */
+static void limits(void)
+{
+    bim_desk desk = BIM_DESK_INIT;
+    char name[BIM_NAME_ROOM];
+    uint64_t number;
+
+    EXPECT(bim_desk_open(&desk), BIM_OK);
+    for (int i = 0; i <= BIM_CONTEXTS; i++) {
+        snprintf(name, sizeof name, "t%d", i);
+        EXPECT(bim_timeline(&desk, name, &number), i < BIM_CONTEXTS ? BIM_OK : BIM_LIMIT);
+    }
+    for (int i = 0; i <= BIM_BUFFERS; i++) {
+        snprintf(name, sizeof name, "b%d", i);
+        EXPECT(bim_buffer(&desk, name), i < BIM_BUFFERS ? BIM_OK : BIM_LIMIT);
+    }
+    for (int i = 0; i <= BIM_FILES; i++) {
+        snprintf(name, sizeof name, "f%d", i);
+        EXPECT(bim_fence(&desk, name, "t0", 1), i < BIM_FILES ? BIM_OK : BIM_LIMIT);
+    }
+    for (int i = 0; i <= BIM_WATCHES; i++)
+        EXPECT(bim_watch(&desk, "f0", (uint64_t)i), i < BIM_WATCHES ? BIM_OK : BIM_LIMIT);
+    bim_desk_close(&desk);
+    HOLDS(desk.at == NULL);
+}
+
+/* A name is so many bytes and no more, whatever stands after them. */
+static void names_with_lengths(bim_desk *desk)
+{
+    bim_fence_info info;
+    bim_row row;
+    uint64_t number = KEPT;
+    int32_t status;
+    size_t count;
+    int flag;
+
+    EXPECT(bim_timeline_n(desk, "named?", 5, &number), BIM_OK);
+    EXPECT(bim_timeline_n(desk, "named", 5, &number), BIM_EXISTS);
+    EXPECT(bim_timeline_n(desk, "named\0", 6, &number), BIM_SYNTAX);
+    EXPECT(bim_timeline_n(desk, "named", 0, &number), BIM_SYNTAX);
+    EXPECT(bim_inc_n(desk, "named?", 5, 2, &number), BIM_OK);
+    EXPECT(number, 2);
+    EXPECT(bim_value_n(desk, "named?", 5, &number), BIM_OK);
+    EXPECT(bim_fence_n(desk, "file?", 4, "named?", 5, 4), BIM_OK);
+    EXPECT(bim_fence_n(desk, "two", 3, "named", 5, 3), BIM_OK);
+    EXPECT(bim_merge_n(desk, "both!", 4, "file?", 4, "two-", 3), BIM_OK);
+    EXPECT(bim_wait_n(desk, "both!", 4), BIM_TIMED_OUT);
+    EXPECT(bim_info_n(desk, "both!", 4, &status, &info, 1, &count), BIM_OK);
+    HOLDS(strcmp(info.timeline, "named") == 0);
+    EXPECT(bim_buffer_n(desk, "buffer?", 6), BIM_OK);
+    EXPECT(bim_add_n(desk, "buffer?", 6, "named?", 5, 7, BIM_READ), BIM_OK);
+    EXPECT(bim_import_n(desk, "buffer?", 6, "both!", 4, BIM_SYNC_RW), BIM_OK);
+    EXPECT(bim_export_n(desk, "out?", 3, "buffer?", 6, BIM_SYNC_RW), BIM_OK);
+    EXPECT(bim_test_n(desk, "buffer?", 6, BIM_READ, &flag), BIM_OK);
+    EXPECT(flag, 0);
+    EXPECT(bim_show_n(desk, "buffer?", 6, &row, 1, &count), BIM_OK);
+    EXPECT(row.point, 4);
+    EXPECT(bim_trim_n(desk, "buffer?", 6), BIM_OK);
+    EXPECT(bim_watch_n(desk, "both!", 4, 3), BIM_OK);
+    EXPECT(bim_shut_n(desk, "named?", 5, &number), BIM_OK);
+    EXPECT(bim_take_fired(desk, &number, 1), 1);
+    EXPECT(number, 3);
+    EXPECT(bim_info_n(desk, "both!", 4, &status, &info, 1, &count), BIM_OK);
+    EXPECT(status, BIM_IS_CANCELLED);
+    EXPECT(info.status, BIM_IS_CANCELLED);
+    EXPECT(bim_close_n(desk, "both!", 4), BIM_OK);
+}
+
+static void desks(void)
+{
+    bim_desk desk = BIM_DESK_INIT, moved;
+
+    EXPECT(bim_desk_open(&desk), BIM_OK);
+    moved = desk;
+    EXPECT(bim_desk_open(&desk), BIM_EXISTS);
+    HOLDS(desk.at == moved.at);
+    timelines(&desk);
+    files(&desk);
+    buffers(&desk);
+    watches(&desk);
+    names_with_lengths(&desk);
+    bim_desk_close(&desk);
+    HOLDS(desk.at == NULL);
+    bim_desk_close(&desk);
+    EXPECT(bim_wait(&desk, "f"), BIM_NO_ENTRY);
+    EXPECT(bim_desk_open(&desk), BIM_OK);
+    EXPECT(bim_wait(&desk, "f"), BIM_NO_ENTRY);
+    bim_desk_close(&desk);
+}
+
+static void closed_seat(void)
+{
+    bim_seat seat = BIM_SEAT_INIT, other = BIM_SEAT_INIT;
+    bim_file file = BIM_FILE_INIT, copy = BIM_FILE_INIT, none = BIM_FILE_INIT;
+    uint64_t number = KEPT;
+    int32_t status = KEPT;
+    int first = KEPT;
+
+    EXPECT(bim_seat_part(&seat, &other), BIM_NO_ENTRY);
+    EXPECT(bim_seat_drive(&seat, 1), BIM_NO_ENTRY);
+    EXPECT(bim_seat_inc(&seat, 1, &number), BIM_NO_ENTRY);
+    EXPECT(bim_seat_shut(&seat, &number), BIM_NO_ENTRY);
+    EXPECT(bim_seat_load(&seat, 1, &number), BIM_NO_ENTRY);
+    EXPECT(bim_seat_set_once(&seat, 0, &first), BIM_NO_ENTRY);
+    EXPECT(bim_file_plain(&file, 1, 1), BIM_OK);
+    EXPECT(bim_file_poll(&file, &seat, &status), BIM_NO_ENTRY);
+    EXPECT(bim_file_wait(&file, &seat, 1), BIM_NO_ENTRY);
+    EXPECT(bim_file_copy(&file, &copy), BIM_OK);
+    EXPECT(bim_file_merge(&none, &file, &copy, &seat), BIM_NO_ENTRY);
+    bim_file_close(&copy);
+    bim_seat_close(&seat);
+    bim_file_close(&file);
+    bim_file_close(&file);
+    EXPECT(number, KEPT);
+    EXPECT(status, KEPT);
+    EXPECT(first, KEPT);
+    HOLDS(none.at == NULL && other.at == NULL && file.at == NULL);
+}
+
+static void words_limits(void)
+{
+    bim_seat seat = BIM_SEAT_INIT;
+
+    EXPECT(bim_words_open(&seat, 0, 0, 0), BIM_LIMIT);
+    EXPECT(bim_words_open(&seat, BIM_CONTEXTS + 1, 0, 0), BIM_LIMIT);
+    EXPECT(bim_words_open(&seat, 1, BIM_WORD_FLAGS + 1, 0), BIM_LIMIT);
+    EXPECT(bim_words_open(&seat, 1, 0, BIM_BUFFERS + 1), BIM_LIMIT);
+    EXPECT(bim_words_open(&seat, SIZE_MAX, SIZE_MAX, SIZE_MAX), BIM_LIMIT);
+    HOLDS(seat.at == NULL);
+    EXPECT(bim_words_open(&seat, BIM_CONTEXTS, BIM_WORD_FLAGS, BIM_BUFFERS), BIM_OK);
+    EXPECT(bim_words_open(&seat, 1, 0, 0), BIM_EXISTS);
+    EXPECT(bim_seat_drive(&seat, BIM_CONTEXTS), BIM_OK);
+    bim_seat_close(&seat);
+    HOLDS(seat.at == NULL);
+}
+
+static void drivers(bim_seat *seat, bim_seat *other)
+{
+    uint64_t number = KEPT;
+    int first = KEPT;
+
+    EXPECT(bim_seat_inc(seat, 1, &number), BIM_NO_ENTRY);
+    EXPECT(bim_seat_shut(seat, &number), BIM_NO_ENTRY);
+    EXPECT(bim_seat_drive(seat, 0), BIM_NO_ENTRY);
+    EXPECT(bim_seat_drive(seat, 3), BIM_NO_ENTRY);
+    EXPECT(bim_seat_drive(seat, UINT32_MAX), BIM_NO_ENTRY);
+    EXPECT(bim_seat_drive(seat, 65537), BIM_NO_ENTRY);
+    EXPECT(number, KEPT);
+    EXPECT(bim_seat_drive(seat, 1), BIM_OK);
+    EXPECT(bim_seat_drive(other, 1), BIM_EXISTS);
+    EXPECT(bim_seat_drive(seat, 2), BIM_EXISTS);
+    EXPECT(bim_seat_drive(other, 2), BIM_OK);
+    EXPECT(bim_seat_inc(seat, 5, &number), BIM_OK);
+    EXPECT(number, 5);
+    EXPECT(bim_seat_inc(seat, UINT64_MAX - 4, &number), BIM_OVERFLOW);
+    EXPECT(number, 5);
+    EXPECT(bim_seat_load(other, 1, &number), BIM_OK);
+    EXPECT(number, 5);
+    number = KEPT;
+    EXPECT(bim_seat_load(other, 0, &number), BIM_NO_ENTRY);
+    EXPECT(bim_seat_load(other, 3, &number), BIM_NO_ENTRY);
+    EXPECT(bim_seat_load(other, 65537, &number), BIM_NO_ENTRY);
+    EXPECT(number, KEPT);
+
+    EXPECT(bim_seat_set_once(other, 1, &first), BIM_OK);
+    EXPECT(first, 1);
+    EXPECT(bim_seat_set_once(seat, 1, &first), BIM_OK);
+    EXPECT(first, 0);
+    EXPECT(bim_seat_set_once(seat, 2, &first), BIM_NO_ENTRY);
+    EXPECT(bim_seat_set_once(seat, SIZE_MAX, &first), BIM_NO_ENTRY);
+    EXPECT(first, 0);
+}
+
+/* Timeline 1 is at 5, and timeline 2 at 0. */
+static void running_files(bim_seat *seat, bim_seat *other)
+{
+    bim_file a = BIM_FILE_INIT, b = BIM_FILE_INIT, both = BIM_FILE_INIT, none = BIM_FILE_INIT, far = BIM_FILE_INIT;
+    bim_file same = BIM_FILE_INIT;
+    int32_t status = KEPT;
+    uint64_t number;
+
+    EXPECT(bim_file_plain(&a, 0, 1), BIM_NO_ENTRY);
+    EXPECT(bim_file_plain(&a, BIM_CONTEXTS + 1, 1), BIM_NO_ENTRY);
+    EXPECT(bim_file_plain(&a, 65537, 1), BIM_NO_ENTRY);
+    HOLDS(a.at == NULL);
+    EXPECT(bim_file_plain(&a, 1, 6), BIM_OK);
+    EXPECT(bim_file_plain(&a, 1, 7), BIM_EXISTS);
+    EXPECT(bim_file_plain(&b, 2, 2), BIM_OK);
+    EXPECT(bim_file_plain(&far, 3, 0), BIM_OK);
+
+    EXPECT(bim_file_merge(&both, &a, &none, seat), BIM_NO_ENTRY);
+    EXPECT(bim_file_merge(&both, &none, &b, seat), BIM_NO_ENTRY);
+    EXPECT(bim_file_copy(&none, &both), BIM_NO_ENTRY);
+    EXPECT(bim_file_copy(&a, &b), BIM_EXISTS);
+    EXPECT(bim_file_copy(&a, &same), BIM_OK);
+    EXPECT(bim_file_merge(&b, &a, &same, seat), BIM_EXISTS);
+    EXPECT(bim_file_merge(&both, &a, &far, seat), BIM_FOREIGN);
+    EXPECT(bim_file_poll(&far, seat, &status), BIM_FOREIGN);
+    EXPECT(bim_file_poll(&none, seat, &status), BIM_NO_ENTRY);
+    EXPECT(bim_file_wait(&far, seat, 1), BIM_FOREIGN);
+    EXPECT(bim_file_wait(&none, seat, 1), BIM_NO_ENTRY);
+    HOLDS(both.at == NULL && none.at == NULL);
+    EXPECT(status, KEPT);
+    EXPECT(bim_file_merge(&both, &a, &b, seat), BIM_OK);
+
+    EXPECT(bim_file_poll(&both, other, &status), BIM_OK);
+    EXPECT(status, BIM_IS_ACTIVE);
+    EXPECT(bim_file_wait(&both, other, 0), BIM_TIMED_OUT);
+    EXPECT(bim_file_wait(&both, other, 3), BIM_TIMED_OUT);
+    EXPECT(bim_seat_inc(seat, 1, &number), BIM_OK);
+    EXPECT(bim_file_wait(&a, other, 1), BIM_OK);
+    EXPECT(bim_file_wait(&both, other, 1), BIM_TIMED_OUT);
+    EXPECT(bim_seat_inc(other, 2, &number), BIM_OK);
+    EXPECT(bim_file_wait(&both, seat, 1), BIM_OK);
+    EXPECT(bim_file_poll(&both, seat, &status), BIM_OK);
+    EXPECT(status, BIM_IS_SIGNALLED);
+    bim_file_close(&a);
+    EXPECT(bim_file_wait(&a, seat, 1), BIM_NO_ENTRY);
+    EXPECT(bim_file_wait(&same, seat, 1), BIM_OK);
+    bim_file_close(&same);
+    bim_file_close(&b);
+    bim_file_close(&far);
+    bim_file_close(&both);
+    EXPECT(bim_file_poll(&both, seat, &status), BIM_NO_ENTRY);
+}
+
+/* Timeline 1 is at 6, and timeline 2 at 2. */
+static void closings(bim_seat *seat, bim_seat *other)
+{
+    bim_file file = BIM_FILE_INIT;
+    int32_t status;
+    uint64_t number = KEPT;
+
+    EXPECT(bim_file_plain(&file, 1, 8), BIM_OK);
+    EXPECT(bim_file_poll(&file, other, &status), BIM_OK);
+    EXPECT(status, BIM_IS_ACTIVE);
+    EXPECT(bim_seat_shut(seat, &number), BIM_OK);
+    EXPECT(number, 6);
+    EXPECT(bim_seat_shut(seat, &number), BIM_NO_ENTRY);
+    EXPECT(bim_seat_inc(seat, 0, &number), BIM_NO_ENTRY);
+    EXPECT(bim_seat_drive(seat, 1), BIM_EXISTS);
+    EXPECT(bim_file_poll(&file, other, &status), BIM_OK);
+    EXPECT(status, BIM_IS_CANCELLED);
+    EXPECT(bim_file_wait(&file, other, 1), BIM_OK);
+    EXPECT(bim_seat_inc(other, UINT64_MAX - 2, &number), BIM_OK);
+    EXPECT(bim_seat_shut(other, &number), BIM_OVERFLOW);
+    HOLDS(number == UINT64_MAX);
+    bim_file_close(&file);
+}
+
+static void words(void)
+{
+    bim_seat seat = BIM_SEAT_INIT, other = BIM_SEAT_INIT;
+    uint64_t number;
+
+    EXPECT(bim_words_open(&seat, 2, 2, 1), BIM_OK);
+    EXPECT(bim_seat_part(&seat, &other), BIM_OK);
+    EXPECT(bim_seat_part(&seat, &other), BIM_EXISTS);
+    drivers(&seat, &other);
+    running_files(&seat, &other);
+    closings(&seat, &other);
+    bim_seat_close(&seat);
+    EXPECT(bim_seat_load(&other, 1, &number), BIM_OK);
+    EXPECT(number, 6);
+    bim_seat_close(&other);
+    bim_seat_close(&other);
+    HOLDS(seat.at == NULL && other.at == NULL);
+}
+
+/* Files of other words have values that these never had. */
+static void other_words(void)
+{
+    bim_seat seat = BIM_SEAT_INIT, strange = BIM_SEAT_INIT;
+    bim_file file = BIM_FILE_INIT, copy = BIM_FILE_INIT, merged = BIM_FILE_INIT;
+    uint64_t number;
+
+    EXPECT(bim_words_open(&seat, 1, 0, 0), BIM_OK);
+    EXPECT(bim_words_open(&strange, 1, 0, 0), BIM_OK);
+    EXPECT(bim_seat_drive(&seat, 1), BIM_OK);
+    EXPECT(bim_seat_inc(&seat, 4, &number), BIM_OK);
+    EXPECT(bim_file_plain(&file, 1, 5), BIM_OK);
+    EXPECT(bim_file_copy(&file, &copy), BIM_OK);
+    EXPECT(bim_file_merge(&merged, &file, &copy, &seat), BIM_OK);
+    EXPECT(bim_file_poll(&merged, &strange, &(int32_t){ 0 }), BIM_FOREIGN);
+    bim_file_close(&merged);
+    bim_file_close(&copy);
+    bim_file_close(&file);
+    bim_seat_close(&seat);
+    bim_seat_close(&strange);
+}
+
+int main(void)
+{
+    texts();
+    closed_desk();
+    desks();
+    limits();
+    closed_seat();
+    words_limits();
+    words();
+    other_words();
+    return report("calls");
+}

@@ -1,0 +1,31 @@
+/* What the programs here share: expectations, whose failures are reported with their place and counted. */
+#ifndef EXPECT_H
+#define EXPECT_H
+
+#include <stdio.h>
+
+static int failures;
+
+static void expect(const char *file, int line, const char *what, long long came, long long wanted)
+{
+    if (came == wanted)
+        return;
+    failures++;
+    printf("%s:%d: %s: expected %lld, came %lld\n", file, line, what, wanted, came);
+}
+
+/* Expects a number. */
+#define EXPECT(call, wanted) expect(__FILE__, __LINE__, #call, (long long)(call), (long long)(wanted))
+
+/* Expects that something holds. */
+#define HOLDS(what) EXPECT(!!(what), 1)
+
+/* Reports the failures, as the program's status. */
+static int report(const char *name)
+{
+    if (failures == 0)
+        printf("%s: as expected\n", name);
+    return failures != 0;
+}
+
+#endif

@@ -1,0 +1,248 @@
+/* Refuses each allocation of the library in turn. The call that it is refused to answers BIM_MEMORY, changes
+ * nothing, and succeeds when it is made again; so whichever is refused, the calls' end is the same.
+ *
+ * It is linked with --wrap=malloc and --wrap=realloc.
+ */
+#include <bimphlai.h>
+
+#include "expect.h"
+#include <inttypes.h>
+#include <stdarg.h>
+#include <stdbool.h>
+#include <stdlib.h>
+#include <string.h>
+
+/* What out-parameters hold where a refusal has to leave them. */
+enum { KEPT = 77 };
+
+/* Which allocation is refused, how many there were, and whether they count now. */
+static size_t refused, allocations;
+static bool counting;
+
+void *__real_malloc(size_t size);
+void *__real_realloc(void *block, size_t size);
+
+static bool is_refused(void)
+{
+    return counting && ++allocations == refused;
+}
+
+void *__wrap_malloc(size_t size)
+{
+    return is_refused() ? NULL : __real_malloc(size);
+}
+
+void *__wrap_realloc(void *block, size_t size)
+{
+    return is_refused() ? NULL : __real_realloc(block, size);
+}
+
+/* What was found, as text. */
+struct text {
+    char bytes[8192];
+    size_t length;
+};
+
+static void write_text(struct text *text, const char *format, ...)
+{
+    va_list words;
+
+    va_start(words, format);
+    text->length += (size_t)vsnprintf(text->bytes + text->length, sizeof text->bytes - text->length, format, words);
+    va_end(words);
+    if (text->length >= sizeof text->bytes)
+        abort();
+}
+
+static void write_file(struct text *text, bim_desk *desk, const char *file)
+{
+    bim_fence_info rows[4];
+    int32_t status = KEPT;
+    size_t count = 0;
+    int refusal = bim_info(desk, file, &status, rows, 4, &count);
+
+    write_text(text, "%s %d %" PRId32 " %zu\n", file, refusal, status, count);
+    for (size_t i = 0; i < count; i++)
+        write_text(text, "%s %s %" PRIu64 " %" PRId32 "\n", rows[i].timeline, rows[i].driver, rows[i].point,
+                   rows[i].status);
+}
+
+static void write_buffer(struct text *text, bim_desk *desk, const char *buffer)
+{
+    bim_row rows[16];
+    size_t count = 0;
+    int refusal = bim_show(desk, buffer, rows, 16, &count);
+
+    write_text(text, "%s %d %zu\n", buffer, refusal, count);
+    for (size_t i = 0; i < count; i++)
+        write_text(text, "%" PRId32 " %s %" PRIu64 "\n", rows[i].usage, rows[i].timeline, rows[i].point);
+}
+
+/* What the calls share: handles, and out-parameters. */
+static struct {
+    bim_desk desk;
+    bim_seat seat, other;
+    bim_file file, copy, second, both;
+    uint64_t number;
+    int32_t status;
+    size_t count;
+    int flag;
+    bim_fence_info info;
+    bim_row row;
+} it;
+
+/* All that can be asked of the service. */
+static void write_service(struct text *text)
+{
+    static const char *const timelines[] = { "a", "b" };
+    static const char *const files[] = { "f", "g", "m", "n", "x" };
+    static const char *const buffers[] = { "B", "C" };
+    uint64_t value;
+
+    text->length = 0;
+    write_text(text, "%d %d %d %d %d %d %d\n", it.desk.at != NULL, it.seat.at != NULL, it.other.at != NULL,
+               it.file.at != NULL, it.copy.at != NULL, it.second.at != NULL, it.both.at != NULL);
+    for (size_t i = 0; i < sizeof timelines / sizeof timelines[0]; i++) {
+        value = KEPT;
+        int refusal = bim_value(&it.desk, timelines[i], &value);
+        write_text(text, "%s %d %" PRIu64 "\n", timelines[i], refusal, value);
+    }
+    for (size_t i = 0; i < sizeof files / sizeof files[0]; i++)
+        write_file(text, &it.desk, files[i]);
+    for (size_t i = 0; i < sizeof buffers / sizeof buffers[0]; i++)
+        write_buffer(text, &it.desk, buffers[i]);
+    for (uint32_t context = 1; context <= 2; context++) {
+        value = KEPT;
+        int refusal = bim_seat_load(&it.seat, context, &value);
+        write_text(text, "%" PRIu32 " %d %" PRIu64 "\n", context, refusal, value);
+    }
+}
+
+static struct text before, after;
+static size_t allocations_before, memory_answers;
+
+static void begin_call(void)
+{
+    write_service(&before);
+    it.number = it.info.point = it.row.point = KEPT;
+    it.status = it.flag = KEPT;
+    it.count = KEPT;
+    allocations_before = allocations;
+    counting = true;
+}
+
+/* Whether the call is to be made again: memory was refused to it. It must have changed nothing. */
+static bool is_to_call_again(int came, int wanted, const char *call, int line)
+{
+    bool was_refused = allocations_before < refused && refused <= allocations;
+
+    counting = false;
+    expect(__FILE__, line, call, came, was_refused ? BIM_MEMORY : wanted);
+    if (!was_refused)
+        return false;
+    memory_answers++;
+    write_service(&after);
+    HOLDS(strcmp(before.bytes, after.bytes) == 0);
+    HOLDS(it.number == KEPT && it.status == KEPT && it.count == KEPT && it.flag == KEPT);
+    HOLDS(it.info.point == KEPT && it.row.point == KEPT);
+    return true;
+}
+
+#define CALL(call, wanted) \
+    do \
+        begin_call(); \
+    while (is_to_call_again((call), (wanted), #call, __LINE__))
+
+/* Each command of a desk. */
+static void run_desk(void)
+{
+    CALL(bim_desk_open(&it.desk), BIM_OK);
+    CALL(bim_timeline(&it.desk, "a", &it.number), BIM_OK);
+    CALL(bim_timeline(&it.desk, "b", &it.number), BIM_OK);
+    CALL(bim_fence(&it.desk, "f", "a", 3), BIM_OK);
+    CALL(bim_fence(&it.desk, "g", "b", 2), BIM_OK);
+    CALL(bim_fence(&it.desk, "g", "b", 2), BIM_EXISTS);
+    CALL(bim_merge(&it.desk, "m", "f", "g"), BIM_OK);
+    CALL(bim_info(&it.desk, "m", &it.status, &it.info, 1, &it.count), BIM_OK);
+    CALL(bim_buffer(&it.desk, "B"), BIM_OK);
+    CALL(bim_buffer(&it.desk, "C"), BIM_OK);
+    CALL(bim_add(&it.desk, "B", "a", 5, BIM_READ), BIM_OK);
+    CALL(bim_import(&it.desk, "B", "m", BIM_SYNC_WRITE), BIM_OK);
+    CALL(bim_export(&it.desk, "x", "B", BIM_SYNC_RW), BIM_OK);
+    CALL(bim_show(&it.desk, "B", &it.row, 1, &it.count), BIM_OK);
+    CALL(bim_test(&it.desk, "B", BIM_WRITE, &it.flag), BIM_OK);
+    CALL(bim_trim(&it.desk, "B"), BIM_OK);
+    for (uint64_t cookie = 0; cookie < 9; cookie++)
+        CALL(bim_watch(&it.desk, cookie % 2 ? "f" : "m", cookie), BIM_OK);
+    CALL(bim_unwatch(&it.desk, 4, &it.flag), BIM_OK);
+    CALL(bim_wait(&it.desk, "m"), BIM_TIMED_OUT);
+    CALL(bim_inc(&it.desk, "a", 3, &it.number), BIM_OK);
+    CALL(bim_shut(&it.desk, "b", &it.number), BIM_OK);
+    CALL(bim_merge(&it.desk, "n", "m", "x"), BIM_OK);
+    CALL(bim_close(&it.desk, "m"), BIM_OK);
+}
+
+static void run_words(void)
+{
+    CALL(bim_words_open(&it.seat, 2, 1, 1), BIM_OK);
+    CALL(bim_seat_part(&it.seat, &it.other), BIM_OK);
+    CALL(bim_seat_drive(&it.seat, 1), BIM_OK);
+    CALL(bim_seat_inc(&it.seat, 4, &it.number), BIM_OK);
+    CALL(bim_seat_set_once(&it.other, 0, &it.flag), BIM_OK);
+    CALL(bim_file_plain(&it.file, 1, 5), BIM_OK);
+    CALL(bim_file_copy(&it.file, &it.copy), BIM_OK);
+    CALL(bim_file_plain(&it.second, 2, 3), BIM_OK);
+    CALL(bim_file_merge(&it.both, &it.file, &it.second, &it.other), BIM_OK);
+    CALL(bim_file_poll(&it.both, &it.seat, &it.status), BIM_OK);
+    EXPECT(it.status, BIM_IS_ACTIVE);
+    CALL(bim_file_wait(&it.both, &it.seat, 2), BIM_TIMED_OUT);
+    CALL(bim_seat_shut(&it.seat, &it.number), BIM_OK);
+}
+
+/* What takes no memory, and the end. */
+static void finish(struct text *text)
+{
+    uint64_t cookies[2];
+    size_t count;
+
+    write_service(text);
+    counting = true;
+    while ((count = bim_take_fired(&it.desk, cookies, 2)) > 0)
+        for (size_t i = 0; i < count; i++)
+            write_text(text, "fired %" PRIu64 "\n", cookies[i]);
+    bim_desk_close(&it.desk);
+    bim_file_close(&it.file);
+    bim_file_close(&it.copy);
+    bim_file_close(&it.second);
+    bim_file_close(&it.both);
+    bim_seat_close(&it.seat);
+    bim_seat_close(&it.other);
+    counting = false;
+}
+
+static void run(struct text *text, size_t which)
+{
+    memset(&it, 0, sizeof it);
+    refused = which;
+    allocations = 0;
+    run_desk();
+    run_words();
+    finish(text);
+}
+
+int main(void)
+{
+    struct text undisturbed, text;
+    size_t count;
+
+    run(&undisturbed, 0);
+    count = allocations;
+    for (size_t which = 1; which <= count; which++) {
+        run(&text, which);
+        EXPECT(memory_answers, which);
+        HOLDS(strcmp(text.bytes, undisturbed.bytes) == 0);
+    }
+    HOLDS(count > 0);
+    printf("%zu allocations were refused in turn\n", count);
+    return report("memory");
+}
