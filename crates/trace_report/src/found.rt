@@ -1,4 +1,11 @@
 // The fences that are pending at the end of a trace.
+ghost use Rattle.std.specs.Prelude.{◌≡◌, List, map, IfOk};
+ghost use Rattle.std.specs.List.{filter};
+ghost use Rattle.std.specs.List.Sorted.{IsPermutation};
+ghost use Rattle.std.specs.Map.{keys_of};
+ghost use Rattle.track_core.specs.History.{Step, IsLedgerOf};
+ghost use Rattle.trace_report.specs.Found.{AreHangs, is_told, is_unnumbered, key_of};
+
 use indexmap::IndexMap;
 use point_core::Refusal;
 use std::alloc::Global;
@@ -20,7 +27,9 @@ pub(crate) struct Pending {
 }
 
 impl Pending {
-    fn new(key: &FenceKey, life: &Life) -> Pending {
+    fn new(key: &FenceKey, life: &Life) -> Pending
+        ensures key { key_of result ≡ key.now }
+    {
         Pending {
             group: 0,
             born: life.born,
@@ -32,8 +41,17 @@ impl Pending {
         }
     }
 
+    /// The same in that group.
+    fn within(&self, group: u64) -> Pending
+        ensures { key_of result ≡ key_of self.now }
+    {
+        Pending { group, ..*self }
+    }
+
     /// The key of the fence.
-    pub(crate) fn key(&self) -> FenceKey {
+    pub(crate) fn key(&self) -> FenceKey
+        ensures { result ≡ key_of self.now }
+    {
         FenceKey {
             driver: self.driver,
             timeline: self.timeline,
@@ -55,73 +73,110 @@ pub(crate) struct Found {
 }
 
 impl Found {
-    /// What is pending at the end.
+    /// What is pending at the end. Of the fences that hang each is there once, and no other.
     ///
     /// Refuses as `Memory` alone.
-    pub(crate) fn new(alloc: Global, ledger: &Ledger) -> Result<Found, Refusal> {
-        let mut found = Found {
-            hangs: Vec::new(alloc),
-            unknown: Vec::new(alloc),
-            unnumbered: 0,
-        };
-        found.collect(ledger)?;
-        order(alloc, &mut found.hangs)?;
-        order(alloc, &mut found.unknown)?;
-        Ok(found)
+    pub(crate) fn new(alloc: Global, ledger: &Ledger) -> Result<Found, Refusal>
+        ensures hangs { IfOk result (λ f. (steps : List Step) →
+            IsLedgerOf ledger.now steps → AreHangs ledger.now steps f.hangs.items) }
+    {
+        let hangs = ordered(alloc, hangs_of(alloc, ledger)?)?;
+        let unknown = ordered(alloc, unknown_of(alloc, ledger)?)?;
+        Ok(Found {
+            hangs,
+            unknown,
+            unnumbered: count_unnumbered(ledger),
+        })
     }
+}
 
-    fn collect(&mut self, ledger: &Ledger) -> Result<(), Refusal> {
-        for (key, life) in ledger.lives().by_key().iter() {
-            if life.is_pending() {
-                self.add(ledger, key, life)?;
-            }
+/// The fences that hang.
+fn hangs_of(alloc: Global, ledger: &Ledger) -> Result<Vec<Pending>, Refusal>
+    ensures hangs { IfOk result (λ v. (steps : List Step) → IsLedgerOf ledger.now steps →
+        map key_of v.items ≡ filter (is_told steps) (keys_of ledger.now.lives.by_key.entries)) }
+{
+    let mut hangs = Vec::new(alloc);
+    for (key, life) in ledger.lives().by_key().iter() {
+        if is_told(ledger, key) {
+            let Ok(()) = hangs.push(Pending::new(key, life)) else {
+                return Err(Refusal::Memory);
+            };
         }
-        Ok(())
     }
+    Ok(hangs)
+}
 
-    fn add(&mut self, ledger: &Ledger, key: &FenceKey, life: &Life) -> Result<(), Refusal> {
-        if is_unnumbered(ledger, key) {
-            self.unnumbered = self.unnumbered.saturating_add(1);
-            return Ok(());
-        }
-        let pending = Pending::new(key, life);
-        let added = if ledger.hangs(key) {
-            self.hangs.push(pending)
-        } else {
-            self.unknown.push(pending)
-        };
-        match added {
-            Ok(()) => Ok(()),
-            Err(_) => Err(Refusal::Memory),
-        }
-    }
+/// Whether a fence of the key hangs. One that its driver has not numbered is no fence yet.
+fn is_told(ledger: &Ledger, key: &FenceKey) -> bool
+    ensures told { (steps : List Step) → IsLedgerOf ledger.now steps → result ≡ is_told steps key.now }
+{
+    ledger.hangs(key) && !is_unnumbered(ledger, key)
 }
 
 /// Whether the key is that of fences to which their driver gives a number when it emits them, and has given none yet.
-fn is_unnumbered(ledger: &Ledger, key: &FenceKey) -> bool {
+fn is_unnumbered(ledger: &Ledger, key: &FenceKey) -> bool
+    ensures unnumbered { (steps : List Step) → IsLedgerOf ledger.now steps → result ≡ is_unnumbered steps key.now }
+{
     key.seqno == 0 && ledger.timeline(&key.timeline_key()).events.emit > 0
 }
 
-/// Puts those of a timeline together, by the order of making.
-fn order(alloc: Global, pending: &mut Vec<Pending>) -> Result<(), Refusal> {
-    pending.sort()?;
-    group(alloc, pending.as_mut_slice())?;
-    pending.sort()?;
-    Ok(())
+/// The fences that are pending, and of which signals may have been lost.
+fn unknown_of(alloc: Global, ledger: &Ledger) -> Result<Vec<Pending>, Refusal> {
+    let mut unknown = Vec::new(alloc);
+    for (key, life) in ledger.lives().by_key().iter() {
+        if life.is_pending() && !ledger.hangs(key) && !is_unnumbered(ledger, key) {
+            let Ok(()) = unknown.push(Pending::new(key, life)) else {
+                return Err(Refusal::Memory);
+            };
+        }
+    }
+    Ok(unknown)
 }
 
-fn group(alloc: Global, pending: &mut [Pending]) -> Result<(), Refusal> {
-    let mut firsts: IndexMap<TimelineKey, u64> = IndexMap::new(alloc);
-    for fence in pending.iter_mut() {
-        let timeline = fence.key().timeline_key();
-        let first = match firsts.get(&timeline) {
-            Some(first) => *first,
-            None => fence.born,
-        };
-        fence.group = first;
-        let Ok(_old) = firsts.insert(timeline, first) else {
+fn count_unnumbered(ledger: &Ledger) -> u64 {
+    let mut count: u64 = 0;
+    for (key, life) in ledger.lives().by_key().iter() {
+        if life.is_pending() && is_unnumbered(ledger, key) {
+            count = count.saturating_add(1);
+        }
+    }
+    count
+}
+
+/// The same, with those of a timeline together, by the order of making.
+fn ordered(alloc: Global, pending: Vec<Pending>) -> Result<Vec<Pending>, Refusal>
+    ensures same { IfOk result (λ v. IsPermutation (map key_of pending.items) (map key_of v.items)) }
+{
+    let mut pending = pending;
+    pending.sort()?;
+    let mut grouped = grouped(alloc, pending.as_slice())?;
+    grouped.sort()?;
+    Ok(grouped)
+}
+
+/// The same, each with the group of its timeline.
+fn grouped(alloc: Global, pending: &[Pending]) -> Result<Vec<Pending>, Refusal>
+    ensures same { IfOk result (λ v. map key_of v.items ≡ map key_of pending.now) }
+{
+    let mut firsts = IndexMap::new(alloc);
+    let mut grouped = Vec::new(alloc);
+    for fence in pending {
+        let group = group_of(&mut firsts, fence)?;
+        let Ok(()) = grouped.push(fence.within(group)) else {
             return Err(Refusal::Memory);
         };
     }
-    Ok(())
+    Ok(grouped)
+}
+
+/// The place of the first fence of its timeline, which it is itself where there was none.
+fn group_of(firsts: &mut IndexMap<TimelineKey, u64>, fence: &Pending) -> Result<u64, Refusal> {
+    let timeline = fence.key().timeline_key();
+    if let Some(first) = firsts.get(&timeline) {
+        return Ok(*first);
+    }
+    match firsts.insert(timeline, fence.born) {
+        Ok(_none) => Ok(fence.born),
+        Err(_) => Err(Refusal::Memory),
+    }
 }

@@ -1,7 +1,7 @@
 // The report as one JSON document.
 use crate::found::{Found, Pending};
 use crate::page::{Page, Part};
-use crate::table::{Row, Timelines, latest, names_of};
+use crate::table::{Timelines, latest, names_of};
 use point_core::Refusal;
 use std::io::Write;
 use track_core::{Context, ContextKey, FenceKey, Tally, TimelineKey, Tracker, Wait, WaitSum};
@@ -243,7 +243,7 @@ fn write_timelines<W: Write>(
     for (index, (key, tally)) in tracker.ledger.timelines().by_key().iter().enumerate() {
         add_timeline_name(page, tracker, index, key);
         page.add(&[Part::Text("{")]);
-        add_counts(page, tally, timelines.row(key));
+        add_counts(page, tally, timelines.pending(key));
         add_delay(page, tracker, key);
         add_faults(page, tally);
         page.add(&[Part::Text("}")]);
@@ -253,12 +253,12 @@ fn write_timelines<W: Write>(
     Ok(())
 }
 
-fn add_counts(page: &mut Page, tally: &Tally, row: Row) {
+fn add_counts(page: &mut Page, tally: &Tally, pending: u64) {
     page.members(&[
-        ("contexts", row.contexts),
+        ("contexts", tally.contexts),
         ("inits", tally.events.init),
         ("signalled", tally.events.signaled),
-        ("pending", row.pending),
+        ("pending", pending),
     ]);
 }
 

@@ -53,7 +53,7 @@ impl Page {
         }
     }
 
-    /// Adds members of an object of JSON, with a comma and a blank behind each.
+    /// Adds members of an object of JSON, with a comma and a blank after each.
     pub(crate) fn members(&mut self, members: &[(&str, u64)]) {
         for (name, number) in members {
             self.add(&[

@@ -65,7 +65,7 @@ fn write_found<W: Write>(
     found: &Found,
     writer: &mut W,
 ) -> Result<(), Refusal> {
-    let timelines = Timelines::new(alloc, &tracker.ledger, found)?;
+    let timelines = Timelines::new(alloc, found)?;
     write_page(alloc, form, tracker, found, &timelines, writer)
 }
 

@@ -3,63 +3,43 @@ use crate::found::{Found, Pending};
 use indexmap::IndexMap;
 use point_core::Refusal;
 use std::alloc::Global;
-use track_core::{Ledger, TimelineKey, Tracker};
+use track_core::{TimelineKey, Tracker};
 
-/// How many contexts a timeline has, and how many of its fences are pending.
-#[derive(Clone, Copy, Debug)]
-pub(crate) struct Row {
-    pub(crate) contexts: u64,
-    pub(crate) pending: u64,
-}
-
-/// The rows of the timelines.
+/// How many fences of each timeline are pending.
 #[derive(Drop)]
 pub(crate) struct Timelines {
-    rows: IndexMap<TimelineKey, Row>,
+    pending: IndexMap<TimelineKey, u64>,
 }
 
 impl Timelines {
-    /// The rows of the timelines that were seen.
+    /// Of the timelines of what was found.
     ///
     /// Refuses as `Memory` alone.
-    pub(crate) fn new(alloc: Global, ledger: &Ledger, found: &Found) -> Result<Timelines, Refusal> {
+    pub(crate) fn new(alloc: Global, found: &Found) -> Result<Timelines, Refusal> {
         let mut timelines = Timelines {
-            rows: IndexMap::new(alloc),
+            pending: IndexMap::new(alloc),
         };
-        for (key, _) in ledger.contexts().by_key().iter() {
-            timelines.add(key.timeline_key(), 1, 0)?;
-        }
-        timelines.add_pending(found.hangs.as_slice())?;
-        timelines.add_pending(found.unknown.as_slice())?;
+        timelines.add(found.hangs.as_slice())?;
+        timelines.add(found.unknown.as_slice())?;
         Ok(timelines)
     }
 
-    pub(crate) fn row(&self, timeline: &TimelineKey) -> Row {
-        match self.rows.get(timeline) {
-            Some(row) => *row,
-            None => Row {
-                contexts: 0,
-                pending: 0,
-            },
+    /// How many fences of the timeline are pending.
+    pub(crate) fn pending(&self, timeline: &TimelineKey) -> u64 {
+        match self.pending.get(timeline) {
+            Some(count) => *count,
+            None => 0,
         }
     }
 
-    fn add_pending(&mut self, pending: &[Pending]) -> Result<(), Refusal> {
+    fn add(&mut self, pending: &[Pending]) -> Result<(), Refusal> {
         for fence in pending {
-            self.add(fence.key().timeline_key(), 0, 1)?;
+            let timeline = fence.key().timeline_key();
+            let count = self.pending(&timeline).saturating_add(1);
+            if self.pending.insert(timeline, count).is_err() {
+                return Err(Refusal::Memory);
+            }
         }
-        Ok(())
-    }
-
-    fn add(&mut self, timeline: TimelineKey, contexts: u64, pending: u64) -> Result<(), Refusal> {
-        let row = self.row(&timeline);
-        let more = Row {
-            contexts: row.contexts.saturating_add(contexts),
-            pending: row.pending.saturating_add(pending),
-        };
-        let Ok(_old) = self.rows.insert(timeline, more) else {
-            return Err(Refusal::Memory);
-        };
         Ok(())
     }
 }

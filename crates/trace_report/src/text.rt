@@ -309,7 +309,6 @@ fn add_timeline(
     timelines: &Timelines,
 ) {
     let (driver, timeline) = names_of(tracker, key);
-    let row = timelines.row(key);
     let delay = tracker.delays.delay(key);
     page.add(&[
         Part::Text("  "),
@@ -317,13 +316,13 @@ fn add_timeline(
         Part::Text("/"),
         Part::Name(timeline),
         Part::Text(": "),
-        Part::Number(row.contexts),
+        Part::Number(tally.contexts),
         Part::Text(" contexts, "),
         Part::Number(tally.events.init),
         Part::Text(" made, "),
         Part::Number(tally.events.signaled),
         Part::Text(" signalled, "),
-        Part::Number(row.pending),
+        Part::Number(timelines.pending(key)),
         Part::Text(" pending; median "),
     ]);
     page.add(&[

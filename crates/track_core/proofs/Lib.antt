@@ -1,4 +1,5 @@
 pub mod Puts
+pub mod Plain
 pub mod Same
 pub mod Numbering
 pub mod Seeing

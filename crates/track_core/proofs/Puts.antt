@@ -20,3 +20,11 @@ module _ {X : Type 0} (d : X) where
   pub put-gone : (b over : Bool) (x : X) (new old : Option X) → true ≡ over → new ≡ cond b None old → unwrap_or new d ≡ cond b (cond over d x) (unwrap_or old d)
   put-gone b over x new old dead is =
       gone b new old is ∙ ap (λ o. cond b (cond o d x) (unwrap_or old d)) dead
+
+  pub written : (b : Bool) (f : X → X) (x w : X) (new old own : Option X) → w ≡ f x → Some x ≡ own → new ≡ cond b (Some w) old → unwrap_or new d ≡ cond b (f (unwrap_or own d)) (unwrap_or old d)
+  written b f x w new old own is found at =
+      kept b w new old at ∙ ap (λ y. cond b y (unwrap_or old d)) (is ∙ ap (λ o. f (unwrap_or o d)) found)
+
+  pub inserted : (b : Bool) (f : X → X) (w : X) (new old own : Option X) → w ≡ f d → None ≡ own → new ≡ cond b (Some w) old → unwrap_or new d ≡ cond b (f (unwrap_or own d)) (unwrap_or old d)
+  inserted b f w new old own is none at =
+      kept b w new old at ∙ ap (λ y. cond b y (unwrap_or old d)) (is ∙ ap (λ o. f (unwrap_or o d)) none)

@@ -1,6 +1,8 @@
 pub mod Keys
 pub mod Life
 pub mod Order
+pub mod Points
+pub mod Finding
 pub mod Tally
 pub mod Lives
 pub mod Contexts

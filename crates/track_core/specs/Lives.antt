@@ -7,7 +7,7 @@ use Rattle.track_core.specs.declared.sighting.FenceKey.{FenceKey}
 use Rattle.track_core.specs.declared.sighting.Sighting.{Sighting}
 use Rattle.track_core.specs.Keys.{same_key, unnumbered}
 use Rattle.track_core.specs.Life.{unborn, life_after, settled, without_one}
-use Rattle.track_core.specs.Tally.{is_emit}
+use Rattle.track_core.specs.Finding.{is_emit}
 
 -- what is known of the key
 abbrev pub life_at : Lives → FenceKey → Life

@@ -5,7 +5,7 @@ use Rattle.trace_core.specs.Record.{Printed}
 use Rattle.track_core.specs.declared.names.Names.{Names}
 use Rattle.track_core.specs.declared.sighting.Sighting.{Sighting}
 use Rattle.track_core.specs.declared.tracker.Tracker.{Tracker}
-use Rattle.track_core.specs.History.{Step, Seen, Lost, IsLedgerOf}
+use Rattle.track_core.specs.History.{Step, Seen, Lost, Forgot, IsLedgerOf}
 use Rattle.track_core.specs.Names.{name_at}
 
 -- the event is that of the record, with its names by number
@@ -34,13 +34,22 @@ IsStep drivers timelines (Some r) (Seen e) = Says drivers timelines e r
 IsStep drivers timelines (Some r) Lost = ⊥
 IsStep drivers timelines None (Seen e) = ⊥
 IsStep drivers timelines None Lost = ⊤
+IsStep drivers timelines told (Forgot key) = ⊥
+
+-- the steps but for what was forgotten
+abbrev pub unforgetting : List Step → List Step
+unforgetting [] = []
+unforgetting (Seen e ∷ earlier) = Seen e ∷ unforgetting earlier
+unforgetting (Lost ∷ earlier) = Lost ∷ unforgetting earlier
+unforgetting (Forgot key ∷ earlier) = unforgetting earlier
 
 -- one after another, the newest first in both
 abbrev pub AreSteps : Names → Names → List (Option Printed) → List Step → Type 0
 AreSteps drivers timelines [] [] = ⊤
 AreSteps drivers timelines [] (step ∷ steps) = ⊥
 AreSteps drivers timelines (told ∷ more) [] = ⊥
-AreSteps drivers timelines (told ∷ more) (step ∷ steps) = IsStep drivers timelines told step × AreSteps drivers timelines more steps
+AreSteps drivers timelines (told ∷ more) (step ∷ steps) =
+    IsStep drivers timelines told step × AreSteps drivers timelines more steps
 
 -- a name keeps its number
 abbrev pub Keeps : Names → Names → Type 0
@@ -49,5 +58,5 @@ Keeps old new = (n : ℕ) (name : List ℕ) → name_at old n ≡ Some name → 
 -- the ledger is that of the items' events and losses, each once and in order
 pub record Tracks (t : Tracker) (items : List Told) : Type 0 where
   pub steps : List Step
-  pub are : AreSteps t.drivers t.timelines (steps_told items) steps
+  pub are : AreSteps t.drivers t.timelines (steps_told items) (unforgetting steps)
   pub ledger : IsLedgerOf t.ledger steps

@@ -4,7 +4,7 @@ use indexmap::IndexMap;
 use point_core::Refusal;
 use std::alloc::Global;
 
-/// Each doubling of a time has so many steps, so that a middle value is told to within a sixteenth.
+/// Each doubling of a time has so many steps, so that a middle value is exact to within a sixteenth.
 const STEPS: u64 = 16;
 
 /// The first bits of a time that say its step.
@@ -62,22 +62,28 @@ impl Delays {
             timeline,
             step: step_of(time),
         };
-        let count = match self.steps.get(&key) {
-            Some(count) => *count,
-            None => 0,
-        };
-        let Ok(_old) = self.steps.insert(key, count.saturating_add(1)) else {
+        if let Some(count) = self.steps.get_mut(&key) {
+            *count = count.saturating_add(1);
+        } else if self.steps.insert(key, 1).is_err() {
             return Err(Refusal::Memory);
+        }
+        self.lengthen(timeline, time)
+    }
+
+    fn lengthen(&mut self, timeline: TimelineKey, time: u64) -> Result<(), Refusal> {
+        if let Some(span) = self.spans.get_mut(&timeline) {
+            span.count = span.count.saturating_add(1);
+            span.longest = span.longest.max(time);
+            return Ok(());
+        }
+        let span = Span {
+            count: 1,
+            longest: time,
         };
-        let span = self.span(&timeline);
-        let longer = Span {
-            count: span.count.saturating_add(1),
-            longest: span.longest.max(time),
-        };
-        let Ok(_old_span) = self.spans.insert(timeline, longer) else {
-            return Err(Refusal::Memory);
-        };
-        Ok(())
+        match self.spans.insert(timeline, span) {
+            Ok(_none) => Ok(()),
+            Err(_) => Err(Refusal::Memory),
+        }
     }
 
     /// What is known of the times of a timeline.

@@ -1,8 +1,9 @@
 // What the events of a trace say of its fences.
-ghost use Rattle.std.specs.Prelude.{◌≡◌, List, [], ◌∷◌, OnOk, IfErr};
+ghost use Rattle.std.specs.Prelude.{◌≡◌, List, [], ◌∷◌, true, false, OnOk, IfOk, IfErr};
 ghost use Rattle.point_core.specs.declared.refusal.Refusal.TheVariants.{Memory};
 ghost use Rattle.track_core.specs.Contexts.{context_at};
-ghost use Rattle.track_core.specs.History.{Step, Seen, Lost, IsLedgerOf, events_in, every, hangs, is_of_timeline, life_in, loss_in, tally_in};
+ghost use Rattle.track_core.specs.Keys.{context_of};
+ghost use Rattle.track_core.specs.History.{Step, Seen, Lost, Forgot, IsLedgerOf, events_in, every, hangs, is_of_timeline, is_past, life_in, loss_in, tally_in};
 ghost use Rattle.track_core.specs.Lives.{life_at};
 
 use crate::contexts::Contexts;
@@ -41,33 +42,50 @@ impl Ledger {
         }
     }
 
-    /// Takes in an event.
+    /// Takes in an event. Gives what was known of its key.
     ///
     /// Refuses as `Memory` alone; then it is not to be used further.
-    pub fn see(&mut self, sighting: &Sighting) -> Result<(), Refusal>
+    pub fn see(&mut self, sighting: &Sighting) -> Result<Life, Refusal>
+        ensures known { IfOk result (λ life. (steps : List Step) →
+            IsLedgerOf self.old steps → life ≡ life_in steps sighting.now.key) }
         ensures seen { OnOk result ((steps : List Step) →
             IsLedgerOf self.old steps → IsLedgerOf self.new (Seen sighting.now ∷ steps)) }
         ensures memory { IfErr result (λ e. e ≡ Memory) }
     {
-        let life = self.lives.life(&sighting.key);
-        let context_key = sighting.key.context_key();
-        let context = self.contexts.context(&context_key);
-        let timeline_key = sighting.key.timeline_key();
-        let timeline = self.timelines.tally(&timeline_key);
-        let (event, seqno) = (sighting.event, sighting.key.seqno);
+        let life = self.lives.see(sighting, self.events)?;
         let sure = self.loss <= life.born;
-        self.lives.see(sighting, self.events)?;
-        self.contexts.put(
-            context_key,
-            context.after(sighting, self.events, life, sure),
-        )?;
-        self.timelines.put(
-            timeline_key,
-            timeline.after(event, seqno, life, context.order, sure),
-        )?;
-        self.total = self.total.after(event, seqno, life, context.order, sure);
+        let found = self.contexts.see(sighting, self.events, life, sure)?;
+        self.timelines.count(sighting.key.timeline_key(), &found)?;
+        self.total.count(&found);
         self.events = self.events.saturating_add(1);
-        Ok(())
+        Ok(life)
+    }
+
+    /// Forgets the context of the key, where more are kept than need be, no fence of the key is alive, and it is the only one
+    /// of its context. Says whether it forgot it.
+    pub fn forget(&mut self, key: &FenceKey) -> bool
+        ensures forgot { result ≡ true → (steps : List Step) →
+            IsLedgerOf self.old steps → IsLedgerOf self.new (Forgot key.now ∷ steps) }
+        ensures kept { result ≡ false → self.new ≡ self.old }
+    {
+        if self.contexts.are_crowded() && self.is_past(key) {
+            self.contexts.forget(&key.context_key());
+            return true;
+        }
+        false
+    }
+
+    /// Whether no fence of the key is alive, and it is the only one of its context.
+    fn is_past(&self, key: &FenceKey) -> bool
+        ensures past { result ≡ is_past (life_at self.now.lives key.now)
+            (context_at self.now.contexts (context_of key.now)) key.now }
+    {
+        self.lives.life(key).is_over()
+            && self
+                .contexts
+                .context(&key.context_key())
+                .points
+                .is_only(key.seqno)
     }
 
     /// What is known of the key.

@@ -6,11 +6,13 @@
 
 mod contexts;
 mod delays;
+mod finding;
 mod ledger;
 mod life;
 mod lives;
 mod names;
 mod order;
+mod points;
 mod sighting;
 mod summary;
 mod tally;
@@ -19,13 +21,15 @@ mod timelines;
 mod tracker;
 mod waits;
 
-pub use contexts::{Context, Contexts};
+pub use contexts::{Context, Contexts, KEPT_CONTEXTS};
 pub use delays::{Delay, Delays};
+pub use finding::Finding;
 pub use ledger::Ledger;
 pub use life::Life;
 pub use lives::Lives;
 pub use names::Names;
 pub use order::Order;
+pub use points::Points;
 pub use sighting::{ContextKey, FenceKey, Sighting, TimelineKey};
 pub use summary::{Clock, Counts, Summary};
 pub use tally::{EventCounts, Tally};

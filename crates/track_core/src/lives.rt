@@ -1,11 +1,11 @@
 // What is known of the keys of fences that are alive.
-ghost use Rattle.std.specs.Prelude.{◌≡◌, ◌&&◌, nat_eq, if◌then◌else◌, OnOk, OnErr, IfErr};
+ghost use Rattle.std.specs.Prelude.{◌≡◌, ◌&&◌, nat_eq, if◌then◌else◌, OnOk, OnErr, IfOk, IfErr};
 ghost use Rattle.point_core.specs.declared.refusal.Refusal.TheVariants.{Memory};
 ghost use Rattle.track_core.specs.declared.sighting.FenceKey.{FenceKey};
 ghost use Rattle.track_core.specs.Keys.{same_key};
 ghost use Rattle.track_core.specs.Life.{unborn, settled};
 ghost use Rattle.track_core.specs.Lives.{life_at, life_step, without_number};
-ghost use Rattle.track_core.specs.Tally.{is_emit};
+ghost use Rattle.track_core.specs.Finding.{is_emit};
 
 use crate::life::Life;
 use crate::sighting::{FenceKey, Sighting};
@@ -47,18 +47,20 @@ impl Lives {
         &self.by_key
     }
 
-    /// Takes in an event, which so many others came before.
+    /// Takes in an event, which so many others came before. Gives what was known of its key.
     ///
     /// Refuses as `Memory` alone; then it is not to be used further.
     #[tactic(auto, unfolding(crate::specs::Lives::life_step))]
-    pub fn see(&mut self, sighting: &Sighting, born: u64) -> Result<(), Refusal>
+    pub fn see(&mut self, sighting: &Sighting, born: u64) -> Result<Life, Refusal>
+        ensures known { IfOk result (λ own. own ≡ life_at self.old sighting.now.key) }
         ensures seen { OnOk result ((key : FenceKey) → life_at self.new key ≡
             life_step sighting.now born (life_at self.old sighting.now.key) key (life_at self.old key)) }
         ensures memory { IfErr result (λ e. e ≡ Memory) }
     {
         let own = self.life(&sighting.key);
         self.number(sighting, own)?;
-        self.put(sighting.key, own.after(sighting.event, born, sighting.time))
+        self.put(sighting.key, own.after(sighting.event, born, sighting.time))?;
+        Ok(own)
     }
 
     /// Takes one away from the context's fences without a number, where the event gives it one.

@@ -1,9 +1,8 @@
 // Counts of events and of what they did.
-ghost use Rattle.std.specs.Prelude.{◌≡◌, ℕ};
-ghost use Rattle.track_core.specs.Tally.{counts_after, tally_after, none, count_if, is_overtaken, is_signalled_only};
+ghost use Rattle.std.specs.Prelude.{◌≡◌};
+ghost use Rattle.track_core.specs.Tally.{counts_after, tally_after, count_if};
 
-use crate::life::Life;
-use crate::order::Order;
+use crate::finding::Finding;
 use trace_core::Event;
 
 /// How many events there were of each kind. A count stops at the greatest u64.
@@ -29,40 +28,20 @@ impl EventCounts {
         destroy: 0,
     };
 
-    /// With one more event.
+    /// One more event.
+    #[inline(always)]
     #[tactic(auto, unfolding(crate::specs::Tally::counts_after))]
-    fn after(self, event: Event) -> EventCounts
-        ensures { result ≡ counts_after event self }
+    fn count(&mut self, event: Event)
+        ensures { self.new ≡ counts_after event self.old }
     {
         match event {
-            Event::Init => EventCounts {
-                init: self.init.saturating_add(1),
-                ..self
-            },
-            Event::Emit => EventCounts {
-                emit: self.emit.saturating_add(1),
-                ..self
-            },
-            Event::EnableSignal => EventCounts {
-                enable_signal: self.enable_signal.saturating_add(1),
-                ..self
-            },
-            Event::Signaled => EventCounts {
-                signaled: self.signaled.saturating_add(1),
-                ..self
-            },
-            Event::WaitStart => EventCounts {
-                wait_start: self.wait_start.saturating_add(1),
-                ..self
-            },
-            Event::WaitEnd => EventCounts {
-                wait_end: self.wait_end.saturating_add(1),
-                ..self
-            },
-            Event::Destroy => EventCounts {
-                destroy: self.destroy.saturating_add(1),
-                ..self
-            },
+            Event::Init => self.init = self.init.saturating_add(1),
+            Event::Emit => self.emit = self.emit.saturating_add(1),
+            Event::EnableSignal => self.enable_signal = self.enable_signal.saturating_add(1),
+            Event::Signaled => self.signaled = self.signaled.saturating_add(1),
+            Event::WaitStart => self.wait_start = self.wait_start.saturating_add(1),
+            Event::WaitEnd => self.wait_end = self.wait_end.saturating_add(1),
+            Event::Destroy => self.destroy = self.destroy.saturating_add(1),
         }
     }
 }
@@ -71,6 +50,8 @@ impl EventCounts {
 #[derive(Clone, Copy, Debug)]
 pub struct Tally {
     pub events: EventCounts,
+    /// Contexts that were seen, each once but for those that were forgotten and seen again.
+    pub contexts: u64,
     /// Fences that were made while one of their key was pending.
     pub made_again: u64,
     /// Fences that were destroyed and not signalled, which is ordinary.
@@ -96,6 +77,7 @@ impl Tally {
     /// Nothing was counted.
     pub const NONE: Tally = Tally {
         events: EventCounts::NONE,
+        contexts: 0,
         made_again: 0,
         destroyed_pending: 0,
         signalled_unseen: 0,
@@ -107,54 +89,29 @@ impl Tally {
         signalled_twice: 0,
     };
 
-    /// With an event of a fence, before which that was known of its key and of its context's order. It is sure what became of
-    /// the fence where no events were lost since it was made.
+    /// With an event of which that was found.
     #[tactic(auto, unfolding(crate::specs::Tally::tally_after))]
-    pub fn after(self, event: Event, seqno: u32, life: Life, order: Order, sure: bool) -> Tally
-        ensures { result ≡ tally_after event seqno life order sure self }
+    pub fn count(&mut self, found: &Finding)
+        ensures { self.new ≡ tally_after found.now self.old }
     {
-        let is_init = matches!(event, Event::Init);
-        let is_signal = matches!(event, Event::Signaled);
-        let is_destroy = matches!(event, Event::Destroy) && life.signalled == 0;
-        let pending = life.pending > 0;
-        Tally {
-            events: self.events.after(event),
-            made_again: count_if(self.made_again, is_init && pending),
-            destroyed_pending: count_if(self.destroyed_pending, is_destroy && pending),
-            signalled_unseen: count_if(self.signalled_unseen, is_signal && !pending),
-            destroyed_unseen: count_if(self.destroyed_unseen, is_destroy && !pending),
-            out_of_order: count_if(self.out_of_order, is_signal && order.is_late(seqno)),
-            out_of_order_wrapped: count_if(
-                self.out_of_order_wrapped,
-                is_signal && order.is_late_wrapped(seqno),
-            ),
-            repeats: count_if(self.repeats, is_signal && order.is_repeat(seqno)),
-            overtaken: count_if(
-                self.overtaken,
-                is_signal && sure && is_overtaken(life, order, seqno),
-            ),
-            signalled_twice: count_if(
-                self.signalled_twice,
-                is_signal && sure && is_signalled_only(life),
-            ),
+        self.events.count(found.event);
+        if found.is_plain() {
+            return;
         }
+        self.contexts = count_if(self.contexts, found.new_context);
+        self.made_again = count_if(self.made_again, found.made_again);
+        self.destroyed_pending = count_if(self.destroyed_pending, found.destroyed_pending);
+        self.signalled_unseen = count_if(self.signalled_unseen, found.signalled_unseen);
+        self.destroyed_unseen = count_if(self.destroyed_unseen, found.destroyed_unseen);
+        self.out_of_order = count_if(self.out_of_order, found.out_of_order);
+        self.out_of_order_wrapped = count_if(self.out_of_order_wrapped, found.out_of_order_wrapped);
+        self.repeats = count_if(self.repeats, found.repeats);
+        self.overtaken = count_if(self.overtaken, found.overtaken);
+        self.signalled_twice = count_if(self.signalled_twice, found.signalled_twice);
     }
 }
 
-/// Whether a fence that is pending was made before a later one was signalled.
-fn is_overtaken(life: Life, order: Order, seqno: u32) -> bool
-    ensures { result ≡ is_overtaken life order seqno }
-{
-    life.pending > 0 && order.is_late_wrapped(seqno) && life.born < order.at
-}
-
-/// Whether fences of the key were signalled, and none is pending.
-fn is_signalled_only(life: Life) -> bool
-    ensures { result ≡ is_signalled_only life }
-{
-    life.pending == 0 && life.signalled > 0
-}
-
+#[inline(always)]
 fn count_if(count: u64, one_more: bool) -> u64
     ensures { result ≡ count_if count one_more }
 {

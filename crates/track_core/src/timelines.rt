@@ -3,9 +3,10 @@ ghost use Rattle.std.specs.Prelude.{◌≡◌, if◌then◌else◌, OnOk, IfErr}
 ghost use Rattle.point_core.specs.declared.refusal.Refusal.TheVariants.{Memory};
 ghost use Rattle.track_core.specs.declared.sighting.TimelineKey.{TimelineKey};
 ghost use Rattle.track_core.specs.Keys.{same_timeline};
-ghost use Rattle.track_core.specs.Tally.{none};
+ghost use Rattle.track_core.specs.Tally.{none, tally_after};
 ghost use Rattle.track_core.specs.Timelines.{tally_at};
 
+use crate::finding::Finding;
 use crate::sighting::TimelineKey;
 use crate::tally::Tally;
 use indexmap::IndexMap;
@@ -45,14 +46,20 @@ impl Timelines {
         &self.by_key
     }
 
-    /// Keeps what the timeline did.
+    /// Counts an event of the timeline of which that was found.
     ///
     /// Refuses as `Memory` alone, and then nothing has changed.
-    pub fn put(&mut self, key: TimelineKey, tally: Tally) -> Result<(), Refusal>
-        ensures put { OnOk result ((k : TimelineKey) →
-            tally_at self.new k ≡ (if same_timeline key k then tally else tally_at self.old k)) }
+    pub fn count(&mut self, key: TimelineKey, found: &Finding) -> Result<(), Refusal>
+        ensures counted { OnOk result ((k : TimelineKey) → tally_at self.new k ≡
+            (if same_timeline key k then tally_after found.now (tally_at self.old key) else tally_at self.old k)) }
         ensures memory { IfErr result (λ e. e ≡ Memory) }
     {
+        if let Some(tally) = self.by_key.get_mut(&key) {
+            tally.count(found);
+            return Ok(());
+        }
+        let mut tally = Tally::NONE;
+        tally.count(found);
         let Ok(_old) = self.by_key.insert(key, tally) else {
             return Err(Refusal::Memory);
         };

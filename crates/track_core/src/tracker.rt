@@ -6,6 +6,7 @@ ghost use Rattle.track_core.specs.Tracker.{Keeps, Says, Tracks};
 
 use crate::delays::Delays;
 use crate::ledger::Ledger;
+use crate::life::Life;
 use crate::names::Names;
 use crate::sighting::{FenceKey, Sighting};
 use crate::summary::Summary;
@@ -70,12 +71,16 @@ impl Tracker {
             Tracks self.old items → Tracks self.new (EventTold (printed event.now) ∷ items)) }
     {
         let sighting = self.sighting(event)?;
-        self.time(&sighting, event.task)?;
-        self.ledger.see(&sighting)?;
+        let life = self.ledger.see(&sighting)?;
+        self.time(&sighting, life, event.task)?;
+        self.ledger.forget(&sighting.key);
         Ok(())
     }
 
-    fn sighting(&mut self, event: &Record<'_>) -> Result<Sighting, Refusal>
+    /// The event, with its names by number.
+    ///
+    /// Refuses as `Memory` alone.
+    pub fn sighting(&mut self, event: &Record<'_>) -> Result<Sighting, Refusal>
         ensures says { IfOk result (λ e. Says self.new.drivers self.new.timelines e (printed event.now)) }
         ensures drivers { Keeps self.old.drivers self.new.drivers }
         ensures timelines { Keeps self.old.timelines self.new.timelines }
@@ -96,13 +101,12 @@ impl Tracker {
         })
     }
 
-    /// What the event says of waits and of times.
-    fn time(&mut self, sighting: &Sighting, task: &[u8]) -> Result<(), Refusal>
+    /// What the event says of waits and of times, where that was known of its key.
+    fn time(&mut self, sighting: &Sighting, life: Life, task: &[u8]) -> Result<(), Refusal>
         ensures drivers { self.new.drivers ≡ self.old.drivers }
         ensures timelines { self.new.timelines ≡ self.old.timelines }
         ensures ledger { self.new.ledger ≡ self.old.ledger }
     {
-        let life = self.ledger.life(&sighting.key);
         match sighting.event {
             Event::WaitStart => self.waits.start(sighting, TaskName::new(task)),
             Event::WaitEnd => self.waits.end(sighting, life.is_pending()),

@@ -1,6 +1,6 @@
 use Rattle.std.proofs.Common.{◌∙◌, ap, ◌++◌}
 use Rattle.track_core.proofs.Naming.{found-named, new-named, named-kept, pushed}
-use Rattle.track_core.proofs.names.Names.number.Goals as goal
+use Rattle.track_core.proofs.names.Names.find.Goals as goal
 
 -- src/names.rt:42:13
 pub returns-in-Some-clause-named : goal.returns-in-Some-clause-named

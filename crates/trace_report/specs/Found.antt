@@ -1,0 +1,27 @@
+-- The fences that hang at the end of a trace.
+use Rattle.std.specs.Prelude.{◌==◌, Bool, not, ◌&&◌, nat_lt, List, map}
+use Rattle.std.specs.List.{filter}
+use Rattle.std.specs.List.Sorted.{IsPermutation}
+use Rattle.std.specs.Map.{keys_of}
+use Rattle.track_core.specs.declared.ledger.Ledger.{Ledger}
+use Rattle.track_core.specs.declared.sighting.FenceKey.{FenceKey}
+use Rattle.track_core.specs.History.{Step, hangs, is_of_timeline, tally_in}
+use Rattle.track_core.specs.Keys.{timeline_of}
+use Rattle.trace_report.specs.declared.found.Pending.{Pending}
+
+abbrev pub key_of : Pending → FenceKey
+key_of p = record { driver = p.driver; timeline = p.timeline; context = p.context; seqno = p.seqno }
+
+-- the key is that of fences to which their driver gives a number when it emits them, and has given none yet
+abbrev pub is_unnumbered : List Step → FenceKey → Bool
+is_unnumbered steps key =
+    key.seqno == 0 && nat_lt 0 (tally_in (is_of_timeline (timeline_of key)) steps).events.emit
+
+-- whether a fence of the key is told as hanging
+abbrev pub is_told : List Step → FenceKey → Bool
+is_told steps key = hangs steps key && not (is_unnumbered steps key)
+
+-- The fences are those of the keys that hang, each once. A key that hangs is alive, and a ledger has each that is alive once.
+abbrev pub AreHangs : Ledger → List Step → List Pending → Type 0
+AreHangs ledger steps found =
+    IsPermutation (filter (is_told steps) (keys_of ledger.lives.by_key.entries)) (map key_of found)

@@ -1,0 +1,226 @@
+// What happened in a window, act by act.
+use crate::safe_names::SafeNames;
+use indexmap::IndexMap;
+use line_core::SCRIPT_BYTES;
+use point_core::Refusal;
+use std::alloc::Global;
+use track_core::{FenceKey, Ledger, Life, TaskName, Tracker};
+
+/// The bytes of the shortest line of a script that acts.
+const SHORTEST_LINE: usize = 8;
+
+/// The most acts that are kept: more don't go into a script.
+const ACTS: usize = SCRIPT_BYTES / SHORTEST_LINE;
+
+/// A fence of the script.
+#[derive(Clone, Copy, Debug)]
+pub(crate) struct Fence {
+    pub(crate) key: FenceKey,
+    /// The place of its timeline.
+    pub(crate) timeline: usize,
+    /// Its point there, or 0 where it was not signalled.
+    pub(crate) point: u64,
+}
+
+/// What happened. A fence is named by its place.
+#[derive(Clone, Copy, Debug)]
+pub(crate) enum Act {
+    Make(usize),
+    Signal(usize),
+    Close(usize),
+    /// A task began to wait, at that time in microseconds.
+    Wait {
+        fence: usize,
+        task: TaskName,
+        pid: u32,
+        time: u64,
+    },
+}
+
+/// A fence that is pending where the window begins. The first in order was made first.
+#[derive(Clone, Copy, Debug, PartialEq, Eq, PartialOrd, Ord)]
+struct Earlier {
+    born: u64,
+    driver: u32,
+    timeline: u32,
+    context: u32,
+    seqno: u32,
+}
+
+/// What happened in a window.
+#[derive(Drop)]
+pub(crate) struct Acts {
+    pub(crate) names: SafeNames,
+    pub(crate) fences: Vec<Fence>,
+    pub(crate) acts: Vec<Act>,
+    // the places of the fences that are alive
+    open: IndexMap<FenceKey, usize>,
+    // how many fences of each timeline were signalled
+    signalled: Vec<u64>,
+}
+
+impl Acts {
+    /// Nothing happened. It takes no memory.
+    pub(crate) fn new(alloc: Global) -> Acts {
+        Acts {
+            names: SafeNames::new(alloc),
+            fences: Vec::new(alloc),
+            acts: Vec::new(alloc),
+            open: IndexMap::new(alloc),
+            signalled: Vec::new(alloc),
+        }
+    }
+
+    /// Whether there are more than go into a script.
+    pub(crate) fn are_too_many(&self) -> bool {
+        self.acts.len() > ACTS
+    }
+
+    /// Begins with the fences that are pending, in the order of their making.
+    ///
+    /// Refuses as `Memory` alone.
+    pub(crate) fn begin(&mut self, alloc: Global, tracker: &Tracker) -> Result<(), Refusal> {
+        let mut earlier = Vec::new(alloc);
+        collect(&tracker.ledger, &mut earlier)?;
+        earlier.sort()?;
+        for fence in earlier.as_slice() {
+            self.make(alloc, tracker, fence.key())?;
+        }
+        Ok(())
+    }
+
+    /// Takes in that this is known of the key after one of its events.
+    ///
+    /// Refuses as `Memory` alone.
+    pub(crate) fn see(
+        &mut self,
+        alloc: Global,
+        tracker: &Tracker,
+        key: FenceKey,
+        life: Life,
+    ) -> Result<(), Refusal> {
+        let Some(place) = self.place(&key) else {
+            if life.is_pending() {
+                return self.make(alloc, tracker, key);
+            }
+            return Ok(());
+        };
+        if life.has_signalled {
+            self.signal(place)?;
+        }
+        if life.is_over() {
+            self.open.swap_remove(&key);
+            return self.push(Act::Close(place));
+        }
+        Ok(())
+    }
+
+    /// Takes in that a task waits for the key.
+    ///
+    /// Refuses as `Memory` alone.
+    pub(crate) fn wait(
+        &mut self,
+        key: &FenceKey,
+        task: TaskName,
+        pid: u32,
+        time: u64,
+    ) -> Result<(), Refusal> {
+        match self.place(key) {
+            Some(fence) => self.push(Act::Wait {
+                fence,
+                task,
+                pid,
+                time,
+            }),
+            None => Ok(()),
+        }
+    }
+
+    /// Gives the fences that were not signalled the points after those of the others.
+    pub(crate) fn number_the_rest(&mut self) {
+        for fence in self.fences.as_mut_slice() {
+            if fence.point == 0 {
+                if let Some(count) = self.signalled.get_mut(fence.timeline) {
+                    *count = count.saturating_add(1);
+                    fence.point = *count;
+                }
+            }
+        }
+    }
+
+    fn place(&self, key: &FenceKey) -> Option<usize> {
+        self.open.get(key).copied()
+    }
+
+    fn make(&mut self, alloc: Global, tracker: &Tracker, key: FenceKey) -> Result<(), Refusal> {
+        let raw = tracker.timelines.name(key.timeline).unwrap_or(b"");
+        let timeline = self.names.place(alloc, key.timeline_key(), raw)?;
+        if timeline >= self.signalled.len() {
+            self.signalled.push(0).map_err(|_| Refusal::Memory)?;
+        }
+        let place = self.fences.len();
+        let fence = Fence {
+            key,
+            timeline,
+            point: 0,
+        };
+        self.fences.push(fence).map_err(|_| Refusal::Memory)?;
+        if self.open.insert(key, place).is_err() {
+            return Err(Refusal::Memory);
+        }
+        self.push(Act::Make(place))
+    }
+
+    fn signal(&mut self, place: usize) -> Result<(), Refusal> {
+        let Some(fence) = self.fences.get_mut(place) else {
+            return Ok(());
+        };
+        if fence.point > 0 {
+            return Ok(());
+        }
+        if let Some(count) = self.signalled.get_mut(fence.timeline) {
+            *count = count.saturating_add(1);
+            fence.point = *count;
+        }
+        self.push(Act::Signal(place))
+    }
+
+    fn push(&mut self, act: Act) -> Result<(), Refusal> {
+        if self.are_too_many() {
+            return Ok(());
+        }
+        self.acts.push(act).map_err(|_| Refusal::Memory)
+    }
+}
+
+impl Earlier {
+    fn key(&self) -> FenceKey {
+        FenceKey {
+            driver: self.driver,
+            timeline: self.timeline,
+            context: self.context,
+            seqno: self.seqno,
+        }
+    }
+}
+
+/// Whether the key is that of fences that their driver numbers when it emits them, and has not numbered.
+pub(crate) fn is_unnumbered(ledger: &Ledger, key: &FenceKey) -> bool {
+    key.seqno == 0 && ledger.timeline(&key.timeline_key()).events.emit > 0
+}
+
+fn collect(ledger: &Ledger, earlier: &mut Vec<Earlier>) -> Result<(), Refusal> {
+    for (key, life) in ledger.lives().by_key().iter() {
+        if life.is_pending() {
+            let fence = Earlier {
+                born: life.born,
+                driver: key.driver,
+                timeline: key.timeline,
+                context: key.context,
+                seqno: key.seqno,
+            };
+            earlier.push(fence).map_err(|_| Refusal::Memory)?;
+        }
+    }
+    Ok(())
+}
