@@ -1,2 +1,1 @@
 mod Each
-mod Escaping

@@ -2,7 +2,7 @@
 use Rattle.std.specs.Prelude.{ℕ, Bool, ◌&&◌, nat_le, List, map, filter}
 use Rattle.line_core.specs.declared.line.Line.{Line}
 use Rattle.draw_core.specs.declared.window.Window.{Window}
-use Rattle.draw_core.specs.declared.history.Column.{Column}
+use Rattle.picture_core.specs.declared.history.Column.{Column}
 
 abbrev pub is_in_window : Window → ℕ → Bool
 is_in_window window line = nat_le window.first line && nat_le line window.last

@@ -1,4 +1,4 @@
--- What is drawn of files, and what the desk tells of them.
+-- What is drawn of files, and what the desk says of them.
 use Rattle.std.specs.Prelude.{◌≡◌, ◌<◌, ◌-◌, ℕ, nat_le, if◌then◌else◌, List, Option, None, Some, option_map, IfSome, IsSome, false, true, length, slice_index_or}
 use Rattle.point_core.specs.Clocks.{common_status, status_at}
 use Rattle.point_core.specs.declared.entry.Point.{Point}
@@ -8,11 +8,11 @@ use Rattle.desk_core.specs.Timeline.{Timeline, clocks_of, name_at, value_of}
 use Rattle.desk_core.specs.SyncFile.{File}
 use Rattle.desk_core.specs.Files.{file_at}
 use Rattle.desk_core.specs.Desk.{DeskState}
-use Rattle.draw_core.specs.declared.bar.Bar.{Bar}
-use Rattle.draw_core.specs.declared.bar.Settled.{Settled}
-use Rattle.draw_core.specs.declared.waiting.Waiting.{Waiting}
+use Rattle.picture_core.specs.declared.bar.Bar.{Bar}
+use Rattle.picture_core.specs.declared.bar.Settled.{Settled}
+use Rattle.picture_core.specs.declared.waiting.Waiting.{Waiting}
 
--- the status that the desk tells of a file, as its information does; none where there is no file of that name
+-- the status of a file by the desk, as its information shows it; none where there is no file of that name
 abbrev pub file_status : DeskState → List ℕ → Option Status
 file_status desk name = option_map (λ (f : File). common_status (clocks_of desk.timelines) f.points) (file_at desk.files name)
 
@@ -24,8 +24,9 @@ settled_at (Some s) column = if nat_le s.column column then s.status else Active
 abbrev pub drawn_at : Bar → ℕ → Status
 drawn_at bar column = settled_at bar.settled column
 
--- A bar after the command of that column, by the desk as that has left it: where it was still pending and its file is there,
--- it is drawn there as the desk tells of the file; nothing changes in the columns before; and else it is as it was.
+-- A bar after the command of a column, by the desk as that command left it. Where it was still pending and its file is there,
+-- it is drawn in that column with the file's status. Earlier columns don't change, and
+-- neither does a bar that is settled or closed.
 pub record IsAsked (desk : DeskState) (column : ℕ) (old new : Bar) : Type 0 where
   pub here : old.settled ≡ None → old.closed ≡ None → IfSome (file_status desk old.name) (λ s. drawn_at new column ≡ s)
   pub before : (c : ℕ) → c < column → drawn_at new c ≡ drawn_at old c
@@ -33,19 +34,19 @@ pub record IsAsked (desk : DeskState) (column : ℕ) (old new : Bar) : Type 0 wh
   pub closed : IsSome old.closed → new ≡ old
   pub name : new.name ≡ old.name
 
--- each bar is asked for, and none comes or goes
+-- each bar is asked, and none comes or goes
 pub record AreAsked (desk : DeskState) (column : ℕ) (old new : List Bar) : Type 0 where
   pub count : length new ≡ length old
   pub each : (k : ℕ) (d : Bar) → k < length old → IsAsked desk column (slice_index_or old k d) (slice_index_or new k d)
 
--- the value is so far from the timeline's that there is something to go
+-- how far the timeline's value is from that one, which it has not reached
 pub record IsToGo (desk : DeskState) (timeline : List ℕ) (value : ℕ) (waiting : Waiting) : Type 0 where
   pub timeline_is : waiting.timeline ≡ timeline
   pub point_is : waiting.point ≡ value
   pub to_go : waiting.to_go ≡ value - value_of desk.timelines timeline
   pub some : 0 < waiting.to_go
 
--- the point is active, and what is told is of its timeline and value
+-- the point is active, and what is waited for is its timeline and value
 pub record IsWaitingFor (desk : DeskState) (point : Point) (waiting : Waiting) : Type 0 where
   pub timeline : name_at desk.timelines point.ctx ≡ Some waiting.timeline
   pub active : status_at (clocks_of desk.timelines) point ≡ Active

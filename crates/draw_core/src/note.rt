@@ -1,5 +1,4 @@
-// What hovering over a column tells.
-ghost use Rattle.std.specs.Prelude.{◌≡◌};
+// What hovering over a column shows.
 
 use desk_core::{Answer, Command, Desk};
 use line_core::RawLine;
@@ -10,14 +9,6 @@ use std::alloc::Global;
 
 /// The most bytes of an answer in a note. More are cut.
 const NOTE_BYTES: usize = 2048;
-
-/// The refusal, where the answer is one.
-pub(crate) fn refusal_of(answer: &Answer) -> Option<Refusal> {
-    match answer {
-        Answer::Refused(refusal) => Some(*refusal),
-        _ => None,
-    }
-}
 
 /// Writes a line and its answer, which ends with a line feed.
 ///

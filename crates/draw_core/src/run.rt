@@ -3,18 +3,18 @@ ghost use Rattle.std.specs.Prelude.{◌≡◌, ◌∷◌, ◌++◌, [], if◌the
 ghost use Rattle.line_core.specs.Script.{script_of};
 ghost use Rattle.draw_core.specs.Columns.{drawn_lines, is_in_window, lines_drawn};
 
-use crate::bar::ask_all;
-use crate::graph::Graph;
-use crate::history::{BarWait, Column, History};
-use crate::list::push;
-use crate::note::{push_answer, push_fault, push_reason, refusal_of};
+use crate::asking::ask_all;
+use crate::graph::enter_all;
+use crate::note::{push_answer, push_fault, push_reason};
 use crate::texts::Texts;
 use crate::waiting::waiting_for;
 use crate::window::Window;
 use desk_core::{Answer, Command, Desk};
 use line_core::{Body, LINE_BYTES, Line, RawLine, read_script};
+use picture_core::{BarWait, Column, Graph, History, word_of};
 use point_core::{Point, Refusal};
 use reason_core::Book;
+use script_core::answer_line;
 use std::alloc::Global;
 
 /// The most columns of a picture whose lines are not chosen.
@@ -38,13 +38,6 @@ pub struct Run {
     desk: Desk,
     book: Book,
     history: History,
-}
-
-/// What is told of a line.
-#[derive(Drop)]
-struct Note {
-    text: Vec<u8>,
-    refused: bool,
 }
 
 impl Run {
@@ -74,19 +67,28 @@ impl Run {
     ///
     /// Fails with `Memory` alone.
     pub fn graph(&mut self) -> Result<Graph, Refusal> {
+        let mut graph = Graph::new(self.alloc);
         let answer = self.desk.step(Command::Report);
-        self.graph_of(&answer)
+        self.enter_graph(&answer, &mut graph)?;
+        Ok(graph)
     }
 
-    fn graph_of(&self, answer: &Answer) -> Result<Graph, Refusal> {
+    fn enter_graph(&self, answer: &Answer, graph: &mut Graph) -> Result<(), Refusal> {
         match answer {
-            Answer::Report(report) => Graph::of(self.alloc, &self.desk, report, &self.history),
+            Answer::Report(report) => {
+                enter_all(
+                    graph,
+                    &self.desk,
+                    report,
+                    self.history.lanes.watches.as_slice(),
+                )
+            }
             _ => Err(Refusal::Memory),
         }
     }
 
     fn new(alloc: Global, window: &Window) -> Result<Run, Refusal>
-        ensures none { IfOk result (λ run. run.history.columns.items ≡ []) }
+        ensures columns { IfOk result (λ run. run.history.columns.items ≡ []) }
         ensures window { IfOk result (λ run. run.window ≡ window.now) }
     {
         Ok(Run {
@@ -122,11 +124,18 @@ impl Run {
         if self.window.has(line.number) {
             self.take_drawn(line, body)
         } else if line.number < self.window.first {
-            self.answer(line, body, 0)?;
-            Ok(())
+            self.take_undrawn(line.number, body)
         } else {
             Ok(())
         }
+    }
+
+    fn take_undrawn(&mut self, line: u32, body: &Body) -> Result<(), Refusal>
+        ensures columns { self.new.history.columns ≡ self.old.history.columns }
+        ensures window { self.new.window ≡ self.old.window }
+    {
+        let answer = answer_line(&mut self.desk, *body);
+        self.enter(0, line, body, &answer)
     }
 
     fn take_drawn(&mut self, line: &RawLine<'_>, body: &Body) -> Result<(), Refusal>
@@ -134,103 +143,122 @@ impl Run {
             ≡ lines_drawn self.old.history.columns.items ++ line.now.number ∷ []) }
         ensures window { self.new.window ≡ self.old.window }
     {
+        self.ask_first();
+        let answer = answer_line(&mut self.desk, *body);
+        self.record(line, body, &answer)
+    }
+
+    /// Before the first column, settles the bars of the files that are there and signalled.
+    fn ask_first(&mut self)
+        ensures columns { self.new.history.columns ≡ self.old.history.columns }
+        ensures window { self.new.window ≡ self.old.window }
+    {
         if self.history.columns.is_empty() {
             ask_all(self.history.bars.as_mut_slice(), &self.desk, 0);
         }
+    }
+
+    /// One column more, for a line that was answered so.
+    fn record(&mut self, line: &RawLine<'_>, body: &Body, answer: &Answer) -> Result<(), Refusal>
+        ensures columns { OnOk result (lines_drawn self.new.history.columns.items
+            ≡ lines_drawn self.old.history.columns.items ++ line.now.number ∷ []) }
+        ensures window { self.new.window ≡ self.old.window }
+    {
         let column = self.history.columns.len().saturating_add(1);
-        let note = self.answer(line, body, column)?;
-        push(
-            &mut self.history.columns,
-            Column {
-                line: line.number,
-                body: *body,
-                refused: note.refused,
-                note: note.text,
-            },
-        )?;
+        self.enter(column, line.number, body, answer)?;
+        let note = self.note_of(line, body, answer)?;
+        self.history.add_column(Column {
+            line: line.number,
+            word: word_of_line(body),
+            refused: is_refused(answer),
+            note,
+        })?;
         ask_all(self.history.bars.as_mut_slice(), &self.desk, column);
         Ok(())
     }
 
-    /// Answers a line, and enters what it did in that column.
-    fn answer(&mut self, line: &RawLine<'_>, body: &Body, column: usize) -> Result<Note, Refusal>
-        ensures columns { IfOk result (λ _. self.new.history.columns.items ≡ self.old.history.columns.items) }
+    /// Enters what a line did that has this answer, in its column.
+    fn enter(
+        &mut self,
+        column: usize,
+        line: u32,
+        body: &Body,
+        answer: &Answer,
+    ) -> Result<(), Refusal>
+        ensures columns { self.new.history.columns ≡ self.old.history.columns }
         ensures window { self.new.window ≡ self.old.window }
     {
+        if is_refused(answer) {
+            self.history.refused = true;
+            return Ok(());
+        }
         match body {
-            Body::Cmd(command) => {
-                let answer = self.desk.step(*command);
-                self.note_answer(line, command, &answer, column)
-            }
-            Body::Bad(refusal) => self.note_fault(line, *refusal),
+            Body::Cmd(command) => self.enter_command(column, line, command, answer),
+            Body::Bad(_) => Ok(()),
         }
     }
 
-    fn note_answer(
+    fn enter_command(
         &mut self,
-        line: &RawLine<'_>,
+        column: usize,
+        line: u32,
         command: &Command,
         answer: &Answer,
-        column: usize,
-    ) -> Result<Note, Refusal>
-        ensures columns { IfOk result (λ _. self.new.history.columns.items ≡ self.old.history.columns.items) }
+    ) -> Result<(), Refusal>
+        ensures columns { self.new.history.columns ≡ self.old.history.columns }
         ensures window { self.new.window ≡ self.old.window }
     {
-        let mut text = Vec::new(self.alloc);
-        if column > 0 {
-            push_answer(line, answer, &mut text)?;
-        }
-        let refused = refusal_of(answer);
-        match refused {
-            Some(refusal) => {
-                self.history.refused = true;
-                push_reason(
-                    &self.desk,
-                    &self.book,
-                    line.number,
-                    command,
-                    refusal,
-                    &mut text,
-                )?;
-            }
-            None => {
-                self.book.enter(line.number, command, &self.desk)?;
-                self.history
-                    .enter(self.alloc, column, command, answer, &self.desk)?;
-            }
-        }
-        Ok(Note {
-            text,
-            refused: refused.is_some(),
-        })
+        self.book.enter(line, command, &self.desk)?;
+        let points = points_of(&self.desk, command);
+        self.history
+            .enter(self.alloc, column, command, answer, points)
     }
 
-    fn note_fault(&mut self, line: &RawLine<'_>, refusal: Refusal) -> Result<Note, Refusal>
-        ensures columns { IfOk result (λ _. self.new.history.columns.items ≡ self.old.history.columns.items) }
-        ensures window { self.new.window ≡ self.old.window }
-    {
-        self.history.refused = true;
-        let mut text = Vec::new(self.alloc);
-        push_answer(line, &Answer::Refused(refusal), &mut text)?;
-        push_fault(self.alloc, line, refusal, &mut text)?;
-        Ok(Note {
-            text,
-            refused: true,
-        })
+    /// The line, its answer, and where it was refused why.
+    fn note_of(
+        &self,
+        line: &RawLine<'_>,
+        body: &Body,
+        answer: &Answer,
+    ) -> Result<Vec<u8>, Refusal> {
+        let mut note = Vec::new(self.alloc);
+        push_answer(line, answer, &mut note)?;
+        if let Answer::Refused(refusal) = answer {
+            self.push_reason(line, body, *refusal, &mut note)?;
+        }
+        Ok(note)
+    }
+
+    fn push_reason(
+        &self,
+        line: &RawLine<'_>,
+        body: &Body,
+        refusal: Refusal,
+        note: &mut Vec<u8>,
+    ) -> Result<(), Refusal> {
+        match body {
+            Body::Cmd(command) => push_reason(
+                &self.desk,
+                &self.book,
+                line.number,
+                command,
+                refusal,
+                note,
+            ),
+            Body::Bad(_) => push_fault(self.alloc, line, refusal, note),
+        }
     }
 
     /// Enters what the pending files wait for.
     fn finish(&mut self) -> Result<(), Refusal>
-        ensures columns { OnOk result (self.new.history.columns.items ≡ self.old.history.columns.items) }
+        ensures columns { self.new.history.columns ≡ self.old.history.columns }
     {
-        if self.history.columns.is_empty() {
-            ask_all(self.history.bars.as_mut_slice(), &self.desk, 0);
-        }
+        self.ask_first();
         self.wait_for_all()
     }
 
     fn wait_for_all(&mut self) -> Result<(), Refusal>
-        ensures columns { OnOk result (self.new.history.columns.items ≡ self.old.history.columns.items) }
+        ensures columns { self.new.history.columns ≡ self.old.history.columns }
     {
         for place in 0..self.history.bars.len() {
             self.wait_for(place)?;
@@ -239,7 +267,7 @@ impl Run {
     }
 
     fn wait_for(&mut self, place: usize) -> Result<(), Refusal>
-        ensures columns { OnOk result (self.new.history.columns.items ≡ self.old.history.columns.items) }
+        ensures columns { self.new.history.columns ≡ self.old.history.columns }
     {
         let Some(bar) = self.history.bars.get(place) else {
             return Ok(());
@@ -248,9 +276,31 @@ impl Run {
             return Ok(());
         }
         match self.desk.file_points(&bar.name) {
-            Some(points) => push_waits(&self.desk, place, points, &mut self.history.waits),
+            Some(points) => push_waits(&self.desk, place, points, &mut self.history),
             None => Ok(()),
         }
+    }
+}
+
+/// The points of the file that a watch is registered on, and none of another command.
+fn points_of<'a>(desk: &'a Desk, command: &Command) -> &'a [Point] {
+    match command {
+        Command::Watch(file, _) => desk.file_points(file).unwrap_or(&[]),
+        _ => &[],
+    }
+}
+
+fn is_refused(answer: &Answer) -> bool {
+    match answer {
+        Answer::Refused(_) => true,
+        _ => false,
+    }
+}
+
+fn word_of_line(body: &Body) -> &'static str {
+    match body {
+        Body::Cmd(command) => word_of(command),
+        Body::Bad(_) => "?",
     }
 }
 
@@ -269,11 +319,13 @@ fn push_waits(
     desk: &Desk,
     bar: usize,
     points: &[Point],
-    waits: &mut Vec<BarWait>,
-) -> Result<(), Refusal> {
+    history: &mut History,
+) -> Result<(), Refusal>
+    ensures columns { history.new.columns ≡ history.old.columns }
+{
     for point in points {
         if let Some(waiting) = waiting_for(desk, point) {
-            push(waits, BarWait { bar, waiting })?;
+            history.add_wait(BarWait { bar, waiting })?;
         }
     }
     Ok(())

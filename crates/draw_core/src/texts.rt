@@ -17,7 +17,7 @@ impl<'a> Texts<'a> {
         }
     }
 
-    /// The line of that number, which is not below the last that was asked for.
+    /// The line of that number. Numbers must not fall from call to call.
     pub(crate) fn line(&mut self, number: u32) -> &'a [u8] {
         for _ in self.number..number {
             if let Some((_, rest)) = first_line(self.rest) {

@@ -3,16 +3,8 @@ ghost use Rattle.std.specs.Prelude.{◌≡◌, IfSome};
 ghost use Rattle.draw_core.specs.Drawn.{IsToGo, IsWaitingFor};
 
 use desk_core::Desk;
+use picture_core::Waiting;
 use point_core::{Name, Point};
-
-/// A point that is not reached.
-#[derive(Clone, Copy)]
-pub struct Waiting {
-    pub timeline: Name,
-    pub point: u64,
-    /// How much the timeline's value has to grow.
-    pub to_go: u64,
-}
 
 /// How far a point is from being reached. None of a point that is, or that is cancelled.
 pub fn waiting_for(desk: &Desk, point: &Point) -> Option<Waiting>

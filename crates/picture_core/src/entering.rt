@@ -1,0 +1,301 @@
+// What an accepted command did, entered into the history.
+ghost use Rattle.std.specs.Prelude.{◌≡◌};
+
+use crate::bar::{Bar, open_place};
+use crate::history::{
+    Access, BufferLane, BufferMark, History, Lane, Lanes, Link, TimelineLane, ValueStep, WatchEnd,
+    WatchLane,
+};
+use crate::list::push;
+use command_core::{Answer, Command};
+use point_core::{Name, Point, Refusal};
+use std::alloc::Global;
+
+impl History {
+    /// Enters what an accepted command did, in its column; in 0 where it is not drawn. Of a watch, `points` are those of its
+    /// file.
+    ///
+    /// Fails with `Memory` alone.
+    pub fn enter(
+        &mut self,
+        alloc: Global,
+        column: usize,
+        command: &Command,
+        answer: &Answer,
+        points: &[Point],
+    ) -> Result<(), Refusal>
+        ensures columns { self.new.columns ≡ self.old.columns }
+        ensures waits { self.new.waits ≡ self.old.waits }
+    {
+        enter_file(&mut self.bars, column, command)?;
+        self.lanes.enter(alloc, column, command, answer, points)?;
+        if column == 0 {
+            return Ok(());
+        }
+        self.lanes.link_all(column, command, self.bars.as_slice())
+    }
+}
+
+/// The bars after a command, which makes a file, closes one, or neither.
+fn enter_file(bars: &mut Vec<Bar>, column: usize, command: &Command) -> Result<(), Refusal> {
+    match command {
+        Command::Fence(name, _, _) => push_bar(bars, column, name),
+        Command::Merge(name, _, _) => push_bar(bars, column, name),
+        Command::Export(name, _, _) => push_bar(bars, column, name),
+        Command::Close(name) => {
+            close_bar(bars, column, name);
+            Ok(())
+        }
+        _ => Ok(()),
+    }
+}
+
+fn push_bar(bars: &mut Vec<Bar>, column: usize, name: &Name) -> Result<(), Refusal> {
+    push(bars, Bar::of(name, column))
+}
+
+/// A file that was closed before the first column is not drawn.
+fn close_bar(bars: &mut Vec<Bar>, column: usize, name: &Name) {
+    let Some(place) = open_place(bars.as_slice(), name) else {
+        return;
+    };
+    if column > 0 {
+        if let Some(bar) = bars.get_mut(place) {
+            bar.closed = Some(column);
+        }
+    } else if place < bars.len() {
+        bars.remove(place);
+    }
+}
+
+impl Lanes {
+    fn enter(
+        &mut self,
+        alloc: Global,
+        column: usize,
+        command: &Command,
+        answer: &Answer,
+        points: &[Point],
+    ) -> Result<(), Refusal> {
+        match command {
+            Command::Timeline(name) => push_timeline(&mut self.timelines, alloc, column, name),
+            Command::Inc(name, _) => self.raise(column, name, answer),
+            Command::Shut(name) => self.shut(column, name, answer),
+            Command::Buffer(name) => push_buffer(&mut self.buffers, column, name),
+            Command::Add(name, _, _, usage) => self.access(column, name, Access::Add(*usage)),
+            Command::Import(name, _, flags) => self.access(column, name, Access::Import(*flags)),
+            Command::Export(_, name, flags) => self.access(column, name, Access::Export(*flags)),
+            Command::Trim(name) => self.access(column, name, Access::Trim),
+            Command::Watch(_, cookie) => {
+                push_watch(&mut self.watches, alloc, column, *cookie, points)
+            }
+            Command::Unwatch(cookie) => {
+                end_watch(&mut self.watches, *cookie, WatchEnd::Removed(column));
+                Ok(())
+            }
+            _ => Ok(()),
+        }
+    }
+
+    /// The new value of a timeline, and the watches that fired.
+    fn raise(&mut self, column: usize, name: &Name, answer: &Answer) -> Result<(), Refusal> {
+        let Answer::Raised(value, fired) = answer else {
+            return Ok(());
+        };
+        end_watches(&mut self.watches, fired.as_slice(), column);
+        let step = ValueStep {
+            column,
+            value: *value,
+        };
+        push_step(self.timelines.as_mut_slice(), name, step)
+    }
+
+    fn shut(&mut self, column: usize, name: &Name, answer: &Answer) -> Result<(), Refusal> {
+        self.raise(column, name, answer)?;
+        close_timeline(self.timelines.as_mut_slice(), column, name);
+        Ok(())
+    }
+
+    fn access(&mut self, column: usize, name: &Name, access: Access) -> Result<(), Refusal> {
+        if column == 0 {
+            return Ok(());
+        }
+        let Some(buffer) = self.buffer_place(name) else {
+            return Ok(());
+        };
+        push(
+            &mut self.marks,
+            BufferMark {
+                buffer,
+                column,
+                access,
+            },
+        )
+    }
+
+    /// From what the command used to what it made or changed.
+    fn link_all(&mut self, column: usize, command: &Command, bars: &[Bar]) -> Result<(), Refusal> {
+        match command {
+            Command::Fence(name, timeline, _) => {
+                self.link(column, self.timeline_lane(timeline), bar_lane(bars, name))
+            }
+            Command::Merge(name, first, second) => {
+                self.link(column, bar_lane(bars, first), bar_lane(bars, name))?;
+                self.link(column, bar_lane(bars, second), bar_lane(bars, name))
+            }
+            Command::Export(name, buffer, _) => {
+                self.link(column, self.buffer_lane(buffer), bar_lane(bars, name))
+            }
+            Command::Add(name, timeline, _, _) => {
+                self.link(column, self.timeline_lane(timeline), self.buffer_lane(name))
+            }
+            Command::Import(name, file, _) => {
+                self.link(column, bar_lane(bars, file), self.buffer_lane(name))
+            }
+            Command::Watch(name, _) => {
+                self.link(column, bar_lane(bars, name), self.last_watch())
+            }
+            _ => Ok(()),
+        }
+    }
+
+    fn link(&mut self, column: usize, from: Option<Lane>, to: Option<Lane>) -> Result<(), Refusal> {
+        let Some(from) = from else {
+            return Ok(());
+        };
+        let Some(to) = to else {
+            return Ok(());
+        };
+        push(&mut self.links, Link { column, from, to })
+    }
+
+    fn timeline_lane(&self, name: &Name) -> Option<Lane> {
+        for (place, lane) in self.timelines.iter().enumerate() {
+            if lane.name == *name {
+                return Some(Lane::Timeline(place));
+            }
+        }
+        None
+    }
+
+    fn buffer_place(&self, name: &Name) -> Option<usize> {
+        for (place, lane) in self.buffers.iter().enumerate() {
+            if lane.name == *name {
+                return Some(place);
+            }
+        }
+        None
+    }
+
+    fn buffer_lane(&self, name: &Name) -> Option<Lane> {
+        Some(Lane::Buffer(self.buffer_place(name)?))
+    }
+
+    fn last_watch(&self) -> Option<Lane> {
+        Some(Lane::Watch(self.watches.len().checked_sub(1)?))
+    }
+}
+
+fn bar_lane(bars: &[Bar], name: &Name) -> Option<Lane> {
+    Some(Lane::Bar(open_place(bars, name)?))
+}
+
+fn push_timeline(
+    timelines: &mut Vec<TimelineLane>,
+    alloc: Global,
+    column: usize,
+    name: &Name,
+) -> Result<(), Refusal> {
+    let mut steps = Vec::new(alloc);
+    push(&mut steps, ValueStep { column, value: 0 })?;
+    push(
+        timelines,
+        TimelineLane {
+            name: *name,
+            steps,
+            closed: None,
+        },
+    )
+}
+
+fn push_step(lanes: &mut [TimelineLane], name: &Name, step: ValueStep) -> Result<(), Refusal> {
+    for lane in lanes.iter_mut() {
+        if lane.name == *name {
+            return set_step(&mut lane.steps, step);
+        }
+    }
+    Ok(())
+}
+
+/// One step more. Two of one column are one.
+fn set_step(steps: &mut Vec<ValueStep>, step: ValueStep) -> Result<(), Refusal> {
+    if let Some(last) = steps.last_mut() {
+        if last.column == step.column {
+            *last = step;
+            return Ok(());
+        }
+    }
+    push(steps, step)
+}
+
+fn close_timeline(lanes: &mut [TimelineLane], column: usize, name: &Name) {
+    for lane in lanes.iter_mut() {
+        if lane.name == *name {
+            lane.closed = Some(column);
+        }
+    }
+}
+
+fn push_buffer(buffers: &mut Vec<BufferLane>, column: usize, name: &Name) -> Result<(), Refusal> {
+    push(
+        buffers,
+        BufferLane {
+            name: *name,
+            made: column,
+        },
+    )
+}
+
+fn push_watch(
+    watches: &mut Vec<WatchLane>,
+    alloc: Global,
+    column: usize,
+    cookie: u64,
+    points: &[Point],
+) -> Result<(), Refusal> {
+    let points = Vec::from_slice(alloc, points)?;
+    push(
+        watches,
+        WatchLane {
+            cookie,
+            made: column,
+            end: WatchEnd::Pending,
+            points,
+        },
+    )
+}
+
+/// Watches that fired in that column.
+fn end_watches(watches: &mut Vec<WatchLane>, cookies: &[u64], column: usize) {
+    for cookie in cookies {
+        end_watch(watches, *cookie, WatchEnd::Fired(column));
+    }
+}
+
+/// A watch that ended before the first column is not drawn.
+fn end_watch(watches: &mut Vec<WatchLane>, cookie: u64, end: WatchEnd) {
+    match end {
+        WatchEnd::Fired(0) | WatchEnd::Removed(0) => {
+            watches.retain(|watch| watch.cookie != cookie);
+        }
+        _ => end_drawn_watch(watches, cookie, end),
+    }
+}
+
+fn end_drawn_watch(watches: &mut [WatchLane], cookie: u64, end: WatchEnd) {
+    for watch in watches.iter_mut() {
+        if watch.cookie == cookie && matches!(watch.end, WatchEnd::Pending) {
+            watch.end = end;
+        }
+    }
+}

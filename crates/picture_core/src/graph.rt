@@ -1,0 +1,93 @@
+// What waits for what.
+
+use crate::list::push;
+use crate::waiting::Waiting;
+use command_core::FileRow;
+use point_core::{Name, Refusal, TimelineRow, Usage};
+use std::alloc::Global;
+use std::collections::HashSet;
+
+/// What stands in a graph.
+#[derive(Clone, Copy)]
+pub enum Node {
+    Timeline(TimelineRow),
+    /// A point that is not reached.
+    Point(Waiting),
+    File(FileRow),
+    Buffer(Name),
+    /// A pending watch, by its cookie.
+    Watch(u64),
+}
+
+/// What waits.
+#[derive(Clone, Copy)]
+pub enum Waiter {
+    File(Name),
+    /// At that usage.
+    Buffer(Name, Usage),
+    Watch(u64),
+}
+
+/// What waits for a point.
+#[derive(Clone, Copy)]
+pub struct Edge {
+    pub waiter: Waiter,
+    pub timeline: Name,
+    pub point: u64,
+}
+
+/// A point by its timeline's name.
+#[derive(Clone, Copy, PartialEq, Eq, Hash)]
+struct NamedPoint {
+    timeline: Name,
+    value: u64,
+}
+
+/// What waits for what: of points those that something waits for. Each of these waits for its timeline.
+#[derive(Drop)]
+pub struct Graph {
+    pub nodes: Vec<Node>,
+    pub edges: Vec<Edge>,
+    // the points among the nodes
+    points: HashSet<NamedPoint>,
+}
+
+impl Graph {
+    /// An empty graph.
+    pub fn new(alloc: Global) -> Graph {
+        Graph {
+            nodes: Vec::new(alloc),
+            edges: Vec::new(alloc),
+            points: HashSet::new(alloc),
+        }
+    }
+
+    /// One node more.
+    ///
+    /// Fails with `Memory` alone.
+    pub fn add_node(&mut self, node: Node) -> Result<(), Refusal> {
+        push(&mut self.nodes, node)
+    }
+
+    /// One edge more, to a point, which becomes a node where it is none yet.
+    ///
+    /// Fails with `Memory` alone.
+    pub fn add_wait(&mut self, waiter: &Waiter, waiting: &Waiting) -> Result<(), Refusal> {
+        let point = NamedPoint {
+            timeline: waiting.timeline,
+            value: waiting.point,
+        };
+        let new = self.points.insert(point).map_err(|_| Refusal::Memory)?;
+        if new {
+            push(&mut self.nodes, Node::Point(*waiting))?;
+        }
+        push(
+            &mut self.edges,
+            Edge {
+                waiter: *waiter,
+                timeline: waiting.timeline,
+                point: waiting.point,
+            },
+        )
+    }
+}

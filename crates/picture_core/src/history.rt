@@ -1,0 +1,183 @@
+// What a run did, column by column.
+ghost use Rattle.std.specs.Prelude.{◌≡◌, ◌∷◌, ◌++◌, [], OnOk};
+
+use crate::bar::Bar;
+use crate::list::push;
+use crate::waiting::Waiting;
+use point_core::{Name, Point, Refusal, Usage};
+use std::alloc::Global;
+
+/// A line of the script that has an answer. Columns are numbered from 1, and 0 stands for what was there before the first.
+#[derive(Drop)]
+pub struct Column {
+    /// The line's number.
+    pub line: u32,
+    /// The word of its command, or `?` where it is none.
+    pub word: &'static str,
+    pub refused: bool,
+    /// The line, its answer, and where it was refused why.
+    pub note: Vec<u8>,
+}
+
+/// The value that a timeline has from a column on.
+#[derive(Clone, Copy)]
+pub struct ValueStep {
+    pub column: usize,
+    pub value: u64,
+}
+
+/// A timeline, with the values that it had.
+#[derive(Drop)]
+pub struct TimelineLane {
+    pub name: Name,
+    pub steps: Vec<ValueStep>,
+    /// The column of the command that closed it.
+    pub closed: Option<usize>,
+}
+
+/// A buffer.
+#[derive(Clone, Copy)]
+pub struct BufferLane {
+    pub name: Name,
+    /// The column of the command that made it.
+    pub made: usize,
+}
+
+/// What a command did with a buffer.
+#[derive(Clone, Copy)]
+pub enum Access {
+    /// A fence was added for this usage.
+    Add(Usage),
+    /// The fences of a file were added for an access so.
+    Import(u32),
+    /// What an access so waits for was made a file.
+    Export(u32),
+    Trim,
+}
+
+/// A mark on the lane of a buffer.
+#[derive(Clone, Copy)]
+pub struct BufferMark {
+    pub buffer: usize,
+    pub column: usize,
+    pub access: Access,
+}
+
+/// What became of a watch.
+#[derive(Clone, Copy)]
+pub enum WatchEnd {
+    Pending,
+    /// It fired in this column.
+    Fired(usize),
+    /// It was removed in this column.
+    Removed(usize),
+}
+
+/// A watch.
+#[derive(Drop)]
+pub struct WatchLane {
+    pub cookie: u64,
+    /// The column of the command that registered it.
+    pub made: usize,
+    pub end: WatchEnd,
+    /// The points that its file listed then.
+    pub points: Vec<Point>,
+}
+
+/// A lane, by its place among those of its kind.
+#[derive(Clone, Copy)]
+pub enum Lane {
+    Timeline(usize),
+    Bar(usize),
+    Buffer(usize),
+    Watch(usize),
+}
+
+/// From what a command used to what it made or changed.
+#[derive(Clone, Copy)]
+pub struct Link {
+    pub column: usize,
+    pub from: Lane,
+    pub to: Lane,
+}
+
+/// A point that the file of a bar waits for at the end.
+#[derive(Clone, Copy)]
+pub struct BarWait {
+    pub bar: usize,
+    pub waiting: Waiting,
+}
+
+/// What the commands that are drawn did with timelines, buffers and watches, and what stood before them.
+#[derive(Drop)]
+pub struct Lanes {
+    pub timelines: Vec<TimelineLane>,
+    pub buffers: Vec<BufferLane>,
+    pub marks: Vec<BufferMark>,
+    pub watches: Vec<WatchLane>,
+    pub links: Vec<Link>,
+}
+
+impl Lanes {
+    fn new(alloc: Global) -> Lanes {
+        Lanes {
+            timelines: Vec::new(alloc),
+            buffers: Vec::new(alloc),
+            marks: Vec::new(alloc),
+            watches: Vec::new(alloc),
+            links: Vec::new(alloc),
+        }
+    }
+}
+
+/// What the commands that are drawn did, and what stood before them.
+#[derive(Drop)]
+pub struct History {
+    pub columns: Vec<Column>,
+    /// The files that are or were there, in order of making.
+    pub bars: Vec<Bar>,
+    pub lanes: Lanes,
+    /// By bar, what its file waits for at the end.
+    pub waits: Vec<BarWait>,
+    /// Whether a line was refused, also one that is not drawn.
+    pub refused: bool,
+}
+
+impl History {
+    /// An empty history.
+    pub fn new(alloc: Global) -> History
+        ensures columns { result.columns.items ≡ [] }
+        ensures bars { result.bars.items ≡ [] }
+        ensures waits { result.waits.items ≡ [] }
+    {
+        History {
+            columns: Vec::new(alloc),
+            bars: Vec::new(alloc),
+            lanes: Lanes::new(alloc),
+            waits: Vec::new(alloc),
+            refused: false,
+        }
+    }
+
+    /// One column more.
+    ///
+    /// Fails with `Memory` alone.
+    pub fn add_column(&mut self, column: Column) -> Result<(), Refusal>
+        ensures columns { OnOk result (self.new.columns.items ≡ self.old.columns.items ++ column ∷ []) }
+        ensures bars { self.new.bars ≡ self.old.bars }
+        ensures waits { self.new.waits ≡ self.old.waits }
+    {
+        push(&mut self.columns, column)
+    }
+
+    /// One point more that the file of a bar waits for.
+    ///
+    /// Fails with `Memory` alone.
+    pub fn add_wait(&mut self, wait: BarWait) -> Result<(), Refusal>
+        ensures columns { self.new.columns ≡ self.old.columns }
+        ensures bars { self.new.bars ≡ self.old.bars }
+        ensures waits { OnOk result (self.new.waits.items ≡ self.old.waits.items ++ wait ∷ []) }
+    {
+        push(&mut self.waits, wait)
+    }
+}

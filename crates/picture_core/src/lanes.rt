@@ -1,0 +1,302 @@
+// The lanes of timelines, files, buffers and watches.
+
+use crate::bar::Bar;
+use crate::history::{
+    Access, BufferLane, BufferMark, History, Lane, TimelineLane, ValueStep, WatchEnd, WatchLane,
+};
+use crate::shapes::{Canvas, Face, Fill, Label, Mark, Spot, Stroke};
+use crate::sheet::{LINE, PAD, Sheet};
+use point_core::{Refusal, Status};
+
+/// How far a timeline's value rises, and where it begins in its lane. Above it is room for the mark of a closing, below the
+/// numbers.
+const RISE: u64 = 16;
+
+const FLOOR: u64 = 40;
+/// Where a timeline's numbers stand in its lane.
+const VALUES: u64 = 15;
+/// Half the height of a bar.
+const HALF_BAR: u64 = 7;
+/// From the middle of a lane to the foot of a text there.
+const FOOT: u64 = 4;
+
+/// A line to the right.
+fn push_level(
+    stroke: Stroke,
+    left: u64,
+    right: u64,
+    y: u64,
+    canvas: &mut Canvas,
+) -> Result<(), Refusal> {
+    canvas.line(stroke, &Spot { x: left, y }, &Spot { x: right, y })
+}
+
+/// The name of a lane, in its middle.
+fn push_name(sheet: &Sheet, lane: Lane, label: &Label, canvas: &mut Canvas) -> Result<(), Refusal> {
+    let y = sheet.middle_of(lane).saturating_add(FOOT);
+    canvas.text(Face::Name, PAD, y, label)
+}
+
+pub(crate) fn push_timelines(
+    history: &History,
+    sheet: &Sheet,
+    canvas: &mut Canvas,
+) -> Result<(), Refusal> {
+    for (place, lane) in history.lanes.timelines.iter().enumerate() {
+        let here = Lane::Timeline(place);
+        push_name(sheet, here, &Label::Name(lane.name), canvas)?;
+        push_axis(sheet, sheet.height_of(here), lane, canvas)?;
+        push_values(sheet, sheet.top(here), lane, canvas)?;
+    }
+    Ok(())
+}
+
+/// What links begin at.
+fn push_axis(
+    sheet: &Sheet,
+    y: u64,
+    lane: &TimelineLane,
+    canvas: &mut Canvas,
+) -> Result<(), Refusal> {
+    match lane.steps.first() {
+        Some(first) => push_level(
+            Stroke::Lane,
+            sheet.middle(first.column),
+            sheet.end,
+            y,
+            canvas,
+        ),
+        None => Ok(()),
+    }
+}
+
+/// The steps of a timeline's value, and its numbers.
+fn push_values(
+    sheet: &Sheet,
+    top: u64,
+    lane: &TimelineLane,
+    canvas: &mut Canvas,
+) -> Result<(), Refusal> {
+    let greatest = lane.steps.last().map_or(0, |step| step.value);
+    let mut last: Option<Spot> = None;
+    for step in &lane.steps {
+        let next = Spot {
+            x: sheet.middle(step.column),
+            y: top
+                .saturating_add(FLOOR)
+                .saturating_sub(rise(step.value, greatest)),
+        };
+        if let Some(before) = last {
+            push_step(&before, &next, canvas)?;
+        }
+        push_value(sheet, top, step, canvas)?;
+        last = Some(next);
+    }
+    match last {
+        Some(last) => push_end(sheet, lane, &last, canvas),
+        None => Ok(()),
+    }
+}
+
+/// How high a value lies, by the greatest.
+fn rise(value: u64, greatest: u64) -> u64 {
+    let scaled = u128::from(value) * u128::from(RISE) / u128::from(greatest.max(1));
+    u64::try_from(scaled).unwrap_or(RISE)
+}
+
+fn push_step(before: &Spot, next: &Spot, canvas: &mut Canvas) -> Result<(), Refusal> {
+    push_level(Stroke::Value, before.x, next.x, before.y, canvas)?;
+    let corner = Spot {
+        x: next.x,
+        y: before.y,
+    };
+    canvas.line(Stroke::Value, &corner, next)
+}
+
+fn push_value(
+    sheet: &Sheet,
+    top: u64,
+    step: &ValueStep,
+    canvas: &mut Canvas,
+) -> Result<(), Refusal> {
+    let x = sheet.text_middle(step.column);
+    let y = top.saturating_add(VALUES);
+    canvas.text(Face::Number, x, y, &Label::Number(step.value))
+}
+
+/// From its last value on.
+fn push_end(
+    sheet: &Sheet,
+    lane: &TimelineLane,
+    last: &Spot,
+    canvas: &mut Canvas,
+) -> Result<(), Refusal> {
+    let Some(closed) = lane.closed else {
+        return push_level(Stroke::Value, last.x, sheet.end, last.y, canvas);
+    };
+    let x = sheet.middle(closed);
+    push_level(Stroke::Value, last.x, x, last.y, canvas)?;
+    push_level(Stroke::Closed, x, sheet.end, last.y, canvas)?;
+    canvas.mark(Mark::Shut, x, last.y)
+}
+
+pub(crate) fn push_bars(
+    history: &History,
+    sheet: &Sheet,
+    canvas: &mut Canvas,
+) -> Result<(), Refusal> {
+    for (place, bar) in history.bars.iter().enumerate() {
+        let lane = Lane::Bar(place);
+        push_name(sheet, lane, &Label::Name(bar.name), canvas)?;
+        push_bar(sheet, sheet.height_of(lane), bar, canvas)?;
+    }
+    push_waits(history, sheet, canvas)
+}
+
+fn push_bar(sheet: &Sheet, middle: u64, bar: &Bar, canvas: &mut Canvas) -> Result<(), Refusal> {
+    let left = sheet.middle(bar.made);
+    let right = bar.closed.map_or(sheet.end, |column| sheet.middle(column));
+    let y = middle.saturating_sub(HALF_BAR);
+    let settled = match bar.settled {
+        Some(settled) => sheet.middle(settled.column),
+        None => right,
+    };
+    push_part(Fill::Pending, left, settled, y, canvas)?;
+    if let Some(settled_as) = bar.settled {
+        push_part(fill_of(settled_as.status), settled, right, y, canvas)?;
+    }
+    let open = bar.settled.is_none() && bar.closed.is_none();
+    let width = right.saturating_sub(left);
+    canvas.edge(&Spot { x: left, y }, width, HALF_BAR * 2, open)?;
+    push_bar_end(bar, right, middle, open, canvas)
+}
+
+fn push_part(
+    fill: Fill,
+    left: u64,
+    right: u64,
+    y: u64,
+    canvas: &mut Canvas,
+) -> Result<(), Refusal> {
+    if left >= right {
+        return Ok(());
+    }
+    let width = right.saturating_sub(left);
+    canvas.area(fill, &Spot { x: left, y }, width, HALF_BAR * 2)
+}
+
+fn fill_of(status: Status) -> Fill {
+    match status {
+        Status::Active => Fill::Pending,
+        Status::Signalled => Fill::Signalled,
+        Status::Cancelled => Fill::Cancelled,
+    }
+}
+
+fn push_bar_end(
+    bar: &Bar,
+    right: u64,
+    middle: u64,
+    open: bool,
+    canvas: &mut Canvas,
+) -> Result<(), Refusal> {
+    if open {
+        return canvas.mark(Mark::GoesOn, right, middle);
+    }
+    if bar.closed.is_some() {
+        return canvas.mark(Mark::Closed, right, middle);
+    }
+    Ok(())
+}
+
+/// What bars wait for, a line of text each, right of the columns.
+fn push_waits(history: &History, sheet: &Sheet, canvas: &mut Canvas) -> Result<(), Refusal> {
+    let x = sheet.end.saturating_add(PAD * 2);
+    let mut bar = usize::MAX;
+    let mut y: u64 = 0;
+    for wait in &history.waits {
+        y = if wait.bar == bar {
+            y.saturating_add(LINE)
+        } else {
+            sheet.height_of(Lane::Bar(wait.bar)).saturating_add(FOOT)
+        };
+        bar = wait.bar;
+        canvas.text(Face::Name, x, y, &Label::Waiting(wait.waiting))?;
+    }
+    Ok(())
+}
+
+pub(crate) fn push_buffers(
+    history: &History,
+    sheet: &Sheet,
+    canvas: &mut Canvas,
+) -> Result<(), Refusal> {
+    for (place, lane) in history.lanes.buffers.iter().enumerate() {
+        push_buffer(sheet, Lane::Buffer(place), lane, canvas)?;
+    }
+    for mark in &history.lanes.marks {
+        push_access(sheet, mark, canvas)?;
+    }
+    Ok(())
+}
+
+fn push_buffer(
+    sheet: &Sheet,
+    here: Lane,
+    lane: &BufferLane,
+    canvas: &mut Canvas,
+) -> Result<(), Refusal> {
+    push_name(sheet, here, &Label::Name(lane.name), canvas)?;
+    let left = sheet.middle(lane.made);
+    let y = sheet.height_of(here);
+    push_level(Stroke::Lane, left, sheet.end, y, canvas)
+}
+
+fn push_access(sheet: &Sheet, access: &BufferMark, canvas: &mut Canvas) -> Result<(), Refusal> {
+    let x = sheet.middle(access.column);
+    let y = sheet.height_of(Lane::Buffer(access.buffer));
+    canvas.mark(mark_of(access.access), x, y)?;
+    let letter = Label::Access(access.access);
+    canvas.text(Face::Letter, x, y.saturating_add(FOOT), &letter)
+}
+
+fn mark_of(access: Access) -> Mark {
+    match access {
+        Access::Add(_) => Mark::Add,
+        Access::Import(_) => Mark::Import,
+        Access::Export(_) => Mark::Export,
+        Access::Trim => Mark::Trim,
+    }
+}
+
+pub(crate) fn push_watches(
+    history: &History,
+    sheet: &Sheet,
+    canvas: &mut Canvas,
+) -> Result<(), Refusal> {
+    for (place, lane) in history.lanes.watches.iter().enumerate() {
+        push_watch(sheet, Lane::Watch(place), lane, canvas)?;
+    }
+    Ok(())
+}
+
+fn push_watch(
+    sheet: &Sheet,
+    here: Lane,
+    lane: &WatchLane,
+    canvas: &mut Canvas,
+) -> Result<(), Refusal> {
+    push_name(sheet, here, &Label::Watch(lane.cookie), canvas)?;
+    let left = sheet.middle(lane.made);
+    let y = sheet.height_of(here);
+    let (right, end) = match lane.end {
+        WatchEnd::Pending => (sheet.end, Mark::GoesOn),
+        WatchEnd::Fired(column) => (sheet.middle(column), Mark::Fired),
+        WatchEnd::Removed(column) => (sheet.middle(column), Mark::Removed),
+    };
+    push_level(Stroke::Watch, left, right, y, canvas)?;
+    if lane.made > 0 {
+        canvas.mark(Mark::Registered, left, y)?;
+    }
+    canvas.mark(end, right, y)
+}

@@ -1,0 +1,40 @@
+//! Pictures and graphs of a script's run: its history by columns and lanes, the shapes of a picture of it, a graph of what
+//! waits for what, and writers of SVG and DOT.
+#![tactic(auto)]
+
+mod bar;
+mod dot;
+mod entering;
+mod escape;
+mod graph;
+mod history;
+mod lanes;
+pub mod laws;
+mod legend;
+mod links;
+mod list;
+mod measure;
+mod part;
+mod picture;
+mod shapes;
+mod sheet;
+mod style;
+mod svg;
+mod waiting;
+mod word;
+
+pub use bar::{Bar, Settled};
+pub use dot::dot_text;
+pub use escape::push_escaped;
+pub use graph::{Edge, Graph, Node, Waiter};
+pub use history::{
+    Access, BarWait, BufferLane, BufferMark, Column, History, Lane, Lanes, Link, TimelineLane,
+    ValueStep, WatchEnd, WatchLane,
+};
+pub use picture::picture_of;
+pub use shapes::{
+    ColumnArea, Face, Fill, Heading, Label, Mark, Meaning, Picture, Shape, Spot, Stroke, Text,
+};
+pub use svg::svg_text;
+pub use waiting::Waiting;
+pub use word::word_of;

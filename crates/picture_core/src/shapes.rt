@@ -1,0 +1,267 @@
+// The shapes that a picture is made of.
+
+use crate::history::Access;
+use crate::list::push;
+use crate::waiting::Waiting;
+use point_core::{Name, Refusal};
+use std::alloc::Global;
+
+/// A place, in pixels from the left and from the top.
+#[derive(Clone, Copy)]
+pub struct Spot {
+    pub x: u64,
+    pub y: u64,
+}
+
+/// What an area is filled with.
+#[derive(Clone, Copy)]
+pub enum Fill {
+    /// Nothing: the page.
+    Page,
+    /// Every other lane.
+    Stripe,
+    /// The column of a refused line.
+    Refused,
+    Pending,
+    Signalled,
+    Cancelled,
+}
+
+/// How a line is drawn.
+#[derive(Clone, Copy)]
+pub enum Stroke {
+    /// The lane of a buffer.
+    Lane,
+    /// The value of a timeline.
+    Value,
+    /// The value of a timeline that is closed.
+    Closed,
+    Link,
+    Watch,
+}
+
+/// A sign of fixed size.
+#[derive(Clone, Copy)]
+pub enum Mark {
+    Add,
+    Import,
+    Export,
+    Trim,
+    Registered,
+    Fired,
+    Removed,
+    Refused,
+    /// A timeline is closed.
+    Shut,
+    /// A file is closed.
+    Closed,
+    /// Nothing closed it: it goes on.
+    GoesOn,
+    /// Where a link begins.
+    From,
+    /// Where a link ends, from above.
+    Down,
+    /// Where a link ends, from below.
+    Up,
+}
+
+/// How a text stands at its place, and how it looks.
+#[derive(Clone, Copy)]
+pub enum Face {
+    /// It begins there.
+    Name,
+    Heading,
+    /// Its middle is there.
+    Number,
+    Word,
+    RefusedWord,
+    /// A letter or two within a mark.
+    Letter,
+}
+
+/// What stands over the lanes of a kind.
+#[derive(Clone, Copy)]
+pub enum Heading {
+    Timelines,
+    Files,
+    Buffers,
+    Watches,
+}
+
+/// What the legend explains.
+#[derive(Clone, Copy)]
+pub enum Meaning {
+    Pending,
+    Signalled,
+    Cancelled,
+    Closed,
+    Refused,
+    Add,
+    Import,
+    Export,
+    Letters,
+    Registered,
+    Fired,
+    Removed,
+}
+
+/// A text.
+#[derive(Clone, Copy)]
+pub enum Label {
+    /// The word of the command of a column, by its place in the history, from 0.
+    Command(usize),
+    Heading(Heading),
+    Access(Access),
+    Meaning(Meaning),
+    Name(Name),
+    Number(u64),
+    /// A watch, by its cookie.
+    Watch(u64),
+    /// What is waited for, as `gpu 5: 3 to go`.
+    Waiting(Waiting),
+}
+
+/// A text at its place.
+#[derive(Clone, Copy)]
+pub struct Text {
+    pub face: Face,
+    pub at: Spot,
+    pub label: Label,
+}
+
+/// A shape. Later ones lie over earlier ones.
+#[derive(Clone, Copy)]
+pub enum Shape {
+    Area {
+        fill: Fill,
+        at: Spot,
+        width: u64,
+        height: u64,
+    },
+    /// The edge of a bar. An open one has no right side.
+    Edge {
+        at: Spot,
+        width: u64,
+        height: u64,
+        open: bool,
+    },
+    Line {
+        stroke: Stroke,
+        from: Spot,
+        to: Spot,
+    },
+    Mark {
+        mark: Mark,
+        at: Spot,
+    },
+}
+
+/// Shapes that are put one over another, and texts over them. Each call fails with `Memory` alone.
+#[derive(Drop)]
+pub(crate) struct Canvas {
+    pub(crate) shapes: Vec<Shape>,
+    pub(crate) texts: Vec<Text>,
+}
+
+impl Canvas {
+    pub(crate) fn new(alloc: Global) -> Canvas {
+        Canvas {
+            shapes: Vec::new(alloc),
+            texts: Vec::new(alloc),
+        }
+    }
+
+    pub(crate) fn area(
+        &mut self,
+        fill: Fill,
+        at: &Spot,
+        width: u64,
+        height: u64,
+    ) -> Result<(), Refusal> {
+        push(
+            &mut self.shapes,
+            Shape::Area {
+                fill,
+                at: *at,
+                width,
+                height,
+            },
+        )
+    }
+
+    pub(crate) fn edge(
+        &mut self,
+        at: &Spot,
+        width: u64,
+        height: u64,
+        open: bool,
+    ) -> Result<(), Refusal> {
+        push(
+            &mut self.shapes,
+            Shape::Edge {
+                at: *at,
+                width,
+                height,
+                open,
+            },
+        )
+    }
+
+    pub(crate) fn line(&mut self, stroke: Stroke, from: &Spot, to: &Spot) -> Result<(), Refusal> {
+        push(
+            &mut self.shapes,
+            Shape::Line {
+                stroke,
+                from: *from,
+                to: *to,
+            },
+        )
+    }
+
+    pub(crate) fn mark(&mut self, mark: Mark, x: u64, y: u64) -> Result<(), Refusal> {
+        push(
+            &mut self.shapes,
+            Shape::Mark {
+                mark,
+                at: Spot { x, y },
+            },
+        )
+    }
+
+    pub(crate) fn text(
+        &mut self,
+        face: Face,
+        x: u64,
+        y: u64,
+        label: &Label,
+    ) -> Result<(), Refusal> {
+        push(
+            &mut self.texts,
+            Text {
+                face,
+                at: Spot { x, y },
+                label: *label,
+            },
+        )
+    }
+}
+
+/// The area of a column, over which its note shows.
+#[derive(Clone, Copy)]
+pub struct ColumnArea {
+    /// The place of the column in the history, from 0.
+    pub column: usize,
+    pub x: u64,
+    pub width: u64,
+}
+
+/// A picture of a history.
+#[derive(Drop)]
+pub struct Picture {
+    pub width: u64,
+    pub height: u64,
+    pub shapes: Vec<Shape>,
+    /// They lie over the shapes.
+    pub texts: Vec<Text>,
+    pub columns: Vec<ColumnArea>,
+}

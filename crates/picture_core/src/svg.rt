@@ -1,0 +1,306 @@
+// SVG.
+
+use crate::history::{Column, History};
+use crate::measure::{digits, name_length, text_width, waiting_length};
+use crate::part::{Part, push_parts};
+use crate::shapes::{ColumnArea, Face, Fill, Label, Mark, Picture, Shape, Spot, Stroke, Text};
+use crate::style::style;
+use crate::waiting::Waiting;
+use crate::word::{letter_of, word_of_heading, words_of};
+use point_core::{Name, Refusal};
+use std::alloc::Global;
+
+/// The picture of a history as a document of SVG, which stands alone.
+///
+/// Fails with `Memory` alone.
+pub fn svg_text(alloc: Global, picture: &Picture, history: &History) -> Result<Vec<u8>, Refusal> {
+    let mut out = Vec::new(alloc);
+    push_document(picture, history, &mut out)?;
+    Ok(out)
+}
+
+fn push_document(picture: &Picture, history: &History, out: &mut Vec<u8>) -> Result<(), Refusal> {
+    push_start(picture, out)?;
+    for shape in &picture.shapes {
+        push_shape(shape, out)?;
+    }
+    for text in &picture.texts {
+        push_text(history, text, out)?;
+    }
+    for area in &picture.columns {
+        if let Some(column) = history.columns.get(area.column) {
+            push_note(picture, area, column, out)?;
+        }
+    }
+    push_parts(&[Part::Own("</svg>\n")], out)
+}
+
+fn push_start(picture: &Picture, out: &mut Vec<u8>) -> Result<(), Refusal> {
+    let parts = [
+        Part::Own("<svg xmlns=\"http://www.w3.org/2000/svg\" width=\""),
+        Part::Number(picture.width),
+        Part::Own("\" height=\""),
+        Part::Number(picture.height),
+        Part::Own("\" viewBox=\"0 0 "),
+        Part::Number(picture.width),
+        Part::Own(" "),
+        Part::Number(picture.height),
+        Part::Own("\">\n"),
+    ];
+    push_parts(&parts, out)?;
+    push_parts(&[Part::Own(style())], out)
+}
+
+/// The area of a column, over which its note shows.
+fn push_note(
+    picture: &Picture,
+    area: &ColumnArea,
+    column: &Column,
+    out: &mut Vec<u8>,
+) -> Result<(), Refusal> {
+    let parts = [
+        Part::Own("<rect class=\"over\" x=\""),
+        Part::Number(area.x),
+        Part::Own("\" y=\"0\" width=\""),
+        Part::Number(area.width),
+        Part::Own("\" height=\""),
+        Part::Number(picture.height),
+        Part::Own("\"><title>"),
+    ];
+    push_parts(&parts, out)?;
+    push_lines(column.note.as_slice(), out)?;
+    push_parts(&[Part::Own("</title></rect>\n")], out)
+}
+
+/// A text whose line feeds are line feeds.
+fn push_lines(text: &[u8], out: &mut Vec<u8>) -> Result<(), Refusal> {
+    for line in text.split_inclusive(|byte| *byte == b'\n') {
+        match line.strip_suffix(b"\n") {
+            Some(line) => push_parts(&[Part::Text(line), Part::Own("\n")], out)?,
+            None => push_parts(&[Part::Text(line)], out)?,
+        }
+    }
+    Ok(())
+}
+
+fn push_shape(shape: &Shape, out: &mut Vec<u8>) -> Result<(), Refusal> {
+    match shape {
+        Shape::Area {
+            fill,
+            at,
+            width,
+            height,
+        } => push_area(*fill, at, *width, *height, out),
+        Shape::Edge {
+            at,
+            width,
+            height,
+            open,
+        } => push_edge(at, *width, *height, *open, out),
+        Shape::Line { stroke, from, to } => push_line(*stroke, from, to, out),
+        Shape::Mark { mark, at } => push_mark(*mark, at, out),
+    }
+}
+
+fn push_area(
+    fill: Fill,
+    at: &Spot,
+    width: u64,
+    height: u64,
+    out: &mut Vec<u8>,
+) -> Result<(), Refusal> {
+    let parts = [
+        Part::Own("<rect "),
+        Part::Own(fill_words(fill)),
+        Part::Own(" x=\""),
+        Part::Number(at.x),
+        Part::Own("\" y=\""),
+        Part::Number(at.y),
+        Part::Own("\" width=\""),
+        Part::Number(width),
+        Part::Own("\" height=\""),
+        Part::Number(height),
+        Part::Own("\"/>\n"),
+    ];
+    push_parts(&parts, out)
+}
+
+fn fill_words(fill: Fill) -> &'static str {
+    match fill {
+        Fill::Page => "class=\"page\"",
+        Fill::Stripe => "class=\"stripe\"",
+        Fill::Refused => "class=\"refused\"",
+        Fill::Pending => "fill=\"url(#pending)\"",
+        Fill::Signalled => "class=\"sa\"",
+        Fill::Cancelled => "fill=\"url(#cancelled)\"",
+    }
+}
+
+/// From the right end round the left one, and back where it is not open.
+fn push_edge(
+    at: &Spot,
+    width: u64,
+    height: u64,
+    open: bool,
+    out: &mut Vec<u8>,
+) -> Result<(), Refusal> {
+    let parts = [
+        Part::Own("<path class=\"edge\" d=\"M"),
+        Part::Number(at.x.saturating_add(width)),
+        Part::Own(" "),
+        Part::Number(at.y),
+        Part::Own("h-"),
+        Part::Number(width),
+        Part::Own("v"),
+        Part::Number(height),
+        Part::Own("h"),
+        Part::Number(width),
+        Part::Own(if open { "\"/>\n" } else { "z\"/>\n" }),
+    ];
+    push_parts(&parts, out)
+}
+
+fn push_line(stroke: Stroke, from: &Spot, to: &Spot, out: &mut Vec<u8>) -> Result<(), Refusal> {
+    let parts = [
+        Part::Own("<path class=\""),
+        Part::Own(stroke_word(stroke)),
+        Part::Own("\" d=\"M"),
+        Part::Number(from.x),
+        Part::Own(" "),
+        Part::Number(from.y),
+        Part::Own("L"),
+        Part::Number(to.x),
+        Part::Own(" "),
+        Part::Number(to.y),
+        Part::Own("\"/>\n"),
+    ];
+    push_parts(&parts, out)
+}
+
+fn stroke_word(stroke: Stroke) -> &'static str {
+    match stroke {
+        Stroke::Lane => "lane",
+        Stroke::Value => "value",
+        Stroke::Closed => "gone",
+        Stroke::Link => "link",
+        Stroke::Watch => "watch",
+    }
+}
+
+fn push_mark(mark: Mark, at: &Spot, out: &mut Vec<u8>) -> Result<(), Refusal> {
+    let (class, path) = path_of(mark);
+    let parts = [
+        Part::Own("<path class=\""),
+        Part::Own(class),
+        Part::Own("\" d=\"M"),
+        Part::Number(at.x),
+        Part::Own(" "),
+        Part::Number(at.y),
+        Part::Own(path),
+        Part::Own("\"/>\n"),
+    ];
+    push_parts(&parts, out)
+}
+
+/// How a mark looks, and its path from its middle.
+fn path_of(mark: Mark) -> (&'static str, &'static str) {
+    match mark {
+        Mark::Add => ("sign", "m-9 0a9 9 0 1 0 18 0a9 9 0 1 0-18 0z"),
+        Mark::Import => ("sign", "m-11-9h22v18h-22z"),
+        Mark::Export => ("sign", "m0-12l15 12l-15 12l-15-12z"),
+        Mark::Trim => ("sign", "m-5-9h10l5 9l-5 9h-10l-5-9z"),
+        Mark::Registered => ("sign", "m0-6l6 6l-6 6l-6-6z"),
+        Mark::Fired => ("solid", "m0-8l2 6l6 2l-6 2l-2 6l-2-6l-6-2l6-2z"),
+        Mark::Removed => ("open", "m-5-5l10 10m0-10l-10 10"),
+        Mark::Refused => ("cross", "m-5-5l10 10m0-10l-10 10"),
+        Mark::Shut => ("open", "m0-6v12"),
+        Mark::Closed => ("open", "m0-9v18"),
+        Mark::GoesOn => ("open", "m-1-7l6 7l-6 7"),
+        Mark::From => ("solid", "m-3 0a3 3 0 1 0 6 0a3 3 0 1 0-6 0z"),
+        Mark::Down => ("solid", "l-4-7h8z"),
+        Mark::Up => ("solid", "l-4 7h8z"),
+    }
+}
+
+fn push_text(history: &History, text: &Text, out: &mut Vec<u8>) -> Result<(), Refusal> {
+    let parts = [
+        Part::Own("<text "),
+        Part::Own(face_words(text.face)),
+        Part::Own(" x=\""),
+        Part::Number(text.at.x),
+        Part::Own("\" y=\""),
+        Part::Number(text.at.y),
+        Part::Own("\" textLength=\""),
+        Part::Number(text_width(length_of(history, &text.label))),
+        Part::Own("\" lengthAdjust=\"spacingAndGlyphs\">"),
+    ];
+    push_parts(&parts, out)?;
+    push_label(history, &text.label, out)?;
+    push_parts(&[Part::Own("</text>\n")], out)
+}
+
+fn face_words(face: Face) -> &'static str {
+    match face {
+        Face::Name => "",
+        Face::Heading => "class=\"h\"",
+        Face::Number => "class=\"n\"",
+        Face::Word => "class=\"w\"",
+        Face::RefusedWord => "class=\"rw\"",
+        Face::Letter => "class=\"l\"",
+    }
+}
+
+/// How many characters a label has.
+fn length_of(history: &History, label: &Label) -> u64 {
+    match label {
+        Label::Command(place) => command_word(history, *place).len() as u64,
+        Label::Heading(heading) => word_of_heading(*heading).len() as u64,
+        Label::Access(access) => letter_of(*access).len() as u64,
+        Label::Meaning(meaning) => words_of(*meaning).len() as u64,
+        Label::Name(name) => name_length(name),
+        Label::Number(number) => digits(*number),
+        Label::Watch(cookie) => digits(*cookie).saturating_add(6),
+        Label::Waiting(waiting) => waiting_length(waiting),
+    }
+}
+
+fn push_label(history: &History, label: &Label, out: &mut Vec<u8>) -> Result<(), Refusal> {
+    match label {
+        Label::Command(place) => push_word(command_word(history, *place), out),
+        Label::Heading(heading) => push_word(word_of_heading(*heading), out),
+        Label::Access(access) => push_word(letter_of(*access), out),
+        Label::Meaning(meaning) => push_word(words_of(*meaning), out),
+        Label::Name(name) => push_name(name, out),
+        Label::Number(number) => push_parts(&[Part::Number(*number)], out),
+        Label::Watch(cookie) => push_parts(&[Part::Own("watch "), Part::Number(*cookie)], out),
+        Label::Waiting(waiting) => push_waiting(waiting, out),
+    }
+}
+
+fn command_word(history: &History, place: usize) -> &'static str {
+    match history.columns.get(place) {
+        Some(column) => column.word,
+        None => "",
+    }
+}
+
+fn push_word(word: &'static str, out: &mut Vec<u8>) -> Result<(), Refusal> {
+    push_parts(&[Part::Own(word)], out)
+}
+
+fn push_name(name: &Name, out: &mut Vec<u8>) -> Result<(), Refusal> {
+    push_parts(&[Part::Text(name.as_bytes())], out)
+}
+
+/// As `gpu 5: 3 to go`.
+fn push_waiting(waiting: &Waiting, out: &mut Vec<u8>) -> Result<(), Refusal> {
+    let parts = [
+        Part::Text(waiting.timeline.as_bytes()),
+        Part::Own(" "),
+        Part::Number(waiting.point),
+        Part::Own(": "),
+        Part::Number(waiting.to_go),
+        Part::Own(" to go"),
+    ];
+    push_parts(&parts, out)
+}
