@@ -1,5 +1,5 @@
 -- Tokens that are written one after another.
-use Rattle.std.proofs.Common.{◌≡◌, List, ◌++◌, ap, sym, ◌∙◌, append_assoc}
+use Rattle.std.proofs.Common.{List, ◌++◌, ap, ◌∙◌, append_assoc}
 use Rattle.json.specs.Token.{Token}
 use Rattle.json.specs.Written.{Written}
 use Rattle.json_core.specs.Part.{Adds}

@@ -1,2 +1,4 @@
 mod Adding
 mod Names
+mod Prefixes
+mod Writing

@@ -1,3 +1,4 @@
 pub mod Json
 pub mod Part
 pub mod Telling
+pub mod Written

@@ -1,9 +1,11 @@
 // A script from a reader, and the objects of its answers to a writer.
-ghost use Rattle.std.specs.Prelude.{◌≡◌, ◌+◌, ◌≤◌, ◌⊎◌, List, ℕ, take, IfErr, IfOk, IfSome};
+ghost use Rattle.std.specs.Prelude.{◌≡◌, ◌+◌, ◌⊎◌, List, ℕ, [], take, Err, IfErr, IfOk, IfSome, OnErr};
 ghost use Rattle.std.specs.Io.KnownBytes.{Consumes};
 ghost use Rattle.point_core.specs.declared.refusal.Refusal.TheVariants.{Read as ReadFault, Write as WriteFault, Memory};
-ghost use Rattle.line_core.specs.Reading.{ConsumesAtMost, WasRead};
+ghost use Rattle.line_core.specs.Reading.{ConsumesAtMost, IsInput, WasRead};
+ghost use Rattle.line_core.specs.Script.{lines_of, lines_until, script_of};
 ghost use Rattle.line_core.specs.declared.script.TheConstants.{SCRIPT_BYTES};
+ghost use Rattle.json_core.specs.Written.{HasBegun, HasWritten, WritesEndedObjects, WritesObjects, WritesScriptPrefix};
 
 use crate::objects::Objects;
 use line_core::{Ending, ScriptLines, body_of, last_body};
@@ -18,18 +20,33 @@ use std::io::{Read, Write};
 /// Its memory does not grow with the script: of the lines it keeps what the desk holds, and of an answer its text.
 ///
 /// Fails with `Read` where a read failed: then the lines whose line feed was read are answered. Fails with `Write` where a write
-/// failed or took no byte, or the flush failed, and with `Memory` where a growth was refused.
+/// failed or took no byte, or the flush failed, and with `Memory` where a growth was refused: then a prefix of the objects is
+/// written.
 pub fn run_json<R: Read, W: Write>(
     alloc: Global,
     reader: &mut R,
     writer: &mut W,
 ) -> Result<Totals, Refusal>
+    // The objects of the answers of all lines were written, in order, and nothing else.
+    ensures ok { IfOk result (λ totals. (script : List ℕ) × IsInput (R.remaining reader.old) script
+        × WritesObjects (lines_of (take SCRIPT_BYTES script)) (script_of script) totals
+        (W.contents writer.old) (W.contents writer.new)) }
+
     // What is read is the script, up to the byte past its limit.
     ensures reads { IfOk result (λ _. IfSome (R.remaining reader.old) (λ input.
         Consumes (R.remaining reader.old) (R.remaining reader.new) (take (SCRIPT_BYTES + 1) input))) }
 
     // Whatever the result, no byte is read past that one.
     ensures within { ConsumesAtMost (SCRIPT_BYTES + 1) (R.remaining reader.old) (R.remaining reader.new) }
+
+    // Those of the lines whose line feed was read.
+    ensures read { result ≡ Err ReadFault
+        → WritesEndedObjects (R.remaining reader.old) (R.remaining reader.new)
+        (W.contents writer.old) (W.contents writer.new) }
+
+    // Whatever the failure, a prefix of the objects of all answers was written, and nothing else.
+    ensures err { OnErr result (WritesScriptPrefix (R.remaining reader.old)
+        (W.contents writer.old) (W.contents writer.new)) }
     ensures refusals { IfErr result (λ refusal.
         (refusal ≡ ReadFault) ⊎ (refusal ≡ WriteFault) ⊎ (refusal ≡ Memory)) }
 {
@@ -42,10 +59,19 @@ fn answer_script<R: Read, W: Write>(
     objects: &mut Objects,
     writer: &mut W,
 ) -> Result<Totals, Refusal>
-    requires fresh { objects.old.totals.lines ≤ 0 }
+    requires fresh { HasWritten [] [] objects.old.desk objects.old.out.items objects.old.totals
+        (W.contents writer.old) (W.contents writer.old) }
+    ensures ok { IfOk result (λ totals. (script : List ℕ) × IsInput (R.remaining reader.old) script
+        × WritesObjects (lines_of (take SCRIPT_BYTES script)) (script_of script) totals
+        (W.contents writer.old) (W.contents writer.new)) }
     ensures reads { IfOk result (λ _. IfSome (R.remaining reader.old) (λ input.
         Consumes (R.remaining reader.old) (R.remaining reader.new) (take (SCRIPT_BYTES + 1) input))) }
     ensures within { ConsumesAtMost (SCRIPT_BYTES + 1) (R.remaining reader.old) (R.remaining reader.new) }
+    ensures read { result ≡ Err ReadFault
+        → WritesEndedObjects (R.remaining reader.old) (R.remaining reader.new)
+        (W.contents writer.old) (W.contents writer.new) }
+    ensures err { OnErr result (WritesScriptPrefix (R.remaining reader.old)
+        (W.contents writer.old) (W.contents writer.new)) }
     ensures refusals { IfErr result (λ refusal.
         (refusal ≡ ReadFault) ⊎ (refusal ≡ WriteFault) ⊎ (refusal ≡ Memory)) }
 {
@@ -63,9 +89,17 @@ fn answer_lines<R: Read, W: Write>(
     objects: &mut Objects,
     writer: &mut W,
 ) -> Result<Ending, Refusal>
-    requires fresh { objects.old.totals.lines ≤ 0 }
-    ensures ok { IfOk result (λ ending. (bytes : List ℕ) × WasRead (R.remaining reader.old) (R.remaining reader.new) bytes ending) }
+    requires fresh { HasWritten [] [] objects.old.desk objects.old.out.items objects.old.totals
+        (W.contents writer.old) (W.contents writer.old) }
+    ensures ok { IfOk result (λ ending. (bytes : List ℕ)
+        × WasRead (R.remaining reader.old) (R.remaining reader.new) bytes ending
+        × HasWritten (lines_of (take SCRIPT_BYTES bytes)) (lines_until ending (take SCRIPT_BYTES bytes))
+        objects.new.desk objects.new.out.items objects.new.totals (W.contents writer.old) (W.contents writer.new)) }
+    ensures begun { IfOk result (λ _. HasBegun (R.remaining reader.old)
+        objects.new.desk objects.new.out.items objects.new.totals (W.contents writer.old) (W.contents writer.new)) }
     ensures within { ConsumesAtMost (SCRIPT_BYTES + 1) (R.remaining reader.old) (R.remaining reader.new) }
+    ensures err { OnErr result (WritesScriptPrefix (R.remaining reader.old)
+        (W.contents writer.old) (W.contents writer.new)) }
     ensures refusals { IfErr result (λ refusal. (refusal ≡ WriteFault) ⊎ (refusal ≡ Memory)) }
 {
     let mut lines = ScriptLines::new();

@@ -1,12 +1,17 @@
 // The objects of answers, on their way to a writer.
-ghost use Rattle.std.specs.Prelude.{◌≡◌, ◌+◌, ◌<◌, ◌≤◌, ◌⊎◌, [], IfErr, IfOk, MatchOption, OnOk};
+ghost use Rattle.std.specs.Prelude.{◌≡◌, ◌+◌, ◌<◌, ◌≤◌, ◌⊎◌, ◌∷◌, ◌++◌, [], List, ℕ, Option, None, length, IfErr, IfOk};
+ghost use Rattle.std.specs.Prelude.{MatchOption, OnErr, OnOk};
 ghost use Rattle.std.specs.Io.KnownBytes.{Appends};
 ghost use Rattle.std.specs.Str.Lossy.{utf8_lossy};
 ghost use Rattle.desk_core.specs.Desk.{HasHistory};
-ghost use Rattle.script_core.specs.Bytes.{PassesOn};
+ghost use Rattle.line_core.specs.declared.line.Line.{Line as LineModel};
+ghost use Rattle.line_core.specs.Cutting.{cut};
+ghost use Rattle.line_core.specs.Script.{answered};
+ghost use Rattle.script_core.specs.Bytes.{AppendsFront, PassesOn};
 ghost use Rattle.json_core.specs.Json.{line_text};
 ghost use Rattle.point_core.specs.declared.refusal.Refusal.TheVariants.{Write as WriteFault, Memory};
-ghost use Rattle.json_core.specs.Telling.{TellsLine};
+ghost use Rattle.json_core.specs.Telling.{TellsLine, TellsPrefix};
+ghost use Rattle.json_core.specs.Written.{HasWritten};
 
 use crate::members::push_line;
 use desk_core::{Answer, Desk};
@@ -32,7 +37,8 @@ impl Objects {
     ///
     /// Fails with `Memory` alone.
     pub(crate) fn new(alloc: Global) -> Result<Objects, Refusal>
-        ensures none { IfOk result (λ objects. (HasHistory objects.desk []) × (objects.totals.lines ≤ 0)) }
+        ensures none { IfOk result (λ objects. (contents : Option (List ℕ)) →
+            HasWritten [] [] objects.desk objects.out.items objects.totals contents contents) }
         ensures refusals { IfErr result (λ refusal. refusal ≡ Memory) }
     {
         Ok(Objects {
@@ -54,9 +60,17 @@ impl Objects {
         writer: &mut W,
     ) -> Result<(), Refusal>
         requires few { self.old.totals.lines < number }
-        ensures told { OnOk result (MatchOption body (self.new ≡ self.old) (λ said.
-            TellsLine number line.now said self.old.desk self.new.desk self.old.out.items self.new.out.items
-            (W.contents writer.old) (W.contents writer.new))) }
+        ensures written { OnOk result ((lines : List (List ℕ)) → (text : List ℕ) → (said : List LineModel)
+            → (start : Option (List ℕ)) → number ≡ length lines + 1 → line.now ≡ cut text
+            → HasWritten lines said self.old.desk self.old.out.items self.old.totals start (W.contents writer.old)
+            → HasWritten (lines ++ text ∷ []) (said ++ answered number body [])
+            self.new.desk self.new.out.items self.new.totals start (W.contents writer.new)) }
+
+        // A line without an answer changes nothing, and doesn't fail.
+        ensures none { body ≡ None → (self.new.desk ≡ self.old.desk) × (self.new.out.items ≡ self.old.out.items)
+            × (self.new.totals ≡ self.old.totals) × (W.contents writer.new ≡ W.contents writer.old) }
+        ensures err { OnErr result (MatchOption body ⊥ (λ said. TellsPrefix number line.now said
+            self.old.desk self.old.out.items (W.contents writer.old) (W.contents writer.new))) }
         ensures lines { self.new.totals.lines ≤ self.old.totals.lines + 1 }
         ensures refusals { IfErr result (λ refusal. (refusal ≡ WriteFault) ⊎ (refusal ≡ Memory)) }
     {
@@ -75,7 +89,10 @@ impl Objects {
     ) -> Result<(), Refusal>
         requires few { self.old.totals.lines < number }
         ensures told { OnOk result (TellsLine number line.now body self.old.desk self.new.desk
-            self.old.out.items self.new.out.items (W.contents writer.old) (W.contents writer.new)) }
+            self.old.out.items self.new.out.items self.old.totals self.new.totals
+            (W.contents writer.old) (W.contents writer.new)) }
+        ensures err { OnErr result (TellsPrefix number line.now body
+            self.old.desk self.old.out.items (W.contents writer.old) (W.contents writer.new)) }
         ensures lines { self.new.totals.lines ≤ self.old.totals.lines + 1 }
         ensures refusals { IfErr result (λ refusal. (refusal ≡ WriteFault) ⊎ (refusal ≡ Memory)) }
     {
@@ -90,6 +107,7 @@ impl Objects {
     pub(crate) fn write<W: Write>(&mut self, writer: &mut W) -> Result<(), Refusal>
         ensures ok { OnOk result (Appends (W.contents writer.old) (W.contents writer.new) self.old.out.items) }
         ensures none { OnOk result (self.new.out.items ≡ []) }
+        ensures err { OnErr result (AppendsFront (W.contents writer.old) (W.contents writer.new) self.old.out.items) }
         ensures desk { self.new.desk ≡ self.old.desk }
         ensures lines { self.new.totals ≡ self.old.totals }
         ensures refusals { IfErr result (λ refusal. refusal ≡ WriteFault) }
@@ -103,6 +121,7 @@ impl Objects {
     pub(crate) fn finish<W: Write>(&mut self, writer: &mut W) -> Result<Totals, Refusal>
         ensures totals { IfOk result (λ totals. totals ≡ self.old.totals) }
         ensures ok { OnOk result (Appends (W.contents writer.old) (W.contents writer.new) self.old.out.items) }
+        ensures err { OnErr result (AppendsFront (W.contents writer.old) (W.contents writer.new) self.old.out.items) }
         ensures refusals { IfErr result (λ refusal. refusal ≡ WriteFault) }
     {
         self.write(writer)?;
@@ -124,6 +143,8 @@ fn pass_line<W: Write>(
 ) -> Result<(), Refusal>
     ensures ok { OnOk result (PassesOn out.old.items out.new.items
         (line_text number (utf8_lossy line.now) answer.now) (W.contents writer.old) (W.contents writer.new)) }
+    ensures err { OnErr result (AppendsFront (W.contents writer.old) (W.contents writer.new)
+        (out.old.items ++ line_text number (utf8_lossy line.now) answer.now)) }
     ensures refusals { IfErr result (λ refusal. (refusal ≡ WriteFault) ⊎ (refusal ≡ Memory)) }
 {
     let waiting = mem::replace(out, Vec::new(alloc));

@@ -1,0 +1,88 @@
+-- What is written for a script: the objects of its lines' answers, in order, and nothing else.
+use Rattle.std.specs.Prelude.{◌≡◌, ◌≤◌, ◌-◌, ℕ, List, [], ◌∷◌, ◌++◌, length, get_or, Option, take}
+use Rattle.std.specs.Io.KnownBytes.{Appends, Consumes}
+use Rattle.std.specs.Str.Lossy.{utf8_lossy}
+use Rattle.command_core.specs.declared.answer.Answer.{Answer}
+use Rattle.desk_core.specs.Desk.{DeskState, HasHistory}
+use Rattle.line_core.specs.declared.line.Line.{Line}
+use Rattle.line_core.specs.declared.script.Ending.TheVariants as ending
+use Rattle.line_core.specs.declared.script.TheConstants.{SCRIPT_BYTES}
+use Rattle.line_core.specs.Cutting.{cut}
+use Rattle.line_core.specs.Script.{lines_of, lines_until, script_of}
+use Rattle.script_core.specs.declared.totals.Totals.{Totals}
+use Rattle.script_core.specs.Answering.{history_along}
+use Rattle.script_core.specs.Output.{AreLineAnswers, Counts}
+use Rattle.json_core.specs.Json.{line_text}
+use Rattle.script_core.specs.Bytes.{AppendsFront}
+use Rattle.line_core.specs.Reading.{IsInput}
+
+-- the line of that number as its object shows it: of one that is too long only its first bytes, and U+FFFD for what is
+-- no UTF-8
+abbrev pub shown : List (List ℕ) → ℕ → List ℕ
+shown lines number = utf8_lossy (cut (get_or lines (number - 1) []))
+
+abbrev pub objects_of : List (List ℕ) → List Line → List Answer → List ℕ
+objects_of lines [] given = []
+objects_of lines (l ∷ ls) [] = []
+objects_of lines (l ∷ ls) (a ∷ rest) = line_text l.number (shown lines l.number) a ++ objects_of lines ls rest
+
+-- each of the lines that have an answer has its own, one after another; the objects of these were written, and nothing else
+pub record WritesObjects (lines : List (List ℕ)) (said : List Line) (totals : Totals) (old new : Option (List ℕ)) : Type 0 where
+  pub given : List Answer
+  pub each : AreLineAnswers [] said given
+  pub written : Appends old new (objects_of lines said given)
+  pub counts : Counts totals given
+
+-- A read failed, at most the bytes of a script having been read. The objects of the answers of the lines whose line feed
+-- was read were written, and nothing else.
+pub record WritesEndedObjects (before after old new : Option (List ℕ)) : Type 0 where
+  pub bytes : List ℕ
+  pub consumed : Consumes before after bytes
+  pub few : length bytes ≤ SCRIPT_BYTES
+  pub totals : Totals
+  pub objects : WritesObjects (lines_of bytes) (lines_until ending.Failed bytes) totals old new
+
+-- The lines that come first among those that have an answer have their own, one after another; a prefix of the objects of
+-- these was written, and nothing else.
+pub record WritesPrefix (lines : List (List ℕ)) (said : List Line) (old new : Option (List ℕ)) : Type 0 where
+  pub first : List Line
+  pub rest : List Line
+  pub given : List Answer
+  pub whole : said ≡ first ++ rest
+  pub each : AreLineAnswers [] first given
+  pub written : AppendsFront old new (objects_of lines first given)
+
+-- of the objects of a script's answers a prefix was written, and nothing else
+pub record WritesScriptPrefix (input old new : Option (List ℕ)) : Type 0 where
+  pub script : List ℕ
+  pub is : IsInput input script
+  pub written : WritesPrefix (lines_of (take SCRIPT_BYTES script)) (script_of script) old new
+
+-- a script begins with `lines`, and `said` are those of them that have an answer
+pub record BeginsScript (input : Option (List ℕ)) (lines : List (List ℕ)) (said : List Line) : Type 0 where
+  pub script : List ℕ
+  pub is : IsInput input script
+  pub tail : List (List ℕ)
+  pub split : lines_of (take SCRIPT_BYTES script) ≡ lines ++ tail
+  pub rest : List Line
+  pub first : script_of script ≡ said ++ rest
+
+-- The lines `said` of the first `lines` of a script are answered: their objects are written but for those that stand in
+-- `out`.
+pub record HasWritten (lines : List (List ℕ)) (said : List Line) (desk : DeskState) (out : List ℕ) (totals : Totals)
+    (old new : Option (List ℕ)) : Type 0 where
+  pub given : List Answer
+  pub each : AreLineAnswers [] said given
+  pub stands : HasHistory desk (history_along [] said given)
+  pub written : List ℕ
+  pub objects : (more : List (List ℕ)) → objects_of (lines ++ more) said given ≡ written ++ out
+  pub appended : Appends old new written
+  pub counts : Counts totals given
+
+-- the lines with which a script begins are answered so
+pub record HasBegun (input : Option (List ℕ)) (desk : DeskState) (out : List ℕ) (totals : Totals)
+    (old new : Option (List ℕ)) : Type 0 where
+  pub lines : List (List ℕ)
+  pub said : List Line
+  pub begins : BeginsScript input lines said
+  pub written : HasWritten lines said desk out totals old new
