@@ -21,7 +21,7 @@ const TIMELINES: usize = 2;
 /// How far the renderer's timeline is driven, one step at a time.
 const STEPS: u64 = 1_000;
 
-/// The renderer's point at which the frame is drawn. Its timeline runs on behind it.
+/// The renderer's point at which the frame is drawn. Its timeline runs on after it.
 const DRAWN: u64 = 500;
 
 /// How often a file is polled before it counts as late.

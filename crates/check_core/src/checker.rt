@@ -163,7 +163,7 @@ impl<'a> Checker<'a> {
         }
     }
 
-    /// One more line is expected of the last answer. It is told where that is the first that differs.
+    /// One more line is expected of the last answer. It is reported if it is the first that differs.
     fn expect<W: Write>(&mut self, line: &[u8], writer: &mut W) -> Result<(), Refusal>
         ensures expects { Expects self.old self.new (line.now ∷ []) }
         ensures quiet { OnOk result (IsQuiet self.old (differences_of self.new)
@@ -178,7 +178,7 @@ impl<'a> Checker<'a> {
         }
     }
 
-    /// No more is expected of the last answer: counts it, and tells where more came.
+    /// No more is expected of the last answer: counts it, and reports a line that came after all that was expected.
     fn judge<W: Write>(&mut self, writer: &mut W) -> Result<(), Refusal>
         requires room { HasRoom self.old.tally }
         ensures judged { IsJudgedAt self.old self.new }
@@ -195,7 +195,7 @@ impl<'a> Checker<'a> {
         }
     }
 
-    /// Tells that this was expected and something else came, where none was told at that stage.
+    /// Reports that this was expected and something else came, unless a difference was reported at that stage.
     fn tell<W: Write>(
         &self,
         stage: Stage,

@@ -3,8 +3,8 @@
 /// How a check reports what it finds.
 #[derive(Clone, Copy)]
 pub enum Form {
-    /// A line for each answer that differs and for each script that does not pass, and the counts. Places are in bold where that
-    /// is asked for.
+    /// A line for each answer that differs and for each script that does not pass, and the counts. File names and line numbers
+    /// may be in bold.
     Lines { bold: bool },
     /// The counts alone.
     Counts,

@@ -1,6 +1,6 @@
 //! Scripts that carry what they expect: the answers of a script's lines, beside its notes on them.
 //!
-//! What a note expects, and when an answer is as expected, is told as functions of the bytes (`specs/`).
+//! What a note expects, and when an answer is as expected, is defined by functions of the bytes (`specs/`).
 #![tactic(auto)]
 
 mod checker;

@@ -26,7 +26,7 @@ pub(crate) fn tell_difference<'a, W: Write>(
     }
 }
 
-/// `FILE:LINE: COMMAND: expected .., came ..`. What is before the first command is told of line 1.
+/// `FILE:LINE: COMMAND: expected .., came ..`. A difference before the first command is reported at line 1.
 fn tell_line<'a, W: Write>(
     alloc: Global,
     name: &'a str,
@@ -60,7 +60,7 @@ fn tell_line<'a, W: Write>(
     tell_parts(alloc, &parts, writer)
 }
 
-/// What stands before and after a place.
+/// What is printed before `FILE:LINE` and after it.
 fn around(bold: bool) -> [&'static str; 2] {
     if bold {
         ["\x1b[1m", ":\x1b[0m "]
@@ -69,7 +69,7 @@ fn around(bold: bool) -> [&'static str; 2] {
     }
 }
 
-/// An item of the list of differences, as YAML has it. What is before the first command is told of line 0.
+/// An item of the list of differences, in YAML. A difference before the first command is reported at line 0.
 fn tell_item<W: Write>(
     alloc: Global,
     difference: &Difference<'_>,

@@ -162,7 +162,7 @@ fn check_refused<A: Drop>(rt: &impl Abort, answer: Result<A, Refusal>, wanted: R
     assert!(rt; answer.err() == Some(wanted));
 }
 
-/// Checks that clients against the table are refused as `Torn`.
+/// Checks that clients against the table fail with `Torn`.
 fn check_torn<R: Threads + Wait + Abort + Sync>(rt: &R, alloc: Global, plans: &[Plan]) {
     let refused = run_clients::<R, OddTable, OpenGate>(rt, alloc, 1, plans, &OpenGate);
     check_refused(rt, refused, Refusal::Torn);

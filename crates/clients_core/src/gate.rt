@@ -3,7 +3,7 @@ ghost use Rattle.std.specs.Prelude.{◌≡◌, true};
 
 /// Stands round every act of every client. Clients are numbered from 1, and the acts of each from 0.
 pub trait Gate: Sync {
-    /// Before an act. Where it is false the client ends there, refused as `TimedOut`.
+    /// Before an act. If it is false, the client ends there with `TimedOut`.
     fn enter(&self, client: usize, act: usize) -> bool;
 
     /// After an act, also one that was refused.

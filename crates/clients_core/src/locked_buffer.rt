@@ -15,7 +15,7 @@ use std::marker::Model;
 /// A buffer that clients share: its reservation, the reach of its last call, its floor, and a journal of all puts.
 ///
 /// A client loads its reach under the buffer's lock, and values only rise, so the floor is never above the reach that
-/// comes next. Where it is, words and buffer don't belong together, and the call is refused as `Torn`.
+/// comes next. If it is, words and buffer don't belong together, and the call fails with `Torn`.
 #[derive(Debug, Drop)]
 pub struct LockedBuffer {
     resv: Resv,

@@ -117,7 +117,7 @@ fn run_held<R: Threads + Wait + Abort + Sync, T: SharedTable>(
     check_one_table(rt, &settled, &[0, 0], &WRITTEN, 1);
 }
 
-/// Runs two clients behind gates that hold one or the other, and behind one that never opens.
+/// Runs two clients with gates that hold one or the other, and with one that never opens.
 fn run_gates<R: Threads + Wait + Abort + Sync, T: SharedTable>(
     rt: &R,
     alloc: Global,

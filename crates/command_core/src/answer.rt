@@ -25,7 +25,7 @@ pub enum Answer {
     Refused(Refusal),
 }
 
-/// What Linux's `SYNC_IOC_FILE_INFO` tells of a file.
+/// What Linux's `SYNC_IOC_FILE_INFO` reports of a file.
 #[derive(Debug, Drop, PartialEq, Eq)]
 pub struct Info {
     pub name: Name,
@@ -52,7 +52,7 @@ pub enum Maker {
     Stub,
 }
 
-/// All timelines, files and buffers, as Linux's debugfs tells of its own.
+/// All timelines, files and buffers, as Linux's debugfs lists its own.
 #[derive(Debug, Drop, PartialEq, Eq)]
 pub struct Report {
     /// Each timeline with its value, by rising context.

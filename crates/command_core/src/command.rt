@@ -7,12 +7,12 @@ use point_core::{Name, Usage};
 pub enum Command {
     /// `timeline T`: makes a timeline at 0, as libsync's `sw_sync_timeline_create`.
     Timeline(Name),
-    /// `inc T N`: adds N to a timeline's value, as libsync's `sw_sync_timeline_inc`, and tells the callbacks that it fires.
+    /// `inc T N`: adds N to a timeline's value, as libsync's `sw_sync_timeline_inc`, and reports the callbacks that it fires.
     /// Past the greatest u64 it is refused, where the kernel's 32-bit value wraps.
     Inc(Name, u64),
     /// `value T`: reads a timeline's value.
     Value(Name),
-    /// `shut T`: closes timeline T, as the close of a sw_sync timeline's descriptor, and tells the callbacks that this fires. Its
+    /// `shut T`: closes timeline T, as the close of a sw_sync timeline's descriptor, and reports the callbacks that this fires. Its
     /// pending points are cancelled, its value stays, and its name stays taken.
     Shut(Name),
     /// `fence F T P`: makes file F of point P on timeline T, as libsync's `sw_sync_fence_create`.
@@ -45,7 +45,7 @@ pub enum Command {
     Watch(Name, u64),
     /// `unwatch COOKIE`: removes the callback of that cookie, as Linux's `dma_fence_remove_callback`.
     Unwatch(u64),
-    /// `show B`: the table of buffer B, as Linux's debugfs tells of a buffer's reservation.
+    /// `show B`: the table of buffer B, as Linux's debugfs lists a buffer's reservation.
     Show(Name),
     /// `report`: all timelines, files and buffers.
     Report,

@@ -19,10 +19,15 @@ pub record AskedCheck : Type 0 where
   pub report : Report
   pub allows_empty : Bool
 
--- a trace: the name of its file, or none on standard input, and whether a JSON document is asked for
+-- a trace: the name of its file, or none on standard input; whether a JSON document is asked for, a script or a picture; and the
+-- texts of the options
 pub record AskedTrace : Type 0 where
   pub file : Option Text
   pub is_json : Bool
+  pub is_script : Bool
+  pub is_drawing : Bool
+  pub from : Option Text
+  pub to : Option Text
 
 -- a drawing of a script: of its file, or of standard input; a graph or not, and the texts of the options
 pub record AskedDraw : Type 0 where
@@ -84,6 +89,10 @@ abbrev pub trace_after : List Row → AskedTrace
 trace_after rows = record {
   file = file_named (first_of (codes "FILE") rows);
   is_json = flag_named (one_of (codes "json") rows);
+  is_script = flag_named (one_of (codes "script") rows);
+  is_drawing = flag_named (one_of (codes "draw") rows);
+  from = first_of (codes "from") rows;
+  to = first_of (codes "to") rows;
 }
 
 abbrev pub draw_after : List Row → AskedDraw
@@ -122,7 +131,14 @@ asked_of_check check = record {
 }
 
 abbrev pub asked_of_trace : TraceAction → AskedTrace
-asked_of_trace trace = record { file = file_of trace.text; is_json = trace.is_json }
+asked_of_trace trace = record {
+  file = file_of trace.text;
+  is_json = trace.is_json;
+  is_script = trace.is_script;
+  is_drawing = trace.is_drawing;
+  from = option_map (λ t. t.now) trace.from;
+  to = option_map (λ t. t.now) trace.to;
+}
 
 abbrev pub asked_of_draw : DrawAction → AskedDraw
 asked_of_draw draw = record {

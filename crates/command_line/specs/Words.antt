@@ -51,8 +51,13 @@ abbrev pub clients_app : App
 clients_app = with_rule (with_rule (with_rule (new_app (codes "clients"))
     (number_rule (codes "N") CLIENTS)) (number_rule (codes "ROUNDS") ROUNDS)) (flag_rule (codes "locks"))
 
+-- `trace` without its window
+abbrev pub scripted_app : App
+scripted_app = with_rule (with_rule (with_rule (script_app (codes "trace")) (flag_rule (codes "json")))
+    (flag_rule (codes "script"))) (flag_rule (codes "draw"))
+
 abbrev pub trace_app : App
-trace_app = with_rule (script_app (codes "trace")) (flag_rule (codes "json"))
+trace_app = with_rule (with_rule scripted_app (option_rule (codes "from"))) (option_rule (codes "to"))
 
 -- without its subcommands
 abbrev pub program_app : App

@@ -63,13 +63,21 @@ pub enum Report {
     Tap,
 }
 
-/// Where a trace is read from, and how the report is written.
+/// Where a trace is read from, and what is written of it.
 #[derive(Clone, Copy)]
 pub struct Trace<'a> {
     /// A file, or standard input.
     pub text: Script<'a>,
     /// Whether the report is a JSON document.
     pub is_json: bool,
+    /// Whether what happened is written as a script.
+    pub is_script: bool,
+    /// Whether it is drawn.
+    pub is_drawing: bool,
+    /// Where the window begins, in seconds.
+    pub from: Option<&'a str>,
+    /// Where it ends.
+    pub to: Option<&'a str>,
 }
 
 /// How many clients, how many rounds each of them makes, and what they share.

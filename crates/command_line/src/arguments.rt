@@ -20,6 +20,7 @@ ghost use Rattle.command_line.specs.Words.{
   reports_app,
   run_app,
   script_app,
+  scripted_app,
   trace_app,
 };
 
@@ -67,7 +68,7 @@ Script commands:
 
 U is kernel, write, read or bookkeep; FLAGS is read, write or rw.
 
-A name has 1 to 31 letters, digits, _, . or -; a number has 1 to 20 digits. There can be 64 timelines, 64 buffers,
+A name has 1 to 31 letters, digits, _, . or -; a number has 1 to 20 digits. There can be 256 timelines, 64 buffers,
 1,024 files and 4,096 watches, lines of 256 bytes, and scripts of 1,048,576 bytes.
 
 A refused line is answered `err NUMBER NAME`, and changes nothing:
@@ -85,7 +86,8 @@ word of a refused line is at fault, and why, and what a `wait` waits for. `fence
 docs/PICTURES.md explains, and with --graph what waits for what as Graphviz DOT.
 
 `fencectl trace` reads the text of ftrace's dma_fence events, as tracefs, trace-cmd or perf print them, and reports which
-fences were never signalled, who waits for them, and what each timeline did; docs/TRACES.md says how to record one.
+fences were never signalled, who waits for them, and what each timeline did; docs/TRACES.md says how to record one. With --script
+it writes what happened as a script, and with --draw it draws that; --from and --to, in seconds, choose a window.
 
 Clients run on threads, each with a timeline of its own, and share two buffers; docs/CLIENTS.md says what they do. What
 they settle is the same in every run: a row for each timeline, and for each buffer the points that are pending.
@@ -142,6 +144,15 @@ pub(crate) const TRACE: &str = "trace";
 const TRACE_ABOUT: &str =
     "Reads a trace of the kernel's dma_fence events, and reports what hangs and who waits";
 
+/// Asks for what happened in a trace, as a script.
+pub(crate) const SCRIPT: &str = "script";
+
+/// The window of a trace.
+pub(crate) const FROM: &str = "from";
+
+pub(crate) const TO: &str = "to";
+
+/// The word for drawing a script, and the flag for drawing what happened in a trace.
 pub(crate) const DRAW: &str = "draw";
 
 const DRAW_ABOUT: &str = "Draws what a script does as SVG, or what it leaves as a graph";
@@ -267,12 +278,29 @@ fn explain<'a>(alloc: Global) -> Result<Command<'a>, AllocError>
         .arg(file(alloc))
 }
 
-/// `trace`, its file and the form of its report.
 fn trace<'a>(alloc: Global) -> Result<Command<'a>, AllocError>
     ensures { IfOk result (IsApp trace_app) }
 {
+    scripted(alloc)?
+        .arg(option(
+            alloc,
+            FROM,
+            "SECONDS",
+            "Begins the script or the picture at that time",
+        ))?
+        .arg(option(alloc, TO, "SECONDS", "Ends it at that time"))
+}
+
+/// `trace`, its file and the form of what it writes.
+fn scripted<'a>(alloc: Global) -> Result<Command<'a>, AllocError>
+    ensures { IfOk result (IsApp scripted_app) }
+{
     let command = Command::new(alloc, TRACE).about(TRACE_ABOUT);
-    command.arg(trace_file(alloc))?.arg(flag(alloc, JSON, "Writes the report as one JSON document"))
+    command
+        .arg(trace_file(alloc))?
+        .arg(flag(alloc, JSON, "Writes the report as one JSON document"))?
+        .arg(flag(alloc, SCRIPT, "Writes what happened as a script instead"))?
+        .arg(flag(alloc, DRAW, "Draws what happened as SVG instead"))
 }
 
 /// The file of a trace.

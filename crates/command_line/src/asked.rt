@@ -23,8 +23,8 @@ ghost use Rattle.command_line.specs.Asked.{
 
 use crate::action::{Action, Check, Clients, Draw, Report, Table, Trace};
 use crate::arguments::{
-    ALLOW_EMPTY, CHECK, CLIENTS_WORD, COUNT, DRAW, EXPLAIN, FILE, GRAPH, JSON, LINE, LINES, LOCKS,
-    OUTPUT, PATH, QUIET, ROUNDS_WORD, TAP, TRACE, UPDATE,
+    ALLOW_EMPTY, CHECK, CLIENTS_WORD, COUNT, DRAW, EXPLAIN, FILE, FROM, GRAPH, JSON, LINE, LINES,
+    LOCKS, OUTPUT, PATH, QUIET, ROUNDS_WORD, SCRIPT, TAP, TO, TRACE, UPDATE,
 };
 use clap::ArgMatches;
 use clients_core::{CLIENTS, ROUNDS};
@@ -107,6 +107,10 @@ fn trace_of<'a>(matches: &ArgMatches<'a>) -> Trace<'a>
     Trace {
         text: script_of(matches),
         is_json: has_flag(matches, JSON),
+        is_script: has_flag(matches, SCRIPT),
+        is_drawing: has_flag(matches, DRAW),
+        from: text_of(matches, FROM),
+        to: text_of(matches, TO),
     }
 }
 

@@ -71,10 +71,10 @@ fn is_file(rt: &impl Files, name: &str) -> bool {
     }
 }
 
-/// Prints what clap says, and gives its status: 0 for help and version, 2 for wrong usage. Where a word is no
-/// subcommand, it tells how a script in a file is run.
+/// Prints what clap says, and gives its status: 0 for help and version, 2 for wrong usage. If a word is no
+/// subcommand, it also says how to run a script in a file.
 ///
-/// Refuses as `Write` where that could not be printed, and as `Memory` where clap had none.
+/// Fails with `Write` if that could not be printed, and with `Memory` if clap had none.
 fn tell_error(
     rt: &(impl Print + Eprint),
     alloc: Global,
@@ -118,9 +118,9 @@ fn print_error(
     printed.map_err(|_| Refusal::Write)
 }
 
-/// Tells that the words of the command line could not be read, which is wrong usage where one is no UTF-8.
+/// Reports that the words of the command line could not be read, which is wrong usage if one is not UTF-8.
 ///
-/// Refuses as `Memory` where they were refused for memory, and as `Write` where that could not be told.
+/// Fails with `Memory` if there was no memory for them, and with `Write` if the report could not be printed.
 pub fn tell_unread_word(rt: &impl Eprint, error: io::Error) -> Result<u8, Refusal> {
     if error.kind() == io::ErrorKind::OutOfMemory {
         return Err(Refusal::Memory);

@@ -62,7 +62,7 @@ impl Desk {
         })
     }
 
-    /// The answer of one command: the first refusal whose cause holds, else what the command tells. `Memory` comes
+    /// The answer of one command: the first refusal whose cause holds, else what the command gives. `Memory` comes
     /// last, where a growth was really refused; `value`, `close`, `wait`, `test`, `trim` and `unwatch` never answer it,
     /// and `inc` and `shut` only where they fire a watch. A refused command changes nothing, and fires none.
     #[inline(always)]

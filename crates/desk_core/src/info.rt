@@ -9,7 +9,7 @@ use point_core::{Clocks, Items, Name, Point, Refusal, Status};
 use std::alloc::Global;
 use timeline_core::Timelines;
 
-/// What is told of a file that lists those points, as Linux's `SYNC_IOC_FILE_INFO`. Without points it is shown as the
+/// What is reported of a file that lists those points, as Linux's `SYNC_IOC_FILE_INFO`. Without points it is shown as the
 /// stub.
 ///
 /// Refuses as `Memory` alone.

@@ -40,7 +40,7 @@ pub fn a_watch_keeps_what_was_put()
         Contains (pending_after (history ++ c ∷ [])) x }
 {}
 
-/// A desk that stands for a history tells the sums of its increments, what was put into its files and buffers, and which
+/// A desk that stands for a history has the sums of its increments, what was put into its files and buffers, and which
 /// watches an increment fires.
 pub fn a_desk_tells_its_history()
     ensures sums { (desk : DeskState) (history : List Command) → HasHistory desk history → TellsSums desk history }

@@ -1,6 +1,6 @@
 //! The desk: one command in, one answer out, and a run over a list of commands.
 //!
-//! What the accepted commands so far mean is told by put sets (`specs/World.antt`), in which nothing is ever dropped,
+//! What the accepted commands so far mean is said by put sets (`specs/World.antt`), in which nothing is ever dropped,
 //! replaced or compacted. The desk keeps less, and its answers are those of the put sets.
 #![tactic(auto)]
 

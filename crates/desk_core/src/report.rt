@@ -1,4 +1,4 @@
-// Tables: what `show` and `report` tell.
+// Tables: what `show` and `report` list.
 ghost use Rattle.std.specs.Prelude.{◌≡◌, ◌≤◌, List, ℕ, length, map, IfOk, IfErr};
 ghost use Rattle.point_core.specs.declared.limits.TheConstants.{BUFFERS};
 ghost use Rattle.timeline_core.specs.Timeline.{reach_of};

@@ -16,16 +16,16 @@ use script_core::{Answers, Totals};
 use std::alloc::Global;
 use std::io::{Read, Write};
 
-/// Runs a script as `engine` does, and writes behind the answer of each refused line, to `notes`, why it was refused: its
+/// Runs a script as `engine` does, and after the answer of each refused line writes to `notes` why it was refused: its
 /// number, the word that is at fault and a sentence; of a wait each point that is not reached. The answer of a line is written
 /// before its explanation, and both before the next read.
 ///
 /// Its memory does not grow with the script: of the lines it keeps what the desk holds, and of each name and cookie that stands
 /// for something the line that made it.
 ///
-/// Refused as Read where a read failed: then the lines whose line feed was read are answered. Refused as Write where a write
-/// failed or took no byte, of an answer or an explanation, or the flush failed, and as Memory where a growth was refused: then
-/// a front of the answers is written.
+/// Fails with Read if a read failed: then the lines whose line feed was read are answered. Fails with Write if a write
+/// failed or took no byte, of an answer or an explanation, or the flush failed, and with Memory if a growth was refused: then
+/// a prefix of the answers is written.
 pub fn explain<R: Read, W: Write, N: Write>(
     alloc: Global,
     look: Look,
@@ -36,7 +36,7 @@ pub fn explain<R: Read, W: Write, N: Write>(
     ensures ok { IfOk result (λ totals. (script : List ℕ) × IsInput (R.remaining reader.old) script
         × AnswersScript script totals (W.contents writer.old) (W.contents writer.new)) }
 
-    // What is read is the script, up to the byte behind its limit.
+    // What is read is the script, up to the byte after its limit.
     ensures reads { IfOk result (λ _. IfSome (R.remaining reader.old) (λ input.
         Consumes (R.remaining reader.old) (R.remaining reader.new) (take (SCRIPT_BYTES + 1) input))) }
 
@@ -48,7 +48,7 @@ pub fn explain<R: Read, W: Write, N: Write>(
         → AnswersEndedLines (R.remaining reader.old) (R.remaining reader.new)
         (W.contents writer.old) (W.contents writer.new) }
 
-    // A front of the answers is written.
+    // A prefix of the answers is written.
     ensures err { OnErr result ((script : List ℕ) × IsInput (R.remaining reader.old) script
         × WritesFront (script_of script) (W.contents writer.old) (W.contents writer.new)) }
     ensures refusals { IfErr result (λ refusal.

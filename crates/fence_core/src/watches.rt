@@ -137,7 +137,7 @@ impl Watches {
         Ok(())
     }
 
-    /// Takes the watch of that cookie out, and tells whether there was one, as Linux's `dma_fence_remove_callback`
+    /// Removes the watch of that cookie, and says whether there was one, as Linux's `dma_fence_remove_callback`
     /// does. The others keep their order.
     ///
     /// Takes no memory.

@@ -2,8 +2,9 @@
 
 use crate::status::{ACCEPTED, REFUSED};
 use command_line::{Draw, FAULT};
-use draw_core::{COLUMNS, Run, Window, count_lines, dot_text, picture_of, svg_text};
+use draw_core::{COLUMNS, Run, Window, count_lines};
 use line_core::SCRIPT_BYTES;
+use picture_core::{dot_text, picture_of, svg_text};
 use point_core::Refusal;
 use report_core::write_whole;
 use source_core::{Script, Source, put_file, reported};
@@ -51,6 +52,23 @@ fn status_of(run: &Run) -> u8 {
     }
 }
 
+/// Draws a script that what happened in a trace was written as, to standard output.
+pub(crate) fn draw_trace(rt: &HostRuntime, script: &[u8]) -> Result<u8, Refusal> {
+    if count_lines(rt.alloc(), script)? > COLUMNS {
+        return tell(rt, TOO_LONG_A_WINDOW);
+    }
+    let mut run = Run::of(rt.alloc(), script, &Window::whole())?;
+    draw_trace_run(rt, &mut run)
+}
+
+fn draw_trace_run(rt: &HostRuntime, run: &mut Run) -> Result<u8, Refusal> {
+    let document = document_of(rt, false, run)?;
+    write_output(rt, document.as_slice(), ACCEPTED)
+}
+
+const TOO_LONG_A_WINDOW: &str =
+    "fencectl: more than 500 commands happened; choose a window with --from and --to";
+
 const TOO_LONG: &str =
     "fencectl: the script has more than 500 commands; choose the lines with --lines A..B";
 
@@ -96,7 +114,7 @@ fn wrong_options(asked: &Draw<'_>) -> &'static str {
     }
 }
 
-fn tell(rt: &HostRuntime, message: &str) -> Result<u8, Refusal> {
+pub(crate) fn tell(rt: &HostRuntime, message: &str) -> Result<u8, Refusal> {
     eprintln!(rt; "{message}").map_err(|_| Refusal::Write)?;
     Ok(FAULT)
 }
@@ -158,7 +176,7 @@ fn write_document(
     }
 }
 
-fn write_output(rt: &HostRuntime, document: &[u8], status: u8) -> Result<u8, Refusal> {
+pub(crate) fn write_output(rt: &HostRuntime, document: &[u8], status: u8) -> Result<u8, Refusal> {
     let mut output = rt.stdout();
     write_whole(&mut output, document)?;
     match output.flush() {

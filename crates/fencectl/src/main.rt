@@ -24,7 +24,7 @@ use std::io::IsTerminal;
 use std::process::ExitCode;
 use std::sync::Wait;
 use std::thread::Threads;
-use traces::report;
+use traces::trace;
 
 /// What a session at a terminal begins with.
 const GREETING: &str =
@@ -94,7 +94,7 @@ fn act<T: Threads + Wait + Sync>(
         Action::Check(asked) => check(rt, colors, &asked),
         Action::Update(paths) => update(rt, paths.as_slice()),
         Action::Explain(script) => explain(rt, colors, script),
-        Action::Trace(asked) => report(rt, &asked),
+        Action::Trace(asked) => trace(rt, &asked),
         Action::Draw(asked) => draw(rt, &asked),
         Action::Clients(clients) => {
             clients_report(threads, rt.alloc(), &clients, &mut rt.stdout())?;

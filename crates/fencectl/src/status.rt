@@ -24,7 +24,7 @@ fn status_of_totals(totals: Totals) -> u8
     }
 }
 
-/// The status of a run that ended so. A fault is told to the writer, and its status is 2.
+/// The status of a run that ended so. A fault is reported to the writer, and its status is 2.
 pub(crate) fn status_of_run<W: Write>(ended: Result<Totals, Refusal>, writer: &mut W) -> u8
     ensures status { result ≡ run_status ended }
     ensures told { ReportsFault ended (W.contents writer.old) (W.contents writer.new) }

@@ -1,7 +1,7 @@
 //! Calls of the libraries, as a caller might make them, each with its answer on a line.
 //!
 //! Standard input has a byte for each call, in order: one that is an `x` is left out, and answered Memory. So a run in which
-//! memory was refused to some calls prints what a run does that leaves them out, if they leave nothing behind.
+//! memory was refused to some calls prints what a run does that leaves them out, if they leave nothing after them.
 #![tactic(auto)]
 
 mod buffers;

@@ -4,7 +4,7 @@ ghost use Rattle.std.specs.Prelude.{◌≡◌, ◌+◌, ◌^◌, ◌<◌, ◌≤
 use crate::line::{LINE_BYTES, Line, body_of};
 use std::marker::Model;
 
-/// So many bytes are held of a line: as many as a line may have, and one that tells that it has more.
+/// So many bytes are held of a line: as many as a line may have, and one that shows that it has more.
 pub(crate) const HELD_BYTES: usize = LINE_BYTES + 1;
 
 /// Cuts a script into its lines, byte by byte. It holds the number of its line, from 1, and the line's bytes so far, or that

@@ -1,6 +1,6 @@
 //! The lines of a script: its bytes to commands, from a slice, byte by byte, or from a reader.
 //!
-//! Lines, words, names and numbers are told as functions of the bytes (`specs/`).
+//! Lines, words, names and numbers are given as functions of the bytes (`specs/`).
 #![tactic(auto)]
 
 mod cutter;

@@ -15,10 +15,10 @@ const _: () = prove!(SCRIPT_BYTES == 1_048_576);
 
 /// The lines of a script that have an answer, in order.
 ///
-/// Of a script of more than `SCRIPT_BYTES` bytes, the lines whose line feed is among the first so many, and behind them a
+/// Of a script of more than `SCRIPT_BYTES` bytes, the lines whose line feed is among the first so many, and after them a
 /// line that the limit cuts, as `Bad(Limit(Script))`.
 ///
-/// Refused as Memory alone.
+/// Fails only with Memory.
 pub fn read_script(alloc: Global, bytes: &[u8]) -> Result<Vec<Line>, Refusal>
     ensures ok { IfOk result (λ lines. lines.items ≡ script_of bytes.now) }
     ensures err { IfErr result (λ refusal. refusal ≡ Memory) }
@@ -26,7 +26,7 @@ pub fn read_script(alloc: Global, bytes: &[u8]) -> Result<Vec<Line>, Refusal>
     Ok(Lines::of(bytes).collect(alloc)?)
 }
 
-/// What stands behind the last line feed of some bytes.
+/// What follows the last line feed of some bytes.
 #[derive(Clone, Copy, Debug)]
 pub enum Ending {
     /// The script's last line, which lacks its line feed.
@@ -108,7 +108,7 @@ fn ending_of(script: &[u8]) -> Ending
     }
 }
 
-/// What stands behind a script's last line feed says, by how the script ends: a line where it was read whole, which may have no
+/// What follows a script's last line feed says, by how the script ends: a line where it was read whole, which may have no
 /// answer; the refusal of a script that is too long; nothing where a read failed.
 pub fn last_body(ending: Ending, last: &[u8]) -> Option<Body>
     ensures body { result ≡ last_body ending last.now }
@@ -120,7 +120,7 @@ pub fn last_body(ending: Ending, last: &[u8]) -> Option<Body>
     }
 }
 
-/// The first line and the bytes behind its line feed, or none where no line feed is there.
+/// The first line and the bytes after its line feed, or none if no line feed is there.
 pub fn first_line(bytes: &[u8]) -> Option<(&[u8], &[u8])>
     ensures lines { MatchOption result
         (lines_of bytes.now ≡ bytes.now ∷ [])

@@ -82,7 +82,7 @@ impl ScriptLines {
         }
     }
 
-    /// The line that was given last, or, once the script has ended, what stands behind its last line feed.
+    /// The line that was given last, or, once the script has ended, what follows its last line feed.
     pub fn line(&self) -> RawLine<'_>
         ensures number { result.number ≡ self.now.number }
         ensures bytes { result.bytes.now ≡ self.now.line }
@@ -106,7 +106,7 @@ impl ScriptLines {
         }
     }
 
-    /// Goes on to the next line whose line feed was read, or tells that there is none.
+    /// Goes on to the next line whose line feed was read, or says that there is none.
     pub fn advance(&mut self) -> bool
         ensures next { (before now : Option (List ℕ)) → (given : List (List ℕ)) →
             HasGiven before now self.old given → GoesOn before now given result self.new }
@@ -127,7 +127,7 @@ impl ScriptLines {
     }
 
     /// Reads once, up to a block's bytes; none where some were read, else how the script ends. An interrupted read counts as
-    /// failed. No byte is read past the one behind the limit of a script.
+    /// failed. No byte is read past the one after the limit of a script.
     pub fn read<R: Read>(&mut self, reader: &mut R) -> Option<Ending>
         requires drained { IsDrained self.old }
         ensures more { result ≡ None → (before : Option (List ℕ)) → (given : List (List ℕ)) →

@@ -12,7 +12,7 @@ use crate::words::{first_word, four, is, one, three, two};
 use command_core::Command;
 use point_core::{Name, Usage};
 
-/// The command of a line, by its first word and the bytes behind it, or none where they fit no row.
+/// The command of a line, by its first word and the bytes after it, or none if they fit no row.
 #[inline(never)]
 pub(crate) fn command(word: &[u8], rest: &[u8]) -> Option<Command>
     ensures command { result ≡ command_from word.now (words_of rest.now) }

@@ -1,4 +1,4 @@
-// The words of a line that tell usages and sync flags.
+// The words of a line that name usages and sync flags.
 ghost use Rattle.std.specs.Prelude.{◌≡◌};
 ghost use Rattle.line_core.specs.Usages.{usage_of, flags_of};
 

@@ -4,7 +4,7 @@ ghost use Rattle.std.specs.List.{prefix_len, position_or_len};
 ghost use Rattle.std.specs.Str.{bytes_eq};
 ghost use Rattle.line_core.specs.Words.{is_space, words_of, BeginsWithWord, one_of, two_of, three_of, four_of};
 
-/// The first word, and the bytes behind it.
+/// The first word, and the bytes after it.
 pub(crate) fn first_word(bytes: &[u8]) -> Option<(&[u8], &[u8])>
     ensures words { MatchOption result
         (words_of bytes.now ≡ [])
@@ -25,7 +25,7 @@ pub(crate) fn from_word(bytes: &[u8]) -> Option<&[u8]>
     Some(&bytes[start..])
 }
 
-/// The word that the bytes begin with, and the bytes behind it.
+/// The word that the bytes begin with, and the bytes after it.
 pub(crate) fn part_word(bytes: &[u8]) -> (&[u8], &[u8])
     requires begins { BeginsWithWord bytes.now }
     ensures words { words_of bytes.now ≡ result.0.now ∷ words_of result.1.now }

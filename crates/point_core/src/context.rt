@@ -5,9 +5,9 @@ ghost use Rattle.point_core.specs.declared.context.TheConstants.{CONTEXTS};
 use std::marker::Model;
 
 /// How many timelines there can be. Every table by context has this length.
-pub const CONTEXTS: usize = 64;
+pub const CONTEXTS: usize = 256;
 
-const _: () = prove!(CONTEXTS == 64);
+const _: () = prove!(CONTEXTS == 256);
 
 /// The number of a timeline, from 1 to `CONTEXTS`, given out in order of making.
 ///

@@ -120,7 +120,7 @@ impl Refusal {
         }
     }
 
-    /// The name that answers print. The kind of a limit is told by `LimitKind::word`.
+    /// The name that answers print. The kind of a limit is given by `LimitKind::word`.
     pub fn name(self) -> &'static str
         ensures { result.now ≡ refusal_name self }
     {

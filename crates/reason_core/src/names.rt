@@ -33,7 +33,7 @@ pub(crate) fn made_by(command: &Command) -> Option<(Space, Name)> {
     }
 }
 
-/// The names that a command looks up, in the order in which they are told as missing.
+/// The names that a command looks up, in the order in which they are reported as missing.
 pub(crate) fn looked_up(command: &Command) -> [Option<(Space, Name)>; 2] {
     match command {
         Command::Inc(name, _)

@@ -9,7 +9,7 @@ use std::alloc::Global;
 use std::io::Write;
 use strsim::osa_distance;
 
-/// What a word behind a command's may be.
+/// What a word after a command's may be.
 #[derive(Clone, Copy, Debug, PartialEq, Eq)]
 enum Kind {
     Name,
@@ -195,7 +195,7 @@ fn suggest<N: Write>(
 
 /// The command that differs in the fewest letters, where these are few; two letters in each other's place count as one.
 ///
-/// Refused as Memory alone.
+/// Fails only with Memory.
 fn nearest(alloc: Global, word: &[u8]) -> Result<Option<&'static str>, Refusal>
     ensures refusals { IfErr result (λ refusal. refusal ≡ Memory) }
 {
@@ -246,7 +246,7 @@ fn missing(kind: Option<&Kind>) -> &'static str {
     }
 }
 
-/// What is wrong with a word in the place of that kind, or behind the last one.
+/// What is wrong with a word in the place of that kind, or after the last one.
 fn wrong_for(word: &[u8], kind: Option<&Kind>) -> Option<&'static str> {
     match kind {
         Some(kind) if is_of_kind(word, *kind) => None,

@@ -18,9 +18,9 @@ pub(crate) enum Subject<'a> {
     Numbered(u8, u64),
 }
 
-/// Writes the three columns that each row begins with behind `out`, and one more byte behind them.
+/// Appends to `out` the three columns that each row begins with, and one more byte.
 ///
-/// Refused as Memory alone, and `out` is then as it was.
+/// Fails only with Memory, and then leaves `out` as it was.
 #[inline(always)]
 pub(crate) fn push_columns(
     out: &mut Vec<u8>,
@@ -43,7 +43,7 @@ pub(crate) fn push_columns(
 
 /// Writes the same columns, with a text on the right of the third.
 ///
-/// Refused as Memory alone, and `out` is then as it was.
+/// Fails only with Memory, and then leaves `out` as it was.
 pub(crate) fn push_text_columns(
     out: &mut Vec<u8>,
     kind: Kind,

@@ -1,4 +1,4 @@
-// What a row tells of.
+// What a row is about.
 ghost use Rattle.std.specs.Prelude.{◌≡◌};
 ghost use Rattle.report_core.specs.Columns.{column};
 ghost use Rattle.report_core.specs.Kind.{usage_word, kind_word};
@@ -6,7 +6,7 @@ ghost use Rattle.report_core.specs.Kind.{usage_word, kind_word};
 use crate::rows::{KIND_BYTES, KIND_WIDTH};
 use point_core::Usage;
 
-/// What a row tells of: its first column.
+/// What a row is about: its first column.
 #[derive(Clone, Copy, Debug, PartialEq, Eq, Hash)]
 pub enum Kind {
     Timeline,
@@ -32,7 +32,7 @@ impl Kind {
         }
     }
 
-    /// The first column, with the space behind it.
+    /// The first column, with the space after it.
     #[inline(always)]
     pub(crate) fn column(self) -> &'static [u8; KIND_BYTES]
         ensures { result.now ≡ column KIND_WIDTH (kind_word self) }

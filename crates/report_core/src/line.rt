@@ -1,4 +1,4 @@
-// A line of output, which is written from its end to its front.
+// A line of output, which is written from its end to its start.
 ghost use Rattle.std.specs.Prelude.{◌≡◌, ◌++◌, ◌+◌, ◌≤◌, ◌∷◌, [], OnOk, OnErr, Err, decimal, length};
 ghost use Rattle.point_core.specs.declared.refusal.Refusal.TheVariants.{Memory};
 ghost use Rattle.report_core.specs.Columns.{spaces};
@@ -8,7 +8,7 @@ use itoa::write_digits;
 use point_core::Refusal;
 use std::marker::Model;
 
-/// The most bytes of a line of output with its line feed: two short words, a name and two numbers, each with a byte behind
+/// The most bytes of a line of output with its line feed: two short words, a name and two numbers, each with a byte after
 /// it.
 pub const TEXT_LINE_BYTES: usize = 2 * (KIND_WIDTH + 1)
     + (SUBJECT_WIDTH + 1)
@@ -90,9 +90,9 @@ impl TextLine {
         self.start = write_digits(number, &mut self.bytes, self.start);
     }
 
-    /// Writes the line behind `out`.
+    /// Appends the line to `out`.
     ///
-    /// Refused as Memory alone, and `out` is then as it was.
+    /// Fails only with Memory, and then leaves `out` as it was.
     #[inline(always)]
     pub fn push_to(&self, out: &mut Vec<u8>) -> Result<(), Refusal>
         ensures ok { OnOk result (out.new.items ≡ out.old.items ++ self.now) }

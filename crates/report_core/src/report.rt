@@ -11,9 +11,9 @@ use crate::rows::{file_row, row};
 use command_core::{BufferRows, FileRow, Report, ShowRow};
 use point_core::{Refusal, TimelineRow};
 
-/// Writes the table of one buffer behind `out`, a row each.
+/// Appends the table of one buffer to `out`, a row each.
 ///
-/// Refused as Memory alone. `out` then begins with what it was.
+/// Fails only with Memory. `out` then begins with what it was.
 pub fn show_text(rows: &[ShowRow], out: &mut Vec<u8>) -> Result<(), Refusal>
     ensures ok { OnOk result (out.new.items ≡ out.old.items ++ show_text rows.now) }
     ensures err { OnErr result ((result ≡ Err Memory) × StartsWith out.new.items out.old.items) }
@@ -24,10 +24,10 @@ pub fn show_text(rows: &[ShowRow], out: &mut Vec<u8>) -> Result<(), Refusal>
     Ok(())
 }
 
-/// Writes a report behind `out`: a row for each timeline with its value, one for each file, and for each buffer a row
+/// Appends a report to `out`: a row for each timeline with its value, one for each file, and for each buffer a row
 /// with the number of its rows, and these.
 ///
-/// Refused as Memory alone. `out` then begins with what it was.
+/// Fails only with Memory. `out` then begins with what it was.
 pub fn report_text(report: &Report, out: &mut Vec<u8>) -> Result<(), Refusal>
     ensures ok { OnOk result (out.new.items ≡ out.old.items ++ report_text report.now) }
     ensures err { OnErr result ((result ≡ Err Memory) × StartsWith out.new.items out.old.items) }
@@ -40,7 +40,7 @@ pub fn report_text(report: &Report, out: &mut Vec<u8>) -> Result<(), Refusal>
 
 /// Writes a row for each timeline with its value after `out`, a closed one as such.
 ///
-/// Refused as Memory alone. `out` then begins with what it was.
+/// Fails only with Memory. `out` then begins with what it was.
 pub fn timelines_text(timelines: &[TimelineRow], out: &mut Vec<u8>) -> Result<(), Refusal>
     ensures ok { OnOk result (out.new.items ≡ out.old.items ++ flat_map timeline_text timelines.now) }
     ensures err { OnErr result ((result ≡ Err Memory) × StartsWith out.new.items out.old.items) }
@@ -81,9 +81,9 @@ fn push_buffers(out: &mut Vec<u8>, buffers: &[BufferRows]) -> Result<(), Refusal
     Ok(())
 }
 
-/// Writes what a report tells of a buffer behind `out`: a row with the number of its rows, and these.
+/// Appends what a report has of a buffer to `out`: a row with the number of its rows, and these.
 ///
-/// Refused as Memory alone. `out` then begins with what it was.
+/// Fails only with Memory. `out` then begins with what it was.
 pub fn buffer_text(buffer: &BufferRows, out: &mut Vec<u8>) -> Result<(), Refusal>
     ensures ok { OnOk result (out.new.items ≡ out.old.items ++ buffer_text buffer.now) }
     ensures err { OnErr result ((result ≡ Err Memory) × StartsWith out.new.items out.old.items) }

@@ -15,7 +15,7 @@ use point_core::{NAME_BYTES, Name, Refusal};
 /// The places of a row's first column: the longest words, `timeline` and `bookkeep`, fill it.
 pub const KIND_WIDTH: usize = 8;
 
-/// The bytes of the first column with the space behind it.
+/// The bytes of the first column with the space after it.
 pub(crate) const KIND_BYTES: usize = KIND_WIDTH + 1;
 
 /// The places of the second column: the longest name fills it.
@@ -45,10 +45,10 @@ const _: () = prove!(ROW_BYTES == 62);
 
 const _: () = prove!(FILE_ROW_BYTES == 66);
 
-/// Writes a row behind `out`: the kind's word on the left of its column, a space, the name on the left of its column, a
+/// Appends a row to `out`: the kind's word on the left of its column, a space, the name on the left of its column, a
 /// space, the number in decimal on the right of its column, and a line feed.
 ///
-/// Refused as Memory alone. `out` then begins with what it was.
+/// Fails only with Memory. `out` then begins with what it was.
 pub fn row(kind: Kind, name: &Name, number: u64, out: &mut Vec<u8>) -> Result<(), Refusal>
     ensures ok { OnOk result (out.new.items ≡ out.old.items ++ row_text kind name.now number) }
     ensures width { OnOk result (length out.new.items ≡ length out.old.items + ROW_BYTES) }
@@ -59,10 +59,10 @@ pub fn row(kind: Kind, name: &Name, number: u64, out: &mut Vec<u8>) -> Result<()
     Ok(())
 }
 
-/// Writes a file's row behind `out`: as `row`, with its status for the number, and before the line feed a space and the
+/// Appends a file's row to `out`: as `row`, with its status for the number, and before the line feed a space and the
 /// count on the right of a column of its own.
 ///
-/// Refused as Memory alone. `out` then begins with what it was.
+/// Fails only with Memory. `out` then begins with what it was.
 pub fn file_row(file: &FileRow, out: &mut Vec<u8>) -> Result<(), Refusal>
     ensures ok { OnOk result (out.new.items ≡ out.old.items ++ file_row_text file.now) }
     ensures width { OnOk result (file.now.count < 10 ^ COUNT_WIDTH →

@@ -11,10 +11,10 @@ use crate::rows::push_row;
 use point_core::{Items, Refusal, TopRow};
 use resv_core::Settled;
 
-/// Writes what clients settled behind `out`: a row for each client's timeline with its value, and for each buffer a row
+/// Appends what clients settled to `out`: a row for each client's timeline with its value, and for each buffer a row
 /// with the number of its rows, and these. Clients are named `c1`, `c2` and so on, buffers `b0`, `b1` and so on.
 ///
-/// Refused as Memory alone. `out` then begins with what it was.
+/// Fails only with Memory. `out` then begins with what it was.
 pub fn settled_text(settled: &Settled, out: &mut Vec<u8>) -> Result<(), Refusal>
     ensures ok { OnOk result (out.new.items ≡ out.old.items ++ settled_text settled.now) }
     ensures err { OnErr result ((result ≡ Err Memory) × StartsWith out.new.items out.old.items) }

@@ -9,7 +9,7 @@ use std::io::Write;
 
 /// Writes all of the bytes.
 ///
-/// Refused as Write, where a front of the bytes was written: a write failed or took no byte. An interrupted write
+/// Fails with Write after a prefix of the bytes was written: a write failed or took no byte. An interrupted write
 /// counts as failed.
 pub fn write_whole<W: Write>(writer: &mut W, bytes: &[u8]) -> Result<(), Refusal>
     ensures ok { OnOk result (Appends (W.contents writer.old) (W.contents writer.new) bytes.now) }

@@ -13,7 +13,7 @@ pub const SCANNED: usize = 32;
 
 const _: () = prove!(SCANNED == 32);
 
-/// Puts the points behind the entries, of which those that give way may go out. Takes no memory.
+/// Puts the points after the entries, of which those that give way may go out. Takes no memory.
 pub(crate) fn add_all(entries: &mut Vec<Entry>, points: &[Point], usage: Usage, reach: &Reach)
     requires places { vec_len entries.old + length points.now ≤ vec_capacity entries.old }
     requires contexts { HasContexts entries.old.items }

@@ -25,7 +25,7 @@ pub fn a_table_agrees_with_all_that_was_added()
         AgreesAbove (last_reach reach steps) (last_entries es steps) (put ++ all_added steps) }
 {}
 
-/// What `table` and `test` tell of a table depends on nothing else than what it agrees with. Of what `collect` lists,
+/// What `table` and `test` give of a table depends only on what it agrees with. Of what `collect` lists,
 /// `listings_show_agreement` of `point_core` says so.
 pub fn tables_that_agree_tell_the_same()
     ensures table { (reach : List ℕ) (es fs : List Entry) →

@@ -24,12 +24,12 @@ pub const PLACES: usize = PLACES_PER_CONTEXT * CONTEXTS;
 
 const _: () = prove!(PLACES_PER_CONTEXT == 5);
 
-const _: () = prove!(PLACES == 320);
+const _: () = prove!(PLACES == 1_280);
 
 /// The fences of a buffer, each with the usage that it was added for, as Linux's `struct dma_resv`.
 ///
 /// What matters of a table is its latest pending point of each context at each usage or a stronger one. Where an
-/// entry stands, and which of the others are still kept, is not told.
+/// entry stands, and which of the others are still kept, is not said.
 #[derive(Debug, Drop)]
 pub struct Resv {
     entries: Vec<Entry>,

@@ -20,8 +20,8 @@ use std::io::{Read, Write};
 ///
 /// Its memory does not grow with the script: of the lines it keeps what the desk holds.
 ///
-/// Refused as Read where a read failed: then the lines whose line feed was read are answered. Refused as Write where a
-/// write failed or took no byte, or the flush failed, and as Memory where a growth was refused: then a front of the answers
+/// Fails with Read if a read failed: then the lines whose line feed was read are answered. Fails with Write if a
+/// write failed or took no byte, or the flush failed, and with Memory if a growth was refused: then a prefix of the answers
 /// is written.
 pub fn engine<R: Read, W: Write>(
     alloc: Global,
@@ -31,7 +31,7 @@ pub fn engine<R: Read, W: Write>(
     ensures ok { IfOk result (λ totals. (script : List ℕ) × IsInput (R.remaining reader.old) script
         × AnswersScript script totals (W.contents writer.old) (W.contents writer.new)) }
 
-    // What is read is the script, up to the byte behind its limit.
+    // What is read is the script, up to the byte after its limit.
     ensures reads { IfOk result (λ _. IfSome (R.remaining reader.old) (λ input.
         Consumes (R.remaining reader.old) (R.remaining reader.new) (take (SCRIPT_BYTES + 1) input))) }
 
@@ -43,7 +43,7 @@ pub fn engine<R: Read, W: Write>(
         → AnswersEndedLines (R.remaining reader.old) (R.remaining reader.new)
         (W.contents writer.old) (W.contents writer.new) }
 
-    // A front of the answers is written.
+    // A prefix of the answers is written.
     ensures err { OnErr result ((script : List ℕ) × IsInput (R.remaining reader.old) script
         × WritesFront (script_of script) (W.contents writer.old) (W.contents writer.new)) }
     ensures refusals { IfErr result (λ refusal.

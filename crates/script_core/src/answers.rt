@@ -41,7 +41,7 @@ impl Answers {
 
     /// Of no line.
     ///
-    /// Refused as Memory alone.
+    /// Fails only with Memory.
     pub fn new(alloc: Global) -> Result<Answers, Refusal>
         ensures none { IfOk result (λ answers. (contents : Option (List ℕ)) → HasAnswered [] answers contents contents) }
         ensures refusals { IfErr result (λ refusal. refusal ≡ Memory) }
@@ -63,7 +63,7 @@ impl Answers {
     /// Answers the line of that number, where it has an answer, and gives the refusal where the answer is one. Texts are
     /// written where they are many.
     ///
-    /// Refused as Write where a write failed or took no byte, and as Memory where a growth was refused: then a front of the
+    /// Fails with Write if a write failed or took no byte, and with Memory if a growth was refused: then a prefix of the
     /// answers is written.
     pub fn answer<W: Write>(
         &mut self,
@@ -119,7 +119,7 @@ impl Answers {
 
     /// Writes the texts that are not yet written.
     ///
-    /// Refused as Write where a write failed or took no byte: then a front of the answers is written.
+    /// Fails with Write if a write failed or took no byte: then a prefix of the answers is written.
     pub fn write<W: Write>(&mut self, writer: &mut W) -> Result<(), Refusal>
         ensures ok { OnOk result ((done : List LineModel) → (start : Option (List ℕ)) →
             HasAnswered done self.old start (W.contents writer.old)
@@ -135,9 +135,9 @@ impl Answers {
         Ok(())
     }
 
-    /// Writes the texts that are not yet written, flushes, and tells how many lines were answered.
+    /// Writes the texts that are not yet written, flushes, and reports how many lines were answered.
     ///
-    /// Refused as Write where a write failed or took no byte, or the flush failed: then a front of the answers is written.
+    /// Fails with Write if a write failed or took no byte, or the flush failed: then a prefix of the answers is written.
     pub fn finish<W: Write>(&mut self, writer: &mut W) -> Result<Totals, Refusal>
         ensures ok { IfOk result (λ totals. (done : List LineModel) → (start : Option (List ℕ)) →
             HasAnswered done self.old start (W.contents writer.old)

@@ -1,6 +1,6 @@
 //! The engine, which turns a script's bytes into answers and these into bytes.
 //!
-//! The texts of answers are told as functions of the answers (`specs/`). Lines are those of `line_core`, whose names for
+//! The texts of answers are given as functions of the answers (`specs/`). Lines are those of `line_core`, whose names for
 //! a script's bytes stand here too.
 #![tactic(auto)]
 

@@ -15,10 +15,10 @@ use point_core::Refusal;
 use report_core::{buffer_text, file_row};
 use std::io::Write;
 
-/// Puts the text of the answer of the line of that number behind `out`, and writes what waits there where it is much. The
+/// Appends the text of the answer of the line of that number to `out`, and writes what waits there if it is much. The
 /// text of a report waits by its timelines, file by file and buffer by buffer, and is never held as a whole.
 ///
-/// Refused as Write where a write failed or took no byte, and as Memory where a growth was refused: then a front of what
+/// Fails with Write if a write failed or took no byte, and with Memory if a growth was refused: then a prefix of what
 /// waited and of the text is written.
 #[inline(always)]
 pub(crate) fn pass_answer<W: Write>(

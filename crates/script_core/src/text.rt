@@ -18,9 +18,9 @@ use report_core::{NUMBER_WIDTH, TEXT_LINE_BYTES, TextLine, status_text, timeline
 /// The most bytes of a driver's name, those of `sw_sync`.
 const DRIVER_BYTES: usize = 7;
 
-/// Writes the text of the answer of the line of that number behind `out`.
+/// Appends the text of the answer of the line of that number to `out`.
 ///
-/// Refused as Memory alone, and `out` is then as it was.
+/// Fails only with Memory, and then leaves `out` as it was.
 pub fn print(line: u32, answer: &Answer, out: &mut Vec<u8>) -> Result<(), Refusal>
     ensures ok { OnOk result (out.new.items ≡ out.old.items ++ text_of line answer.now) }
     ensures err { OnErr result ((result ≡ Err Memory) × (out.new.items ≡ out.old.items)) }
@@ -50,7 +50,7 @@ fn push_answer(line: u32, answer: &Answer, out: &mut Vec<u8>) -> Result<(), Refu
 
 /// The same of an answer that is given away, which need not lie in memory as a whole then.
 ///
-/// Refused as Memory alone. `out` then begins with what it was.
+/// Fails only with Memory. `out` then begins with what it was.
 #[inline(always)]
 pub(crate) fn push_owned(line: u32, answer: Answer, out: &mut Vec<u8>) -> Result<(), Refusal>
     ensures ok { OnOk result (out.new.items ≡ out.old.items ++ text_of line answer) }
@@ -182,9 +182,9 @@ fn push_report(report: &Report, out: &mut Vec<u8>) -> Result<(), Refusal>
     Ok(())
 }
 
-/// Writes the number of a report's rows, and those of its timelines, behind `out`.
+/// Appends the number of a report's rows, and those of its timelines, to `out`.
 ///
-/// Refused as Memory alone. `out` then begins with what it was.
+/// Fails only with Memory. `out` then begins with what it was.
 #[inline(never)]
 pub(crate) fn push_timelines(report: &Report, out: &mut Vec<u8>) -> Result<(), Refusal>
     ensures ok { OnOk result (out.new.items

@@ -12,7 +12,7 @@ pub fn read_file<R: Files + AllocGlobal>(rt: &R, name: &str, most: u64) -> io::R
     Ok(bytes)
 }
 
-/// Puts bytes in the place of a file, which may stand behind links: a file beside it is written, with the same permissions, and
+/// Puts bytes in the place of a file, which links may lead to: a file beside it is written, with the same permissions, and
 /// takes its name once it is whole and on its disk. So the name always stands for a whole file.
 ///
 /// Where that fails the file stays as it was, and the other is removed. One that is there already is left alone, which fails.

@@ -20,7 +20,7 @@ pub fn entries_lie_apart()
         (buffer ≡ other) × (ctx ≡ other_ctx) }
 {}
 
-/// Each word is the value of a context or its mark, a claim or a flag, an entry of the board, or unused. So the rule tells all that
+/// Each word is the value of a context or its mark, a claim or a flag, an entry of the board, or unused. So the rule says all that
 /// a word can be.
 pub fn each_word_has_a_kind()
     ensures { (sizes : Sizes) (k : ℕ) →

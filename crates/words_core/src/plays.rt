@@ -1,4 +1,4 @@
-// The rule of the words, what each kind of step tells, and how views are split and joined.
+// The rule of the words, what each kind of step shows, and how views are split and joined.
 ghost use Rattle.std.specs.Prelude.{ℕ};
 ghost use Rattle.words_core.specs.Rule.{IsKept, first_view};
 ghost use Rattle.words_core.specs.Plays.{loads_value, claims_context, adds_to_value, loads_mark, shuts_mark, counts_parts, loads_total, loads_total_mark, sets_once, loads_flag, loads_entry, raises_entry, loads_top, parent_view, child_view, joined_view, joined_from};

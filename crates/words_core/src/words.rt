@@ -178,8 +178,8 @@ impl Words {
         self.absorb(seat, other);
     }
 
-    // The join, and a second load of word 0, which tells that the parts are no more than all and each word won once
-    // at most: a join alone tells its caller nothing of the rule.
+    // The join, and a second load of word 0, which shows that the parts are no more than all and each word won once
+    // at most: a join alone shows its caller nothing of the rule.
     fn absorb(&self, seat: &mut Seat, other: Seat)
         requires own { (seat.old.words ≡ self.now) × (other.words ≡ self.now) }
         ensures both { seat.new ≡ both_of seat.old other }

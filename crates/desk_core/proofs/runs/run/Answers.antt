@@ -1,5 +1,6 @@
 use Rattle.std.proofs.Common.{◌++◌, [], ◌∷◌, take, arith, refl, sym, ap, ◌∙◌}
 use Rattle.std.proofs.lemmas.List.{take_more, take_all}
+use Rattle.std.proofs.lemmas.Result.{err_from_is_err_and}
 use Rattle.desk_core.proofs.Answering.{HasRun-push}
 use Rattle.desk_core.proofs.Telling.{TellsWhatWasPut-stands, TellsWhatIsInBuffers-stands}
 use Rattle.desk_core.proofs.Firing.{TellsWhatFires-stands}
@@ -44,3 +45,8 @@ pub returns-clause-each_watch : goal.returns-clause-each_watch
 returns-clause-each_watch c =
     let all = take_all c.loop-command.command-index c.args.commands.now c.loop-command-test.false in
     TellsEachWatch-stands _ _ _ (rw all at c.loop-command.invariant.0.answers) (rw all at c.loop-command.invariant.0.stands)
+
+pub returns-in_err-answers-clause-memory : goal.returns-in_err-answers-clause-memory
+returns-in_err-answers-clause-memory c =
+    let p = err_from_is_err_and c.from_residual-in_err-answers.result c.from_residual-in_err-answers.ensures.1 in
+    rw p.1 p.2
