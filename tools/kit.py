@@ -34,3 +34,8 @@ def lines_of(crate):
     """Returns how many lines of code, definitions and proofs a crate has, by which its time is estimated."""
     rtlib = sys.modules["rtlib"]
     return sum((rtlib.text_of(it) or "").count("\n") for it in rtlib.files_of(crate.folder))
+
+
+def is_refused(rt, verdict):
+    """Returns whether rt's verdict on an edit is that the prover refuses it: some kits give a truth value, others a name."""
+    return verdict in [getattr(rt, it, True) for it in ("REFUSED", "AT_LIMIT")]
