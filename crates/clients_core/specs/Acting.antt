@@ -35,8 +35,9 @@ advanced driver n = record {
 }
 
 -- of each buffer, the tables are those of what these acts put into it
-abbrev pub KnowPuts : List OwnPuts → List Act → Type 0
-KnowPuts own done = (buffer : ℕ) (puts : OwnPuts) → slice_get own buffer ≡ Some puts → AreOwnPuts puts (puts_of buffer done)
+abbrev pub KnowPuts : ℕ → List OwnPuts → List Act → Type 0
+KnowPuts contexts own done =
+    (buffer : ℕ) (puts : OwnPuts) → slice_get own buffer ≡ Some puts → AreOwnPuts contexts puts (puts_of buffer done)
 
 -- what a look is answered, by what the table has listed: Torn where that doesn't show what the client has put
 abbrev pub judged : ℕ → List Entry → Result Listing Refusal → Result (Unit {0}) Refusal
