@@ -1,6 +1,5 @@
 -- The latest points of a client's own puts, as points are put one by one.
-use Rattle.std.proofs.Common.{◌≡◌, ℕ, ◌+◌, ◌-◌, ◌<◌, ◌≤◌, max, Bool, All, true, false, if◌then◌else◌, List, [], ◌∷◌, ◌++◌, length, map, get_or, set, replicate, zero, suc, refl, sym, ap, ◌∙◌, subst, inl, inr, arith}
-use Rattle.std.specs.Prelude.{nat_le}
+use Rattle.std.proofs.Common.{◌≡◌, ℕ, ◌+◌, ◌-◌, ◌<◌, ◌≤◌, max, Bool, if◌then◌else◌, List, [], ◌∷◌, ◌++◌, length, map, get_or, set, replicate, zero, suc, refl, sym, ap, ◌∙◌, subst, inl, inr, arith}
 use Rattle.std.proofs.Math.ListN.{get_or-map}
 use Rattle.std.proofs.Math.Seq.{map-set_same}
 use Rattle.std.proofs.lemmas.Bool.Decides.{leb_tells}
@@ -19,7 +18,7 @@ use Rattle.point_core.proofs.Latest.{IsLatest-put_point, IsLatest-weaker}
 use Rattle.point_core.proofs.Values.{value_at-replicate}
 use Rattle.clients_core.specs.declared.own_puts.Latest.{Latest}
 use Rattle.clients_core.specs.declared.own_puts.OwnPuts.{OwnPuts}
-use Rattle.clients_core.specs.OwnPuts.{no_points, no_point, point_at, points_at, later_point, AreOwnPuts}
+use Rattle.clients_core.specs.OwnPuts.{no_points, no_point, point_at, later_point, AreOwnPuts}
 
 -- what holds at each usage
 pub for-each-usage : (P : Usage → Type 0) → P Kernel → P Write → P Read → P Bookkeep → (usage : Usage) → P usage

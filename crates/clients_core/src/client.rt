@@ -53,7 +53,11 @@ pub(crate) fn act_all<R: Wait, T: SharedTable, G: Gate>(
         plan.now (client_of driver.old seat.old) (client_of driver.new seat.new) e) }
     ensures refusals { IfErr result IsClientRefusal }
 {
-    let mut own = no_puts(shared.alloc, shared.words.buffers(), shared.words.contexts())?;
+    let mut own = no_puts(
+        shared.alloc,
+        shared.words.buffers(),
+        shared.words.contexts(),
+    )?;
     let mut listing = Listing::empty(shared.alloc);
     match plan.acts() {
         Acts::Listed(acts) => act_listed(

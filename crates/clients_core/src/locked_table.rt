@@ -91,7 +91,9 @@ impl SharedTable for LockedTable {
         usage: Usage,
         listing: &mut Listing,
     ) -> Result<(), Refusal> {
-        self.buffers[buffer].lock(rt).export(alloc, words, seat, usage, listing)
+        self.buffers[buffer]
+            .lock(rt)
+            .export(alloc, words, seat, usage, listing)
     }
 
     fn settle<R: Wait>(

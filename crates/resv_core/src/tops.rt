@@ -114,15 +114,6 @@ impl Tops {
     }
 }
 
-/// The latest point of each context at the usage or a stronger one, or its value where no point is above that.
-pub(crate) fn latest_of(entries: &[Entry], usage: Usage, reach: &Reach) -> LatestPoints
-    ensures { IsLatest result reach.now entries.now (usage_number usage) }
-{
-    let mut latest = LatestPoints::above(reach);
-    put_each(&mut latest, usage, entries);
-    latest
-}
-
 /// Puts the entries into a table of a usage that has none yet.
 pub(crate) fn put_each(latest: &mut LatestPoints, usage: Usage, entries: &[Entry])
     ensures latest { (reach : List ℕ) →

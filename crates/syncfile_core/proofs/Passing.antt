@@ -1,9 +1,9 @@
 -- A file's points and floor, context by context, beside the clocks that are loaded.
-use Rattle.std.proofs.Common.{◌≡◌, ◌≢◌, ◌↔◌, ℕ, ◌+◌, ◌-◌, ◌<◌, ◌≤◌, Bool, true, false, ◌&&◌, ◌||◌, nat_le, All, IsTrue, List, [], ◌∷◌, ◌++◌, length, map, get_or, refl, sym, ap, ◌∙◌, subst, inl, inr, append_assoc, append-nil, arith}
+use Rattle.std.proofs.Common.{◌≡◌, ◌≢◌, ℕ, ◌+◌, ◌-◌, ◌<◌, ◌≤◌, true, ◌&&◌, ◌||◌, nat_le, All, List, [], ◌∷◌, ◌++◌, map, get_or, refl, sym, ap, ◌∙◌, subst, inl, inr, append_assoc, append-nil, arith}
 use Rattle.std.specs.Prelude.{not}
 use Rattle.std.specs.List.{list_all, list_any}
 use Rattle.std.proofs.lemmas.Bool.{and_parts, and_from, cases_lt, leb-true, le-leb}
-use Rattle.std.proofs.lemmas.List.Elements.{All-nil, All-cons, All-head, All-push, All-tail, All-weaker}
+use Rattle.std.proofs.lemmas.List.Elements.{All-nil, All-head, All-push, All-tail, All-weaker}
 use mathlib.Core.Logic.{dite}
 use native.Mathlib.Decide.{ℕ_discrete}
 use Rattle.point_core.specs.declared.clocks.Clock.{Clock}
@@ -12,7 +12,7 @@ use Rattle.point_core.specs.declared.status.Status.{Status}
 use Rattle.point_core.specs.declared.status.Status.TheVariants.{Signalled}
 use Rattle.point_core.specs.Agreement.{point_of, HasRisingContexts}
 use Rattle.point_core.specs.Clocks.{clock_at, common_status, is_cancelled, new_clock, reach_of_clocks, reached_by, status_by, status_of}
-use Rattle.point_core.specs.Reach.{is_reached, value_at, IsAtLeast}
+use Rattle.point_core.specs.Reach.{is_reached, value_at}
 use Rattle.point_core.specs.Status.{status_with}
 use Rattle.point_core.specs.TwoLists.{AllFrom}
 use Rattle.point_core.specs.Used.{used_of}
@@ -189,9 +189,9 @@ pub found-IsBorneOutAt : (clocks : List Clock) (f : File) (n : ℕ) (found : Fou
     → (found.borne_out ≡ true) × (found.rest.now ≡ []) × (used_of f.floor ≤ n)
 found-IsBorneOutAt clocks f n found some h past out = (
   h.floor.1 (λ ctx low high.
-    let below = out.floor.values ctx in
-    let reached = value_at-reach_of_clocks clocks ctx in
-    omega arith),
+      let below = out.floor.values ctx in
+      let reached = value_at-reach_of_clocks clocks ctx in
+      omega arith),
   none_later n found.rest.now (h.points.later (omega arith)) (All-later (λ (p : Point). p.ctx ≤ n) h.points.passed found.rest.now (subst (All (λ (p : Point). p.ctx ≤ n)) h.points.parts out.points)),
   elim (cases_lt n (used_of f.floor)) [
     | inl more ↦

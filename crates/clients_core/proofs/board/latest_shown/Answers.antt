@@ -1,4 +1,4 @@
-use Rattle.std.proofs.Common.{◌≡◌, ◌+◌, ◌<◌, ◌≤◌, sym, subst, ◌∙◌, arith}
+use Rattle.std.proofs.Common.{◌≡◌, ◌+◌, ◌<◌, ◌≤◌, sym, subst, arith}
 use Rattle.point_core.specs.Reach.{value_at}
 use Rattle.clients_core.specs.Board.{HasListed}
 use Rattle.clients_core.proofs.Showing.{HasListed-pushed, HasListed-reached}

@@ -1,4 +1,4 @@
-use Rattle.std.proofs.Common.{◌≡◌, ◌≤◌, vec_len, vec_capacity}
+use Rattle.std.proofs.Common.{◌≤◌, vec_len, vec_capacity}
 use Rattle.clients_core.specs.Board.{HasListed}
 use Rattle.clients_core.proofs.board.latest_shown.Given as goal
 

@@ -1,4 +1,3 @@
-use Rattle.std.proofs.Common.{ap, sym, ◌∙◌}
 use Rattle.clients_core.proofs.Owning.{own-shown}
 use Rattle.clients_core.proofs.Showing.{HasLooked-listed, HasLooked-same}
 use Rattle.clients_core.proofs.board.Board.export_into.Goals as goal

@@ -1,4 +1,4 @@
-use Rattle.std.proofs.Common.{refl, sym, ap, ◌∙◌, replicate}
+use Rattle.std.proofs.Common.{refl, ap, ◌∙◌, replicate}
 use Rattle.clients_core.specs.declared.own_puts.Latest.{Latest}
 use Rattle.clients_core.proofs.OwnLatest.{AreOwnPuts-none}
 use Rattle.clients_core.proofs.own_puts.OwnPuts.none.Goals as goal

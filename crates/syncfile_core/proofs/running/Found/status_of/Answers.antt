@@ -10,5 +10,8 @@ pub returns-then-is_borne_out-clause-borne_out : goal.returns-then-is_borne_out-
 returns-then-is_borne_out-clause-borne_out c = λ clocks found. IsBorneOutAt-found clocks c.args.file.now c.args.contexts c.args.self.now found (c.is_borne_out.ensures.0 c.if-is_borne_out.true)
 
 pub returns-else-is_borne_out-clause-foreign : goal.returns-else-is_borne_out-clause-foreign
-returns-else-is_borne_out-clause-foreign c = λ clocks some found past. (refl, λ out.
-    absurd (false≢true (sym c.if-is_borne_out.false ∙ c.is_borne_out.ensures.1 (found-IsBorneOutAt clocks c.args.file.now c.args.contexts c.args.self.now some found past out))))
+returns-else-is_borne_out-clause-foreign c = λ clocks some found past. (
+  refl,
+  λ out.
+      absurd (false≢true (sym c.if-is_borne_out.false ∙ c.is_borne_out.ensures.1 (found-IsBorneOutAt clocks c.args.file.now c.args.contexts c.args.self.now some found past out))),
+)

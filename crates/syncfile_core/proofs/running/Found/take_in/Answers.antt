@@ -1,4 +1,4 @@
-use Rattle.std.proofs.Common.{◌≡◌, ap, ◌∙◌, ◌&&◌, nat_le, ℕ}
+use Rattle.std.proofs.Common.{ap, ◌∙◌, ◌&&◌, nat_le, ℕ}
 use Rattle.point_core.specs.Reach.{value_at}
 use Rattle.syncfile_core.specs.SyncFile.{File}
 use Rattle.syncfile_core.specs.Running.{HasPassedTo}
