@@ -34,7 +34,7 @@ advanced driver n = record {
   value = driver.value + n;
 }
 
--- of each buffer, the tables are those of what these acts put into it
+-- of each buffer, what is kept is the latest points that these acts put into it
 abbrev pub KnowPuts : ℕ → List OwnPuts → List Act → Type 0
 KnowPuts contexts own done =
     (buffer : ℕ) (puts : OwnPuts) → slice_get own buffer ≡ Some puts → AreOwnPuts contexts puts (puts_of buffer done)
