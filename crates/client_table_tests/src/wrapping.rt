@@ -70,6 +70,25 @@ impl SharedTable for OddTable {
         })
     }
 
+    fn export_into<R: Wait>(
+        &self,
+        rt: &R,
+        alloc: Global,
+        words: &Words,
+        seat: &mut Seat,
+        buffer: usize,
+        usage: Usage,
+        listing: &mut Listing,
+    ) -> Result<(), Refusal> {
+        let lists_nothing = matches!(usage, Usage::Bookkeep);
+        self.table
+            .export_into(rt, alloc, words, seat, buffer, usage, listing)?;
+        if lists_nothing {
+            listing.points = Items::of(Vec::new(alloc));
+        }
+        Ok(())
+    }
+
     fn settle<R: Wait>(
         &self,
         rt: &R,

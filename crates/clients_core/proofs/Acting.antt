@@ -39,17 +39,17 @@ All-get P [] k x all at = absurd (none-some x at)
 All-get P (y ∷ ys) zero x all at = subst P (same_Some y x at) (All-head P y ys all)
 All-get P (y ∷ ys) (suc k) x all at = All-get P ys k x (All-tail P y ys all) at
 
-pub KnowPuts-none : (own : List OwnPuts) → All (λ (puts : OwnPuts). AreOwnPuts puts []) own → KnowPuts own []
-KnowPuts-none own none = λ buffer puts at. All-get (λ (puts : OwnPuts). AreOwnPuts puts []) own buffer puts none at
+pub KnowPuts-none : (contexts : ℕ) (own : List OwnPuts) → All (λ (puts : OwnPuts). AreOwnPuts contexts puts []) own → KnowPuts contexts own []
+KnowPuts-none contexts own none = λ buffer puts at. All-get (λ (puts : OwnPuts). AreOwnPuts contexts puts []) own buffer puts none at
 
 -- an act that puts nothing
-pub KnowPuts-same : (own : List OwnPuts) (done : List Act) (act : Act) → ((buffer : ℕ) → put_by buffer act ≡ []) → KnowPuts own done → KnowPuts own (done ++ act ∷ [])
-KnowPuts-same own done act nothing known = λ buffer puts at.
-    subst (AreOwnPuts puts) (sym (puts_of-more buffer done act ∙ ap (λ es. puts_of buffer done ++ es) (nothing buffer) ∙ append-nil (puts_of buffer done))) (known buffer puts at)
+pub KnowPuts-same : (contexts : ℕ) (own : List OwnPuts) (done : List Act) (act : Act) → ((buffer : ℕ) → put_by buffer act ≡ []) → KnowPuts contexts own done → KnowPuts contexts own (done ++ act ∷ [])
+KnowPuts-same contexts own done act nothing known = λ buffer puts at.
+    subst (AreOwnPuts contexts puts) (sym (puts_of-more buffer done act ∙ ap (λ es. puts_of buffer done ++ es) (nothing buffer) ∙ append-nil (puts_of buffer done))) (known buffer puts at)
 
 -- the tables of a buffer, of which there is one for each
-pub KnowPuts-at : (own : List OwnPuts) (done : List Act) (buffer : ℕ) (puts : OwnPuts) → buffer < length own → puts ≡ get_or own buffer puts → KnowPuts own done → AreOwnPuts puts (puts_of buffer done)
-KnowPuts-at own done buffer puts low at known = known buffer puts (slice_get_read own (length own) buffer puts refl low at)
+pub KnowPuts-at : (contexts : ℕ) (own : List OwnPuts) (done : List Act) (buffer : ℕ) (puts : OwnPuts) → buffer < length own → puts ≡ get_or own buffer puts → KnowPuts contexts own done → AreOwnPuts contexts puts (puts_of buffer done)
+KnowPuts-at contexts own done buffer puts low at known = known buffer puts (slice_get_read own (length own) buffer puts refl low at)
 
 put_by-here : (buffer : ℕ) (point : Point) (usage : Usage) → put_by buffer (Put buffer point usage) ≡ entry_of point usage ∷ []
 put_by-here buffer point usage = elim (eqb_tells buffer buffer) [
@@ -64,8 +64,8 @@ put_by-other into buffer point usage apart = elim (eqb_tells into buffer) [
 ]
 
 -- a put
-pub KnowPuts-put : (own : List OwnPuts) (done : List Act) (into : ℕ) (point : Point) (usage : Usage) (old new : OwnPuts) → into < length own → old ≡ get_or own into old → ((es : List Entry) → AreOwnPuts old es → AreOwnPuts new (es ++ entry_of point usage ∷ [])) → KnowPuts own done → KnowPuts (set own into new) (done ++ Put into point usage ∷ [])
-KnowPuts-put own done into point usage old new low at put known = λ buffer puts is.
+pub KnowPuts-put : (contexts : ℕ) (own : List OwnPuts) (done : List Act) (into : ℕ) (point : Point) (usage : Usage) (old new : OwnPuts) → into < length own → old ≡ get_or own into old → ((es : List Entry) → AreOwnPuts contexts old es → AreOwnPuts contexts new (es ++ entry_of point usage ∷ [])) → KnowPuts contexts own done → KnowPuts contexts (set own into new) (done ++ Put into point usage ∷ [])
+KnowPuts-put contexts own done into point usage old new low at put known = λ buffer puts is.
     let len : length (set own into new) ≡ length own = length-set own into new in
     let inside : buffer < length own = omega (arith, slice_get_within (set own into new) buffer puts is, len) in
     let here : get_or (set own into new) buffer puts ≡ puts = get_or_from_slice_get (set own into new) buffer puts puts is in
@@ -76,12 +76,12 @@ KnowPuts-put own done into point usage old new low at put known = λ buffer puts
     ap (λ es. puts_of into done ++ es) (sym (put_by-here into point usage))
     ∙ sym (puts_of-more into done (Put into point usage))
     ∙ ap (λ k. puts_of k (done ++ Put into point usage ∷ [])) (sym same) in
-    subst (λ p. AreOwnPuts p (puts_of buffer (done ++ Put into point usage ∷ []))) new-is
-    (subst (AreOwnPuts new) es (put (puts_of into done) (KnowPuts-at own done into old low at known))))
+    subst (λ p. AreOwnPuts contexts p (puts_of buffer (done ++ Put into point usage ∷ []))) new-is
+    (subst (AreOwnPuts contexts new) es (put (puts_of into done) (KnowPuts-at contexts own done into old low at known))))
     (λ other.
     let same : puts ≡ get_or own buffer puts = sym here ∙ get_or-set_other own into buffer new puts other in
-    subst (AreOwnPuts puts) (sym (puts_of-more buffer done (Put into point usage) ∙ ap (λ es. puts_of buffer done ++ es) (put_by-other into buffer point usage other) ∙ append-nil (puts_of buffer done)))
-    (KnowPuts-at own done buffer puts inside same known))
+    subst (AreOwnPuts contexts puts) (sym (puts_of-more buffer done (Put into point usage) ∙ ap (λ es. puts_of buffer done ++ es) (put_by-other into buffer point usage other) ∙ append-nil (puts_of buffer done)))
+    (KnowPuts-at contexts own done buffer puts inside same known))
 
 -- what is put is of a context that there is
 put-within : (contexts buffers buffer : ℕ) (act : Act) → IsWithin contexts buffers act → All (λ (e : Entry). e.point.ctx ≤ contexts) (put_by buffer act)

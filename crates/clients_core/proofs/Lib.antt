@@ -5,6 +5,7 @@ pub mod Gathering
 pub mod Keeping
 pub mod Locking
 pub mod Looking
+pub mod OwnLatest
 pub mod Owning
 pub mod Planning
 pub mod PlansOfRounds

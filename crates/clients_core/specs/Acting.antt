@@ -34,9 +34,10 @@ advanced driver n = record {
   value = driver.value + n;
 }
 
--- of each buffer, the tables are those of what these acts put into it
-abbrev pub KnowPuts : List OwnPuts → List Act → Type 0
-KnowPuts own done = (buffer : ℕ) (puts : OwnPuts) → slice_get own buffer ≡ Some puts → AreOwnPuts puts (puts_of buffer done)
+-- of each buffer, what is kept is the latest points that these acts put into it
+abbrev pub KnowPuts : ℕ → List OwnPuts → List Act → Type 0
+KnowPuts contexts own done =
+    (buffer : ℕ) (puts : OwnPuts) → slice_get own buffer ≡ Some puts → AreOwnPuts contexts puts (puts_of buffer done)
 
 -- what a look is answered, by what the table has listed: Torn where that doesn't show what the client has put
 abbrev pub judged : ℕ → List Entry → Result Listing Refusal → Result (Unit {0}) Refusal

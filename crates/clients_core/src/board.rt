@@ -1,5 +1,5 @@
 // Buffers that clients share, of words alone.
-ghost use Rattle.std.specs.Prelude.{◌≡◌, ◌<◌, ◌≤◌, ◌⊎◌, ◌↔◌, true, All, Ok, Err, IfErr, IfOk, IsOk, List, OnErr, replicate};
+ghost use Rattle.std.specs.Prelude.{◌≡◌, ◌<◌, ◌≤◌, ◌⊎◌, ◌↔◌, true, All, Ok, Err, IfErr, IfOk, IsOk, List, OnErr, OnOk};
 ghost use Rattle.point_core.specs.declared.context.TheConstants.{CONTEXTS};
 ghost use Rattle.point_core.specs.declared.entry.Entry.{Entry};
 ghost use Rattle.point_core.specs.Agreement.{HasContexts};
@@ -12,6 +12,7 @@ ghost use Rattle.clients_core.specs.Board.{AreAsPlanned, HasListed, HasLooked, H
 ghost use Rattle.clients_core.specs.Looks.{shows_all};
 
 use crate::gathered::{gathered_open, listed};
+use crate::listings::taken;
 use crate::raised::{are_as_planned, raised_tables};
 use point_core::{Context, Items, Listing, Point, Reach, Refusal, Usage};
 use resv_core::{Plan, Settled, SharedTable};
@@ -75,12 +76,38 @@ impl Board {
             IfOk result (λ listing. shows_all listing (usage_number usage) es ≡ true) }
         ensures memory { IfErr result (λ e. e ≡ refusal.Memory) }
     {
-        let mut floor = Reach::zero();
-        let points = look(alloc, words, seat, buffer, usage, &mut floor)?;
-        Ok(Listing {
-            points: Items::of(points),
-            floor,
-        })
+        let mut listing = Listing::empty(alloc);
+        self.export_into(alloc, words, seat, buffer, usage, &mut listing)?;
+        Ok(listing)
+    }
+
+    /// The same look, into a listing that its caller keeps for many looks: what it had goes. Its list takes memory only where
+    /// there is no room in it for a point of each context of the words.
+    ///
+    /// Refuses as `Memory` alone. Nothing is said of the listing then.
+    pub fn export_into(
+        &self,
+        alloc: Global,
+        words: &Words,
+        seat: &mut Seat,
+        buffer: usize,
+        usage: Usage,
+        listing: &mut Listing,
+    ) -> Result<(), Refusal>
+        requires own { (seat.old.words ≡ words.now) × (self.now ≡ words.now) }
+        requires within { buffer < words.now.buffers }
+        ensures stepped { HasStepped seat.old seat.new }
+        ensures looked { OnOk result (HasLooked words.now buffer usage seat.old seat.new listing.new) }
+        ensures own { (es : List Entry) → HasContexts es → All (IsRaisedBy words.now buffer seat.old) es →
+            OnOk result (shows_all listing.new (usage_number usage) es ≡ true) }
+        ensures memory { IfErr result (λ e. e ≡ refusal.Memory) }
+    {
+        listing.floor.clear();
+        words.load_all_into(seat, &mut listing.floor);
+        let mut points = taken(alloc, &mut listing.points);
+        latest_shown(words, seat, buffer, usage, &listing.floor, &mut points)?;
+        listing.points = Items::of(points);
+        Ok(())
     }
 
     /// The values that the gathered seat knows, and the tables of the plans above them.
@@ -150,12 +177,20 @@ impl SharedTable for Board {
         buffer: usize,
         usage: Usage,
     ) -> Result<Listing, Refusal> {
-        let mut floor = Reach::zero();
-        let points = look(alloc, words, seat, buffer, usage, &mut floor)?;
-        Ok(Listing {
-            points: Items::of(points),
-            floor,
-        })
+        self.export(alloc, words, seat, buffer, usage)
+    }
+
+    fn export_into<R: Wait>(
+        &self,
+        _rt: &R,
+        alloc: Global,
+        words: &Words,
+        seat: &mut Seat,
+        buffer: usize,
+        usage: Usage,
+        listing: &mut Listing,
+    ) -> Result<(), Refusal> {
+        self.export_into(alloc, words, seat, buffer, usage, listing)
     }
 
     fn settle<R: Wait>(
@@ -170,53 +205,29 @@ impl SharedTable for Board {
     }
 }
 
-/// A look at a buffer: the values are loaded into the floor, and then the points above them are listed. The floor is the
-/// caller's, so that it is not copied.
-///
-/// Refuses as `Memory` alone.
-fn look(
-    alloc: Global,
-    words: &Words,
-    seat: &mut Seat,
-    buffer: usize,
-    usage: Usage,
-    floor: &mut Reach,
-) -> Result<Vec<Point>, Refusal>
-    requires own { seat.old.words ≡ words.now }
-    requires buffer { buffer < words.now.buffers }
-    requires zero { floor.old ≡ replicate CONTEXTS 0 }
-    ensures stepped { HasStepped seat.old seat.new }
-    ensures looked { IfOk result (λ points.
-        HasLooked words.now buffer usage seat.old seat.new (record { points = points.items; floor = floor.new })) }
-    ensures memory { IfErr result (λ e. e ≡ refusal.Memory) }
-{
-    words.load_all_into(seat, floor);
-    let points = latest_shown(alloc, words, seat, buffer, usage, floor)?;
-    Ok(points)
-}
-
 /// The latest point that a buffer shows of each context up to the level, where it is above the reach, by one look at each
-/// place.
+/// place. What the list had goes.
 ///
 /// Refuses as `Memory` alone, before the first look.
 fn latest_shown(
-    alloc: Global,
     words: &Words,
     seat: &mut Seat,
     buffer: usize,
     level: Usage,
     reach: &Reach,
-) -> Result<Vec<Point>, Refusal>
+    points: &mut Vec<Point>,
+) -> Result<(), Refusal>
     requires own { seat.old.words ≡ words.now }
     requires buffer { buffer < words.now.buffers }
-    ensures listed { IfOk result (λ points.
-        HasListed words.now buffer level words.now.contexts seat.old seat.new reach.now points.items) }
+    ensures listed { OnOk result
+        (HasListed words.now buffer level words.now.contexts seat.old seat.new reach.now points.new.items) }
     ensures contexts { words.now.contexts ≤ CONTEXTS }
     ensures memory { IfErr result (λ e. e ≡ refusal.Memory) }
     ensures refused { OnErr result (seat.new ≡ seat.old) }
 {
     let contexts = words.contexts();
-    let mut points = Vec::with_capacity(alloc, contexts)?;
+    points.clear();
+    points.reserve(contexts)?;
     for index in 0..contexts {
         let ctx = Context::at(index);
         let reached = reach.get(ctx);
@@ -225,7 +236,7 @@ fn latest_shown(
             points.push_reserved(Point { ctx, value });
         }
     }
-    Ok(points)
+    Ok(())
 }
 
 /// The latest of a value and of what the places of a context show up to the level, by one look at each.

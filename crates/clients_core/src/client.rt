@@ -14,7 +14,7 @@ ghost use Rattle.resv_core.specs.Settled.{IsWithin, increment_by, increments_of}
 
 use crate::gate::Gate;
 use crate::own_puts::{OwnPuts, no_puts};
-use point_core::{Entry, Point, Refusal, Usage};
+use point_core::{Entry, Listing, Point, Refusal, Usage};
 use resv_core::{Act, Acts, Plan, ROUND_ACTS, Rounds, SharedTable};
 use std::alloc::Global;
 use std::sync::Wait;
@@ -53,14 +53,29 @@ pub(crate) fn act_all<R: Wait, T: SharedTable, G: Gate>(
         plan.now (client_of driver.old seat.old) (client_of driver.new seat.new) e) }
     ensures refusals { IfErr result IsClientRefusal }
 {
-    let mut own = no_puts(shared.alloc, shared.words.buffers())?;
+    let mut own = no_puts(
+        shared.alloc,
+        shared.words.buffers(),
+        shared.words.contexts(),
+    )?;
+    let mut listing = Listing::empty(shared.alloc);
     match plan.acts() {
-        Acts::Listed(acts) => act_listed(shared, client, 0, acts, own.as_mut_slice(), driver, seat),
+        Acts::Listed(acts) => act_listed(
+            shared,
+            client,
+            0,
+            acts,
+            own.as_mut_slice(),
+            &mut listing,
+            driver,
+            seat,
+        ),
         Acts::InRounds(rounds) => act_rounds(
             shared,
             client,
             &rounds,
             own.as_mut_slice(),
+            &mut listing,
             driver,
             seat,
         ),
@@ -73,6 +88,7 @@ fn act_rounds<R: Wait, T: SharedTable, G: Gate>(
     client: usize,
     rounds: &Rounds,
     own: &mut [OwnPuts],
+    listing: &mut Listing,
     driver: &mut Driver,
     seat: &mut Seat,
 ) -> Result<(), Refusal>
@@ -81,7 +97,7 @@ fn act_rounds<R: Wait, T: SharedTable, G: Gate>(
     requires within { All (IsWithin shared.now.words.now.contexts shared.now.words.now.buffers) (acts_of_rounds rounds.now) }
     requires fits { driver.old.value + increments_of (acts_of_rounds rounds.now) < 2 ^ 64 }
     requires buffers { length own.old ≡ shared.now.words.now.buffers }
-    requires none { KnowPuts own.old [] }
+    requires none { KnowPuts shared.now.words.now.contexts own.old [] }
     ensures seats { IsSinglePart shared.now.words.now seat.new × IsDriving shared.now.words.now driver.new }
     ensures acted { OnOk result (HaveActed (T.puts shared.now.table.now) (T.exports shared.now.table.now) []
         (acts_of_rounds rounds.now) (client_of driver.old seat.old) (client_of driver.new seat.new)) }
@@ -97,6 +113,7 @@ fn act_rounds<R: Wait, T: SharedTable, G: Gate>(
             first,
             &rounds.round(index + 1),
             own,
+            listing,
             driver,
             seat,
         )?;
@@ -111,6 +128,7 @@ fn act_listed<R: Wait, T: SharedTable, G: Gate>(
     first: usize,
     acts: &[Act],
     own: &mut [OwnPuts],
+    listing: &mut Listing,
     driver: &mut Driver,
     seat: &mut Seat,
 ) -> Result<(), Refusal>
@@ -121,12 +139,12 @@ fn act_listed<R: Wait, T: SharedTable, G: Gate>(
     requires places { first + length acts.now < 2 ^ 64 }
     requires buffers { length own.old ≡ shared.now.words.now.buffers }
     ensures seats { IsSinglePart shared.now.words.now seat.new × IsDriving shared.now.words.now driver.new }
-    ensures acted { OnOk result ((done : List Act) → KnowPuts own.old done →
+    ensures acted { OnOk result ((done : List Act) → KnowPuts shared.now.words.now.contexts own.old done →
         All (IsWithin shared.now.words.now.contexts shared.now.words.now.buffers) done →
         HaveActed (T.puts shared.now.table.now) (T.exports shared.now.table.now) done
         acts.now (client_of driver.old seat.old) (client_of driver.new seat.new)) }
-    ensures known { OnOk result ((done : List Act) → KnowPuts own.old done → KnowPuts own.new (done ++ acts.now)) }
-    ensures stopped { IfErr result (λ e. (done : List Act) → KnowPuts own.old done →
+    ensures known { OnOk result ((done : List Act) → KnowPuts shared.now.words.now.contexts own.old done → KnowPuts shared.now.words.now.contexts own.new (done ++ acts.now)) }
+    ensures stopped { IfErr result (λ e. (done : List Act) → KnowPuts shared.now.words.now.contexts own.old done →
         All (IsWithin shared.now.words.now.contexts shared.now.words.now.buffers) done →
         HasStopped (T.puts shared.now.table.now) (T.exports shared.now.table.now) done
         acts.now (client_of driver.old seat.old) (client_of driver.new seat.new) e) }
@@ -139,7 +157,7 @@ fn act_listed<R: Wait, T: SharedTable, G: Gate>(
         if !shared.gate.enter(client, place) {
             return Err(Refusal::TimedOut);
         }
-        let done = act_once(shared, act, own, driver, seat);
+        let done = act_once(shared, act, own, listing, driver, seat);
         shared.gate.leave(client, place);
         done?;
     }
@@ -151,6 +169,7 @@ fn act_once<R: Wait, T: SharedTable, G: Gate>(
     shared: &Shared<R, T, G>,
     act: &Act,
     own: &mut [OwnPuts],
+    listing: &mut Listing,
     driver: &mut Driver,
     seat: &mut Seat,
 ) -> Result<(), Refusal>
@@ -160,11 +179,11 @@ fn act_once<R: Wait, T: SharedTable, G: Gate>(
     requires fits { driver.old.value + increment_by act.now < 2 ^ 64 }
     requires buffers { length own.old ≡ shared.now.words.now.buffers }
     ensures seats { IsSinglePart shared.now.words.now seat.new × IsDriving shared.now.words.now driver.new }
-    ensures acted { (done : List Act) → KnowPuts own.old done →
+    ensures acted { (done : List Act) → KnowPuts shared.now.words.now.contexts own.old done →
         All (IsWithin shared.now.words.now.contexts shared.now.words.now.buffers) done →
         HasActed (T.puts shared.now.table.now) (T.exports shared.now.table.now) done
         act.now (client_of driver.old seat.old) (client_of driver.new seat.new) result }
-    ensures known { OnOk result ((done : List Act) → KnowPuts own.old done → KnowPuts own.new (done ++ act.now ∷ [])) }
+    ensures known { OnOk result ((done : List Act) → KnowPuts shared.now.words.now.contexts own.old done → KnowPuts shared.now.words.now.contexts own.new (done ++ act.now ∷ [])) }
     ensures buffers { length own.new ≡ length own.old }
     ensures advanced { OnOk result (driver.new.value ≡ driver.old.value + increment_by act.now) }
     ensures refusals { IfErr result IsClientRefusal }
@@ -187,7 +206,7 @@ fn act_once<R: Wait, T: SharedTable, G: Gate>(
             let point = Point { ctx, value };
             own[buffer].put(&Entry { point, usage });
         }
-        Act::Look(buffer, usage) => look(shared, buffer, usage, &own[buffer], seat)?,
+        Act::Look(buffer, usage) => look(shared, buffer, usage, &own[buffer], listing, seat)?,
     }
     Ok(())
 }
@@ -198,12 +217,13 @@ fn look<R: Wait, T: SharedTable, G: Gate>(
     buffer: usize,
     usage: Usage,
     own: &OwnPuts,
+    listing: &mut Listing,
     seat: &mut Seat,
 ) -> Result<(), Refusal>
     requires own { (T.made_for shared.now.table.now ≡ shared.now.words.now) × IsSinglePart shared.now.words.now seat.old }
     requires buffer { buffer < shared.now.words.now.buffers }
     ensures seat { IsSinglePart shared.now.words.now seat.new }
-    ensures judged { (es : List Entry) → AreOwnPuts own.now es → All (λ e. e.point.ctx ≤ shared.now.words.now.contexts) es →
+    ensures judged { (es : List Entry) → AreOwnPuts shared.now.words.now.contexts own.now es → All (λ e. e.point.ctx ≤ shared.now.words.now.contexts) es →
         (listed : Result Listing Refusal) × T.exports shared.now.table.now buffer usage seat.old seat.new listed
         × (result ≡ judged (usage_number usage) es listed) }
     ensures refusals { IfErr result IsClientRefusal }
@@ -215,9 +235,10 @@ fn look<R: Wait, T: SharedTable, G: Gate>(
         table,
         gate: _,
     } = *shared;
-    match &table.export(rt, alloc, words, seat, buffer, usage) {
-        Ok(listing) if own.are_shown(listing, usage, words.contexts()) => Ok(()),
-        Ok(_) => Err(Refusal::Torn),
-        Err(refusal) => Err(*refusal),
+    table.export_into(rt, alloc, words, seat, buffer, usage, listing)?;
+    if own.are_shown(listing, usage, words.contexts()) {
+        Ok(())
+    } else {
+        Err(Refusal::Torn)
     }
 }

@@ -10,6 +10,7 @@ mod clients;
 mod expected;
 mod gate;
 mod gathered;
+mod listings;
 mod locked_buffer;
 mod locked_table;
 mod own_puts;

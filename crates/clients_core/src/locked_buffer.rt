@@ -7,7 +7,7 @@ ghost use Rattle.point_core.specs.Reach.{IsAtLeast};
 ghost use Rattle.point_core.specs.Usage.{usage_number};
 ghost use Rattle.resv_core.specs.Resv.{entry_of, rows_of};
 
-use point_core::{Entry, Items, Listing, Point, Reach, Refusal, TopRow, Usage};
+use point_core::{Entry, Items, LatestPoints, Listing, Point, Reach, Refusal, TopRow, Usage};
 use resv_core::Resv;
 use std::alloc::Global;
 use std::marker::Model;
@@ -93,6 +93,30 @@ impl LockedBuffer {
         })
     }
 
+    /// The same points as `export` lists, into a list that is kept, by a table that is kept: what both had goes. The reach is
+    /// their floor.
+    ///
+    /// Refuses as `put` does.
+    pub(crate) fn export_into(
+        &mut self,
+        usage: Usage,
+        reach: &Reach,
+        latest: &mut LatestPoints,
+        points: &mut Vec<Point>,
+    ) -> Result<(), Refusal>
+        ensures torn { (result ≡ Err refusal.Torn) ↔ (¬ IsAtLeast reach.now self.old.floor) }
+        ensures refusals { IfErr result (λ e. (e ≡ refusal.Torn) ⊎ (e ≡ refusal.Memory)) }
+        ensures unchanged { ¬ IsAtLeast reach.now self.old.floor → self.new ≡ self.old }
+        ensures floor { IsAtLeast reach.now self.old.floor → self.new.floor ≡ reach.now }
+        ensures journal { self.new.journal ≡ self.old.journal }
+        ensures points { OnOk result (points.new.items ≡ listing self.old.journal (usage_number usage) reach.now) }
+        ensures rising { OnOk result (HasRisingContexts points.new.items) }
+        ensures above { OnOk result (AllAbove reach.now points.new.items) }
+    {
+        self.rise_to(reach)?;
+        self.resv.collect_into(usage, reach, latest, points)
+    }
+
     /// The pending tops of all puts, as `Resv::table` gives them, where the puts say the same above the reach as the
     /// entries that are expected.
     ///
@@ -124,7 +148,7 @@ impl LockedBuffer {
         if !reach.at_least(&self.floor) {
             return Err(Refusal::Torn);
         }
-        self.floor = *reach;
+        self.floor.copy_from(reach);
         Ok(())
     }
 }

@@ -1,12 +1,14 @@
 // Buffers that clients share, each under a lock of its own.
-ghost use Rattle.std.specs.Prelude.{◌≡◌, vec_len, IfErr, IfOk};
+ghost use Rattle.std.specs.Prelude.{◌≡◌, ◌⊎◌, vec_len, IfErr, IfOk, OnOk};
+ghost use Rattle.point_core.specs.Agreement.{AllAbove, HasRisingContexts};
 ghost use Rattle.point_core.specs.declared.refusal.Refusal.TheVariants as refusal;
 ghost use Rattle.words_core.specs.Loads.{reach_seen, HasLoadedAll};
 
 use crate::expected::expected_in;
 use crate::gathered::{gathered_open, listed};
+use crate::listings::taken;
 use crate::locked_buffer::LockedBuffer;
-use point_core::{Items, Listing, Point, Reach, Refusal, Usage};
+use point_core::{Items, LatestPoints, Listing, Point, Reach, Refusal, Usage};
 use resv_core::{Plan, Settled, SharedTable};
 use std::alloc::Global;
 use std::marker::Model;
@@ -19,7 +21,7 @@ use words_core::{Seat, Whole, Words, WordsId};
 /// comes next: of two calls on a buffer the later one loads no lower values.
 #[derive(Drop)]
 pub struct LockedTable {
-    buffers: Vec<Mutex<LockedBuffer>>,
+    buffers: Vec<Mutex<Locked>>,
     words: WordsId,
 }
 
@@ -60,25 +62,38 @@ impl SharedTable for LockedTable {
         point: Point,
         usage: Usage,
     ) -> Result<(), Refusal> {
-        let mut reach = Reach::zero();
-        let mut shared = self.buffers[buffer].lock(rt);
-        words.load_all_into(seat, &mut reach);
-        shared.put(point, usage, &reach)
+        self.buffers[buffer].lock(rt).put(words, seat, point, usage)
     }
 
     fn export<R: Wait>(
         &self,
         rt: &R,
-        _alloc: Global,
+        alloc: Global,
         words: &Words,
         seat: &mut Seat,
         buffer: usize,
         usage: Usage,
     ) -> Result<Listing, Refusal> {
-        let mut reach = Reach::zero();
-        let mut shared = self.buffers[buffer].lock(rt);
-        words.load_all_into(seat, &mut reach);
-        shared.export(usage, &reach)
+        let mut listing = Listing::empty(alloc);
+        self.buffers[buffer]
+            .lock(rt)
+            .export(alloc, words, seat, usage, &mut listing)?;
+        Ok(listing)
+    }
+
+    fn export_into<R: Wait>(
+        &self,
+        rt: &R,
+        alloc: Global,
+        words: &Words,
+        seat: &mut Seat,
+        buffer: usize,
+        usage: Usage,
+        listing: &mut Listing,
+    ) -> Result<(), Refusal> {
+        self.buffers[buffer]
+            .lock(rt)
+            .export(alloc, words, seat, usage, listing)
     }
 
     fn settle<R: Wait>(
@@ -96,6 +111,7 @@ impl SharedTable for LockedTable {
             let expected = expected_in(alloc, index, plans)?;
             let rows = self.buffers[index]
                 .lock(rt)
+                .buffer
                 .settle(expected.as_slice(), &reach)?;
             tables.push_reserved(Items::of(rows));
         }
@@ -106,13 +122,79 @@ impl SharedTable for LockedTable {
     }
 }
 
-fn empty_buffers(alloc: Global, count: usize) -> Result<Vec<Mutex<LockedBuffer>>, Refusal>
+/// What lies under a lock: a buffer, and the tables by which a put and a look go, which are kept for the next.
+#[derive(Drop)]
+struct Locked {
+    buffer: LockedBuffer,
+    loaded: Reach,
+    latest: LatestPoints,
+}
+
+impl Locked {
+    /// Nothing was put.
+    ///
+    /// Refuses as `Memory` alone.
+    fn new(alloc: Global) -> Result<Locked, Refusal>
+        ensures memory { IfErr result (λ e. e ≡ refusal.Memory) }
+    {
+        let none = Reach::zero();
+        Ok(Locked {
+            buffer: LockedBuffer::new(alloc)?,
+            loaded: none,
+            latest: LatestPoints::above(&none),
+        })
+    }
+
+    /// Puts a fence in, above values that are loaded in this call.
+    fn put(
+        &mut self,
+        words: &Words,
+        seat: &mut Seat,
+        point: Point,
+        usage: Usage,
+    ) -> Result<(), Refusal>
+        requires own { seat.old.words ≡ words.now }
+        ensures loaded { HasLoadedAll seat.old seat.new (reach_seen seat.new) }
+        ensures refusals { IfErr result (λ e. (e ≡ refusal.Torn) ⊎ (e ≡ refusal.Memory)) }
+    {
+        self.loaded.clear();
+        words.load_all_into(seat, &mut self.loaded);
+        self.buffer.put(point, usage, &self.loaded)
+    }
+
+    /// The pending points above values that are loaded in this call, which are the listing's floor. What it had goes.
+    fn export(
+        &mut self,
+        alloc: Global,
+        words: &Words,
+        seat: &mut Seat,
+        usage: Usage,
+        listing: &mut Listing,
+    ) -> Result<(), Refusal>
+        requires own { seat.old.words ≡ words.now }
+        ensures loaded { HasLoadedAll seat.old seat.new (reach_seen seat.new) }
+        ensures floor { OnOk result (HasLoadedAll seat.old seat.new listing.new.floor) }
+        ensures rising { OnOk result (HasRisingContexts listing.new.points) }
+        ensures above { OnOk result (AllAbove listing.new.floor listing.new.points) }
+        ensures refusals { IfErr result (λ e. (e ≡ refusal.Torn) ⊎ (e ≡ refusal.Memory)) }
+    {
+        listing.floor.clear();
+        words.load_all_into(seat, &mut listing.floor);
+        let mut points = taken(alloc, &mut listing.points);
+        self.buffer
+            .export_into(usage, &listing.floor, &mut self.latest, &mut points)?;
+        listing.points = Items::of(points);
+        Ok(())
+    }
+}
+
+fn empty_buffers(alloc: Global, count: usize) -> Result<Vec<Mutex<Locked>>, Refusal>
     ensures count { IfOk result (λ buffers. vec_len buffers ≡ count) }
     ensures memory { IfErr result (λ e. e ≡ refusal.Memory) }
 {
     let mut buffers = Vec::with_capacity(alloc, count)?;
     for _ in 0..count {
-        buffers.push_reserved(Mutex::new(LockedBuffer::new(alloc)?));
+        buffers.push_reserved(Mutex::new(Locked::new(alloc)?));
     }
     Ok(buffers)
 }

@@ -41,17 +41,24 @@ raised_clock clock value = clock_of (max clock.value value) clock.closed
 abbrev pub closed_clock : Clock → Clock
 closed_clock clock = clock_of clock.value true
 
+-- the value lies past the one that the clock was closed at
+abbrev pub is_past_closing : Clock → ℕ → Bool
+is_past_closing clock value = clock.closed && not (nat_le value clock.value)
+
 -- the point lies past the value that its context had when it was closed
 abbrev pub is_cancelled : List Clock → Point → Bool
-is_cancelled clocks p = (clock_at clocks p.ctx).closed && not (nat_le p.value (clock_at clocks p.ctx).value)
+is_cancelled clocks p = is_past_closing (clock_at clocks p.ctx) p.value
 
 -- the status of what is signalled, or not, and in part cancelled
 abbrev pub status_of : Bool → Bool → Status
 status_of signalled cancelled = if signalled then (if cancelled then Cancelled else Signalled) else Active
 
--- a point is cancelled where its context closed before its value was there
+-- a point at a value is cancelled where its context closed before the value was there
+abbrev pub status_by : Clock → ℕ → Status
+status_by clock value = status_of (nat_le value (reached_by clock)) (is_past_closing clock value)
+
 abbrev pub status_at : List Clock → Point → Status
-status_at clocks p = status_of (nat_le p.value (reached_by (clock_at clocks p.ctx))) (is_cancelled clocks p)
+status_at clocks p = status_by (clock_at clocks p.ctx) p.value
 
 -- some point is cancelled
 abbrev pub some_cancelled : List Clock → List Point → Bool

@@ -15,6 +15,31 @@ pub struct Clock {
     pub closed: bool,
 }
 
+impl Clock {
+    ghost use Rattle.point_core.specs.Clocks.{reached_by, status_by};
+
+    /// What the timeline has reached: its value while it is open, and every value once it is closed.
+    pub fn reached(self) -> u64
+        ensures { result ≡ reached_by self }
+    {
+        if self.closed { u64::MAX } else { self.value }
+    }
+
+    /// The status of a point of the timeline at a value: reached, cancelled where the timeline was closed before that, else
+    /// active.
+    pub fn status(self, value: u64) -> Status
+        ensures { result ≡ status_by self value }
+    {
+        if value <= self.value {
+            Status::Signalled
+        } else if self.closed {
+            Status::Cancelled
+        } else {
+            Status::Active
+        }
+    }
+}
+
 /// The clock of each context. A context that was not made has the value 0, and is open.
 ///
 /// Closing a timeline signals its pending points, as Linux's close of a sw_sync timeline does with `ENOENT`: the reach of
@@ -121,14 +146,7 @@ impl Clocks {
     pub fn status(&self, point: Point) -> Status
         ensures { result ≡ status_at self.now point }
     {
-        let clock = self.clock(point.ctx);
-        if point.value <= clock.value {
-            Status::Signalled
-        } else if clock.closed {
-            Status::Cancelled
-        } else {
-            Status::Active
-        }
+        self.clock(point.ctx).status(point.value)
     }
 
     /// The status of points together: active while one is, else cancelled where one is, else signalled. Of no points it is

@@ -83,6 +83,25 @@ impl ContextValues {
         &self.values[..self.used]
     }
 
+    /// Makes every value 0 again.
+    pub(crate) fn clear(&mut self)
+        ensures zero { self.new ≡ replicate CONTEXTS 0 }
+    {
+        for index in 0..self.used {
+            self.values[index] = 0;
+        }
+        self.used = 0;
+    }
+
+    /// Takes the other's values in place of its own.
+    pub(crate) fn copy_from(&mut self, other: &[u64])
+        requires in_use { AreInUse other.now }
+        ensures values { self.new ≡ padded other.now }
+    {
+        self.clear();
+        self.join(other);
+    }
+
     /// Raises each value to the other's, where that is greater.
     pub(crate) fn join(&mut self, other: &[u64])
         requires in_use { AreInUse other.now }

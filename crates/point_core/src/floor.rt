@@ -1,8 +1,10 @@
 // A reach that is kept.
-ghost use Rattle.std.specs.Prelude.{◌≡◌, length, IfOk, IfErr};
+ghost use Rattle.std.specs.Prelude.{◌≡◌, ℕ, ◌<◌, ◌≤◌, length, IfOk, IfErr};
 ghost use Rattle.point_core.specs.declared.context.TheConstants.{CONTEXTS};
-ghost use Rattle.point_core.specs.Used.{padded, AreInUse};
+ghost use Rattle.point_core.specs.Reach.{value_at};
+ghost use Rattle.point_core.specs.Used.{padded, used_of, AreInUse};
 
+use crate::context::Context;
 use crate::reach::Reach;
 use crate::refusal::Refusal;
 use std::alloc::Global;
@@ -48,6 +50,27 @@ impl Floor {
         Ok(Floor {
             values: reach.values().in_use().to_vec(alloc)?,
         })
+    }
+
+    /// The value of a context.
+    pub fn get(&self, ctx: Context) -> u64
+        ensures value { result ≡ value_at self.now ctx }
+        ensures context { (1 ≤ ctx) × (ctx ≤ CONTEXTS) }
+    {
+        let index = ctx.index();
+        if index < self.values.len() {
+            self.values[index]
+        } else {
+            0
+        }
+    }
+
+    /// How many contexts there are up to the last whose value is not 0.
+    pub fn used(&self) -> usize
+        ensures last { result ≡ used_of self.now }
+        ensures past { (ctx : ℕ) → result < ctx → value_at self.now ctx ≡ 0 }
+    {
+        self.values.len()
     }
 
     /// The reach that is kept.

@@ -1,5 +1,5 @@
 // The latest point of each context.
-ghost use Rattle.std.specs.Prelude.{◌≡◌, ℕ, ◌<◌, ◌≤◌, List, [], ◌∷◌, ◌++◌, length, max, IfOk, IfErr};
+ghost use Rattle.std.specs.Prelude.{◌≡◌, ℕ, ◌<◌, ◌≤◌, List, [], ◌∷◌, ◌++◌, length, max, IfOk, IfErr, OnOk};
 ghost use Rattle.point_core.specs.declared.context.TheConstants.{CONTEXTS};
 ghost use Rattle.point_core.specs.declared.entry.Entry.{Entry};
 ghost use Rattle.point_core.specs.Agreement.{as_entries, HasContexts};
@@ -45,6 +45,14 @@ impl LatestPoints {
         LatestPoints {
             values: *reach.values(),
         }
+    }
+
+    /// Begins anew, as `above` does.
+    pub fn restart(&mut self, reach: &Reach)
+        ensures value { self.new ≡ reach.now }
+        ensures empty { (usage : ℕ) → IsLatest self.new reach.now [] usage }
+    {
+        self.values.copy_from(reach.values().in_use());
     }
 
     /// The latest point of a context.
@@ -109,6 +117,18 @@ impl LatestPoints {
         ensures memory { IfErr result (λ e. e ≡ Refusal.Memory) }
     {
         let mut points = Vec::with_capacity(alloc, expected)?;
+        self.list(reach, &mut points)?;
+        Ok(points)
+    }
+
+    /// The same, into a list that is kept, whose points go. It takes memory where they need more than the list has.
+    ///
+    /// Refuses as `Memory` alone.
+    pub fn list(&self, reach: &Reach, points: &mut Vec<Point>) -> Result<(), Refusal>
+        ensures points { OnOk result (points.new.items ≡ points_above self.now reach.now) }
+        ensures memory { IfErr result (λ e. e ≡ Refusal.Memory) }
+    {
+        points.clear();
         for index in 0..self.used() {
             let ctx = Context::at(index);
             let value = self.get(ctx);
@@ -118,7 +138,7 @@ impl LatestPoints {
                     .map_err(|_| Refusal::Memory)?;
             }
         }
-        Ok(points)
+        Ok(())
     }
 
     /// How many of the latest points are above the reach.

@@ -18,6 +18,21 @@ pub struct Listing {
     pub floor: Reach,
 }
 
+impl Listing {
+    ghost use Rattle.std.specs.Prelude.{[], replicate};
+    ghost use Rattle.point_core.specs.declared.context.TheConstants.{CONTEXTS};
+
+    /// Nothing is pending above 0: a place for looks. Takes no memory.
+    pub fn empty(alloc: Global) -> Listing
+        ensures empty { result ≡ record { points = []; floor = replicate CONTEXTS 0 } }
+    {
+        Listing {
+            points: Items::of(Vec::new(alloc)),
+            floor: Reach::zero(),
+        }
+    }
+}
+
 /// A row of a reservation's table: the latest pending point of a context at a usage or a stronger one.
 #[derive(Clone, Copy, Debug, PartialEq, Eq, Hash)]
 pub struct TopRow {

@@ -43,6 +43,20 @@ impl Reach {
         }
     }
 
+    /// Makes every value 0 again. What it costs follows the contexts in use, as that of `copy_from` does.
+    pub fn clear(&mut self)
+        ensures zero { self.new ≡ replicate CONTEXTS 0 }
+    {
+        self.values.clear();
+    }
+
+    /// Takes the other's values in place of its own.
+    pub fn copy_from(&mut self, other: &Reach)
+        ensures values { self.new ≡ other.now }
+    {
+        self.values.copy_from(other.values.in_use());
+    }
+
     /// The value of a context.
     pub fn get(&self, ctx: Context) -> u64
         ensures value { result ≡ value_at self.now ctx }

@@ -68,6 +68,10 @@ fn is_closed(rt: &impl Abort, clocks: &Clocks) {
         rt,
         clocks.clock(second) == clock && clocks.value(second) == 2,
     );
+    holds(
+        rt,
+        clock.reached() == u64::MAX && clock.status(3) == Status::Cancelled,
+    );
     holds(rt, clocks.reach() == reach_of(rt, &[(1, 3), (2, u64::MAX)]));
     holds(rt, clocks.reach() == reach_of(rt, &[(1, 3)]).shut(second));
 }

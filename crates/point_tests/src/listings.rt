@@ -136,6 +136,16 @@ fn latest_points(rt: HostRuntime) {
     has_latest(&rt, &latest, 3, 7);
     has_latest(&rt, &latest, 4, 0);
     lists_in_memory_for_these_alone(&rt, rt.alloc(), &latest, &reach);
+    is_used_again(&rt, rt.alloc(), &mut latest);
+}
+
+/// Neither the table nor the list has what it had before.
+fn is_used_again(rt: &impl Abort, alloc: Global, latest: &mut LatestPoints) {
+    let mut points = points_of(rt, alloc, &[(9, 9)]);
+    latest.restart(&Reach::zero());
+    latest.put(point(rt, 4, 1));
+    latest.list(&Reach::zero(), &mut points).expect(rt, "memory");
+    has_points(rt, alloc, points.as_slice(), &[(4, 1)]);
 }
 
 fn lists_in_memory_for_these_alone(
@@ -162,6 +172,7 @@ fn a_listing_keeps_its_points(rt: HostRuntime) {
     let made = listing(&rt, rt.alloc(), rows);
     let same = listing(&rt, rt.alloc(), rows);
     holds(&rt, made == same);
+    holds(&rt, Listing::empty(rt.alloc()) == listing(&rt, rt.alloc(), &[]));
     has_points(&rt, rt.alloc(), made.points.as_slice(), rows);
     let Listing { points, floor: _ } = same;
     has_points(&rt, rt.alloc(), points.into_vec().as_slice(), rows);

@@ -66,10 +66,26 @@ fn a_reach_goes_as_far_as_the_last_context_in_use(rt: HostRuntime) {
     holds(&rt, reach.joined(&none) == reach);
 }
 
+#[test]
+fn a_reach_is_used_again(rt: HostRuntime) {
+    let other = reach_of(&rt, &[(7, 1), (2, 4)]);
+    let mut reach = reach_of(&rt, &[(1, 5), (9, 3)]);
+    reach.copy_from(&other);
+    holds(&rt, reach == other && reach.used() == 7);
+    reach.clear();
+    holds(&rt, reach == Reach::zero());
+}
+
 fn is_floor_of(floor: &Floor, reach: &Reach) -> bool {
     floor.to_reach() == *reach
         && reach.at_least_floor(floor)
         && !Reach::zero().at_least_floor(floor)
+        && floor.used() == reach.used()
+}
+
+fn has_values(rt: &impl Abort, floor: &Floor) {
+    let last = floor.get(context(rt, 7));
+    holds(rt, last == 4 && floor.get(context(rt, 8)) == 0);
 }
 
 fn joins_a_floor(rt: &impl Abort, floor: &Floor) {
@@ -85,6 +101,7 @@ fn a_floor_is_the_reach_that_it_was_made_of(rt: HostRuntime) {
     let floor = Floor::of(rt.alloc(), &reach).expect(&rt, "memory");
     holds(&rt, is_floor_of(&floor, &reach));
     joins_a_floor(&rt, &floor);
+    has_values(&rt, &floor);
 }
 
 #[test]

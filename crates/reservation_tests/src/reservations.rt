@@ -1,6 +1,6 @@
 // Reservations: what is put in, what replaces what, and what is listed.
 use crate::values::{EVERY_USAGE, are_full_rows, holds, point, reach_at, row, value_of};
-use point_core::{CONTEXTS, Context, Point, Reach, TopRow, Usage};
+use point_core::{CONTEXTS, Context, LatestPoints, Point, Reach, TopRow, Usage};
 use resv_core::{PLACES, Resv};
 use std::process::Abort;
 
@@ -26,7 +26,11 @@ fn put_value(rt: &impl Abort, resv: &mut Resv, value: u64) {
 }
 
 fn collects(rt: &impl Abort, resv: &Resv, usage: Usage, reach: &Reach, points: &[Point]) {
-    let list = resv.collect(usage, reach).expect(rt, "memory");
+    let mut list = resv.collect(usage, reach).expect(rt, "memory");
+    holds(rt, list.as_slice() == points);
+    let mut latest = LatestPoints::above(&reach_at(rt, 100));
+    resv.collect_into(usage, reach, &mut latest, &mut list)
+        .expect(rt, "memory");
     holds(rt, list.as_slice() == points);
 }
 

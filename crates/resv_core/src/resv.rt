@@ -11,8 +11,10 @@ ghost use Rattle.resv_core.specs.Run.{Leaves, Reserve, Add, AddAll, Trim};
 
 use crate::adding::{SCANNED, add_all};
 use crate::table_rows::rows_of;
-use crate::tops::{Tops, USAGES, compact, latest_of};
-use point_core::{CONTEXTS, Entry, Point, Reach, Refusal, TopRow, Usage, covers, is_signalled};
+use crate::tops::{Tops, USAGES, compact, put_each};
+use point_core::{
+    CONTEXTS, Entry, LatestPoints, Point, Reach, Refusal, TopRow, Usage, covers, is_signalled,
+};
 use std::alloc::Global;
 use std::marker::Model;
 
@@ -199,7 +201,28 @@ impl Resv {
         ensures points { IfOk result (λ ps. ps.items ≡ listing self.now.entries (usage_number usage) reach.now) }
         ensures memory { IfErr result (λ e. e ≡ Refusal.Memory) }
     {
-        latest_of(self.entries.as_slice(), usage, reach).points(self.alloc, reach)
+        let mut latest = LatestPoints::above(reach);
+        put_each(&mut latest, usage, self.entries.as_slice());
+        latest.points(self.alloc, reach)
+    }
+
+    /// The points that `collect` gives, into a list that is kept, by a table that is kept: what both had goes. It takes memory
+    /// where there are more points than the list has room for.
+    ///
+    /// Refuses as `Memory` alone.
+    pub fn collect_into(
+        &self,
+        usage: Usage,
+        reach: &Reach,
+        latest: &mut LatestPoints,
+        points: &mut Vec<Point>,
+    ) -> Result<(), Refusal>
+        ensures points { OnOk result (points.new.items ≡ listing self.now.entries (usage_number usage) reach.now) }
+        ensures memory { IfErr result (λ e. e ≡ Refusal.Memory) }
+    {
+        latest.restart(reach);
+        put_each(latest, usage, self.entries.as_slice());
+        latest.list(reach, points)
     }
 
     /// The pending top of each context at each usage: from the strongest usage to the weakest, and by rising context.

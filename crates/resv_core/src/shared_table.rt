@@ -1,5 +1,5 @@
 // Buffers that clients on threads share.
-ghost use Rattle.std.specs.Prelude.{◌≡◌, ℕ, ◌<◌, ◌≤◌, ◌⊎◌, length, Err, IfErr, IfOk, Result};
+ghost use Rattle.std.specs.Prelude.{◌≡◌, ℕ, ◌<◌, ◌≤◌, ◌⊎◌, length, Ok, Err, IfErr, IfOk, OnOk, Result};
 ghost use Rattle.point_core.specs.declared.entry.Entry.{Entry};
 ghost use Rattle.point_core.specs.declared.entry.Usage.{Usage};
 ghost use Rattle.point_core.specs.declared.listing.Listing.{Listing};
@@ -79,6 +79,30 @@ pub trait SharedTable: Sync + Sized + Drop {
         ensures floor { IfOk result (λ listing. HasLoadedOnce listing.floor seat.old seat.new) }
         ensures rising { IfOk result (λ listing. HasRisingContexts listing.points) }
         ensures above { IfOk result (λ listing. AllAbove listing.floor listing.points) }
+        ensures refusals { IfErr result (λ e. (e ≡ refusal.Torn) ⊎ (e ≡ refusal.Memory)) };
+
+    /// A look as `export` makes it, into a listing that its caller keeps for many looks: what it had goes. It takes memory only
+    /// where its list has too little room.
+    ///
+    /// Refuses as `put` does. Nothing is said of the listing then.
+    fn export_into<R: Wait>(
+        &self,
+        rt: &R,
+        alloc: Global,
+        words: &Words,
+        seat: &mut Seat,
+        buffer: usize,
+        usage: Usage,
+        listing: &mut Listing,
+    ) -> Result<(), Refusal>
+        requires own { (seat.old.words ≡ words.now) × (made_for self.now ≡ words.now) }
+        requires within { buffer < words.now.buffers }
+        ensures stepped { HasStepped seat.old seat.new }
+        ensures exported { OnOk result (exports self.now buffer usage seat.old seat.new (Ok listing.new)) }
+        ensures refused { IfErr result (λ e. exports self.now buffer usage seat.old seat.new (Err e)) }
+        ensures floor { OnOk result (HasLoadedOnce listing.new.floor seat.old seat.new) }
+        ensures rising { OnOk result (HasRisingContexts listing.new.points) }
+        ensures above { OnOk result (AllAbove listing.new.floor listing.new.points) }
         ensures refusals { IfErr result (λ e. (e ≡ refusal.Torn) ⊎ (e ≡ refusal.Memory)) };
 
     /// The values that the gathered seat knows, and the tables of the plans above them.

@@ -4,7 +4,7 @@ ghost use Rattle.point_core.specs.Latest.{IsLatest};
 ghost use Rattle.point_core.specs.Usage.{usage_number};
 ghost use Rattle.resv_core.specs.Resv.{rows_of};
 
-use crate::tops::{USAGES, latest_of, push_rows, put_at};
+use crate::tops::{USAGES, push_rows, put_at, put_each};
 use point_core::{CONTEXTS, Entry, LatestPoints, Reach, Refusal, TopRow, Usage};
 use std::alloc::Global;
 
@@ -21,7 +21,8 @@ pub(crate) fn rows_of(
     ensures memory { IfErr result (λ e. e ≡ Refusal.Memory) }
 {
     let mut rows = Vec::with_capacity(alloc, USAGES * CONTEXTS)?;
-    let mut latest = latest_of(entries, Usage::Kernel, reach);
+    let mut latest = LatestPoints::above(reach);
+    put_each(&mut latest, Usage::Kernel, entries);
     push_rows(&mut rows, Usage::Kernel, &latest, reach);
     put_weaker(&mut latest, Usage::Write, entries);
     push_rows(&mut rows, Usage::Write, &latest, reach);

@@ -114,15 +114,15 @@ impl Tops {
     }
 }
 
-/// The latest point of each context at the usage or a stronger one, or its value where no point is above that.
-pub(crate) fn latest_of(entries: &[Entry], usage: Usage, reach: &Reach) -> LatestPoints
-    ensures { IsLatest result reach.now entries.now (usage_number usage) }
+/// Puts the entries into a table of a usage that has none yet.
+pub(crate) fn put_each(latest: &mut LatestPoints, usage: Usage, entries: &[Entry])
+    ensures latest { (reach : List ℕ) →
+        IsLatest latest.old reach [] (usage_number usage) →
+        IsLatest latest.new reach entries.now (usage_number usage) }
 {
-    let mut latest = LatestPoints::above(reach);
     for entry in entries {
-        put_at(&mut latest, usage, entry);
+        put_at(latest, usage, entry);
     }
-    latest
 }
 
 /// Puts an entry into the table of a usage, where it is of that usage or a stronger one.

@@ -86,6 +86,27 @@ fn check_export<R: Wait + Abort, T: SharedTable>(
     check_listing(rt, &listing, &Reach::zero(), points);
 }
 
+/// Checks two looks at the second buffer into one listing.
+fn check_kept_listing<R: Wait + Abort, T: SharedTable>(
+    rt: &R,
+    alloc: Global,
+    table: &T,
+    words: &Words,
+    seat: &mut Seat,
+)
+    requires own { (seat.old.words ≡ words.now) × (T.made_for table.now ≡ words.now) }
+    requires buffers { words.now.buffers ≡ 2 }
+    ensures same { (seat.new.words ≡ seat.old.words) × (seat.new.parts ≡ seat.old.parts) }
+{
+    let mut listing = Listing::empty(alloc);
+    let first = table.export_into(rt, alloc, words, seat, 1, Usage::Read, &mut listing);
+    first.expect(rt, "a look");
+    check_listing(rt, &listing, &Reach::zero(), &[point(4)]);
+    let second = table.export_into(rt, alloc, words, seat, 1, Usage::Write, &mut listing);
+    second.expect(rt, "a look");
+    check_listing(rt, &listing, &Reach::zero(), &[]);
+}
+
 /// Checks that a new table has not settled the plan of a put.
 fn check_unsettled<R: Wait + Abort, T: SharedTable>(
     rt: &R,
@@ -119,6 +140,7 @@ fn check_new_table<R: Wait + Abort, T: SharedTable>(
     check_export::<R, T>(rt, alloc, &table, words, seat, 1, Usage::Read, &[point(4)]);
     check_export::<R, T>(rt, alloc, &table, words, seat, 1, Usage::Write, &[]);
     check_export::<R, T>(rt, alloc, &table, words, seat, 0, Usage::Bookkeep, &[]);
+    check_kept_listing::<R, T>(rt, alloc, &table, words, seat);
 }
 
 /// Checks tables of two buffers and one context.

@@ -2,6 +2,7 @@ pub mod Causes
 pub mod InOrder
 pub mod Kept
 pub mod Merging
+pub mod Passing
 pub mod Polling
 pub mod Reached
 pub mod Renumbering

@@ -1,16 +1,17 @@
 -- What is told of files beside running timelines.
-use Rattle.std.proofs.Common.{◌≡◌, ℕ, suc, ◌+◌, ◌<◌, ◌≤◌, ◌≢◌, ◌↔◌, true, false, nat_le, refl, sym, subst, List, [], ◌∷◌, ◌++◌, All, arith}
+use Rattle.std.proofs.Common.{◌≡◌, ℕ, suc, ◌+◌, ◌<◌, ◌≤◌, ◌≢◌, ◌↔◌, true, false, nat_le, refl, sym, subst, List, [], ◌∷◌, ◌++◌, All, Ok, Err, Result, arith}
+use Rattle.std.specs.Prelude.{IfErr, IfOk, OnOk}
 use Rattle.std.specs.List.{list_all}
 use Rattle.std.proofs.lemmas.Bool.{false≢true, and_parts, and_from, leb-true, le-leb}
 use Rattle.std.proofs.lemmas.List.Elements.{All-nil, All-cons, All-head, All-tail}
 use Rattle.point_core.specs.declared.entry.Point.{Point}
 use Rattle.point_core.specs.declared.entry.Entry.{Entry}
 use Rattle.point_core.specs.Agreement.{as_entries, merged, HasContexts, AgreesAbove}
-use Rattle.point_core.specs.Latest.{IsLatest, points_above}
 use Rattle.point_core.specs.Reach.{IsAtLeast}
 use Rattle.point_core.proofs.Agreement.{as_entries-append, HasContexts-append, AgreesAbove-trans, AgreesAbove-append, AgreesAbove-same, AgreesAbove-later, AgreesAbove-listing}
-use Rattle.point_core.proofs.Listings.{points_above-IsLatest}
 use Rattle.point_core.specs.Status.{is_signalled}
+use Rattle.point_core.specs.declared.refusal.Refusal.{Refusal}
+use Rattle.point_core.specs.declared.refusal.Refusal.TheVariants.{Foreign}
 use Rattle.point_core.specs.declared.status.Status.{Status}
 use Rattle.point_core.specs.declared.status.Status.TheVariants.{Active, Signalled, Cancelled}
 use Rattle.point_core.specs.Agreement.{IsReached}
@@ -44,9 +45,6 @@ IsBorneOut-found {reach} {made} seat f is same out = subst (λ n. IsBorneOutAt r
 
 -- merges
 
-pub merged-IsLatest : {table : List ℕ} (reach : List ℕ) (ps qs : List Point) → IsLatest table reach (as_entries ps ++ as_entries qs) 0 → points_above table reach ≡ merged reach ps qs
-merged-IsLatest {table} reach ps qs latest = points_above-IsLatest (subst (λ es. IsLatest table reach es 0) (sym (as_entries-append ps qs)) latest)
-
 -- a merge above a reach that is nowhere below the files' floors stands for what they stand for together
 pub StandsFor-merged : (reach : List ℕ) (a b : File) → HasContexts (as_entries a.points) → HasContexts (as_entries b.points) → IsAtLeast reach a.floor → IsAtLeast reach b.floor → (one other : List Entry) → StandsFor a one → StandsFor b other
     → AgreesAbove reach (as_entries (merged reach a.points b.points)) (one ++ other)
@@ -65,6 +63,17 @@ pub still_active : (status : Status) → is_signalled status ≡ false → statu
 still_active Active none = refl
 still_active Signalled bad = absurd (false≢true (sym bad))
 still_active Cancelled bad = absurd (false≢true (sym bad))
+
+-- of each answer
+pub polled-stands_for : (seat : SeatModel) (f : File) (result : Result Status Refusal) → IfOk result (λ status. status ≡ common_status (clocks_seen seat) f.points) → OnOk result (IsBorneOut seat f)
+    → IfOk result (λ status. (set : List Entry) → StandsFor f set → (status ≢ Active) ↔ IsReached set 0 (reach_seen seat))
+polled-stands_for seat f (Ok status) is out = λ set stands. subst (λ (s : Status). (s ≢ Active) ↔ IsReached set 0 (reach_seen seat)) (sym is) (polled-stands seat f out set stands)
+polled-stands_for seat f (Err e) is out = tt
+
+-- a refusal for the want of one thing is one for the want of another that needs it
+pub foreign-stronger : {X P Q : Type 0} (result : Result X Refusal) → (Q → P) → IfErr result (λ e. (e ≡ Foreign) × (¬ P)) → IfErr result (λ e. (e ≡ Foreign) × (¬ Q))
+foreign-stronger (Ok x) from told = tt
+foreign-stronger (Err e) from told = (told.0, λ q. told.1 (from q))
 
 -- one poll after another
 

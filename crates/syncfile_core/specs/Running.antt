@@ -1,11 +1,16 @@
 -- Files beside running timelines, whose values a seat loads one after another.
-use Rattle.std.specs.Prelude.{◌≡◌, ℕ, zero, suc, ◌<◌, ◌≤◌, List, All}
+use Rattle.std.specs.Prelude.{◌≡◌, ◌↔◌, ℕ, zero, suc, ◌+◌, ◌<◌, ◌≤◌, List, ◌++◌, All, IsTrue}
+use Rattle.point_core.specs.declared.clocks.Clock.{Clock}
 use Rattle.point_core.specs.declared.entry.Point.{Point}
+use Rattle.point_core.specs.declared.status.Status.{Status}
 use Rattle.point_core.specs.declared.status.Status.TheVariants.{Active}
-use Rattle.point_core.specs.Reach.{IsAtLeast}
-use Rattle.point_core.specs.Clocks.{common_status}
+use Rattle.point_core.specs.Agreement.{HasRisingContexts}
+use Rattle.point_core.specs.Reach.{value_at, IsAtLeast}
+use Rattle.point_core.specs.Clocks.{clock_at, common_status, reached_by}
+use Rattle.point_core.specs.TwoLists.{AllFrom}
 use Rattle.words_core.specs.Loads.{clocks_seen, reach_seen, HasLoadedClocks}
 use Rattle.words_core.specs.Seat.{SeatModel}
+use Rattle.syncfile_core.specs.declared.running.Found.{Found}
 use Rattle.syncfile_core.specs.SyncFile.{File}
 
 -- words of so many contexts that have these values bear the file out: its floor is nowhere above them, and they have each point's context
@@ -35,3 +40,17 @@ pub record HasPolled (f : File) (tries : ℕ) (before after : SeatModel) : Type 
   pub seat : SeatModel
   pub active : HasRunOut f count before seat
   pub last : HasLoadedClocks seat after (clocks_seen after)
+
+-- of a list of points, those of the first n contexts have this status together by these clocks, and these others are of later ones
+pub record HasPassedTo (clocks : List Clock) (points : List Point) (n : ℕ) (status : Status) (rest : List Point) : Type 0 where
+  pub passed : List Point
+  pub parts : points ≡ passed ++ rest
+  pub first : All (λ (p : Point). (1 ≤ p.ctx) × (p.ctx ≤ n)) passed
+  pub later : 0 < n → AllFrom (n + 1) rest
+  pub rising : HasRisingContexts rest
+  pub together : status ≡ common_status clocks passed
+
+-- the same of a file's points, and whether its floor is nowhere above the first n of these clocks
+pub record HasFoundTo (clocks : List Clock) (f : File) (n : ℕ) (found : Found) : Type 0 where
+  pub floor : IsTrue found.borne_out ↔ ((ctx : ℕ) → 1 ≤ ctx → ctx ≤ n → value_at f.floor ctx ≤ reached_by (clock_at clocks ctx))
+  pub points : HasPassedTo clocks f.points n found.status found.rest.now

@@ -1,16 +1,20 @@
 // Files beside running timelines: merges, polls and waits by values that a seat loads.
-ghost use Rattle.std.specs.Prelude.{◌≡◌, ◌≢◌, ◌≤◌, ◌↔◌, ◌⊎◌, List, ◌++◌, All, IsTrue, IfOk, IfErr, OnOk};
+ghost use Rattle.std.specs.Prelude.{◌≡◌, ◌≢◌, ℕ, ◌+◌, ◌<◌, ◌≤◌, ◌↔◌, ◌⊎◌, ◌&&◌, true, nat_le, List, [], ◌∷◌, ◌++◌, All, IsTrue, IfOk, IfErr, MatchOption, OnOk};
 ghost use Rattle.point_core.specs.declared.entry.Entry.{Entry};
 ghost use Rattle.point_core.specs.declared.refusal.Refusal.TheVariants as refusal;
 ghost use Rattle.point_core.specs.declared.status.Status.TheVariants.{Active};
-ghost use Rattle.point_core.specs.Clocks.{common_status};
-ghost use Rattle.point_core.specs.Agreement.{merged, IsReached};
+ghost use Rattle.point_core.specs.declared.clocks.Clock.{Clock};
+ghost use Rattle.point_core.specs.declared.entry.Point.{Point};
+ghost use Rattle.point_core.specs.Clocks.{clock_at, common_status, new_clock, reach_of_clocks};
+ghost use Rattle.point_core.specs.Agreement.{merged, point_of, IsReached};
+ghost use Rattle.point_core.specs.Reach.{value_at};
+ghost use Rattle.point_core.specs.Used.{used_of};
 ghost use Rattle.syncfile_core.specs.SyncFile.{file_of, StandsFor};
 ghost use Rattle.words_core.specs.Loads.{clocks_seen, reach_seen, HasLoadedAll, HasLoadedClocks};
-ghost use Rattle.syncfile_core.specs.Running.{IsBorneOutAt, IsBorneOut, HasPolled, HasRunOut};
+ghost use Rattle.syncfile_core.specs.Running.{IsBorneOutAt, IsBorneOut, HasFoundTo, HasPassedTo, HasPolled, HasRunOut};
 
 use crate::sync_file::SyncFile;
-use point_core::{Floor, Items, LatestPoints, Name, Point, Reach, Refusal, Status};
+use point_core::{Clock, Context, Floor, Items, Name, Point, Reach, Refusal, Status};
 use std::alloc::Global;
 use words_core::{Seat, Words};
 
@@ -42,13 +46,11 @@ impl SyncFile {
             ((e ≡ refusal.Foreign) × (¬ (IsBorneOut seat.new a.now × IsBorneOut seat.new b.now)))
             ⊎ ((e ≡ refusal.Memory) × (IsBorneOut seat.new a.now × IsBorneOut seat.new b.now))) }
     {
-        let reach = words.load_all(seat);
+        let mut reach = Reach::zero();
+        words.load_all_into(seat, &mut reach);
         bear_out(a, words.contexts(), &reach)?;
         bear_out(b, words.contexts(), &reach)?;
-        let mut latest = LatestPoints::above(&reach);
-        latest.put_all(a.points.as_slice());
-        latest.put_all(b.points.as_slice());
-        let points = latest.points(alloc, &reach)?;
+        let points = point_core::merged(alloc, a.points.as_slice(), b.points.as_slice(), &reach)?;
         Ok(SyncFile {
             name,
             points: Items::of(points),
@@ -71,9 +73,14 @@ impl SyncFile {
             StandsFor self.now set → ((status ≢ Active) ↔ IsReached set 0 (reach_seen seat.new))) }
         ensures foreign { IfErr result (λ e. (e ≡ refusal.Foreign) × (¬ IsBorneOut seat.new self.now)) }
     {
-        let clocks = words.load_clocks(seat);
-        bear_out(self, words.contexts(), clocks.as_reach())?;
-        Ok(clocks.common_status(self.points.as_slice()))
+        let contexts = words.contexts();
+        let mut found = Found::none(self);
+        for index in 0..contexts {
+            let ctx = Context::at(index);
+            let clock = words.clock(seat, ctx);
+            found.take_in(self, ctx, clock);
+        }
+        found.status_of(self, contexts)
     }
 
     /// Polls until a poll is not Active, so many times at most: Ok once each point is signalled or cancelled, as Linux's
@@ -100,6 +107,103 @@ impl SyncFile {
             }
         }
         Err(Refusal::TimedOut)
+    }
+}
+
+/// What a poll has found of a file, by the clocks of the contexts so far.
+#[derive(Drop)]
+struct Found<'a> {
+    // whether no value of the file's floor is above what was loaded
+    borne_out: bool,
+    // of the points of these contexts together
+    status: Status,
+    // the points of later contexts
+    rest: &'a [Point],
+}
+
+impl<'a> Found<'a> {
+    /// Of no context yet.
+    fn none(file: &'a SyncFile) -> Found<'a>
+        ensures none { (clocks : List Clock) → HasFoundTo clocks file.now 0 result }
+    {
+        Found {
+            borne_out: true,
+            status: Status::Signalled,
+            rest: file.points.as_slice(),
+        }
+    }
+
+    /// Of one context more, the next.
+    fn take_in(&mut self, file: &SyncFile, ctx: Context, clock: Clock)
+        ensures more { (clocks : List Clock) (n : ℕ) → ctx ≡ n + 1 → clock_at clocks ctx ≡ clock →
+            HasFoundTo clocks file.now n self.old → HasFoundTo clocks file.now (n + 1) self.new }
+    {
+        self.compare(file.floor.get(ctx), clock.reached());
+        self.pass(ctx, clock);
+    }
+
+    /// Compares a value of the floor with what was loaded.
+    fn compare(&mut self, least: u64, reached: u64)
+        ensures compared { self.new.borne_out ≡ self.old.borne_out && nat_le least reached }
+        ensures others { (self.new.status ≡ self.old.status) × (self.new.rest.now ≡ self.old.rest.now) }
+    {
+        if least > reached {
+            self.borne_out = false;
+        }
+    }
+
+    /// Passes by the point of a context, where there is one.
+    fn pass(&mut self, ctx: Context, clock: Clock)
+        ensures passed { (clocks : List Clock) (points : List Point) (n : ℕ) → ctx ≡ n + 1 → clock_at clocks ctx ≡ clock →
+            HasPassedTo clocks points n self.old.status self.old.rest.now →
+            HasPassedTo clocks points (n + 1) self.new.status self.new.rest.now }
+        ensures others { self.new.borne_out ≡ self.old.borne_out }
+    {
+        if let Some((value, later)) = first_at(self.rest, ctx) {
+            self.status = self.status.with(clock.status(value));
+            self.rest = later;
+        }
+    }
+
+    /// The file's status, once all contexts of the words were loaded.
+    ///
+    /// Refuses as `Foreign` alone, where the words don't bear the file out.
+    fn status_of(&self, file: &SyncFile, contexts: usize) -> Result<Status, Refusal>
+        ensures status { (clocks : List Clock) → HasFoundTo clocks file.now contexts self.now →
+            IfOk result (λ status. status ≡ common_status clocks file.now.points) }
+        ensures borne_out { (clocks : List Clock) → HasFoundTo clocks file.now contexts self.now →
+            OnOk result (IsBorneOutAt (reach_of_clocks clocks) contexts file.now) }
+        ensures foreign { (clocks : List Clock) → 1 ≤ contexts → HasFoundTo clocks file.now contexts self.now →
+            ((ctx : ℕ) → contexts < ctx → clock_at clocks ctx ≡ new_clock) →
+            IfErr result (λ e. (e ≡ refusal.Foreign) × (¬ IsBorneOutAt (reach_of_clocks clocks) contexts file.now)) }
+    {
+        if self.is_borne_out(file, contexts) {
+            Ok(self.status)
+        } else {
+            Err(Refusal::Foreign)
+        }
+    }
+
+    /// Whether the words have each point's context, and the floor is nowhere above them.
+    fn is_borne_out(&self, file: &SyncFile, contexts: usize) -> bool
+        ensures { IsTrue result ↔
+            ((self.now.borne_out ≡ true) × (self.now.rest.now ≡ []) × (used_of file.now.floor ≤ contexts)) }
+    {
+        self.borne_out && self.rest.is_empty() && file.floor.used() <= contexts
+    }
+}
+
+/// The point of the context, where the list begins with one, and the others.
+fn first_at(points: &[Point], ctx: Context) -> Option<(u64, &[Point])>
+    ensures first { MatchOption result
+        ((p : Point) (ps : List Point) → points.now ≡ p ∷ ps → (1 ≤ p.ctx) × (p.ctx ≢ ctx))
+        (λ (value, others). points.now ≡ point_of ctx value ∷ others.now) }
+{
+    let (first, others) = points.split_first()?;
+    if first.ctx.number() == ctx.number() {
+        Some((first.value, others))
+    } else {
+        None
     }
 }
 

@@ -3,7 +3,7 @@ use Rattle.std.proofs.Common.{◌≡◌, ◌≢◌, ℕ, zero, suc, ◌+◌, ◌
 use Rattle.std.specs.List.{range_with_len}
 use Rattle.std.proofs.lemmas.Bool.{le-leb, lt-leb, lt-ltb, ne_eqb, cases_lt}
 use Rattle.std.proofs.lemmas.Bool.Decides.{nat_tests}
-use Rattle.std.proofs.lemmas.List.{append-nil, append_assoc, length-set, length-replicate, get_or-set_same, get_or-set_other, ext_get_or}
+use Rattle.std.proofs.lemmas.List.{append-nil, append_assoc, length-set, length-replicate, get_or_past, get_or-set_same, get_or-set_other, ext_get_or}
 use Rattle.std.proofs.lemmas.List.FromFn.{length-map-range_with_len, get_or-map-range_with_len}
 use mathlib.Core.List.{map-map}
 use mathlib.Core.Logic.{dite}
@@ -198,6 +198,20 @@ known_clock-within seat c le = rw (le-leb c seat.words.contexts le) refl
 known_clock-past : (seat : SeatModel) (c : ℕ) → seat.words.contexts < c → known_clock seat c ≡ new_clock
 known_clock-past seat c lt = rw (lt-leb c seat.words.contexts lt) refl
 
+-- of a context of the words, and of one past them
+pub clock_at-seen : (seat : SeatModel) (c : ℕ) → 1 ≤ c → c ≤ seat.words.contexts → seat.words.contexts ≤ CONTEXTS → clock_at (clocks_seen seat) c ≡ clock_seen seat c
+clock_at-seen seat c low high few =
+    let back : c - 1 + 1 ≡ c = omega arith in
+    at-contexts (known_clock seat) new_clock CONTEXTS (c - 1) refl (omega arith) ∙ ap (known_clock seat) back ∙ known_clock-within seat c high
+
+pub clock_at-past : (seat : SeatModel) (c : ℕ) → seat.words.contexts < c → clock_at (clocks_seen seat) c ≡ new_clock
+clock_at-past seat c past = elim (cases_lt (c - 1) CONTEXTS) [
+  | inl within ↦
+      let back : c - 1 + 1 ≡ c = omega arith in
+      at-contexts (known_clock seat) new_clock CONTEXTS (c - 1) refl within ∙ ap (known_clock seat) back ∙ known_clock-past seat c past
+  | inr beyond ↦ get_or_past (clocks_seen seat) (c - 1) new_clock (let l = length-contexts (known_clock seat) CONTEXTS refl in omega arith)
+]
+
 -- what the clocks reach that a seat has seen
 pub reach_seen-is : (seat : SeatModel) → reach_of_clocks (clocks_seen seat) ≡ reach_seen seat
 reach_seen-is seat = map-map reached_by (known_clock seat) contexts
@@ -230,18 +244,24 @@ HasLoadedAll-loaded before after n reach all loaded found =
       later = subst (λ (r : List ℕ). IsAtLeast r (reach_seen before)) (sym is) (reach_seen-before before after own (subst (HasLoaded before after) all loaded));
     }
 
-pub HasLoadedClocks-loaded : (before after : SeatModel) (n : ℕ) (clocks : List Clock) → n ≡ before.words.contexts → HasLoaded before after n → HasFound (clock_seen after) new_clock n clocks → HasLoadedClocks before after clocks
-HasLoadedClocks-loaded before after n clocks all loaded found =
+-- once each context was loaded, all were
+pub HasLoadedClocks-all : (before after : SeatModel) (n : ℕ) → n ≡ before.words.contexts → HasLoaded before after n → HasLoadedClocks before after (clocks_seen after)
+HasLoadedClocks-all before after n all loaded =
     let own : after.words ≡ before.words = ap (λ (s : SeatModel). s.words) loaded.entered in
-    let count : after.words.contexts ≡ before.words.contexts = ap (λ (w : WordsModel). w.contexts) own in
-    let is : clocks ≡ clocks_seen after = HasFound-all (clock_seen after) (known_clock after) new_clock n clocks found
-    (λ c low high. known_clock-within after c (omega arith)) (λ c past. known_clock-past after c (omega arith)) in
-    let reach : reach_of_clocks clocks ≡ reach_seen after = ap reach_of_clocks is ∙ reach_seen-is after in
+    let reach : reach_of_clocks (clocks_seen after) ≡ reach_seen after = reach_seen-is after in
     record {
       all = record {
         entered = subst (λ (k : ℕ). after ≡ with_steps before (loads_of (clock_seen after) k)) all loaded.entered;
         found = reach;
         later = subst (λ (r : List ℕ). IsAtLeast r (reach_seen before)) (sym reach) (reach_seen-before before after own (subst (HasLoaded before after) all loaded));
       };
-      found = is;
+      found = refl;
     }
+
+pub HasLoadedClocks-loaded : (before after : SeatModel) (n : ℕ) (clocks : List Clock) → n ≡ before.words.contexts → HasLoaded before after n → HasFound (clock_seen after) new_clock n clocks → HasLoadedClocks before after clocks
+HasLoadedClocks-loaded before after n clocks all loaded found =
+    let own : after.words ≡ before.words = ap (λ (s : SeatModel). s.words) loaded.entered in
+    let count : after.words.contexts ≡ before.words.contexts = ap (λ (w : WordsModel). w.contexts) own in
+    let is : clocks ≡ clocks_seen after = HasFound-all (clock_seen after) (known_clock after) new_clock n clocks found
+    (λ c low high. known_clock-within after c (omega arith)) (λ c past. known_clock-past after c (omega arith)) in
+    subst (HasLoadedClocks before after) (sym is) (HasLoadedClocks-all before after n all loaded)

@@ -86,7 +86,7 @@ impl Words {
             let clock = self.clock(seat, ctx);
             reach.raise_to(Point {
                 ctx,
-                value: reached(clock),
+                value: clock.reached(),
             });
         }
     }
@@ -103,11 +103,4 @@ fn put(clocks: &mut Clocks, ctx: Context, clock: Clock)
     if clock.closed {
         clocks.close(ctx);
     }
-}
-
-// What a clock reaches: its value while it is open, and then every value.
-fn reached(clock: Clock) -> u64
-    ensures { result ≡ reached_by clock }
-{
-    if clock.closed { u64::MAX } else { clock.value }
 }

@@ -1,4 +1,4 @@
-use Rattle.std.proofs.Common.{◌≡◌, ◌+◌, ◌<◌, ◌≤◌, sym, subst, ◌∙◌, arith}
+use Rattle.std.proofs.Common.{◌≡◌, ◌+◌, ◌<◌, ◌≤◌, sym, subst, arith}
 use Rattle.point_core.specs.Reach.{value_at}
 use Rattle.clients_core.specs.Board.{HasListed}
 use Rattle.clients_core.proofs.Showing.{HasListed-pushed, HasListed-reached}
@@ -24,7 +24,7 @@ loop-index-preserved c =
           record {
             listed = subst (HasListed words c.args.buffer c.args.level (n + 1) c.args.seat.now seat reach) (sym w.push_reserved.ensures.items) (HasListed-pushed is above before.listed shown);
             len = omega arith;
-            places = w.push_reserved.ensures.capacity ∙ before.places;
+            places = omega (arith, w.push_reserved.ensures.capacity, before.places);
           }
       | else-value-reached w ↦
           let low : value ≤ value_at reach ctx = omega arith in

@@ -1,4 +1,4 @@
-use Rattle.std.proofs.Common.{◌≡◌, ◌≤◌, vec_len, vec_capacity}
+use Rattle.std.proofs.Common.{◌≤◌, vec_len, vec_capacity}
 use Rattle.clients_core.specs.Board.{HasListed}
 use Rattle.clients_core.proofs.board.latest_shown.Given as goal
 
@@ -6,5 +6,5 @@ abbrev pub invariant-loop-index : goal.invariant-loop-index
 invariant-loop-index l = record {
   listed : HasListed l.words l.buffer l.level l.index l.initial.seat l.seat l.reach l.points.items;
   len : vec_len l.points ≤ l.index;
-  places : vec_capacity l.points ≡ l.contexts;
+  places : l.contexts ≤ vec_capacity l.points;
 }

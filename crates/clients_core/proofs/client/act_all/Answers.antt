@@ -10,7 +10,8 @@ use Rattle.clients_core.proofs.client.act_all.Goals as goal
 pub returns-in-Listed-clause-acted : goal.returns-in-Listed-clause-acted
 returns-in-Listed-clause-acted g c =
     let words = c.args.shared.now.words.now in
-    let known = subst (λ (own : List OwnPuts). KnowPuts own []) (sym c.as_mut_slice.ensures.value) c.in_ok-own.ensures.none in
+    let none = rw c.contexts.ensures.value at c.in_ok-own.ensures.none in
+    let known = subst (λ (own : List OwnPuts). KnowPuts words.contexts own []) (sym c.as_mut_slice.ensures.value) none in
     OnOk-weaker c.act_listed.result
     (λ acted.
     subst (λ (acts : List Act). HaveActed (g.T.SharedTable.puts c.args.shared.now.table.now) (g.T.SharedTable.exports c.args.shared.now.table.now) [] acts (client_of c.args.driver.now c.args.seat.now) (client_of c.act_listed.new.driver c.act_listed.new.seat))
@@ -19,4 +20,6 @@ returns-in-Listed-clause-acted g c =
     c.act_listed.ensures.acted
 
 pub act_rounds-requires-clause-none : goal.act_rounds-requires-clause-none
-act_rounds-requires-clause-none g c κs within = subst (λ (own : List OwnPuts). KnowPuts own []) (sym c.as_mut_slice-in-InRounds.ensures.value) c.in_ok-own.ensures.none
+act_rounds-requires-clause-none g c κs within =
+    let none = rw c.contexts.ensures.value at c.in_ok-own.ensures.none in
+    subst (λ (own : List OwnPuts). KnowPuts c.args.shared.now.words.now.contexts own []) (sym c.as_mut_slice-in-InRounds.ensures.value) none

@@ -52,12 +52,12 @@ loop-index-preserved g c =
           let acted = subst (λ (r : Result (Unit {0}) Refusal). HasActed (g.T.SharedTable.puts c.args.shared.now.table.now) (g.T.SharedTable.exports c.args.shared.now.table.now) (done ++ take i acts) act now then r) c.in_ok-done.was (c.act_once-done.ensures.acted (done ++ take i acts) (c.loop-index.invariant.known done known) within') in
           HaveActed-more (g.T.SharedTable.puts c.args.shared.now.table.now) (g.T.SharedTable.exports c.args.shared.now.table.now) done acts i act (client_of c.args.driver.now c.args.seat.now) now then c.loop-index-test.true c.index-acts-index.is (c.loop-index.invariant.acted done known within) acted;
       known = λ done known.
-          subst (λ (xs : List Act). KnowPuts c.act_once-done.new.own (done ++ xs)) (sym more)
-          (subst (λ (xs : List Act). KnowPuts c.act_once-done.new.own xs) (append_assoc done (take i acts) (act ∷ []))
+          subst (λ (xs : List Act). KnowPuts c.args.shared.now.words.now.contexts c.act_once-done.new.own (done ++ xs)) (sym more)
+          (subst (λ (xs : List Act). KnowPuts c.args.shared.now.words.now.contexts c.act_once-done.new.own xs) (append_assoc done (take i acts) (act ∷ []))
           (c.in_ok-done.ensures.known (done ++ take i acts) (c.loop-index.invariant.known done known)));
     }
 
 pub returns-clause-known : goal.returns-clause-known
 returns-clause-known g c =
     let all = take_all c.loop-index.index c.args.acts.now c.loop-index-test.false in
-    λ done known. subst (λ (xs : List Act). KnowPuts c.loop-index.own (done ++ xs)) all (c.loop-index.invariant.known done known)
+    λ done known. subst (λ (xs : List Act). KnowPuts c.args.shared.now.words.now.contexts c.loop-index.own (done ++ xs)) all (c.loop-index.invariant.known done known)

@@ -11,6 +11,6 @@ invariant-loop-index g l = record {
   driving : IsDriving l.shared.words.now l.driver;
   value : l.driver.value ≡ l.initial.driver.value + increments_of (take l.index l.acts);
   buffers : length l.own ≡ l.shared.words.now.buffers;
-  acted : (done : List Act) → KnowPuts l.initial.own done → All (IsWithin l.shared.words.now.contexts l.shared.words.now.buffers) done → HaveActed (g.T.SharedTable.puts l.shared.table.now) (g.T.SharedTable.exports l.shared.table.now) done (take l.index l.acts) (client_of l.initial.driver l.initial.seat) (client_of l.driver l.seat);
-  known : (done : List Act) → KnowPuts l.initial.own done → KnowPuts l.own (done ++ take l.index l.acts);
+  acted : (done : List Act) → KnowPuts l.shared.words.now.contexts l.initial.own done → All (IsWithin l.shared.words.now.contexts l.shared.words.now.buffers) done → HaveActed (g.T.SharedTable.puts l.shared.table.now) (g.T.SharedTable.exports l.shared.table.now) done (take l.index l.acts) (client_of l.initial.driver l.initial.seat) (client_of l.driver l.seat);
+  known : (done : List Act) → KnowPuts l.shared.words.now.contexts l.initial.own done → KnowPuts l.shared.words.now.contexts l.own (done ++ take l.index l.acts);
 }

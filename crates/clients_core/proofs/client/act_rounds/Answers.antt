@@ -66,5 +66,5 @@ loop-index-preserved g c =
       buffers = c.act_listed.ensures.buffers ∙ c.loop-index.invariant.buffers;
       acted = subst (λ (acts : List Act). HaveActed puts exports [] acts first then) more
           (HaveActed-append puts exports [] before c.round.result first now then c.loop-index.invariant.acted (c.in_ok-act_listed.ensures.acted before c.loop-index.invariant.known within));
-      known = subst (λ (acts : List Act). KnowPuts c.act_listed.new.own acts) more (c.in_ok-act_listed.ensures.known before c.loop-index.invariant.known);
+      known = subst (λ (acts : List Act). KnowPuts c.args.shared.now.words.now.contexts c.act_listed.new.own acts) more (c.in_ok-act_listed.ensures.known before c.loop-index.invariant.known);
     }

@@ -11,5 +11,5 @@ invariant-loop-index g l = record {
   value : l.driver.value ≡ l.initial.driver.value + l.index;
   buffers : length l.own ≡ l.shared.words.now.buffers;
   acted : HaveActed (g.T.SharedTable.puts l.shared.table.now) (g.T.SharedTable.exports l.shared.table.now) [] (rounds_of l.index l.rounds.client l.rounds.next) (client_of l.initial.driver l.initial.seat) (client_of l.driver l.seat);
-  known : KnowPuts l.own (rounds_of l.index l.rounds.client l.rounds.next);
+  known : KnowPuts l.shared.words.now.contexts l.own (rounds_of l.index l.rounds.client l.rounds.next);
 }

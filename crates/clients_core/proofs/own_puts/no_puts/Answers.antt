@@ -9,8 +9,8 @@ pub loop-preserved : goal.loop-preserved
 loop-preserved c = record {
   len = omega (arith, c.push_reserved.ensures.len, c.loop.invariant.len);
   places = c.push_reserved.ensures.capacity ∙ c.loop.invariant.places;
-  none = rw c.push_reserved.ensures.items (All-push (λ (puts : OwnPuts). AreOwnPuts puts []) c.loop.own.items c.none.result c.loop.invariant.none c.none.ensures.puts);
+  none = rw c.push_reserved.ensures.items (All-push (λ (puts : OwnPuts). AreOwnPuts c.args.contexts puts []) c.loop.own.items c.in_ok-none.field-0 c.loop.invariant.none c.in_ok-none.ensures.puts);
 }
 
 pub returns-clause-none : goal.returns-clause-none
-returns-clause-none c = KnowPuts-none c.loop.own.items c.loop.invariant.none
+returns-clause-none c = KnowPuts-none c.args.contexts c.loop.own.items c.loop.invariant.none

@@ -7,5 +7,5 @@ abbrev pub invariant-loop : goal.invariant-loop
 invariant-loop l = record {
   len : vec_len l.own ≡ l.counter;
   places : vec_capacity l.own ≡ l.buffers;
-  none : All (λ (puts : OwnPuts). AreOwnPuts puts []) l.own.items;
+  none : All (λ (puts : OwnPuts). AreOwnPuts l.contexts puts []) l.own.items;
 }

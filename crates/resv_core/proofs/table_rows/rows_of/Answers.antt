@@ -8,7 +8,7 @@ pub returns-clause-rows : goal.returns-clause-rows
 returns-clause-rows c =
     let es = c.args.entries.now in
     let reach = c.args.reach.now in
-    let at_kernel = c.latest_of-latest.ensures in
+    let at_kernel = c.put_each.ensures.latest c.args.reach.now (c.above-latest.ensures.empty 0) in
     let at_write = c.put_weaker.ensures.latest reach 0 (omega arith) at_kernel in
     let at_read = c.put_weaker-2.ensures.latest reach 1 (omega arith) at_write in
     let at_bookkeep = c.put_weaker-3.ensures.latest reach 2 (omega arith) at_read in

@@ -1,48 +1,71 @@
-use Rattle.std.proofs.Common.{◌≡◌, ◌≢◌, ◌↔◌, sym, ap, subst, ◌∙◌}
-use Rattle.std.proofs.lemmas.Result.{err_from_is_err_and}
-use Rattle.point_core.specs.declared.status.Status.{Status}
-use Rattle.point_core.specs.declared.status.Status.TheVariants.{Active}
-use Rattle.point_core.specs.Agreement.{IsReached}
-use Rattle.point_core.specs.Clocks.{common_status}
-use Rattle.words_core.proofs.Loads.{contexts-loaded, kept-loaded, HasLoadedClocks-seen}
-use Rattle.words_core.specs.Loads.{clocks_seen, reach_seen}
-use Rattle.syncfile_core.specs.SyncFile.{File}
-use Rattle.syncfile_core.proofs.Polling.{IsBorneOut-seen, IsBorneOut-found, polled-stands}
+use Rattle.std.proofs.Common.{◌≡◌, ◌+◌, ◌<◌, ◌≤◌, ℕ, sym, ap, subst, ◌∙◌, arith}
+use Rattle.point_core.specs.Clocks.{clock_at, new_clock, reach_of_clocks}
+use Rattle.words_core.specs.Loads.{clocks_seen}
+use Rattle.words_core.specs.Seat.{SeatModel}
+use Rattle.words_core.specs.Words.{WordsModel}
+use Rattle.words_core.proofs.Loads.{kept-loaded}
+use Rattle.words_core.proofs.LoadingAll.{clock_at-seen, clock_at-past, clock_seen-kept, reach_seen-is, HasLoaded-none, HasLoaded-more, HasLoadedClocks-all}
+use Rattle.syncfile_core.specs.Running.{HasFoundTo, IsBorneOut, IsBorneOutAt}
+use Rattle.syncfile_core.proofs.Passing.{HasFoundTo-same}
+use Rattle.syncfile_core.proofs.Polling.{IsBorneOut-seen, IsBorneOut-found, polled-stands_for, foreign-stronger}
+use Rattle.syncfile_core.proofs.Standing.{OnOk-from}
 use Rattle.syncfile_core.proofs.sync_file.SyncFile.poll.Goals as goal
 
-pub returns-in_err-bear_out-clause-foreign : goal.returns-in_err-bear_out-clause-foreign
-returns-in_err-bear_out-clause-foreign c =
-    let p = err_from_is_err_and c.from_residual.result c.from_residual.ensures.1 in
-    let loaded = c.load_clocks-clocks.ensures.loaded in
-    let made = contexts-loaded c.contexts.ensures.value c.requires.own loaded.all in
-    let told = c.in_err-bear_out.ensures.foreign in
-    rw (p.1, p.2) (told.0, λ out. told.1 (IsBorneOut-found c.load_clocks-clocks.new.seat c.args.self.now (c.as_reach.ensures ∙ loaded.all.found) made out))
+pub loop-index-init : goal.loop-index-init
+loop-index-init c = record {
+  own = c.requires.own;
+  loaded = HasLoaded-none c.args.seat.now;
+  found = c.none-found.ensures.none (clocks_seen c.args.seat.now);
+}
 
-pub returns-clause-status : goal.returns-clause-status
-returns-clause-status c =
-    let points = c.as_slice.ensures ∙ ap (λ (f : File). f.points) c.self.view_is in
-    c.common_status.ensures ∙ ap (common_status c.load_clocks-clocks.result) points ∙ ap (λ clocks. common_status clocks c.args.self.now.points) c.load_clocks-clocks.ensures.loaded.found
+pub loop-index-preserved : goal.loop-index-preserved
+loop-index-preserved c =
+    let seat = c.loop-index.seat in
+    let after = c.clock-clock.new.seat in
+    let n = c.loop-index.index in
+    let ctx = c.at-ctx.result in
+    let clock = c.clock-clock.result in
+    let before = c.loop-index.invariant in
+    let load = c.clock-clock.ensures in
+    let is : ctx ≡ n + 1 = c.at-ctx.ensures in
+    let words : after.words ≡ seat.words = ap (λ (s : SeatModel). s.words) load.entered in
+    let made = c.contexts-contexts.ensures in
+    let own : seat.words.contexts ≡ c.args.words.now.contexts = ap (λ (w : WordsModel). w.contexts) before.own in
+    let same : after.words.contexts ≡ seat.words.contexts = ap (λ (w : WordsModel). w.contexts) words in
+    let here : clock_at (clocks_seen after) ctx ≡ clock = clock_at-seen after ctx (omega arith) (omega arith) (omega arith) ∙ sym load.found in
+    let kept : (c' : ℕ) → 1 ≤ c' → c' ≤ n → clock_at (clocks_seen seat) c' ≡ clock_at (clocks_seen after) c' =
+    λ c' low high.
+    clock_at-seen seat c' low (omega arith) (omega arith)
+    ∙ sym (clock_seen-kept seat after n ctx clock is load.entered c' low high)
+    ∙ sym (clock_at-seen after c' low (omega arith) (omega arith)) in
+    record {
+      own = words ∙ before.own;
+      loaded = HasLoaded-more c.args.seat.now seat after n ctx clock is before.loaded load.entered load.found load.later;
+      found = c.take_in.ensures.more (clocks_seen after) n is here (HasFoundTo-same (clocks_seen seat) (clocks_seen after) c.args.self.now n c.loop-index.found kept before.found);
+    }
 
-pub returns-clause-borne_out : goal.returns-clause-borne_out
-returns-clause-borne_out c =
-    let loaded = c.load_clocks-clocks.ensures.loaded in
-    let made = contexts-loaded c.contexts.ensures.value c.requires.own loaded.all in
-    IsBorneOut-seen c.load_clocks-clocks.new.seat c.args.self.now (c.as_reach.ensures ∙ loaded.all.found) made c.in_ok-bear_out.ensures.borne_out
-
-pub returns-clause-stands : goal.returns-clause-stands
-returns-clause-stands c =
-    let seat = c.load_clocks-clocks.new.seat in
-    let loaded = c.load_clocks-clocks.ensures.loaded in
-    let made = contexts-loaded c.contexts.ensures.value c.requires.own loaded.all in
-    let out = IsBorneOut-seen seat c.args.self.now (c.as_reach.ensures ∙ loaded.all.found) made c.in_ok-bear_out.ensures.borne_out in
-    let points = c.as_slice.ensures ∙ ap (λ (f : File). f.points) c.self.view_is in
-    let is : c.common_status.result ≡ common_status (clocks_seen seat) c.args.self.now.points =
-    c.common_status.ensures ∙ ap (common_status c.load_clocks-clocks.result) points ∙ ap (λ clocks. common_status clocks c.args.self.now.points) loaded.found in
-    λ set stands.
-    subst (λ (s : Status). (s ≢ Active) ↔ IsReached set 0 (reach_seen seat)) (sym is) (polled-stands seat c.args.self.now out set stands)
-
-pub returns-clause-loaded : goal.returns-clause-loaded
-returns-clause-loaded c = HasLoadedClocks-seen c.load_clocks-clocks.ensures.loaded
-
-pub returns-clause-kept : goal.returns-clause-kept
-returns-clause-kept c = kept-loaded c.load_clocks-clocks.ensures.loaded.all
+pub returns : goal.returns
+returns c =
+    let first = c.args.seat.now in
+    let last = c.loop-index.seat in
+    let n = c.loop-index.index in
+    let end = c.loop-index.invariant in
+    let result = c.status_of.result in
+    let made = c.contexts-contexts.ensures in
+    let own : last.words.contexts ≡ c.args.words.now.contexts = ap (λ (w : WordsModel). w.contexts) end.own in
+    let own' : first.words.contexts ≡ c.args.words.now.contexts = ap (λ (w : WordsModel). w.contexts) c.requires.own in
+    let count : n ≡ c.contexts-contexts.result = omega arith in
+    let loaded = HasLoadedClocks-all first last n (omega arith) end.loaded in
+    let found = subst (λ (k : ℕ). HasFoundTo (clocks_seen last) c.args.self.now k c.loop-index.found) count end.found in
+    let past : (ctx : ℕ) → c.contexts-contexts.result < ctx → clock_at (clocks_seen last) ctx ≡ new_clock = λ ctx over. clock_at-past last ctx (omega arith) in
+    let same : c.contexts-contexts.result ≡ last.words.contexts = omega arith in
+    let status = c.status_of.ensures.status (clocks_seen last) found in
+    let out = OnOk-from result (IsBorneOutAt (reach_of_clocks (clocks_seen last)) c.contexts-contexts.result c.args.self.now) (IsBorneOut last c.args.self.now) (IsBorneOut-seen last c.args.self.now (reach_seen-is last) same) (c.status_of.ensures.borne_out (clocks_seen last) found) in
+    record {
+      kept = kept-loaded loaded.all;
+      loaded = loaded;
+      status = status;
+      borne_out = out;
+      stands = polled-stands_for last c.args.self.now result status out;
+      foreign = foreign-stronger result (IsBorneOut-found last c.args.self.now (reach_seen-is last) same) (c.status_of.ensures.foreign (clocks_seen last) made.within.0 found past);
+    }

@@ -1,8 +1,8 @@
 use Rattle.std.proofs.Common.{◌++◌, ◌∷◌, [], if◌then◌else◌, ap, sym, arith, ◌∙◌}
 use Rattle.point_core.specs.Agreement.{point_of}
 use Rattle.point_core.proofs.Listings.{points_above-used, push_above, skip_above}
-use Rattle.point_core.proofs.latest_points.LatestPoints.points_expected.Goals as goal
-use Rattle.point_core.proofs.latest_points.LatestPoints.points_expected.Goals.{then-value-get+in_ok-map_err, else-value-get}
+use Rattle.point_core.proofs.latest_points.LatestPoints.list.Goals as goal
+use Rattle.point_core.proofs.latest_points.LatestPoints.list.Goals.{then-value-get+in_ok-map_err, else-value-get}
 
 pub loop-index-preserved : goal.loop-index-preserved
 loop-index-preserved c =
