@@ -4,8 +4,8 @@
  * cc -pthread test.c libsync.c $(pkg-config --cflags --libs bimphlai)
  *
  * A descriptor is an index into a table. The desk's timelines and files have its number as their names, with a
- * letter before it and, since a closed timeline keeps its name, the number of timelines so far behind it. The desk
- * goes with the last descriptor, so that tests which come one after another don't use up its timelines.
+ * letter before it and, since a closed timeline keeps its name, the number of timelines so far after it. The desk
+ * is closed with the last descriptor, so that tests which come one after another don't use up its timelines.
  */
 #include "libsync.h"
 

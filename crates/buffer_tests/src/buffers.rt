@@ -79,13 +79,13 @@ fn exports(
     holds(rt, listing.floor == *reach);
 }
 
-/// An export lists that value of the first context alone, where nothing is signalled.
+/// An export lists that value of the first context alone, if nothing is signalled.
 fn exports_value(rt: &impl Abort, buffers: &Buffers, from: &Name, flags: u32, value: u64) {
     let points = [point(rt, 1, value)];
     exports(rt, buffers, (from, flags), &Reach::zero(), &points);
 }
 
-/// An export lists nothing, where that value of the first context is reached.
+/// An export lists nothing, if that value of the first context is reached.
 fn exports_none(rt: &impl Abort, buffers: &Buffers, from: &Name, flags: u32, value: u64) {
     exports(rt, buffers, (from, flags), &reach_at(rt, value), &[]);
 }

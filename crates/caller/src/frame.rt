@@ -30,7 +30,7 @@ pub fn draw(alloc: Global) -> Result<(Frame, Frame), Refusal>
     draw_on(&mut desk)
 }
 
-/// Takes the desk by reference, so that nothing is dropped where it ends early, which keeps its proof short.
+/// Takes the desk by reference, so that nothing is dropped when it ends early, which keeps its proof short.
 fn draw_on(desk: &mut Desk) -> Result<(Frame, Frame), Refusal>
     requires { HasHistory desk.old [] }
     ensures { IfOk result (λ frames. (frames.0 ≡ Frame.Late) × (frames.1 ≡ Frame.Shown)) }
@@ -50,7 +50,7 @@ fn draw_on(desk: &mut Desk) -> Result<(Frame, Frame), Refusal>
     Ok((early, refresh(desk, drawn)?))
 }
 
-/// Shows a frame where its file is signalled: after whatever commands, exactly where all that was ever put into the file
+/// Shows a frame if its file is signalled: after whatever commands, exactly when all that was ever put into the file
 /// is reached.
 fn refresh(desk: &mut Desk, file: Name) -> Result<Frame, Refusal>
     ensures shown { (history : List Command) → HasHistory desk.old history →
@@ -64,7 +64,7 @@ fn refresh(desk: &mut Desk, file: Name) -> Result<Frame, Refusal>
     }
 }
 
-/// Steps the desk. Refuses as the answer does; any other answer will do.
+/// Steps the desk. Fails if the answer is a refusal; any other answer will do.
 fn accept(desk: &mut Desk, command: Command) -> Result<(), Refusal>
     ensures { OnOk result ((history : List Command) →
         HasHistory desk.old history → HasHistory desk.new (history ++ command ∷ [])) }

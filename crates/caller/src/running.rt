@@ -31,7 +31,7 @@ const TRIES: u32 = 100_000_000;
 /// of the display, whose timeline stands still. Gives how many points of the merged file are pending: the display's,
 /// whatever the schedule.
 ///
-/// Refuses as `TimedOut` where the frame was late, and as `Memory` where there is none.
+/// Fails with `TimedOut` if the frame was late, and with `Memory` if there is none.
 pub fn merge_beside_a_driver(rt: &impl Threads, alloc: Global) -> Result<usize, Refusal> {
     let (words, mut seat) = Words::new(alloc, TIMELINES, 0, 0)?;
     let name = Name::read(b"frame").ok_or(Refusal::Syntax)?;
@@ -79,7 +79,7 @@ fn beside(
 
 /// Advances a timeline that nobody drove yet by `STEPS`, one at a time, and gives its value.
 ///
-/// Refuses as `Exists` where it had a driver.
+/// Fails with `Exists` if it had a driver.
 fn drive(words: &Words, seat: Seat, ctx: Context) -> Result<u64, Refusal>
     requires own { seat.words ≡ words.now }
     requires context { ctx ≤ words.now.contexts }
@@ -94,7 +94,7 @@ fn drive(words: &Words, seat: Seat, ctx: Context) -> Result<u64, Refusal>
 
 /// Waits for a file by polling it, and merges it with another.
 ///
-/// Refuses as `TimedOut` where the file was not signalled in so many polls, as `Foreign` where a file is of other words,
+/// Fails with `TimedOut` if the file was not signalled in so many polls, with `Foreign` if a file is of other words,
 /// and as `Memory`.
 fn merge_once_drawn(
     alloc: Global,

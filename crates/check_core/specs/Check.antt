@@ -44,7 +44,7 @@ differing_count script (l ∷ ls) (a ∷ rest) =
     one_if (differs (expected_of script l.number) (text_of l.number a)) + differing_count script ls rest
 
 -- The script was checked: each of its lines has its answer, and of these were counted how many there are, of how many lines
--- are expected, and of how many other lines came. None of them differs exactly where each expected line is the one that came.
+-- are expected, and of how many other lines came. None of them differs exactly if each expected line is the one that came.
 pub record ChecksScript (script : List ℕ) (tally : Tally) : Type 0 where
   pub given : List Answer
   pub each : AreLineAnswers [] (script_of script) given
@@ -120,7 +120,7 @@ pub record IsEnded (c c' : Checker) (number : ℕ) (body : Option Body) (line : 
   pub taken : IsTaken c between number body line
   pub judged : IsJudgedAt between c'
 
--- bytes of a script were read that end so, and they are checked where they are all of it
+-- bytes of a script were read that end so, and they are checked if they are all of it
 pub record HasCheckedBytes (before after : Option (List ℕ)) (end : Ending) (tally : Tally) : Type 0 where
   pub bytes : List ℕ
   pub read : WasRead before after bytes end

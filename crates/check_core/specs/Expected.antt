@@ -37,7 +37,7 @@ ended line = line ++ 10 ∷ []
 abbrev pub output_of_lines : List (List ℕ) → List ℕ
 output_of_lines lines = flat_map ended lines
 
--- where lines are expected, they are those that came, in order, and nothing else came
+-- if lines are expected, they are those that came, in order, and nothing else came
 abbrev pub IsAsExpected : List (List ℕ) → List ℕ → Type 0
 IsAsExpected [] text = Unit {0}
 IsAsExpected (line ∷ more) text = text ≡ output_of_lines (line ∷ more)

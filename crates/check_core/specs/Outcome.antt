@@ -27,7 +27,7 @@ verdict_of outcomes allows_empty =
     else if list_any (is_wrong allows_empty) outcomes || (is_none outcomes && not allows_empty) then Differs
     else Passed
 
--- where it was checked to its end, the counts are those of the bytes that were read
+-- if it was checked to its end, the counts are those of the bytes that were read
 abbrev pub IsOutcome : Outcome → Type 0
 IsOutcome (outcome.Checked tally) = (script : List ℕ) × ChecksScript script tally
 IsOutcome (outcome.Failed refusal) = Unit {0}

@@ -28,7 +28,7 @@ pub(crate) struct Checker<'a> {
     place: Place<'a>,
     desk: Desk,
     pub(crate) tally: Tally,
-    // of the last line that has an answer; 0 stands for what is above the first
+    // the number of the last line that has an answer, and its bytes; 0 is above the first
     number: u32,
     bytes: Vec<u8>,
     // its answer, and how far that came as expected
@@ -56,8 +56,8 @@ impl<'a> Checker<'a> {
         })
     }
 
-    /// Takes the next line: it is answered, where it has an answer, or else what it expects is compared with the last answer.
-    /// Of a line that is too long so many bytes are enough that it still is.
+    /// Takes the next line: it is answered if it has an answer, or else what it expects is compared with the last answer. Of
+    /// an over-long line its first 257 bytes are enough.
     pub(crate) fn take<W: Write>(
         &mut self,
         number: u32,
@@ -77,7 +77,7 @@ impl<'a> Checker<'a> {
         }
     }
 
-    /// Takes the last line, which may lack its line feed. It is one where the script was read to its end.
+    /// Takes the last line, which may lack its line feed, if the script was read to its end.
     pub(crate) fn end<W: Write>(
         &mut self,
         ending: Ending,
@@ -220,7 +220,7 @@ impl<'a> Checker<'a> {
     }
 }
 
-/// Answers a line, and leaves the text of its answer alone in `text`.
+/// Answers a line, and leaves nothing but the text of its answer in `text`.
 fn answer_into(desk: &mut Desk, number: u32, body: Body, text: &mut Vec<u8>) -> Result<(), Refusal>
     ensures ok { OnOk result (AnswersInto desk.old desk.new number body text.new.items) }
     ensures refusals { IfErr result (λ refusal. refusal ≡ Memory) }

@@ -16,14 +16,14 @@ use point_core::{LimitKind, Refusal};
 use std::alloc::Global;
 use std::io::{Read, Write};
 
-/// Runs a script as `engine` does, and compares the answer of each line with the lines that the notes behind it expect; a
+/// Runs a script as `engine` does, and compares the answer of each line with the lines that the notes after it expect; a
 /// line without such notes may answer anything. Writes each answer that differs in the form of its place, once that is known.
 ///
 /// A line is answered when its end is read. Of the lines it keeps the last that has an answer, with its answer, and what the
 /// desk holds, so its memory does not grow with the script.
 ///
-/// Refused as Read where a read failed, as Limit where the script has more than `SCRIPT_BYTES` bytes, as Write where a write
-/// failed, and as Memory where a growth was refused. Then the differences are written that were known so far.
+/// Fails with Read if a read failed, with Limit if the script has more than `SCRIPT_BYTES` bytes, with Write if a write
+/// failed, and with Memory if a growth was refused. Then the differences that were known so far are written.
 pub fn check<R: Read, W: Write>(
     alloc: Global,
     place: &Place<'_>,
@@ -37,15 +37,15 @@ pub fn check<R: Read, W: Write>(
     ensures reads { IfOk result (λ _. (script : List ℕ)
         × WasRead (R.remaining reader.old) (R.remaining reader.new) script Whole) }
 
-    // Where nothing differs, nothing is written.
+    // If nothing differs, nothing is written.
     ensures told { IfOk result (λ tally. tally.differing ≡ 0
         → Keeps (W.contents writer.old) (W.contents writer.new)) }
 
-    // Whatever the result, no byte is read past the one behind a script's limit, and after a failed read not that one.
+    // Whatever the result, no byte is read past the one after a script's limit, and after a failed read not that one.
     ensures within { ConsumesAtMost (SCRIPT_BYTES + 1) (R.remaining reader.old) (R.remaining reader.new) }
     ensures read { result ≡ Err ReadFault
         → ConsumesAtMost SCRIPT_BYTES (R.remaining reader.old) (R.remaining reader.new) }
-    // A script is too long only where more of it was read than may be.
+    // A script is too long only if more of it was read than it may have.
     ensures limit { result ≡ Err (Limit Script) → IsTooLong (R.remaining reader.old) (R.remaining reader.new) }
     ensures refusals { IfErr result (λ refusal.
         (refusal ≡ ReadFault) ⊎ (refusal ≡ Limit Script) ⊎ (refusal ≡ WriteFault) ⊎ (refusal ≡ Memory)) }
@@ -81,7 +81,7 @@ fn check_script<R: Read, W: Write>(
     }
 }
 
-/// Reads the lines of a script and checks each when its end was read.
+/// Reads the lines of a script, and checks each when its end was read.
 fn check_lines<R: Read, W: Write>(
     reader: &mut R,
     checker: &mut Checker<'_>,

@@ -16,7 +16,7 @@ pub(crate) struct Difference<'a> {
     /// The command's line, from 1; 0 stands for what is above the first.
     pub(crate) number: u32,
     pub(crate) command: &'a [u8],
-    /// None where more came than was expected.
+    /// None if more came than was expected.
     pub(crate) expected: Option<&'a [u8]>,
     /// What came from there on.
     pub(crate) came: &'a [u8],

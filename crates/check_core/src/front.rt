@@ -1,8 +1,8 @@
-// What follows the front of some bytes.
+// What follows a prefix.
 ghost use Rattle.std.specs.Prelude.{◌≡◌, ◌≢◌, ◌++◌, List, ℕ, option_map, MatchOption};
 ghost use Rattle.check_core.specs.Expected.{strip_front, ended};
 
-/// What follows that front, where the bytes begin with it.
+/// What follows that prefix, if the bytes begin with it.
 pub(crate) fn strip_front<'a>(bytes: &'a [u8], front: &[u8]) -> Option<&'a [u8]>
     ensures rest { option_map (λ r. r.now) result ≡ strip_front bytes.now front.now }
     ensures cases { MatchOption result
@@ -12,7 +12,7 @@ pub(crate) fn strip_front<'a>(bytes: &'a [u8], front: &[u8]) -> Option<&'a [u8]>
     bytes.strip_prefix(front)
 }
 
-/// What follows a line and its line feed, where the text begins with it.
+/// What follows a line and its line feed, if the text begins with it.
 pub(crate) fn strip_line<'a>(text: &'a [u8], line: &[u8]) -> Option<&'a [u8]>
     ensures cases { MatchOption result
         ((more : List ℕ) → text.now ≢ ended line.now ++ more)

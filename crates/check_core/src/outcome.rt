@@ -31,7 +31,7 @@ pub enum Verdict {
 impl Outcome {
     /// Of a check that ended so.
     ///
-    /// Fails with `Write` and with `Memory` where that did.
+    /// Fails with `Write` or `Memory` if the check did.
     pub(crate) fn of(checked: Result<Tally, Refusal>) -> Result<Outcome, Refusal>
         requires script { IfOk checked (λ tally. (script : List ℕ) × ChecksScript script tally) }
         ensures outcome { IfOk result IsOutcome }
@@ -54,7 +54,7 @@ impl Outcome {
         }
     }
 
-    /// Whether a script that was checked does not pass: an answer differs, or nothing is expected where something has to be.
+    /// Whether a script that was checked does not pass: an answer differs, or nothing is expected though something has to be.
     pub(crate) fn is_wrong(self, allows_empty: bool) -> bool
         ensures { result ≡ is_wrong allows_empty self }
     {
@@ -71,7 +71,7 @@ impl Outcome {
         !self.is_failed() && !self.is_wrong(allows_empty)
     }
 
-    /// The counts, which are 0 where it was not checked to its end.
+    /// The counts, which are 0 if it was not checked to its end.
     pub(crate) fn tally(self) -> Tally {
         match self {
             Outcome::Checked(tally) => tally,

@@ -38,7 +38,7 @@ impl Rewriter {
 
     /// Takes the next line, and writes what is known by then.
     ///
-    /// Fails with `Memory` where memory was refused, to a command too.
+    /// Fails with `Memory` if memory was refused, also to a command.
     pub(crate) fn take(&mut self, line: &[u8], page: &mut Page) -> Result<(), Refusal> {
         match body_of(line) {
             Some(body) => self.answer(line, body, page),

@@ -27,7 +27,7 @@ pub struct Plan {
 /// Checks the scripts of these names, one after another; `-` stands for standard input. What is found is written in the form
 /// of the plan: tests to `output`, all else to `errors`. Why a script can't be opened or read is reported on standard error.
 ///
-/// Fails with `Write` where a write failed, and with `Memory`.
+/// Fails with `Write` if a write failed, and with `Memory`.
 pub fn check_scripts<R: Files + Eprint + AllocGlobal, S: Read + Copy + Drop, O: Write, W: Write>(
     rt: &R,
     plan: &Plan,
@@ -51,7 +51,7 @@ pub fn check_scripts<R: Files + Eprint + AllocGlobal, S: Read + Copy + Drop, O: 
     )
 }
 
-/// The same, where nothing came of a script yet.
+/// The same, while no script was checked yet.
 fn check_all<R: Files + Eprint + AllocGlobal, S: Read + Copy + Drop, O: Write, W: Write>(
     rt: &R,
     plan: &Plan,
@@ -145,7 +145,7 @@ fn check_script<R: Files + Eprint + AllocGlobal, S: Read + Drop, O: Write, W: Wr
     }
 }
 
-/// Reports the test of a script. Its differences were kept, so where a write of one failed memory was refused.
+/// Reports the test of a script. Its differences were kept, so if a write of one failed, memory was refused.
 fn report_test<'a, O: Write>(
     alloc: Global,
     plan: &Plan,

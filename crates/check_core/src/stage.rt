@@ -21,7 +21,7 @@ pub(crate) enum Stage {
 impl Stage {
     ghost use Rattle.check_core.specs.Stage.{place_of, left_of, is_different, IsAt};
 
-    /// What of the text the next expected line is compared with; none where that can't matter.
+    /// The part of the text that the next expected line is compared with; none if that can't matter.
     pub(crate) fn left(self, text: &[u8]) -> Option<&[u8]>
         requires within { place_of self ≤ length text.now }
         ensures left { option_map (λ l. l.now) result ≡ left_of self text.now }
@@ -50,7 +50,7 @@ impl Stage {
         }
     }
 
-    /// What is found where no more is expected.
+    /// What is found once no more is expected.
     pub(crate) fn finding(self, text: &[u8]) -> Finding
         ensures asked { (expected : List (List ℕ)) → IsAt self expected text.now
             → is_asked_finding result ≡ is_asked expected }

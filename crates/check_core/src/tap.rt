@@ -43,7 +43,7 @@ pub(crate) struct Test<'a> {
     pub(crate) differences: &'a [u8],
 }
 
-/// Writes a test that passes, which is skipped where its script expects nothing.
+/// Writes a test that passes, which is skipped if its script expects nothing.
 pub(crate) fn tell_passed<W: Write>(
     alloc: Global,
     test: &Test<'_>,

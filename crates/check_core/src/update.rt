@@ -15,8 +15,8 @@ use std::alloc::{AllocError, Global};
 /// stay as they are, and so do commands of which nothing is expected, unless nothing is expected of any: then each answer is.
 /// Numbers of lines in answers are those of the new script, and what it has is checked.
 ///
-/// Fails with `Limit` where the script or the new one has more than `SCRIPT_BYTES` bytes, with `Memory` where memory was refused,
-/// to a command too, and with `Torn` where an answer of the new script differs, which none does.
+/// Fails with `Limit` if the script or the new one has more than `SCRIPT_BYTES` bytes, with `Memory` if memory was refused,
+/// also to a command, and with `Torn` if an answer of the new script differs, which none does.
 pub fn updated(alloc: Global, script: &[u8]) -> Result<Vec<u8>, Refusal>
     ensures passes { IfOk result (λ text. Passes text.items) }
 {
@@ -37,7 +37,7 @@ fn rewrite(alloc: Global, script: &[u8], page: &mut Page) -> Result<(), Refusal>
     rewrite_lines(&mut rewriter, script, page)
 }
 
-/// Writes the new script to an empty page. Its last line lacks its line feed where that of the script does.
+/// Writes the new script to an empty page. Its last line lacks its line feed if that of the script does.
 fn rewrite_lines(rewriter: &mut Rewriter, script: &[u8], page: &mut Page) -> Result<(), Refusal> {
     let mut rest = script;
     for _ in 0..script.len() {

@@ -21,7 +21,7 @@ enum Update {
 /// Puts `updated` in the place of each of these files. On `errors` it reports those that changed and those that could not be
 /// updated, and the counts of both; why one can't be read or written is reported on standard error.
 ///
-/// Fails with `Write` where a write to `errors` failed, and with `Memory` where memory was refused, to a command of a script too:
+/// Fails with `Write` if a write to `errors` failed, and with `Memory` if memory was refused, also to a command of a script:
 /// then the files before that one are updated, and it and those after it are as they were.
 pub fn update_scripts<R: Files + Eprint + AllocGlobal, W: Write>(
     rt: &R,

@@ -1,4 +1,4 @@
--- What a report tells.
+-- What a report has.
 use Rattle.std.specs.Prelude.{ℕ, ◌+◌, List, length}
 use Rattle.std.specs.List.{sum_by}
 use Rattle.point_core.specs.declared.timeline_row.TimelineRow.{TimelineRow}

@@ -8,7 +8,7 @@ pub enum Command {
     /// `timeline T`: makes a timeline at 0, as libsync's `sw_sync_timeline_create`.
     Timeline(Name),
     /// `inc T N`: adds N to a timeline's value, as libsync's `sw_sync_timeline_inc`, and reports the callbacks that it fires.
-    /// Past the greatest u64 it is refused, where the kernel's 32-bit value wraps.
+    /// Past the greatest u64 it is refused, while the kernel's 32-bit value wraps.
     Inc(Name, u64),
     /// `value T`: reads a timeline's value.
     Value(Name),

@@ -108,7 +108,7 @@ draw_after rows = record {
 abbrev pub asked_on : Text → List Row → Asked
 asked_on word rows = if bytes_eq word (codes "explain") then Explain (script_named rows) else run_or_json rows
 
--- by the word of a subcommand, and the values behind it
+-- by the word of a subcommand, and the values after it
 abbrev pub asked_after : Text → List Row → Asked
 asked_after word rows =
     if bytes_eq word (codes "clients") then
@@ -149,7 +149,7 @@ asked_of_draw draw = record {
   output = option_map (λ t. t.now) draw.output;
 }
 
--- nothing where the program is to end
+-- nothing if the program is to end
 abbrev pub asked_of : Action → Option Asked
 asked_of (action.Run script) = Some (Run (file_of script))
 asked_of (action.Json script) = Some (Json (file_of script))

@@ -4,7 +4,7 @@ use Rattle.std.specs.Str.{bytes_eq}
 use Rattle.command_line.specs.declared.color.ColorChoice.{ColorChoice}
 use Rattle.command_line.specs.declared.color.ColorChoice.TheVariants.{Auto, Always, Never}
 
--- by itself output is coloured at a terminal, where the environment does not ask for plain text
+-- by itself output is coloured at a terminal, if the environment does not ask for plain text
 abbrev pub is_on : ColorChoice → Bool → Bool → Bool
 is_on Auto terminal plain = terminal && not plain
 is_on Always terminal plain = true

@@ -1,4 +1,4 @@
--- The line that tells a fault.
+-- The line that reports a fault.
 use Rattle.std.specs.Prelude.{ℕ, List, [], ◌∷◌, ◌++◌, codes, decimal}
 use Rattle.point_core.specs.Refusal.{refusal_number, refusal_name}
 use Rattle.point_core.specs.declared.refusal.Refusal.{Refusal}

@@ -34,7 +34,7 @@ use std::alloc::Global;
 
 /// What the matches of a command line ask for.
 ///
-/// Refuses as `Limit` of the clients or of the plan where one of their numbers is not in its range, which the command line
+/// Fails with `Limit` of the clients or of the plan if one of their numbers is not in its range, which the command line
 /// refuses before.
 pub(crate) fn action_by<'a>(alloc: Global, matches: &ArgMatches<'a>) -> Result<Action<'a>, Refusal>
     ensures asked { IfOk result (λ action. asked_of action ≡ Some (asked_by (subcommand_rows_of matches.now))) }
@@ -45,7 +45,7 @@ pub(crate) fn action_by<'a>(alloc: Global, matches: &ArgMatches<'a>) -> Result<A
     }
 }
 
-/// By the word of a subcommand, and what stands behind it.
+/// By the word of a subcommand, and what follows it.
 fn action_after<'a>(
     alloc: Global,
     word: &str,
@@ -201,7 +201,7 @@ fn clients_of(matches: &ArgMatches<'_>) -> Result<Clients, Refusal>
     })
 }
 
-/// The number of that name, or 0 where there is none.
+/// The number of that name, or 0 if there is none.
 fn number_of(matches: &ArgMatches<'_>, name: &str) -> u16
     ensures { 1 ≤ result → result ≡ number_named (one_of name.now (rows_of (found_of matches.now))) }
 {

@@ -23,8 +23,8 @@ use std::thread::Threads;
 /// Runs clients, each in a thread of its own, over the table that they ask for, and writes the text of what they settle. That
 /// is the text of the plans' settled table, whatever the schedule.
 ///
-/// Refused as `run_clients`, which refuses none of these plans before its threads start, and as Write where a write
-/// failed or took no byte, or the flush failed. Then a front of the text is written.
+/// Fails as `run_clients`, which refuses none of these plans before its threads start, and with Write if a write
+/// failed or took no byte, or the flush failed. Then a prefix of the text is written.
 pub fn clients_report<R: Threads + Wait + Sync, W: Write>(
     rt: &R,
     alloc: Global,
@@ -69,7 +69,7 @@ fn report_over<R: Threads + Wait + Sync, T: SharedTable, W: Write>(
 
 /// The text of what the clients settle.
 ///
-/// Refused as `run_clients` once its threads were started, and as Memory.
+/// Fails as `run_clients` once its threads were started, and with Memory.
 fn text_of_run<R: Threads + Wait + Sync, T: SharedTable>(
     rt: &R,
     alloc: Global,

@@ -1,4 +1,4 @@
--- The answer of each command in a world: the first refusal whose cause holds, else what the accepted command tells.
+-- The answer of each command in a world: the first refusal whose cause holds, else what the accepted command reports.
 use Rattle.std.specs.Prelude.{ℕ, ◌+◌, ◌^◌, Bool, true, false, not, ◌&&◌, ◌||◌, nat_le, if◌then◌else◌, List, [], ◌∷◌, ◌++◌, length, map, Option, None, Some, unwrap_or, codes, ⊤}
 use Rattle.point_core.specs.declared.context.TheConstants.{CONTEXTS}
 use Rattle.point_core.specs.declared.entry.Point.{Point}
@@ -51,7 +51,7 @@ is_signalled w name = has_file w.files name && all_reached (reach_of w.timelines
 abbrev pub is_full : World → Bool
 is_full w = nat_le WATCHES (length w.watches) || nat_le WATCHES_EVER w.watches_made
 
--- the causes, in the order in which they are told
+-- the causes, in the order in which they are reported
 abbrev pub causes : World → Command → List (Bool × Refusal)
 causes w (command.Timeline t) =
     cause (has_timeline w.timelines t) Exists ∷ cause (nat_le CONTEXTS (length w.timelines)) (Limit Timelines) ∷ []
@@ -91,7 +91,7 @@ number_if b = if b then 1 else 0
 abbrev pub listed_points : MadeFile → List Point
 listed_points f = if f.is_one_point then map (λ e. e.point) f.put else listing f.put 0 f.made_at
 
--- a file is active until all that was put into it is reached, and then cancelled where a point that it lists is
+-- a file is active until all that was put into it is reached, and then cancelled if a point that it lists is
 abbrev pub file_status : World → MadeFile → Status
 file_status w f =
     status_of (all_reached (reach_of w.timelines) 0 f.put) (some_cancelled (clocks_of w.timelines) (listed_points f))
@@ -120,7 +120,7 @@ abbrev pub info_of : World → List ℕ → MadeFile → Info
 info_of w name f =
     record { name = name; status = file_status w f; fences = or_stub (map (fence_row w.timelines) (listed_points f)) }
 
--- what is told of the file of a name: of no file nothing, though there always is one where this is asked
+-- what is reported of the file of a name: of no file nothing, though there always is one when this is asked
 abbrev pub info_told : World → List ℕ → Option MadeFile → Answer
 info_told w name None = answer.Done
 info_told w name (Some f) = answer.Info (info_of w name f)
@@ -153,7 +153,7 @@ report_of w = record {
   buffers = map (buffer_rows w) w.buffers;
 }
 
--- what the command tells where it is accepted, which is where none of its causes holds: what it names is there
+-- what the command reports if it is accepted, which it is if none of its causes holds: what it names is there
 abbrev pub told : World → Command → Answer
 told w (command.Timeline t) = answer.Value (length w.timelines + 1)
 told w (command.Inc t n) = answer.Raised (value_of w.timelines t + n) (cookies_of (fired_watches w t n))
@@ -180,8 +180,8 @@ abbrev pub refused_or : Option Refusal → Answer → Answer
 refused_or None a = a
 refused_or (Some r) a = answer.Refused r
 
--- The command makes something or tells a list, and so may find no memory; no other command does. Of an increment and a closing
--- that is so where the command fires a watch, which `fires` tells.
+-- The command makes something or reports a list, and so may find no memory; no other command does. Of an increment and a closing
+-- that is so if the command fires a watch, which `fires` says.
 abbrev pub takes_memory : (Command → Bool) → Command → Bool
 takes_memory fires (command.Timeline t) = true
 takes_memory fires (command.Inc t n) = fires (command.Inc t n)
@@ -216,7 +216,7 @@ is_refused (answer.Info i) = false
 is_refused (answer.Show rows) = false
 is_refused (answer.Report report) = false
 
--- a fact that holds where the answer is a refusal
+-- a fact that holds if the answer is a refusal
 abbrev pub OnRefused : Answer → Type 0 → Type 0
 OnRefused (answer.Refused r) fact = fact
 OnRefused answer.Done fact = ⊤

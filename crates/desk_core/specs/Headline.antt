@@ -1,4 +1,4 @@
--- What a desk tells of all that was put into its files and buffers, and of its timelines.
+-- What a desk reports of all that was put into its files and buffers, and of its timelines.
 use Rattle.std.specs.Prelude.{◌≡◌, ◌≢◌, ℕ, ◌+◌, ◌≤◌, ◌↔◌, nat_eq, true, List, [], ◌∷◌, ◌++◌, length, count_by, Some, Contains}
 use Rattle.point_core.specs.declared.entry.Entry.{Entry}
 use Rattle.point_core.specs.declared.entry.Usage.{Usage}
@@ -47,7 +47,7 @@ put_into_file history name = put_set (world_of history).files name
 abbrev pub IsFileReached : List Command → List ℕ → Type 0
 IsFileReached history name = IsReached (put_into_file history name) 0 (values_after history)
 
--- above the timelines' values a file says what was put into it, and the desk tells that it is signalled exactly when all
+-- above the timelines' values a file says what was put into it, and the desk reports that it is signalled exactly when all
 -- of that is
 pub record TellsWhatWasPut (desk : DeskState) (history : List Command) : Type 0 where
   -- each file agrees with the union of the points put into it
@@ -60,7 +60,7 @@ pub record TellsWhatWasPut (desk : DeskState) (history : List Command) : Type 0 
   -- all that a file lists is reached exactly when every point put into it is
   pub reached : (name : List ℕ) (f : File) → sync_file_at desk.files name ≡ Some f
       → (IsReached (as_entries f.points) 0 (values_after history) ↔ IsFileReached history name)
-  -- `info` tells that a file is signalled, its status not being active, exactly when every point put into it is reached
+  -- `info` reports that a file is signalled, its status not being active, exactly when every point put into it is reached
   pub signalled : (name : List ℕ) (told : Info) → Answers desk (command.Info name) (answer.Info told)
       → ((told.status ≢ Active) ↔ IsFileReached history name)
   -- and that it is cancelled exactly when besides a point that it lists is
@@ -85,7 +85,7 @@ put_into_buffer history name = buffer_put_set (world_of history).buffers name
 abbrev pub IsBufferReached : List Command → List ℕ → Usage → Type 0
 IsBufferReached history name usage = IsReached (put_into_buffer history name) (usage_number usage) (values_after history)
 
--- above the timelines' values a reservation says what was put into its buffer, and the desk tells that it is signalled at a
+-- above the timelines' values a reservation says what was put into its buffer, and the desk reports that it is signalled at a
 -- usage exactly when all of that is
 pub record TellsWhatIsInBuffers (desk : DeskState) (history : List Command) : Type 0 where
   -- each reservation agrees, at every usage, with the union of all that was put into it
@@ -105,16 +105,16 @@ pub record TellsWhatIsInBuffers (desk : DeskState) (history : List Command) : Ty
   -- a reservation never holds more than its places
   pub places : (name : List ℕ) → length (entries_of desk.buffers name) ≤ PLACES
 
--- values are sums of increments, and the desk tells them
+-- values are sums of increments, and the desk reports them
 pub record TellsSums (desk : DeskState) (history : List Command) : Type 0 where
   pub kept : AreSums desk.timelines (increments_in history)
-  -- `value` tells the sum
+  -- `value` reports the sum
   pub told : (name : List ℕ) (value : ℕ) → Answers desk (command.Value name) (answer.Value value)
       → value ≡ incremented (increments_in history) name
-  -- `inc` tells the sum with the new increment
+  -- `inc` reports the sum with the new increment
   pub raised : (name : List ℕ) (n value : ℕ) (fired : List ℕ) → Answers desk (command.Inc name n) (answer.Raised value fired)
       → value ≡ incremented (increments_in history) name + n
-  -- `shut` tells the sum, which stays
+  -- `shut` reports the sum, which stays
   pub shut : (name : List ℕ) (value : ℕ) (fired : List ℕ) → Answers desk (command.Shut name) (answer.Raised value fired)
       → value ≡ incremented (increments_in history) name
 
@@ -128,7 +128,7 @@ shut_after history name = shut_watches (world_of history) name
 
 -- an increment or a closing fires the watches all of whose put points it signals, and none fires twice
 pub record TellsWhatFires (desk : DeskState) (history : List Command) : Type 0 where
-  -- `inc` tells the cookies of the watches that it fires, by registration
+  -- `inc` reports the cookies of the watches that it fires, by registration
   pub told : (name : List ℕ) (n value : ℕ) (fired : List ℕ) → Answers desk (command.Inc name n) (answer.Raised value fired)
       → fired ≡ cookies_of (fired_after history name n)
   -- these are the pending watches of which every put point is reached at the new values
@@ -147,7 +147,7 @@ pub record TellsEachWatch (desk : DeskState) (commands : List Command) (given : 
   -- of each cookie: how often it was registered, and what became of that
   pub each : (cookie : ℕ)
       → times_registered cookie commands given ≡ times_fired cookie given + times_removed cookie commands given + times_pending cookie desk
-  -- so it is told at most as often as it was registered
+  -- so it is reported at most as often as it was registered
   pub fired : (cookie : ℕ) → times_fired cookie given ≤ times_registered cookie commands given
   -- and is pending at most once
   pub pending : (cookie : ℕ) → times_pending cookie desk ≤ 1

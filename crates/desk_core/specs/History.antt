@@ -53,7 +53,7 @@ increment_in command.Report = []
 abbrev pub increments_in : List Command → List Increment
 increments_in history = flat_map increment_in history
 
--- the one answer of the command, or Memory where that is no refusal and the command takes memory
+-- the one answer of the command, or Memory if that is no refusal and the command takes memory
 pub record IsAnswer (history : List Command) (command : Command) (given : Answer) : Type 0 where
   pub told : (given ≡ answer_to (world_of history) command)
       ⊎ ((given ≡ answer.Refused Memory) × (takes_memory (fires_some (world_of history)) command ≡ true)

@@ -41,7 +41,7 @@ AreMade made ps = All (λ (p : Point). p.ctx ≤ made) ps
 abbrev pub HaveTimelines : ℕ → List File → Type 0
 HaveTimelines made fs = All (λ (f : File). AreMade made f.points) fs
 
--- no context behind those that were made has a pending point
+-- no context after those that were made has a pending point
 pub record HasNoneBehind (made : ℕ) (reach : List ℕ) (es : List Entry) : Type 0 where
   pub tops : (usage ctx : ℕ) → made < ctx → raised_to (value_at reach ctx) (top es usage ctx) ≡ value_at reach ctx
 
@@ -51,7 +51,7 @@ pub record IsOfItsTimelines (d : DeskState) : Type 0 where
   pub buffers : (name : List ℕ) → HasNoneBehind (length d.timelines) (reach_of d.timelines) (entries_of d.buffers name)
   pub watches : d.watches.reach ≡ reach_of d.timelines
 
--- what is told of a file that lists the points
+-- what is reported of a file that lists the points
 abbrev pub info_at : List Timeline → List ℕ → List Point → Info
 info_at ts name ps = record {
   name = name;
@@ -68,7 +68,7 @@ pub record Keeps (desk : DeskState) (world : World) : Type 0 where
 abbrev pub points_at : List File → List ℕ → List Point
 points_at fs name = unwrap_or (option_map (λ (f : File). f.points) (sync_file_at fs name)) []
 
--- whether a watch that the desk keeps is due where so much is reached
+-- whether a watch that the desk keeps is due if so much is reached
 abbrev pub keeps_due : DeskState → List ℕ → Bool
 keeps_due d reach = list_any (fires reach) d.watches.pending
 
@@ -98,7 +98,7 @@ fires_kept d command.Report = false
 abbrev pub AreRowsMade : ℕ → List TopRow → Type 0
 AreRowsMade made rows = All (λ (r : TopRow). r.ctx ≤ made) rows
 
--- what is told of a file, by what the desk keeps
+-- what is reported of a file, by what the desk keeps
 abbrev pub file_row_at : List Clock → File → FileRow
 file_row_at clocks f = record {
   name = f.name;
@@ -106,7 +106,7 @@ file_row_at clocks f = record {
   count = fence_count f.points;
 }
 
--- what is told of the buffer of that name
+-- what is reported of the buffer of that name
 abbrev pub buffer_rows_at : List Timeline → List Buffer → List ℕ → BufferRows
 buffer_rows_at ts bs name = record { name = name; rows = show_rows ts (entries_of bs name) }
 
@@ -168,7 +168,7 @@ pub record IsDone (old : DeskState) (c : Command) (given : Answer) (new : DeskSt
   pub told : (world : World) → Keeps old world → given ≡ told world c
   pub held : (world : World) → Keeps old world → Holds new (after world c)
 
--- what is answered: what was told, or the refusal
+-- what is answered: what was reported, or the refusal
 abbrev pub answer_of : Result Answer Refusal → Answer
 answer_of (Ok given) = given
 answer_of (Err refusal) = answer.Refused refusal

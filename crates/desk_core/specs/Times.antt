@@ -53,7 +53,7 @@ is_unwatch_of cookie command.Report = false
 is_unwatch_of cookie (command.Watch f other) = false
 is_unwatch_of cookie (command.Unwatch other) = other == cookie
 
--- an `unwatch` answers so where it took a watch out
+-- an `unwatch` answers so if it took a watch out
 abbrev pub tells_one : Answer → Bool
 tells_one (answer.Value n) = n == 1
 tells_one (answer.Refused r) = false
@@ -63,7 +63,7 @@ tells_one (answer.Info i) = false
 tells_one (answer.Show rows) = false
 tells_one (answer.Report report) = false
 
--- the cookies that are told to have fired
+-- the cookies that are reported to have fired
 abbrev pub fired_told : Answer → List ℕ
 fired_told (answer.Raised n fired) = fired
 fired_told (answer.Refused r) = []

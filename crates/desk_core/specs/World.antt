@@ -97,7 +97,7 @@ raised_reach w name n = reach_of (raised w.timelines name n)
 abbrev pub shut_reach : World → List ℕ → List ℕ
 shut_reach w name = reach_of (shut w.timelines name)
 
--- the pending watches that are due where so much is reached, by registration
+-- the pending watches that are due if so much is reached, by registration
 abbrev pub due_watches : World → List ℕ → List MadeWatch
 due_watches w reach = filter (is_due reach) w.watches
 

@@ -63,8 +63,8 @@ impl Desk {
     }
 
     /// The answer of one command: the first refusal whose cause holds, else what the command gives. `Memory` comes
-    /// last, where a growth was really refused; `value`, `close`, `wait`, `test`, `trim` and `unwatch` never answer it,
-    /// and `inc` and `shut` only where they fire a watch. A refused command changes nothing, and fires none.
+    /// last, when a growth was really refused; `value`, `close`, `wait`, `test`, `trim` and `unwatch` never answer it,
+    /// and `inc` and `shut` only when they fire a watch. A refused command changes nothing, and fires none.
     #[inline(always)]
     pub fn step(&mut self, command: Command) -> Answer
         ensures answer { Answers self.old command result }
@@ -202,7 +202,7 @@ impl Desk {
         Ok(Answer::Value(self.timelines.value(name)?))
     }
 
-    // The watches are asked first, at the greatest value: where they find no memory, nothing has changed.
+    // The watches are asked first, at the greatest value: if they find no memory, nothing has changed.
     #[inline(never)]
     fn shut(&mut self, name: &Name) -> Result<Answer, Refusal>
         ensures refused { IsRefusedFor (cause_of self.old (Command.Shut name.now)) result }

@@ -12,7 +12,7 @@ use timeline_core::Timelines;
 /// What is reported of a file that lists those points, as Linux's `SYNC_IOC_FILE_INFO`. Without points it is shown as the
 /// stub.
 ///
-/// Refuses as `Memory` alone.
+/// Fails with `Memory` alone.
 pub fn of_points(
     alloc: Global,
     name: Name,
@@ -31,7 +31,7 @@ pub fn of_points(
     })
 }
 
-/// A row for each point, or the stub's where there is none.
+/// A row for each point, or the stub's if there is none.
 fn rows_of(
     alloc: Global,
     points: &[Point],

@@ -15,7 +15,7 @@ use timeline_core::Timelines;
 
 /// Everything: the timelines by rising context, the files and the buffers in order of making. Each is looked at once.
 ///
-/// Refuses as `Memory` alone.
+/// Fails with `Memory` alone.
 pub fn of_all(
     alloc: Global,
     timelines: &Timelines,
@@ -38,7 +38,7 @@ pub fn of_all(
 
 /// The rows of a table, each with the name of its timeline.
 ///
-/// Refuses as `Memory` alone.
+/// Fails with `Memory` alone.
 pub fn show_rows(
     alloc: Global,
     tops: &[TopRow],

@@ -22,7 +22,7 @@ is_sync_flags flags = nat_le 1 flags && nat_le flags 3
 abbrev pub export_usage : ℕ → Usage
 export_usage flags = if flags == 1 then Write else Read
 
--- a reader's fence, where it only reads, else a writer's
+-- a reader's fence, if it only reads, else a writer's
 abbrev pub import_usage : ℕ → Usage
 import_usage flags = if flags == 1 then Read else Write
 

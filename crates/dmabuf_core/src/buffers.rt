@@ -49,7 +49,7 @@ impl Buffers {
 
     /// Makes a buffer with an empty reservation. It is never unmade.
     ///
-    /// Refuses as `Exists` where there is one of that name, as `Limit` where there are `BUFFERS` buffers, then as `Memory`;
+    /// Fails with `Exists` if there is one of that name, with `Limit` if there are `BUFFERS` buffers, then with `Memory`;
     /// nothing is made then.
     pub fn create(&mut self, name: Name) -> Result<(), Refusal>
         ensures refused { IsRefusedFor (cause_to_refuse self.old name) result }
@@ -81,7 +81,7 @@ impl Buffers {
 
     /// Adds one fence to a buffer, as Linux's `dma_resv_add_fence` after a `dma_resv_reserve_fences` of one.
     ///
-    /// Refuses as `NoEntry`, then as `Memory`, and then leaves every table as it was. Memory is taken by the first fence of
+    /// Fails with `NoEntry`, then with `Memory`, and then leaves every table as it was. Memory is taken by the first fence of
     /// a buffer alone, as `Resv::reserve` says.
     pub fn add(
         &mut self,
@@ -105,12 +105,12 @@ impl Buffers {
         Ok(())
     }
 
-    /// Adds the fences of a sync file to a buffer, as Linux's `DMA_BUF_IOCTL_IMPORT_SYNC_FILE`: with usage `Write` where
+    /// Adds the fences of a sync file to a buffer, as Linux's `DMA_BUF_IOCTL_IMPORT_SYNC_FILE`: with usage `Write` if
     /// the flags have writing, else with usage `Read`. A file without points adds nothing; the kernel adds its stub,
     /// which is signalled. Places for all fences are reserved before the first is added.
     ///
-    /// Refuses as `NoEntry`, then as `Flags` any number but 1, 2 and 3, then as `Memory`, and then leaves every table as it
-    /// was.
+    /// Fails with `NoEntry`, then with `Flags` for any number but 1, 2 and 3, then with `Memory`, and leaves every table as
+    /// it was.
     pub fn import(
         &mut self,
         name: &Name,
@@ -138,7 +138,7 @@ impl Buffers {
     /// that are signalled are not listed, and the floor is the reach. Where nothing is pending nothing is listed; the
     /// kernel gives a file of its stub.
     ///
-    /// Refuses as `NoEntry`, then as `Flags` any number but 1, 2 and 3, then as `Memory`.
+    /// Fails with `NoEntry`, then with `Flags` for any number but 1, 2 and 3, then with `Memory`.
     pub fn export(&self, name: &Name, flags: u32, reach: &Reach) -> Result<Listing, Refusal>
         ensures refused { IsRefusedFor (cause_by_flags self.now name.now flags) result }
         ensures points { IfOk result (λ l.
@@ -156,7 +156,7 @@ impl Buffers {
 
     /// Whether every fence of the usage or a stronger one is signalled, as Linux's `dma_resv_test_signaled`.
     ///
-    /// Refuses as `NoEntry`. Takes no memory.
+    /// Fails with `NoEntry`. Takes no memory.
     pub fn test(&self, name: &Name, usage: Usage, reach: &Reach) -> Result<bool, Refusal>
         ensures { MatchBool (has_buffer self.now name.now)
             (IsOkAnd result (λ told.
@@ -168,7 +168,7 @@ impl Buffers {
 
     /// Drops from a buffer the fences that are signalled, and those that another one covers.
     ///
-    /// Refuses as `NoEntry`. Takes no memory.
+    /// Fails with `NoEntry`. Takes no memory.
     pub fn trim(&mut self, name: &Name, reach: &Reach) -> Result<(), Refusal>
         ensures known { MatchBool (has_buffer self.old name.now) (IsOk result) (result ≡ Err NoEntry) }
         ensures agrees { AgreesAbove reach.now (entries_of self.old name.now) (entries_of self.new name.now) }
@@ -186,7 +186,7 @@ impl Buffers {
 
     /// The pending top of each context at each usage: from the strongest usage to the weakest, and by rising context.
     ///
-    /// Refuses as `NoEntry`, then as `Memory`.
+    /// Fails with `NoEntry`, then with `Memory`.
     pub fn table(&self, name: &Name, reach: &Reach) -> Result<Vec<TopRow>, Refusal>
         ensures refused { IsRefusedFor (cause_without self.now name.now) result }
         ensures rows { IfOk result (λ rows. rows.items ≡ rows_of (entries_of self.now name.now) reach.now) }
@@ -196,7 +196,7 @@ impl Buffers {
 
     /// The names, by the order of making.
     ///
-    /// Refuses as `Memory` alone.
+    /// Fails with `Memory` alone.
     pub fn names(&self) -> Result<Vec<Name>, Refusal>
         ensures names { IfOk result (λ names. names.items ≡ names_of self.now) }
         ensures memory { IfErr result (λ e. e ≡ Memory) }
@@ -220,7 +220,7 @@ impl Buffers {
 
 /// Adds the points of a file to a table, with that usage, once there are places for all.
 ///
-/// Refuses as `Memory` alone, and leaves the table as it was.
+/// Fails with `Memory` alone, and leaves the table as it was.
 fn add_all(table: &mut Resv, points: &[Point], usage: Usage, reach: &Reach) -> Result<(), Refusal>
     requires rising { HasRisingContexts points.now }
     ensures table { IsTable table.new }
@@ -242,6 +242,7 @@ fn count(points: &[Point]) -> usize
     ensures few { result ≤ CONTEXTS }
 {
     if let (Some(first), Some(last)) = (points.first(), points.last()) {
+        // For the proof: what a context keeps.
         prove!(first.ctx.number() >= 1);
         prove!(usize::from(last.ctx.number()) <= CONTEXTS);
     }

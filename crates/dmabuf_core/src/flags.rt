@@ -17,7 +17,7 @@ pub enum SyncFlags {
 impl SyncFlags {
     /// The flags of that number.
     ///
-    /// Refuses as `Flags` every number but 1, 2 and 3, where Linux's `DMA_BUF_IOCTL_EXPORT_SYNC_FILE` and
+    /// Fails with `Flags` for every number but 1, 2 and 3, as Linux's `DMA_BUF_IOCTL_EXPORT_SYNC_FILE` and
     /// `DMA_BUF_IOCTL_IMPORT_SYNC_FILE` answer EINVAL: other bits, or neither of these. Takes no memory.
     pub fn of(number: u32) -> Result<SyncFlags, Refusal>
         ensures valid { IsOk result ↔ ((1 ≤ number) × (number ≤ 3)) }
@@ -42,7 +42,7 @@ impl SyncFlags {
         }
     }
 
-    /// The usage of the fences of an access so: a reader's where it only reads, else a writer's.
+    /// The usage of the fences of such an access: a reader's if it only reads, else a writer's.
     pub fn import_usage(self) -> Usage
         ensures { result ≡ import_usage (flags_number self) }
     {

@@ -13,8 +13,8 @@ use script_core::Answers;
 use std::alloc::Global;
 use std::io::Write;
 
-/// Has the lines of a script answered and explains them, one after another. It keeps the lines that made what stands for
-/// something, and asks the desk of the answers for everything else.
+/// Has the lines of a script answered and explains them, one after another. It keeps the lines that made each name and
+/// cookie, and asks the desk of the answers for everything else.
 #[derive(Drop)]
 pub(crate) struct Explainer {
     alloc: Global,
@@ -23,7 +23,7 @@ pub(crate) struct Explainer {
 }
 
 impl Explainer {
-    /// Of no line.
+    /// No line was explained yet.
     pub(crate) fn new(alloc: Global, look: Look) -> Explainer {
         Explainer {
             alloc,
@@ -32,9 +32,9 @@ impl Explainer {
         }
     }
 
-    /// Answers a line that has an answer. Of one that is refused, writes its answer and after that why.
+    /// Answers a line that has an answer. If it is refused, writes its answer and after that why.
     ///
-    /// Fails with `Write` where a write failed or took no byte, and with `Memory` where a growth was refused: then a prefix of the
+    /// Fails with `Write` if a write failed or took no byte, and with `Memory` if a growth was refused: then a prefix of the
     /// answers is written.
     pub(crate) fn explain<W: Write, N: Write>(
         &mut self,
@@ -102,7 +102,7 @@ impl Explainer {
 
     /// Writes why a line was refused, the last that was answered, once its answer is written.
     ///
-    /// Fails with `Write` where a write failed, and with `Memory`.
+    /// Fails with `Write` if a write failed, and with `Memory`.
     fn tell<N: Write>(
         &self,
         answers: &Answers,

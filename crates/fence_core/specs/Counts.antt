@@ -33,7 +33,7 @@ left cs r = left_of (count_at cs r)
 abbrev pub AreCounted : List WaitingPoint → Counts → Type 0
 AreCounted ks cs = (r : ℕ) → held cs r ≡ number_of r ks
 
--- a watch fires at the reach exactly where it has reached as many of its points as it has
+-- a watch fires at the reach exactly if it has reached as many of its points as it has
 abbrev pub FireByCount : List (ℕ × Watch) → List WaitingPoint → List ℕ → Type 0
 FireByCount es ks reach =
     (r : ℕ) (w : Watch) → at es r ≡ Some w → (fires reach w ≡ true) ↔ (number_reached reach r ks ≡ number_of r ks)

@@ -33,6 +33,6 @@ pub record AreRegistered (es : List (ℕ × Watch)) (registrations : List (ℕ �
   pub before : AllByRecursion (λ r. r < made) (keys_of es)
   pub by_cookie : (cookie : ℕ) → registered registrations cookie ≡ registration_of cookie es
 
--- where it is told so, each point of the index is above the reach
+-- if it says so, each point of the index is above the reach
 abbrev pub IsSettled : Bool → List WaitingPoint → List ℕ → Type 0
 IsSettled is_settled index reach = is_settled ≡ true → AreAbove index reach

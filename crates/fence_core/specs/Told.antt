@@ -12,21 +12,21 @@ use Rattle.fence_core.specs.declared.watches.point_index.alone.Fired.TheVariants
 abbrev pub at : {X : Type 0} → List (ℕ × X) → ℕ → Option X
 at es r = lookup (is_at (nat_cmp r)) es
 
--- the cookie of the watch, where it fires
+-- the cookie of the watch, if it fires
 abbrev pub cookie_if_fires : List ℕ → Option Watch → Option ℕ
 cookie_if_fires reach None = None
 cookie_if_fires reach (Some w) = if fires reach w then Some w.cookie else None
 
--- its cookie where there is a watch, and else what was there
+-- its cookie if there is a watch, and else what was there
 abbrev pub with_cookie : Option Watch → Option ℕ → Option ℕ
 with_cookie None old = old
 with_cookie (Some w) old = Some w.cookie
 
--- the watch of that registration was told where it fires, and else not
+-- the watch of that registration was reported if it fires, and else not
 abbrev pub IsTold : List (ℕ × Watch) → List ℕ → List (ℕ × ℕ) → ℕ → Type 0
 IsTold es reach fired r = at fired r ≡ cookie_if_fires reach (at es r)
 
--- no watch was told that does not fire
+-- no watch was reported that does not fire
 abbrev pub AreSomeTold : List (ℕ × Watch) → List ℕ → List (ℕ × ℕ) → Type 0
 AreSomeTold es reach fired = (r : ℕ) (cookie : ℕ) → at fired r ≡ Some cookie → cookie_if_fires reach (at es r) ≡ Some cookie
 
@@ -37,7 +37,7 @@ pub record Fires (es : List (ℕ × Watch)) (reach : List ℕ) : Type 0 where
   pub pending : at es registration ≡ Some watch
   pub fires : fires reach watch ≡ true
 
--- the watch that is told where there is at most one, with its cookie
+-- the watch that is reported if there is at most one, with its cookie
 abbrev pub told_of : Fired → List (ℕ × ℕ)
 told_of Nothing = []
 told_of (One registration cookie) = (registration, cookie) ∷ []

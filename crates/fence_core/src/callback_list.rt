@@ -47,7 +47,7 @@ impl CallbackList {
 
     /// Adds a callback, the last, as Linux's `dma_fence_add_callback` does.
     ///
-    /// Refuses as `Signalled` where the list was taken; else as `Exists` where the cookie is there, as `Limit` where
+    /// Fails with `Signalled` if the list was taken; else with `Exists` if the cookie is there, with `Limit` if
     /// there are `CALLBACKS`, and as `Memory`. Nothing has changed then.
     pub fn add(&mut self, cookie: u64) -> Result<(), Refusal>
         ensures refused { IsRefusedFor (cause_to_refuse_callback self.old cookie) result }

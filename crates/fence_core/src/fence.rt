@@ -41,7 +41,7 @@ impl Fence {
     /// The fence of these points: the stub of none, a plain fence of one, else an array, as Linux's `sync_file_merge`
     /// makes them.
     ///
-    /// Refuses as `Memory` alone, and only where it makes an array.
+    /// Fails with `Memory` alone, and only when it makes an array.
     pub fn of(alloc: Global, points: &[Point]) -> Result<Fence, Refusal>
         requires rising { HasRisingContexts points.now }
         ensures fence { IfOk result (λ f. f ≡ fence_of points.now) }

@@ -56,7 +56,7 @@ pub enum Signal {
 impl SharedFence {
     /// A fence of these points, with a list that holds no callbacks. It reads none of the words.
     ///
-    /// Refuses as `Foreign` where a context is past those of the words, and as `Memory`.
+    /// Fails with `Foreign` if a context is past those of the words, and with `Memory`.
     pub fn new(
         alloc: Global,
         words: &Words,
@@ -110,7 +110,7 @@ impl SharedFence {
 
     /// Adds a callback, under the lock of the list, as `CallbackList::add` says.
     ///
-    /// Refuses as that does: as `Signalled` once the list was handed out; else as `Exists`, `Limit` or `Memory`.
+    /// Fails as that does: with `Signalled` once the list was handed out; else with `Exists`, `Limit` or `Memory`.
     pub fn add_callback(&self, rt: &impl Wait, cookie: u64) -> Result<(), Refusal>
         ensures { IfErr result IsCallbackRefusal }
     {

@@ -86,7 +86,7 @@ impl Watches {
 
     /// Registers a callback on a fence, as Linux's `dma_fence_add_callback` does.
     ///
-    /// Refuses as `free` does, then as `Signalled` where the fence is signalled at this reach, then as `Memory`;
+    /// Fails as `free` does, then with `Signalled` if the fence is signalled at this reach, then with `Memory`;
     /// nothing has changed then. The reach must be at least the last one that was handed in by a call that was not
     /// refused.
     pub fn add(&mut self, cookie: u64, fence: &Fence, reach: &Reach) -> Result<(), Refusal>
@@ -121,7 +121,7 @@ impl Watches {
         Ok(())
     }
 
-    /// Whether a watch of that cookie may be registered: `Exists` where one is pending, `Limit` where `WATCHES` are
+    /// Whether a watch of that cookie may be registered: `Exists` if one is pending, `Limit` if `WATCHES` are
     /// pending or `WATCHES_EVER` were registered.
     ///
     /// Takes no memory.
@@ -155,10 +155,10 @@ impl Watches {
         true
     }
 
-    /// Takes out the watches all of whose points are signalled at this reach, and answers their cookies by
+    /// Takes out the watches all of whose points are signalled at this reach, and gives their cookies in order of
     /// registration.
     ///
-    /// Refuses as `Memory` alone, and only where a watch fires; then none has fired, and nothing has changed. The
+    /// Fails with `Memory` alone, and only when a watch fires; then none has fired, and nothing has changed. The
     /// reach must be at least the last one that was handed in by a call that was not refused.
     pub fn after_rise(&mut self, reach: &Reach) -> Result<Vec<u64>, Refusal>
         requires rises { IsAtLeast reach.now self.old.reach }
@@ -180,10 +180,10 @@ impl Watches {
         Ok(cookies)
     }
 
-    /// As `after_rise` to the last reach that was handed in, with the point reached. Where no watch waits for a point of its
+    /// As `after_rise` to the last reach that was handed in, with the point reached. If no watch waits for a point of its
     /// context at or below it, nothing else is looked at.
     ///
-    /// Refuses as `Memory` alone, and only where a watch fires; then none has fired, and nothing has changed.
+    /// Fails with `Memory` alone, and only when a watch fires; then none has fired, and nothing has changed.
     pub fn after_inc(&mut self, point: Point) -> Result<Vec<u64>, Refusal>
         ensures fired { IfOk result (λ cookies. cookies.items ≡ fired_by self.old (reaching self.old.reach point)) }
         ensures left { OnOk result (self.new ≡ after_rise_to self.old (reaching self.old.reach point)) }
@@ -199,7 +199,7 @@ impl Watches {
         self.after_rise_of(&point)
     }
 
-    /// As `after_inc`, where a watch may wait for a point of its context at or below it.
+    /// As `after_inc`, when a watch may wait for a point of its context at or below it.
     fn after_rise_of(&mut self, point: &Point) -> Result<Vec<u64>, Refusal>
         ensures fired { IfOk result (λ cookies. cookies.items ≡ fired_by self.old (reaching self.old.reach point.now)) }
         ensures left { OnOk result (self.new ≡ after_rise_to self.old (reaching self.old.reach point.now)) }
@@ -230,7 +230,7 @@ impl Watches {
         listed(self.alloc, &fired)
     }
 
-    /// The same, where the reach is the last one with the point reached.
+    /// The same, when the reach is the last one with the point reached.
     fn fired_alone(&mut self, point: &Point, reach: &Reach) -> Result<Vec<u64>, Refusal>
         requires alone { reach.now ≡ reaching self.old.reach point.now }
         requires context { 1 ≤ point.now.ctx }
@@ -270,7 +270,7 @@ impl Watches {
         self.is_settled = true;
     }
 
-    /// The same, where the reach is the last one with the point reached.
+    /// The same, when the reach is the last one with the point reached.
     fn rise_alone(&mut self, point: &Point, reach: &Reach)
         requires alone { reach.now ≡ reaching self.old.reach point.now }
         requires context { 1 ≤ point.now.ctx }

@@ -47,7 +47,7 @@ impl Plain {
         false
     }
 
-    /// What a registration of the watch has to answer, where memory is not refused.
+    /// What a registration of the watch has to answer, if memory is not refused.
     fn answer_to(&self, watch: &Waiting, reached: bool) -> Result<(), Refusal> {
         if self.has(watch.cookie) {
             return Err(Refusal::Exists);

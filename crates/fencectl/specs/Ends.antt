@@ -18,17 +18,17 @@ pub record EndsRun (ended : Result Totals Refusal) (unread left before after : O
   pub read : ended ≡ Err ReadFault → AnswersEndedLines unread left before after
   pub err : OnErr ended ((script : List ℕ) × IsInput unread script × WritesFront (script_of script) before after)
 
--- 0 where each line was accepted, 1 where one was refused, and 2 after a fault
+-- 0 if each line was accepted, 1 if one was refused, and 2 after a fault
 abbrev pub run_status : Result Totals Refusal → ℕ
 run_status (Ok totals) = if totals.refused == 0 then 0 else 1
 run_status (Err refusal) = 2
 
--- 0 where each script passes, 1 where one does not, and 2 where one could not be checked to its end
+-- 0 if each script passes, 1 if one does not, and 2 if one could not be checked to its end
 abbrev pub check_status : Verdict → ℕ
 check_status Passed = 0
 check_status Differs = 1
 check_status Failed = 2
 
--- the line of a fault is reported, or a front of it, and nothing else
+-- the line of a fault is reported, or a prefix of it, and nothing else
 abbrev pub ReportsFault : {T : Type 0} → Result T Refusal → Option (List ℕ) → Option (List ℕ) → Type 0
 ReportsFault ended old new = MatchResult ended (λ _. Keeps old new) (λ refusal. AppendsFront old new (fault_text refusal))

@@ -19,8 +19,8 @@ use std::io::{Read, Write};
 ///
 /// Its memory does not grow with the script: of the lines it keeps what the desk holds, and of an answer its text.
 ///
-/// Fails with `Read` where a read failed: then the lines whose line feed was read are answered. Fails with `Write` where a write
-/// failed or took no byte, or the flush failed, and with `Memory` where a growth was refused: then a prefix of the objects is
+/// Fails with `Read` if a read failed: then the lines whose line feed was read are answered. Fails with `Write` if a write
+/// failed or took no byte, or the flush failed, and with `Memory` if a growth was refused: then a prefix of the objects is
 /// written.
 pub fn run_json<R: Read, W: Write>(
     alloc: Global,

@@ -199,7 +199,7 @@ fn put_limit(writer: &mut Writer, limit: Option<LimitKind>) -> Result<(), AllocE
     }
 }
 
-/// Which limit was met, where that is the refusal.
+/// Which limit was reached, if that is the refusal.
 fn limit_of(refusal: Refusal) -> Option<LimitKind>
     ensures { result ≡ limit_of refusal }
 {

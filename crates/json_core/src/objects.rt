@@ -49,9 +49,9 @@ impl Objects {
         })
     }
 
-    /// Answers a line that has an answer. Texts are written where they are many.
+    /// Answers a line that has an answer. Texts are written once they are many.
     ///
-    /// Fails with `Write` where a write failed or took no byte, and with `Memory` where a growth was refused.
+    /// Fails with `Write` if a write failed or took no byte, and with `Memory` if a growth was refused.
     pub(crate) fn answer<W: Write>(
         &mut self,
         number: u32,
@@ -103,7 +103,7 @@ impl Objects {
 
     /// Writes the texts that are not yet written.
     ///
-    /// Fails with `Write` where a write failed or took no byte.
+    /// Fails with `Write` if a write failed or took no byte.
     pub(crate) fn write<W: Write>(&mut self, writer: &mut W) -> Result<(), Refusal>
         ensures ok { OnOk result (Appends (W.contents writer.old) (W.contents writer.new) self.old.out.items) }
         ensures none { OnOk result (self.new.out.items ≡ []) }
@@ -117,7 +117,7 @@ impl Objects {
 
     /// Writes the texts that are not yet written, flushes, and reports how many lines were answered.
     ///
-    /// Fails with `Write` where a write failed or took no byte, or the flush failed.
+    /// Fails with `Write` if a write failed or took no byte, or the flush failed.
     pub(crate) fn finish<W: Write>(&mut self, writer: &mut W) -> Result<Totals, Refusal>
         ensures totals { IfOk result (λ totals. totals ≡ self.old.totals) }
         ensures ok { OnOk result (Appends (W.contents writer.old) (W.contents writer.new) self.old.out.items) }
@@ -130,9 +130,9 @@ impl Objects {
     }
 }
 
-/// Puts the object of an answer after `out`, and writes what waits there where it is much.
+/// Appends the object of an answer to `out`, and writes what waits there if it is much.
 ///
-/// Fails with `Write` where a write failed or took no byte, and with `Memory` where a growth was refused.
+/// Fails with `Write` if a write failed or took no byte, and with `Memory` if a growth was refused.
 fn pass_line<W: Write>(
     alloc: Global,
     number: u32,

@@ -32,7 +32,7 @@ impl Calls {
         }
     }
 
-    /// Fails with Memory where the next call is left out.
+    /// Fails with Memory if the next call is left out.
     pub(crate) fn allow(&self) -> Result<(), Refusal> {
         match self.marks.get(self.number) {
             Some(&LEFT_OUT) => Err(Refusal::Memory),

@@ -128,7 +128,7 @@ fn add<T: Wait>(
     calls.tell(rt, "add_callback", &added);
 }
 
-/// Signals the fence, and gives its token where this is the first time.
+/// Signals the fence, and gives its token the first time.
 fn signal(
     rt: &HostRuntime,
     calls: &mut Calls,

@@ -34,7 +34,7 @@ fn reserve(rt: &HostRuntime, calls: &mut Calls, resv: &mut Resv, places: usize)
     calls.tell(rt, "reserve", &reserved);
 }
 
-/// Adds a fence, where there is room for it.
+/// Adds a fence, if there is room for it.
 fn add(rt: &HostRuntime, calls: &mut Calls, resv: &mut Resv, point: Point, usage: Usage) {
     let has_room = resv.room() > 0;
     if has_room {

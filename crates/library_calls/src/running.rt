@@ -38,7 +38,7 @@ fn merge_with_other(
     }
 }
 
-/// Drives the first context to 5, where the first file is signalled, and merges both.
+/// Drives the first context to 5, which signals the first file, and merges both.
 fn merge_once_driven(
     rt: &HostRuntime,
     calls: &mut Calls,

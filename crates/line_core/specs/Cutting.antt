@@ -14,11 +14,11 @@ pub record OpenLine : Type 0 where
   pub number : ℕ
   pub bytes : List ℕ
 
--- the line, where it has an answer
+-- the line, if it has an answer
 abbrev pub line_of : OpenLine → Option Line
 line_of l = option_map (λ body. record { number = l.number; body = body }) (body_of l.bytes)
 
--- the line behind it
+-- the line after it
 abbrev pub next_line : OpenLine → OpenLine
 next_line l = record { number = l.number + 1; bytes = [] }
 

@@ -1,4 +1,4 @@
--- The words behind the first word of a line: just so many, and each of its kind.
+-- The words after the first word of a line: just so many, and each of its kind.
 use Rattle.std.specs.Prelude.{ℕ, nat_le, Bool, ◌&&◌, if◌then◌else◌, List, length, Option, None, Some}
 use Rattle.std.specs.Option.{option_and_then}
 use Rattle.std.specs.List.{list_all}

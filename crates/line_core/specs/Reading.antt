@@ -5,7 +5,7 @@ use Rattle.line_core.specs.declared.script.Ending.{Ending}
 use Rattle.line_core.specs.declared.script.Ending.TheVariants as ending
 use Rattle.line_core.specs.declared.script.TheConstants.{SCRIPT_BYTES}
 
--- the script is what the reader had, where that is known
+-- the script is what the reader had, if that is known
 abbrev pub IsInput : Option (List ℕ) → List ℕ → Type 0
 IsInput known script = IfSome known (λ input. script ≡ input)
 

@@ -19,14 +19,14 @@ is_line_feed b = b == 10
 abbrev pub lines_of : List ℕ → List (List ℕ)
 lines_of bytes = slice_split is_line_feed bytes
 
--- The last line may lack its line feed, where the script is at its end. In its place a limit is told where the script
--- goes on, and nothing where a read failed.
+-- The last line may lack its line feed, if the script is at its end. In its place a limit is reported if the script
+-- goes on, and nothing if a read failed.
 abbrev pub last_body : Ending → List ℕ → Option Body
 last_body ending.Whole last = body_of last
 last_body ending.TooLong last = Some (Bad (Limit Script))
 last_body ending.Failed last = None
 
--- a line with its number, where it has an answer
+-- a line with its number, if it has an answer
 abbrev pub answered : ℕ → Option Body → List Line → List Line
 answered number None more = more
 answered number (Some body) more = record { number = number; body = body } ∷ more

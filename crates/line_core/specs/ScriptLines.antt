@@ -18,10 +18,10 @@ pub record LinesState : Type 0 where
   pub ended : Bool
   pub line : List ℕ
   pub length : ℕ
-  -- what was read behind it
+  -- what was read after it
   pub ready : List ℕ
 
--- what is open of the line behind those that were given
+-- what is open of the line after those that were given
 abbrev pub open_line : LinesState → List ℕ
 open_line s = if s.ended then [] else s.line
 
@@ -60,12 +60,12 @@ pub record GivesLine (before now : Option (List ℕ)) (given : List (List ℕ)) 
 abbrev pub IsDrained : LinesState → Type 0
 IsDrained s = (s.ended ≡ false) × (s.ready ≡ [])
 
--- a line more was given, where there is one
+-- a line more was given, if there is one
 abbrev pub GoesOn : Option (List ℕ) → Option (List ℕ) → List (List ℕ) → Bool → LinesState → Type 0
 GoesOn before now given true s = GivesLine before now given s
 GoesOn before now given false s = HasGiven before now s given × IsDrained s
 
--- The script was read and ends so: `given` and behind them `last` are its lines.
+-- The script was read and ends so: `given` and after them `last` are its lines.
 pub record HasEnded (before now : Option (List ℕ)) (s : LinesState) (end : Ending) (given : List (List ℕ)) : Type 0 where
   pub bytes : List ℕ
   pub read : WasRead before now bytes end
@@ -126,7 +126,7 @@ filled_with s bytes = record {
 
 -- ---- how they are kept
 
--- The bytes of the line: where no front of it is held they stand in the block.
+-- The bytes of the line: if no front of it is held they stand in the block.
 abbrev pub line_bytes : List ℕ → List ℕ → ℕ → ℕ → List ℕ
 line_bytes held block start len = if length held == 0 then take (min len HELD_BYTES) (drop start block) else held
 

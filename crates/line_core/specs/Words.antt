@@ -20,7 +20,7 @@ BeginsWithWord bytes = (0 < length bytes) × (is_space (get_or bytes 0 0) ≡ fa
 abbrev pub are_none : {A : Type 0} → List A → Bool
 are_none words = length words == 0
 
--- the words, where there are exactly that many
+-- the words, if there are exactly that many
 abbrev pub one_of : {A : Type 0} → List A → Option A
 one_of [] = None
 one_of (a ∷ []) = Some a

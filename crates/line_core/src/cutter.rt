@@ -4,7 +4,7 @@ ghost use Rattle.std.specs.Prelude.{◌≡◌, ◌+◌, ◌^◌, ◌<◌, ◌≤
 use crate::line::{LINE_BYTES, Line, body_of};
 use std::marker::Model;
 
-/// So many bytes are held of a line: as many as a line may have, and one that shows that it has more.
+/// How many bytes are held of a line: as many as a line may have, and one that shows that it has more.
 pub(crate) const HELD_BYTES: usize = LINE_BYTES + 1;
 
 /// Cuts a script into its lines, byte by byte. It holds the number of its line, from 1, and the line's bytes so far, or that
@@ -53,8 +53,8 @@ impl LineCutter {
         self.number
     }
 
-    /// Takes one byte of the script. A line feed gives the line that was held, or none where it has no answer, and the next
-    /// line is held then, without bytes. Any other byte is one more of the line, and gives none.
+    /// Takes one byte of the script. A line feed gives the line that was held, or none if it has no answer, and begins
+    /// the next one. Any other byte is one more of the line, and gives none.
     pub fn feed(&mut self, byte: u8) -> Option<Line>
         requires few { self.old.number ≤ SCRIPT_BYTES }
         ensures line { result ≡ line_at self.old byte }
@@ -69,7 +69,7 @@ impl LineCutter {
         line
     }
 
-    /// The script ends: gives the line that was held, or none where it has no answer.
+    /// The script ends: gives the line that was held, or none if it has no answer.
     pub fn end(self) -> Option<Line>
         ensures line { result ≡ line_of self }
     {
@@ -84,7 +84,7 @@ impl LineCutter {
         Some(Line { number, body })
     }
 
-    /// The bytes that are held of the line: of one that is too long the first `HELD_BYTES`.
+    /// The bytes that are held of the line, the first `HELD_BYTES` of an over-long one.
     pub(crate) fn bytes(&self) -> &[u8]
         ensures bytes { result.now ≡ self.now.bytes }
     {

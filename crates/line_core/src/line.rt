@@ -15,7 +15,7 @@ const _: () = prove!(LINE_BYTES == 256);
 /// A line of a script that has an answer.
 #[derive(Clone, Copy, Debug)]
 pub struct Line {
-    /// Lines are numbered from 1, those without an answer too.
+    /// Lines are numbered from 1, including those without an answer.
     pub number: u32,
     pub body: Body,
 }
@@ -25,12 +25,12 @@ pub struct Line {
 pub enum Body {
     /// A command.
     Cmd(Command),
-    /// The line is refused as it stands.
+    /// The line itself is refused.
     Bad(Refusal),
 }
 
 /// What the line says, in this order: LongLine; none for a line without words or whose first word begins with `#`;
-/// Syntax where the words fit no row of the table; else the command.
+/// Syntax if the words fit no row of the table; else the command.
 pub fn body_of(line: &[u8]) -> Option<Body>
     ensures body { result ≡ body_of line.now }
 {

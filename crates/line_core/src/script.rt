@@ -15,8 +15,8 @@ const _: () = prove!(SCRIPT_BYTES == 1_048_576);
 
 /// The lines of a script that have an answer, in order.
 ///
-/// Of a script of more than `SCRIPT_BYTES` bytes, the lines whose line feed is among the first so many, and after them a
-/// line that the limit cuts, as `Bad(Limit(Script))`.
+/// Of a script of more than `SCRIPT_BYTES` bytes, the lines whose line feed is within that limit, and after them the line
+/// that the limit cuts, as `Bad(Limit(Script))`.
 ///
 /// Fails only with Memory.
 pub fn read_script(alloc: Global, bytes: &[u8]) -> Result<Vec<Line>, Refusal>
@@ -68,7 +68,7 @@ impl<'a> Lines<'a> {
         Lines::new(bytes, ending_of(bytes))
     }
 
-    /// Goes on by one line, and gives it where it has an answer.
+    /// Goes on by one line, and gives it if it has an answer.
     fn take_line(&mut self, ending: Ending) -> Option<Line>
         requires { self.old.ending ≡ Some ending }
         ensures lines { lines_left self.old ≡ option_to_list result ++ lines_left self.new }
@@ -108,8 +108,8 @@ fn ending_of(script: &[u8]) -> Ending
     }
 }
 
-/// What follows a script's last line feed says, by how the script ends: a line where it was read whole, which may have no
-/// answer; the refusal of a script that is too long; nothing where a read failed.
+/// What follows a script's last line feed says, by how the script ends: a line if it was read whole, which may have no
+/// answer; the refusal of a script that is too long; nothing if a read failed.
 pub fn last_body(ending: Ending, last: &[u8]) -> Option<Body>
     ensures body { result ≡ last_body ending last.now }
 {

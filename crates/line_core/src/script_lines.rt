@@ -16,7 +16,7 @@ pub(crate) const BLOCK_BYTES: usize = 16384;
 pub struct RawLine<'a> {
     /// Lines are numbered from 1.
     pub number: u32,
-    /// Of a line that is too long only so many that it still is.
+    /// An over-long line keeps its first 257 bytes.
     pub bytes: &'a [u8],
     /// How many bytes the line has, without its line feed.
     pub length: usize,
@@ -29,12 +29,12 @@ pub struct RawLine<'a> {
 #[derive(Drop)]
 pub struct ScriptLines {
     block: [u8; BLOCK_BYTES],
-    // how much of the block was read, and how much of that was looked at
+    // how much of the block was read, and how much of that was searched
     filled: usize,
     next: usize,
     // how many bytes of the script were read
     read: usize,
-    // the line's number, and its bytes where an earlier block began it; else it stands in the block, from `start`
+    // the line's number, and its bytes if it began in an earlier block; else it is in the block, from `start`
     cutter: LineCutter,
     start: usize,
     length: usize,
@@ -126,7 +126,7 @@ impl ScriptLines {
         }
     }
 
-    /// Reads once, up to a block's bytes; none where some were read, else how the script ends. An interrupted read counts as
+    /// Reads once, up to a block's bytes; none if some were read, else how the script ends. An interrupted read counts as
     /// failed. No byte is read past the one after the limit of a script.
     pub fn read<R: Read>(&mut self, reader: &mut R) -> Option<Ending>
         requires drained { IsDrained self.old }
@@ -160,7 +160,7 @@ impl ScriptLines {
         &self.block[self.next..self.filled]
     }
 
-    /// Lets the line go that was given last.
+    /// Drops the line that was given last.
     fn go_on(&mut self)
         ensures gone { self.new ≡ gone_on self.old }
     {

@@ -47,7 +47,7 @@ fn first_space(bytes: &[u8]) -> Option<usize>
     bytes.iter().position(|byte| *byte == b' ')
 }
 
-/// The word, where there is exactly one.
+/// The word, if there is exactly one.
 pub(crate) fn one(bytes: &[u8]) -> Option<&[u8]>
     ensures words { option_map (λ w. w.now) result ≡ one_of (words_of bytes.now) }
 {
@@ -58,7 +58,7 @@ pub(crate) fn one(bytes: &[u8]) -> Option<&[u8]>
     }
 }
 
-/// The words, where there are exactly two.
+/// The words, if there are exactly two.
 pub(crate) fn two(bytes: &[u8]) -> Option<(&[u8], &[u8])>
     ensures words { option_map (λ w. (w.0.now, w.1.now)) result ≡ two_of (words_of bytes.now) }
 {
@@ -67,7 +67,7 @@ pub(crate) fn two(bytes: &[u8]) -> Option<(&[u8], &[u8])>
     Some((first, second))
 }
 
-/// The words, where there are exactly three.
+/// The words, if there are exactly three.
 pub(crate) fn three(bytes: &[u8]) -> Option<(&[u8], &[u8], &[u8])>
     ensures words { option_map (λ w. (w.0.now, w.1.now, w.2.now)) result ≡ three_of (words_of bytes.now) }
 {
@@ -76,7 +76,7 @@ pub(crate) fn three(bytes: &[u8]) -> Option<(&[u8], &[u8], &[u8])>
     Some((first, second, third))
 }
 
-/// The words, where there are exactly four.
+/// The words, if there are exactly four.
 pub(crate) fn four(bytes: &[u8]) -> Option<(&[u8], &[u8], &[u8], &[u8])>
     ensures words { option_map (λ w. (w.0.now, w.1.now, w.2.now, w.3.now)) result ≡ four_of (words_of bytes.now) }
 {

@@ -1,4 +1,4 @@
-// Clocks, and the statuses of points where a context is closed.
+// Clocks, and the statuses of points if a context is closed.
 use crate::values::{context, holds, point, points_of, reach_of};
 use point_core::{Clock, Clocks, Point, Status};
 use std::alloc::Global;

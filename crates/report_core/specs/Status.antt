@@ -3,7 +3,7 @@ use Rattle.std.specs.Prelude.{ℕ, ◌+◌, ℤ, pos, negsuc, List, ◌∷◌, d
 use Rattle.point_core.specs.declared.status.Status.{Status}
 use Rattle.point_core.specs.Status.{status_number}
 
--- a number in decimal, after a minus, which is 45, where it is below 0
+-- a number in decimal, after a minus, which is 45, if it is below 0
 abbrev pub signed_decimal : ℤ → List ℕ
 signed_decimal (pos n) = decimal n
 signed_decimal (negsuc n) = 45 ∷ decimal (n + 1)

@@ -65,7 +65,7 @@ pub(crate) fn push_text_columns(
     Ok(())
 }
 
-/// Puts the subject where the second column begins.
+/// Puts the subject at the start of the second column.
 #[inline(always)]
 fn put_subject(row: &mut [u8; ROW_BYTES], subject: Subject<'_>)
     ensures text { row.new ≡ take KIND_BYTES row.old ++ subject_text subject.entry

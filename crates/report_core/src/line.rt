@@ -32,7 +32,7 @@ impl Model for TextLine {
 
     ghost view = { λ l. drop l.start l.bytes };
 
-    // Spaces are there already where nothing was put yet.
+    // What nothing was put into yet is spaces.
     ghost invariant = { λ l. (l.start ≤ TEXT_LINE_BYTES) × (take l.start l.bytes ≡ spaces l.start) };
 }
 

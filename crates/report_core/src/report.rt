@@ -38,7 +38,7 @@ pub fn report_text(report: &Report, out: &mut Vec<u8>) -> Result<(), Refusal>
     Ok(())
 }
 
-/// Writes a row for each timeline with its value after `out`, a closed one as such.
+/// Appends a row for each timeline with its value to `out`, with `closed` for a closed one.
 ///
 /// Fails only with Memory. `out` then begins with what it was.
 pub fn timelines_text(timelines: &[TimelineRow], out: &mut Vec<u8>) -> Result<(), Refusal>

@@ -30,7 +30,7 @@ pub const COUNT_WIDTH: usize = 3;
 /// The bytes of a row with its line feed.
 pub const ROW_BYTES: usize = KIND_WIDTH + 1 + SUBJECT_WIDTH + 1 + NUMBER_WIDTH + 1;
 
-/// The bytes of a file's row with its line feed, where its count fits the column.
+/// The bytes of a file's row with its line feed, if its count fits the column.
 pub const FILE_ROW_BYTES: usize = ROW_BYTES + 1 + COUNT_WIDTH;
 
 const _: () = prove!(KIND_WIDTH == 8);
@@ -54,6 +54,7 @@ pub fn row(kind: Kind, name: &Name, number: u64, out: &mut Vec<u8>) -> Result<()
     ensures width { OnOk result (length out.new.items ≡ length out.old.items + ROW_BYTES) }
     ensures err { OnErr result ((result ≡ Err Memory) × StartsWith out.new.items out.old.items) }
 {
+    // For the proof: what a name keeps.
     prove!(name.as_bytes().len() <= NAME_BYTES);
     push_row(out, kind, Subject::Named(name), number)?;
     Ok(())
@@ -69,6 +70,7 @@ pub fn file_row(file: &FileRow, out: &mut Vec<u8>) -> Result<(), Refusal>
         length out.new.items ≡ length out.old.items + FILE_ROW_BYTES) }
     ensures err { OnErr result ((result ≡ Err Memory) × StartsWith out.new.items out.old.items) }
 {
+    // For the proof: what a name keeps.
     prove!(file.name.as_bytes().len() <= NAME_BYTES);
     push_file_row(out, file)?;
     Ok(())

@@ -14,12 +14,12 @@ fn put(rt: &impl Abort, resv: &mut Resv, point: Point, usage: Usage, reach: &Rea
     resv.put(point, usage, reach);
 }
 
-/// Adds that value of the first context, where nothing is signalled.
+/// Adds that value of the first context, if nothing is signalled.
 fn add_value(rt: &impl Abort, resv: &mut Resv, value: u64, usage: Usage) {
     add(rt, resv, point(rt, 1, value), usage, &Reach::zero());
 }
 
-/// Puts that value of the first context at the weakest usage, where nothing is signalled.
+/// Puts that value of the first context at the weakest usage, if nothing is signalled.
 fn put_value(rt: &impl Abort, resv: &mut Resv, value: u64) {
     let point = point(rt, 1, value);
     put(rt, resv, point, Usage::Bookkeep, &Reach::zero());
@@ -34,7 +34,7 @@ fn collects(rt: &impl Abort, resv: &Resv, usage: Usage, reach: &Reach, points: &
     holds(rt, list.as_slice() == points);
 }
 
-/// What is collected is that value of the first context, where nothing is signalled.
+/// What is collected is that value of the first context, if nothing is signalled.
 fn collects_value(rt: &impl Abort, resv: &Resv, usage: Usage, value: u64) {
     collects(rt, resv, usage, &Reach::zero(), &[point(rt, 1, value)]);
 }

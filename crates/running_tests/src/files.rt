@@ -29,7 +29,7 @@ fn plain(rt: &impl Abort, alloc: Global, place: usize, value: u64) -> SyncFile
     SyncFile::plain(alloc, name, Point { ctx, value }).expect(rt, "a file")
 }
 
-/// What is reached where the first context is at 5, and the others at 0.
+/// What is reached if the first context is at 5, and the others at 0.
 fn reached() -> Reach {
     let mut reach = Reach::zero();
     reach.raise_to(Point {

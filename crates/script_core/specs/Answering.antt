@@ -41,7 +41,7 @@ pub record AnswersState : Type 0 where
 abbrev pub HasAnswered : List Line → AnswersState → Option (List ℕ) → Option (List ℕ) → Type 0
 HasAnswered done s old new = Progress done s.desk s.out s.totals old new
 
--- One line was answered: the text of its answer was put behind what was not yet written, and the answer is that refusal, or
+-- One line was answered: the text of its answer was put after what was not yet written, and the answer is that refusal, or
 -- none.
 pub record AnswersLine (l : Line) (refused : Option Refusal) (before after : AnswersState) (old new : Option (List ℕ)) : Type 0 where
   pub given : Answer

@@ -39,7 +39,7 @@ output_from history (l ∷ ls) =
 abbrev pub output_of : List ℕ → List ℕ
 output_of script = output_from [] (script_of script)
 
--- the one answer of the line, or Memory where a command isn't refused
+-- the one answer of the line, or Memory if a command isn't refused
 abbrev pub IsLineAnswer : List Command → Body → Answer → Type 0
 IsLineAnswer history (Cmd command) given = IsAnswer history command given
 IsLineAnswer history (Bad refusal) given = given ≡ answer.Refused refusal
@@ -52,7 +52,7 @@ AreLineAnswers history (l ∷ ls) [] = ⊥
 AreLineAnswers history (l ∷ ls) (a ∷ rest) =
     IsLineAnswer history l.body a × AreLineAnswers (history_after_line history l.body a) ls rest
 
--- the refusal, where the answer is one
+-- the refusal, if the answer is one
 abbrev pub refusal_of : Answer → Option Refusal
 refusal_of (answer.Refused refusal) = Some refusal
 refusal_of answer.Done = None
@@ -75,7 +75,7 @@ pub record WritesAnswers (lines : List Line) (given : List Answer) (old new : Op
   pub each : AreLineAnswers [] lines given
   pub written : Appends old new (texts_of lines given)
 
--- a front of the answers of first lines was written
+-- a prefix of the answers of first lines was written
 pub record WritesFront (lines : List Line) (old new : Option (List ℕ)) : Type 0 where
   pub first : List Line
   pub rest : List Line

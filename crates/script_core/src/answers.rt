@@ -39,7 +39,7 @@ impl Model for Answers {
 impl Answers {
     ghost use Rattle.script_core.specs.Answering.{HasAnswered, AnswersLine, AnswersLines};
 
-    /// Of no line.
+    /// No line was answered yet.
     ///
     /// Fails only with Memory.
     pub fn new(alloc: Global) -> Result<Answers, Refusal>
@@ -60,8 +60,8 @@ impl Answers {
         &self.desk
     }
 
-    /// Answers the line of that number, where it has an answer, and gives the refusal where the answer is one. Texts are
-    /// written where they are many.
+    /// Answers the line of that number if it has an answer, and gives the refusal if the answer is one. Texts are written
+    /// once they are many.
     ///
     /// Fails with Write if a write failed or took no byte, and with Memory if a growth was refused: then a prefix of the
     /// answers is written.
@@ -76,7 +76,7 @@ impl Answers {
             HasAnswered done self.old start (W.contents writer.old)
             → HasAnswered (done ++ answered number body []) self.new start (W.contents writer.new)) }
 
-        // It is the refusal that the line was answered with, or none where that is no refusal.
+        // It is the refusal that the line was answered with, or none if that is no refusal.
         ensures refused { IfOk result (λ refused. MatchOption body (refused ≡ None) (λ said.
             AnswersLine (record { number = number; body = said }) refused self.old self.new
             (W.contents writer.old) (W.contents writer.new))) }
@@ -168,7 +168,7 @@ pub fn answer_line(desk: &mut Desk, body: Body) -> Answer
     }
 }
 
-/// The refusal, where the answer is one.
+/// The refusal, if the answer is one.
 fn refusal_of(answer: &Answer) -> Option<Refusal>
     ensures { result ≡ refusal_of answer.now }
 {

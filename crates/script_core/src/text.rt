@@ -48,7 +48,7 @@ fn push_answer(line: u32, answer: &Answer, out: &mut Vec<u8>) -> Result<(), Refu
     }
 }
 
-/// The same of an answer that is given away, which need not lie in memory as a whole then.
+/// The same of an answer by value, which then need not be in memory as a whole.
 ///
 /// Fails only with Memory. `out` then begins with what it was.
 #[inline(always)]

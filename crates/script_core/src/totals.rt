@@ -7,7 +7,7 @@ use desk_core::Answer;
 /// How many lines of a script were answered.
 #[derive(Clone, Copy, Debug)]
 pub struct Totals {
-    /// The lines that gave an answer or a fault. Rows that belong to an answer aren't counted.
+    /// The lines that have an answer. The rows of an answer aren't counted.
     pub lines: u64,
     pub accepted: u64,
     pub refused: u64,
@@ -17,7 +17,7 @@ pub struct Totals {
 impl Totals {
     ghost use Rattle.script_core.specs.Output.{Counts};
 
-    /// Of no line.
+    /// No line was answered yet.
     pub fn new() -> Self
         ensures counts { Counts result [] }
     {
@@ -28,7 +28,7 @@ impl Totals {
         }
     }
 
-    /// One answer more.
+    /// With one answer more.
     pub fn with(self, answer: &Answer) -> Self
         requires { self.lines + 1 < 2 ^ 64 }
         ensures lines { result.lines ≡ self.lines + 1 }

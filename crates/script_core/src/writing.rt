@@ -11,7 +11,7 @@ use std::io::Write;
 /// Texts are gathered up to so many bytes before they are written.
 const WRITE_BYTES: usize = 8192;
 
-/// Writes the texts, where they are many, and takes them out.
+/// Writes the texts if they are many, and takes them out.
 ///
 /// Fails as `write_whole`.
 pub fn write_many<W: Write>(writer: &mut W, out: &mut Vec<u8>) -> Result<(), Refusal>

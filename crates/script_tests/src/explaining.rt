@@ -41,7 +41,7 @@ fn numbers_in_bold(rt: HostRuntime) {
     assert_explained(&rt, rt.alloc(), Look::Bold, NOTES_IN_BOLD);
 }
 
-// What is written where a command was refused so.
+// What is written when a command was refused so.
 fn assert_reason(rt: &impl Abort, alloc: Global, desk: &Desk, refusal: Refusal, wanted: &[u8]) {
     let book = Book::new(alloc);
     let place = Place {

@@ -7,7 +7,7 @@ use std::process::Abort;
 /// The bytes that a read or a write is given at most, by turns.
 pub(crate) const PIECES: [usize; 4] = [1, 2, 7, 4096];
 
-/// Gives a script, at most `piece` bytes a read. Fails at its end where it is to fail.
+/// Gives a script, at most `piece` bytes a read. Fails at its end if it is to fail.
 #[derive(Drop)]
 pub(crate) struct Source<'a> {
     pub(crate) script: &'a [u8],

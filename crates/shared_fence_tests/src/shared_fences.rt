@@ -135,7 +135,7 @@ fn check_foreign(rt: &impl Abort, alloc: Global, words: &Words)
 /// What a thread that signals a fence comes back with: the callbacks, or that it was not the first.
 type Answer = Result<Vec<u64>, Signal>;
 
-/// Signals a fence by a seat of its own, and hands the callbacks out where no other call had set the flag.
+/// Signals a fence by a seat of its own, and hands the callbacks out if no other call had set the flag.
 fn signal_by<R: Wait>(rt: &R, fence: &SharedFence, words: &Words, mut seat: Seat) -> Answer
     requires own { (words.now ≡ fence.now.words) × (seat.words ≡ words.now) }
 {

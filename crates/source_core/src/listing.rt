@@ -10,10 +10,10 @@ use std::{fs, io};
 const SUFFIX: &str = ".fence";
 
 /// The names of the scripts that paths name, in the order of the paths: of a folder the files below it whose names end with
-/// `.fence`, sorted by their bytes, and each other path itself. A link to a folder is followed where it is such a path, and
+/// `.fence`, sorted by their bytes, and each other path itself. A link to a folder is followed if it is such a path, and
 /// not below one. A folder that can't be listed stands for itself, so that reading it fails and reports why.
 ///
-/// Fails where memory was refused.
+/// Fails if memory was refused.
 pub fn script_files<R: Files + Eprint + AllocGlobal + Clone + Drop>(
     rt: &R,
     paths: &[&str],

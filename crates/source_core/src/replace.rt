@@ -29,7 +29,7 @@ pub fn replace_file<R: Files + AllocGlobal>(rt: &R, name: &str, bytes: &[u8]) ->
     replaced
 }
 
-/// Puts bytes in the place of a file as `replace_file` does, or makes the file where there is none of that name.
+/// Replaces a file by bytes as `replace_file` does, or makes the file if there is none of that name.
 pub fn put_file<R: Files + AllocGlobal>(rt: &R, name: &str, bytes: &[u8]) -> io::Result<()> {
     match fs::metadata(rt, name) {
         Ok(_) => replace_file(rt, name, bytes),

@@ -21,7 +21,7 @@ pub enum Source<'r, 'a, R: Files, S> {
 impl<'r, 'a, R: Files + Eprint, S: Read + Drop> Source<'r, 'a, R, S> {
     /// Opens a script.
     ///
-    /// Refuses as `Read` where it can't be opened.
+    /// Fails with `Read` if it can't be opened.
     pub fn open(
         rt: &'r R,
         script: Script<'a>,

@@ -40,12 +40,12 @@ IsAllowed (RaiseTo ctx value) ts = (1 ≤ ctx) × (ctx ≤ length ts) × ((clock
 abbrev pub missing_to : List Timeline → ℕ → ℕ → ℕ
 missing_to ts ctx value = value - (clock_at (clocks_of ts) ctx).value
 
--- an increment of the timeline of that name, where there is one
+-- an increment of the timeline of that name, if there is one
 abbrev pub increments_if : Option (List ℕ) → ℕ → List Increment
 increments_if None n = []
 increments_if (Some name) n = increment name n ∷ []
 
--- the timeline of that name, where there is one, rises by n
+-- the timeline of that name, if there is one, rises by n
 abbrev pub raised_if : List Timeline → Option (List ℕ) → ℕ → List Timeline
 raised_if ts None n = ts
 raised_if ts (Some name) n = raised ts name n

@@ -45,15 +45,15 @@ has_timeline ts name = has_named (λ (t : Timeline). t.name) ts name
 abbrev pub timeline_at : List Timeline → List ℕ → Option Timeline
 timeline_at ts name = named (λ (t : Timeline). t.name) ts name
 
--- its number by order of making, from 1, or 0 where there is none
+-- its number by order of making, from 1, or 0 if there is none
 abbrev pub context_of : List Timeline → List ℕ → ℕ
 context_of ts name = unwrap_or (position_from (is_named name) 1 ts) 0
 
--- the name of a context that there can be, which are numbered from 1; none where no timeline was made of it
+-- the name of a context that there can be, which are numbered from 1; none if no timeline was made of it
 abbrev pub name_at : List Timeline → ℕ → Option (List ℕ)
 name_at ts ctx = option_map (λ t. t.name) (slice_get ts (ctx - 1))
 
--- the clock of each context, a new one where no timeline was made
+-- the clock of each context, a new one if no timeline was made
 abbrev pub clocks_of : List Timeline → List Clock
 clocks_of ts = own_clocks ts ++ replicate (CONTEXTS - length ts) new_clock
 

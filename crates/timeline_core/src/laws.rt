@@ -4,7 +4,7 @@ ghost use Rattle.timeline_core.specs.Timeline.{Timeline, has_timeline, timeline_
 ghost use Rattle.timeline_core.specs.Run.{AreSums, Increment, IsRun, Step, all_increments, incremented, last_timelines};
 
 /// After any calls of `create`, `inc`, `shut` and `raise_to`, accepted or refused, each value is the sum of the accepted increments of
-/// its timeline, where a raise adds what was missing. So two runs with the same accepted increments, in whatever order, give a
+/// its timeline; a raise adds what was missing. So two runs with the same accepted increments, in whatever order, give a
 /// name the same value.
 pub fn a_value_is_the_sum_of_the_accepted_increments()
     ensures kept { (steps : List Step) →

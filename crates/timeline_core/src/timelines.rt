@@ -11,7 +11,7 @@ use std::marker::Model;
 
 /// Named timelines, as libsync's sw_sync has them: a timeline begins at 0, and an increment adds to its value.
 ///
-/// There are at most `CONTEXTS`; none is ever taken away, a closed one neither. A value does not wrap, where the kernel's
+/// There are at most `CONTEXTS`; none is ever taken away, not even a closed one. A value does not wrap, while the kernel's
 /// 32-bit one does.
 #[derive(Debug, Drop)]
 pub struct Timelines {
@@ -51,7 +51,7 @@ impl Timelines {
 
     /// Makes a timeline of that name, with the value 0, as libsync's `sw_sync_timeline_create` does.
     ///
-    /// Refuses as `Exists` where there is one, `Limit` where all contexts are given out, and `Memory`; then nothing
+    /// Fails with `Exists` if there is one, `Limit` if all contexts are given out, and `Memory`; then nothing
     /// has changed.
     pub fn create(&mut self, name: Name) -> Result<Context, Refusal>
         ensures number { IfOk result (λ ctx. ctx ≡ length self.old + 1) }
@@ -81,7 +81,7 @@ impl Timelines {
 
     /// Adds n to the value of that timeline, as libsync's `sw_sync_timeline_inc` does, and answers the new value.
     ///
-    /// Refuses as `NoEntry`, as `Cancelled` where the timeline is closed, and as `Overflow` where the value would pass the
+    /// Fails with `NoEntry`, with `Cancelled` if the timeline is closed, and with `Overflow` if the value would pass the
     /// greatest u64; then nothing has changed. Takes no memory.
     pub fn inc(&mut self, name: &Name, n: u64) -> Result<u64, Refusal>
         ensures value { IfOk result (λ v. v ≡ value_of self.old name.now + n) }
@@ -112,7 +112,7 @@ impl Timelines {
     /// Closes that timeline, as the close of a sw_sync timeline's descriptor does, and answers its value, which stays. Its
     /// pending points are cancelled: each point of it is reached from now on.
     ///
-    /// Refuses as `NoEntry`, and as `Cancelled` where it is closed already; then nothing has changed. Takes no memory.
+    /// Fails with `NoEntry`, and with `Cancelled` if it is closed already; then nothing has changed. Takes no memory.
     pub fn shut(&mut self, name: &Name) -> Result<u64, Refusal>
         ensures value { IfOk result (λ v. v ≡ value_of self.old name.now) }
         ensures shut { OnOk result (self.new ≡ shut self.old name.now) }
@@ -135,7 +135,7 @@ impl Timelines {
         Ok(value)
     }
 
-    /// Raises the value of the open timeline of that context to the point, where it is not there yet: what `inc` does, once the
+    /// Raises the value of the open timeline of that context to the point, if it is not there yet: what `inc` does, once the
     /// name was looked up and the sum is known.
     ///
     /// Takes no memory.
@@ -154,7 +154,7 @@ impl Timelines {
 
     /// The value of that timeline, which its closing leaves.
     ///
-    /// Refuses as `NoEntry`. Takes no memory.
+    /// Fails with `NoEntry`. Takes no memory.
     pub fn value(&self, name: &Name) -> Result<u64, Refusal>
         ensures value { IfOk result (λ v. v ≡ value_of self.now name.now) }
         ensures timeline { IfOk result (λ v. timeline_at self.now name.now ≡
@@ -178,7 +178,7 @@ impl Timelines {
         Some(Context::at(index))
     }
 
-    /// The name of the timeline of that context, or none where it was not made.
+    /// The name of the timeline of that context, or none if it was not made.
     ///
     /// Takes no memory.
     pub fn name(&self, ctx: Context) -> Option<Name>
@@ -187,7 +187,7 @@ impl Timelines {
         self.names.get_index(ctx.index()).copied()
     }
 
-    /// The value of each context, and which are closed; where no timeline was made, 0 and open.
+    /// The value of each context, and which are closed; 0 and open if no timeline was made.
     ///
     /// Takes no memory.
     pub fn clocks(&self) -> Clocks
@@ -197,7 +197,7 @@ impl Timelines {
         *self.as_clocks()
     }
 
-    /// The same, where it lies.
+    /// The same, by reference.
     ///
     /// Takes no memory.
     pub fn as_clocks(&self) -> &Clocks
@@ -207,7 +207,7 @@ impl Timelines {
         &self.clocks
     }
 
-    /// What each context has reached: its value, or the greatest one where its timeline is closed; 0 where no timeline was
+    /// What each context has reached: its value, or the greatest one if its timeline is closed; 0 if no timeline was
     /// made.
     ///
     /// Takes no memory.
@@ -218,7 +218,7 @@ impl Timelines {
         self.clocks.reach()
     }
 
-    /// The same, where it lies.
+    /// The same, by reference.
     ///
     /// Takes no memory.
     pub fn as_reach(&self) -> &Reach
@@ -230,7 +230,7 @@ impl Timelines {
 
     /// A row for each timeline, by context.
     ///
-    /// Refuses as `Memory` alone.
+    /// Fails with `Memory` alone.
     pub fn rows(&self) -> Result<Vec<TimelineRow>, Refusal>
         ensures rows { IfOk result (λ rows. rows.items ≡ rows_of self.now) }
         ensures memory { IfErr result (λ e. e ≡ Refusal.Memory) }

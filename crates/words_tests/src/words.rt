@@ -9,7 +9,7 @@ use std::alloc::Global;
 use std::process::Abort;
 use words_core::{Driver, FLAGS, Once, PARTS, Seat, Whole, Words};
 
-/// The refusal of words of these sizes, where they are refused; else they have these sizes, and all parts.
+/// The refusal of words of these sizes, if they are refused; else they have these sizes, and all parts.
 fn refusal_of(
     rt: &impl Abort,
     alloc: Global,

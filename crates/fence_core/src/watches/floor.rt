@@ -22,7 +22,7 @@ impl Model for Floor {
 }
 
 impl Floor {
-    /// The floor where no point is waited for.
+    /// The floor if no point is waited for.
     pub(super) fn highest() -> Floor
         ensures { result ≡ replicate CONTEXTS (2 ^ 64 - 1) }
     {

@@ -69,7 +69,7 @@ impl PendingWatches {
 
     /// Puts a watch in.
     ///
-    /// Refuses as `Memory` alone, and then leaves all as it was.
+    /// Fails with `Memory` alone, and then leaves all as it was.
     pub(super) fn insert(&mut self, registration: u64, watch: PendingWatch) -> Result<(), Refusal>
         ensures updates { OnOk result ((q : ℕ) → at self.new.entries q ≡
             (if is_at (nat_cmp registration) q then Some watch else at self.old.entries q)) }

@@ -68,7 +68,7 @@ impl WaitingPoint {
         }
     }
 
-    /// Itself, where it is of that context, at or below the value.
+    /// Itself, if it is of that context, at or below the value.
     fn if_due(&self, ctx: Context, value: u64) -> Option<WaitingPoint>
         ensures due { IfSome result (λ k. (k ≡ self.now) × (is_due ctx value self.now ≡ true)) }
         ensures past { IfNone result (is_due ctx value self.now ≡ false) }
@@ -191,12 +191,13 @@ impl PointIndex {
         ensures others { (k : Waiting) → is_due ctx value k ≡ false → holds self.new k ≡ holds self.old k }
         ensures none_left { (k : Waiting) → is_due ctx value k ≡ true → holds self.new k ≡ false }
     {
+        // Opens the invariant.
         let _points = &self.points;
         while self.take_first(ctx, value) {}
     }
 
-    /// Takes the first point of the context out where it is at or below the value, and else raises the floor to just below
-    /// it. Tells whether it took one out.
+    /// Takes the first point of the context out if it is at or below the value, and else raises the floor to just below
+    /// it. Says whether it took one out.
     fn take_first(&mut self, ctx: Context, value: u64) -> bool
         ensures less { (k : Waiting) → holds self.new k ≡ true → holds self.old k ≡ true }
         ensures others { (k : Waiting) → is_due ctx value k ≡ false → holds self.new k ≡ holds self.old k }
@@ -273,6 +274,7 @@ impl PointIndex {
             return Ok(fired);
         }
         tell_reached(points, &mut self.counts, pending, floor, reach, &mut fired)?;
+        // Opens the map's invariant.
         let _count = fired.len();
         Ok(fired)
     }
@@ -305,6 +307,7 @@ fn insert(
     ensures unchanged { OnErr result (points.new.keys ≡ points.old.keys) }
 {
     let number = point.ctx.number();
+    // For the proof: what the types keep.
     prove!(number >= 1);
     let _held = points.len();
     counts.raise(registration)?;

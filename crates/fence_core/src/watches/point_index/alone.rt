@@ -1,4 +1,4 @@
-// Which watch fires where one context alone has risen.
+// Which watch fires when only one context has risen.
 ghost use Rattle.std.specs.Prelude.{◌≡◌, ℕ, true};
 ghost use Rattle.point_core.specs.Reach.{value_at};
 ghost use Rattle.fence_core.specs.declared.watches.point_index.WaitingPoint.{WaitingPoint as Waiting};
@@ -40,7 +40,7 @@ pub(super) fn fired_alone(
     fired
 }
 
-/// The same with one more watch, where it fires.
+/// The same with one more watch, if it fires.
 fn with_watch(fired: Fired, registration: u64, pending: &PendingWatches, reach: &Reach) -> Fired
     requires some_fired { AreSomeTold pending.now.entries reach.now (told_of fired) }
     ensures some_fired { AreSomeTold pending.now.entries reach.now (told_of result) }

@@ -17,7 +17,7 @@ use crate::watches::pending::PendingWatches;
 use point_core::{Context, Reach, Refusal};
 use std::collections::{BTreeMap, BTreeSet};
 
-/// A rise begins: of the watches that have a point at or below the reach, it has come to none. Tells whether there are any.
+/// A rise begins: of the watches that have a point at or below the reach, it has come to none. Says whether there are any.
 pub(super) fn start_reached(
     points: &BTreeSet<WaitingPoint>,
     counts: &mut Counts,
@@ -163,7 +163,7 @@ fn tell_points(
     Ok(())
 }
 
-/// Comes to one more point of the watch, and adds the watch to the fired ones where it was its last.
+/// Comes to one more point of the watch, and adds the watch to the fired ones if it was its last.
 fn pass(
     registration: u64,
     counts: &mut Counts,
