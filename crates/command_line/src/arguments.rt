@@ -89,7 +89,7 @@ docs/PICTURES.md explains, and with --graph what waits for what as Graphviz DOT.
 fences were never signalled, who waits for them, and what each timeline did; docs/TRACES.md says how to record one. With --script
 it writes what happened as a script, and with --draw it draws that; --from and --to, in seconds, choose a window.
 
-Clients run on threads, each with a timeline of its own, and share two buffers; docs/CLIENTS.md says what they do. What
+Clients run on threads, each with a timeline of its own, and share two buffers; docs/THREADS.md says what they do. What
 they settle is the same in every run: a row for each timeline, and for each buffer the points that are pending.
 
 `fencectl run --json` writes a JSON object for each answer, on a line of its own.

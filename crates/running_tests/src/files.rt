@@ -240,7 +240,7 @@ fn drive(rt: &impl Abort, words: &Words, driving: Seat)
 fn wait_long(file: &SyncFile, words: &Words, mut waiting: Seat) -> Result<(), Refusal>
     requires own { waiting.words ≡ words.now }
 {
-    file.wait_for(words, &mut waiting, 100_000_000)
+    file.wait_for(words, &mut waiting, u32::MAX)
 }
 
 /// Waits for a file by one thread while another drives its timeline.
