@@ -27,7 +27,7 @@ use Rattle.line_core.proofs.Inputs.{input_from}
 use Rattle.script_core.proofs.Progress.{AreLineAnswers-push, history_along-push, length-answers}
 use Rattle.check_core.specs.declared.checker.Checker.{Checker}
 use Rattle.check_core.specs.declared.tally.Tally.{Tally}
-use Rattle.check_core.specs.Expected.{expected_text, expected_behind, expected_of, is_asked, differs}
+use Rattle.check_core.specs.Expected.{expected_text, expected_after, expected_of, is_asked, differs}
 use Rattle.check_core.specs.Check.{asked_count, differing_count, ChecksScript, IsJudged, IsFresh, Expects, IsJudgedAt, IsAnswered, IsTaken, IsEnded, HasCheckedBytes}
 use Rattle.check_core.specs.Stage.{IsAt}
 use Rattle.check_core.specs.Tally.{one_if, IsBelow}
@@ -36,7 +36,7 @@ use Rattle.check_core.proofs.Counts.{counts-agree}
 -- ---- counts among the lines of a script
 
 abbrev pub expected_at : List (List ℕ) → ℕ → List (List ℕ)
-expected_at lines number = expected_behind (drop number lines)
+expected_at lines number = expected_after (drop number lines)
 
 abbrev pub asked_among : List (List ℕ) → List Line → ℕ
 asked_among lines [] = 0
@@ -87,9 +87,9 @@ pub record HasChecked (given : List (List ℕ)) (c : Checker) : Type 0 where
   pub lines : c.tally.lines ≡ length answers
   pub few : IsBelow c.tally (length given + 1)
   pub checked : (more : List (List ℕ)) →
-      asked_of (given ++ more) (ended_lines 1 given) ≡ c.tally.checked + one_if (is_asked (expected ++ expected_behind more))
+      asked_of (given ++ more) (ended_lines 1 given) ≡ c.tally.checked + one_if (is_asked (expected ++ expected_after more))
   pub differing : (more : List (List ℕ)) →
-      differing_of (given ++ more) (ended_lines 1 given) answers ≡ c.tally.differing + one_if (differs (expected ++ expected_behind more) c.text.items)
+      differing_of (given ++ more) (ended_lines 1 given) answers ≡ c.tally.differing + one_if (differs (expected ++ expected_after more) c.text.items)
 
 pub HasChecked-none : (c : Checker) → IsFresh c → HasChecked [] c
 HasChecked-none c fresh = record {
@@ -105,7 +105,7 @@ HasChecked-none c fresh = record {
     differing = omega (arith, fresh.tally.differing);
   };
   checked = λ more. omega (arith, fresh.tally.checked);
-  differing = λ more. omega (arith, fresh.tally.differing, ap (λ text. one_if (differs (expected_behind more) text)) fresh.text);
+  differing = λ more. omega (arith, fresh.tally.differing, ap (λ text. one_if (differs (expected_after more) text)) fresh.text);
 }
 
 -- a line without an answer is not cut
@@ -149,20 +149,20 @@ module _ (given : List (List ℕ)) (line bytes : List ℕ) (number : ℕ) (place
     abbrev expected' : List (List ℕ)
     expected' = p.expected ++ option_to_list (expected_text bytes)
 
-    behind : (more : List (List ℕ)) → expected_behind (line ∷ more) ≡ option_to_list (expected_text line) ++ expected_behind more
-    behind more = ap (λ b. cond (is_some b) [] (option_to_list (expected_text line) ++ expected_behind more)) none
+    behind : (more : List (List ℕ)) → expected_after (line ∷ more) ≡ option_to_list (expected_text line) ++ expected_after more
+    behind more = ap (λ b. cond (is_some b) [] (option_to_list (expected_text line) ++ expected_after more)) none
 
-    expected-more : (more : List (List ℕ)) → p.expected ++ expected_behind (line ∷ more) ≡ expected' ++ expected_behind more
+    expected-more : (more : List (List ℕ)) → p.expected ++ expected_after (line ∷ more) ≡ expected' ++ expected_after more
     expected-more more =
-        ap (λ xs. p.expected ++ xs) (behind more) ∙ sym (append_assoc p.expected (option_to_list (expected_text line)) (expected_behind more)) ∙ ap (λ b. (p.expected ++ option_to_list (expected_text b)) ++ expected_behind more) (sym whole)
+        ap (λ xs. p.expected ++ xs) (behind more) ∙ sym (append_assoc p.expected (option_to_list (expected_text line)) (expected_after more)) ∙ ap (λ b. (p.expected ++ option_to_list (expected_text b)) ++ expected_after more) (sym whole)
 
-    checked-note : (more : List (List ℕ)) → asked_of (with_line ++ more) (ended_lines 1 with_line) ≡ c'.tally.checked + one_if (is_asked (expected' ++ expected_behind more))
+    checked-note : (more : List (List ℕ)) → asked_of (with_line ++ more) (ended_lines 1 with_line) ≡ c'.tally.checked + one_if (is_asked (expected' ++ expected_after more))
     checked-note more =
-        ap (λ ls. asked_of ls (ended_lines 1 with_line)) (among more) ∙ ap (λ ls. asked_of (given ++ line ∷ more) ls) (sym same) ∙ p.checked (line ∷ more) ∙ ap (λ xs. c.tally.checked + one_if (is_asked xs)) (expected-more more) ∙ ap (λ t. t.checked + one_if (is_asked (expected' ++ expected_behind more))) (sym x.tally)
+        ap (λ ls. asked_of ls (ended_lines 1 with_line)) (among more) ∙ ap (λ ls. asked_of (given ++ line ∷ more) ls) (sym same) ∙ p.checked (line ∷ more) ∙ ap (λ xs. c.tally.checked + one_if (is_asked xs)) (expected-more more) ∙ ap (λ t. t.checked + one_if (is_asked (expected' ++ expected_after more))) (sym x.tally)
 
-    differing-note : (more : List (List ℕ)) → differing_of (with_line ++ more) (ended_lines 1 with_line) p.answers ≡ c'.tally.differing + one_if (differs (expected' ++ expected_behind more) c'.text.items)
+    differing-note : (more : List (List ℕ)) → differing_of (with_line ++ more) (ended_lines 1 with_line) p.answers ≡ c'.tally.differing + one_if (differs (expected' ++ expected_after more) c'.text.items)
     differing-note more =
-        ap (λ ls. differing_of ls (ended_lines 1 with_line) p.answers) (among more) ∙ ap (λ ls. differing_of (given ++ line ∷ more) ls p.answers) (sym same) ∙ p.differing (line ∷ more) ∙ ap (λ xs. c.tally.differing + one_if (differs xs c.text.items)) (expected-more more) ∙ ap (λ t. t.differing + one_if (differs (expected' ++ expected_behind more) c.text.items)) (sym x.tally) ∙ ap (λ text. c'.tally.differing + one_if (differs (expected' ++ expected_behind more) text)) (sym x.text)
+        ap (λ ls. differing_of ls (ended_lines 1 with_line) p.answers) (among more) ∙ ap (λ ls. differing_of (given ++ line ∷ more) ls p.answers) (sym same) ∙ p.differing (line ∷ more) ∙ ap (λ xs. c.tally.differing + one_if (differs xs c.text.items)) (expected-more more) ∙ ap (λ t. t.differing + one_if (differs (expected' ++ expected_after more) c.text.items)) (sym x.tally) ∙ ap (λ text. c'.tally.differing + one_if (differs (expected' ++ expected_after more) text)) (sym x.text)
 
     HasChecked-note : HasChecked with_line c'
     HasChecked-note = record {
@@ -198,27 +198,27 @@ module _ (given : List (List ℕ)) (line bytes : List ℕ) (number : ℕ) (place
     stands : HasHistory x.between.desk (history_along [] done p.answers)
     stands = subst (λ d. HasHistory d (history_along [] done p.answers)) (sym x.judged.desk) p.stands
 
-    no_more : (more : List (List ℕ)) → p.expected ++ expected_behind (line ∷ more) ≡ p.expected
+    no_more : (more : List (List ℕ)) → p.expected ++ expected_after (line ∷ more) ≡ p.expected
     no_more more =
-        ap (λ b. p.expected ++ cond (is_some b) [] (option_to_list (expected_text line) ++ expected_behind more)) (body_is (Some body) is) ∙ append-nil p.expected
+        ap (λ b. p.expected ++ cond (is_some b) [] (option_to_list (expected_text line) ++ expected_after more)) (body_is (Some body) is) ∙ append-nil p.expected
 
-    here : (more : List (List ℕ)) → expected_at (given ++ line ∷ more) number ≡ expected_behind more
+    here : (more : List (List ℕ)) → expected_at (given ++ line ∷ more) number ≡ expected_after more
     here more =
         let end : number ≡ length with_line = omega (arith, place, length_push given line) in
-        ap (λ ls. expected_at ls number) (sym (among more)) ∙ ap (λ n. expected_behind (drop n (with_line ++ more))) end ∙ ap expected_behind (drop-append_seam with_line more)
+        ap (λ ls. expected_at ls number) (sym (among more)) ∙ ap (λ n. expected_after (drop n (with_line ++ more))) end ∙ ap expected_after (drop-append_seam with_line more)
 
-    checked-answer : (more : List (List ℕ)) → asked_of (with_line ++ more) (ended_lines 1 with_line) ≡ c'.tally.checked + one_if (is_asked (expected_behind more))
+    checked-answer : (more : List (List ℕ)) → asked_of (with_line ++ more) (ended_lines 1 with_line) ≡ c'.tally.checked + one_if (is_asked (expected_after more))
     checked-answer more =
         let all = given ++ line ∷ more in
         let before : asked_of all done ≡ c.tally.checked + one_if (is_asked p.expected) = p.checked (line ∷ more) ∙ ap (λ xs. c.tally.checked + one_if (is_asked xs)) (no_more more) in
-        let one : asked_among all (done ++ l ∷ []) ≡ asked_among all done + one_if (is_asked (expected_behind more)) = asked_among-push all done l ∙ ap (λ xs. asked_among all done + one_if (is_asked xs)) (here more) in
-        let now : asked_of all (done ++ l ∷ []) ≡ c'.tally.checked + one_if (is_asked (expected_behind more)) = omega (arith, before, one, judged.checked, x.opened.checked) in
+        let one : asked_among all (done ++ l ∷ []) ≡ asked_among all done + one_if (is_asked (expected_after more)) = asked_among-push all done l ∙ ap (λ xs. asked_among all done + one_if (is_asked xs)) (here more) in
+        let now : asked_of all (done ++ l ∷ []) ≡ c'.tally.checked + one_if (is_asked (expected_after more)) = omega (arith, before, one, judged.checked, x.opened.checked) in
         ap (λ ls. asked_of ls (ended_lines 1 with_line)) (among more) ∙ ap (λ ls. asked_of all ls) (sym pushed) ∙ now
 
-    differing-answer : (more : List (List ℕ)) → differing_of (with_line ++ more) (ended_lines 1 with_line) (p.answers ++ a ∷ []) ≡ c'.tally.differing + one_if (differs (expected_behind more) c'.text.items)
+    differing-answer : (more : List (List ℕ)) → differing_of (with_line ++ more) (ended_lines 1 with_line) (p.answers ++ a ∷ []) ≡ c'.tally.differing + one_if (differs (expected_after more) c'.text.items)
     differing-answer more =
         let all = given ++ line ∷ more in
-        let behind = expected_behind more in
+        let behind = expected_after more in
         let before : differing_of all done p.answers ≡ c.tally.differing + one_if (differs p.expected c.text.items) = p.differing (line ∷ more) ∙ ap (λ xs. c.tally.differing + one_if (differs xs c.text.items)) (no_more more) in
         let one : differing_among all (done ++ l ∷ []) (p.answers ++ a ∷ []) ≡ differing_among all done p.answers + one_if (differs behind c'.text.items) =
         differing_among-push all done p.answers l a (length-answers [] done p.answers p.each) ∙ ap (λ xs. differing_among all done p.answers + one_if (differs xs (text_of number a))) (here more) ∙ ap (λ text. differing_among all done p.answers + one_if (differs behind text)) (sym x.opened.answered.text_is) in

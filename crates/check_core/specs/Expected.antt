@@ -12,23 +12,23 @@ drop_spaces [] = []
 drop_spaces (b ∷ bytes) = if is_space b then drop_spaces bytes else b ∷ bytes
 
 -- what follows that front
-abbrev pub strip_front : List ℕ → List ℕ → Option (List ℕ)
-strip_front bytes front = if starts_with nat_eq bytes front then Some (drop (length front) bytes) else None
+abbrev pub strip_prefix : List ℕ → List ℕ → Option (List ℕ)
+strip_prefix bytes front = if starts_with nat_eq bytes front then Some (drop (length front) bytes) else None
 
 -- A note whose first word begins with `#=` expects a line of output: its text is what follows, but for one space.
 abbrev pub expected_text : List ℕ → Option (List ℕ)
-expected_text line = option_map (λ text. unwrap_or (strip_front text (codes " ")) text) (strip_front (drop_spaces line) (codes "#="))
+expected_text line = option_map (λ text. unwrap_or (strip_prefix text (codes " ")) text) (strip_prefix (drop_spaces line) (codes "#="))
 
 -- what the notes expect that stand before the next line with an answer
-abbrev pub expected_behind : List (List ℕ) → List (List ℕ)
-expected_behind [] = []
-expected_behind (line ∷ more) =
-    if is_some (body_of line) then [] else option_to_list (expected_text line) ++ expected_behind more
+abbrev pub expected_after : List (List ℕ) → List (List ℕ)
+expected_after [] = []
+expected_after (line ∷ more) =
+    if is_some (body_of line) then [] else option_to_list (expected_text line) ++ expected_after more
 
 -- The expected lines of the script's line of that number, from 1: its notes up to the next line that has an answer. Those of
 -- number 0 stand above every line that has one.
 abbrev pub expected_of : List ℕ → ℕ → List (List ℕ)
-expected_of script number = expected_behind (drop number (lines_of script))
+expected_of script number = expected_after (drop number (lines_of script))
 
 -- a line of output
 abbrev pub ended : List ℕ → List ℕ

@@ -11,9 +11,9 @@ ghost use Rattle.check_core.specs.Tally.{HasRoom, IsBelow, CountsOne};
 use crate::expected::expected_text;
 use crate::finding::{Difference, Finding};
 use crate::form::Place;
+use crate::reporting::report_difference;
 use crate::stage::Stage;
 use crate::tally::Tally;
-use crate::telling::tell_difference;
 use desk_core::Desk;
 use line_core::{Body, Ending, body_of};
 use point_core::Refusal;
@@ -173,7 +173,7 @@ impl<'a> Checker<'a> {
         let before = self.stage;
         self.stage = before.with(&self.text, line);
         match self.stage {
-            Stage::Differs => self.tell(before, Some(line), writer),
+            Stage::Differs => self.report(before, Some(line), writer),
             Stage::Unasked | Stage::Came(_) => Ok(()),
         }
     }
@@ -190,13 +190,13 @@ impl<'a> Checker<'a> {
         let finding = self.stage.finding(&self.text);
         self.tally.count(finding);
         match finding {
-            Finding::Differs => self.tell(self.stage, None, writer),
+            Finding::Differs => self.report(self.stage, None, writer),
             Finding::Unasked | Finding::AsExpected => Ok(()),
         }
     }
 
     /// Reports that this was expected and something else came, unless a difference was reported at that stage.
-    fn tell<W: Write>(
+    fn report<W: Write>(
         &self,
         stage: Stage,
         expected: Option<&[u8]>,
@@ -213,7 +213,7 @@ impl<'a> Checker<'a> {
                     expected,
                     came,
                 };
-                tell_difference(self.alloc, &self.place, &difference, writer)
+                report_difference(self.alloc, &self.place, &difference, writer)
             }
             None => Ok(()),
         }

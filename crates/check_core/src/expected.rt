@@ -3,7 +3,7 @@ ghost use Rattle.std.specs.Prelude.{◌≡◌, option_map, position, not};
 ghost use Rattle.line_core.specs.Words.{is_space};
 ghost use Rattle.check_core.specs.Expected.{expected_text, drop_spaces};
 
-use crate::front::strip_front;
+use crate::prefix::strip_prefix;
 
 /// How a note begins that expects a line.
 const MARK: &[u8] = b"#=";
@@ -13,8 +13,8 @@ const MARK: &[u8] = b"#=";
 pub(crate) fn expected_text(line: &[u8]) -> Option<&[u8]>
     ensures text { option_map (λ t. t.now) result ≡ expected_text line.now }
 {
-    let text = strip_front(without_spaces(line), MARK)?;
-    match strip_front(text, b" ") {
+    let text = strip_prefix(without_spaces(line), MARK)?;
+    match strip_prefix(text, b" ") {
         Some(rest) => Some(rest),
         None => Some(text),
     }

@@ -4,14 +4,15 @@
 #![tactic(auto)]
 
 mod checker;
-mod checking;
 mod expected;
 mod finding;
 mod form;
-mod front;
 mod outcome;
 mod page;
 mod parts;
+mod prefix;
+mod reading;
+mod reporting;
 mod rewriter;
 mod scripts;
 mod sink;
@@ -19,13 +20,12 @@ mod stage;
 mod summary;
 mod tally;
 mod tap;
-mod telling;
 mod update;
 mod updates;
 
-pub use checking::check;
 pub use form::{Form, Place};
 pub use outcome::{Outcome, Verdict};
+pub use reading::check;
 pub use scripts::{Plan, check_scripts};
 pub use tally::Tally;
 pub use update::updated;

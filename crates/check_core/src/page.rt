@@ -17,8 +17,8 @@ impl Page {
     }
 
     /// One line more, of these two parts.
-    pub(crate) fn push(&mut self, front: &[u8], line: &[u8]) -> Result<(), AllocError> {
-        self.bytes.extend_from_slice(front)?;
+    pub(crate) fn push(&mut self, start: &[u8], line: &[u8]) -> Result<(), AllocError> {
+        self.bytes.extend_from_slice(start)?;
         self.bytes.extend_from_slice(line)?;
         self.bytes.extend_from_slice(b"\n")?;
         self.lines = self.lines.saturating_add(1);

@@ -26,7 +26,7 @@ pub(crate) enum Part<'a> {
 }
 
 /// Writes a text of these parts, by one write.
-pub(crate) fn tell_parts<W: Write>(
+pub(crate) fn write_parts<W: Write>(
     alloc: Global,
     parts: &[Part<'_>],
     writer: &mut W,

@@ -80,11 +80,11 @@ impl Rewriter {
     }
 
     /// Writes the next line of the last answer, with that before it, if there is one.
-    fn expect(&mut self, front: &[u8], page: &mut Page) -> Result<(), AllocError> {
+    fn expect(&mut self, start: &[u8], page: &mut Page) -> Result<(), AllocError> {
         let Some(line) = next_line(&self.answer, self.expected) else {
             return Ok(());
         };
-        page.push(front, line)?;
+        page.push(start, line)?;
         self.expected = self.expected.saturating_add(line.len()).saturating_add(1);
         Ok(())
     }

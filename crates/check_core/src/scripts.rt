@@ -4,12 +4,12 @@ ghost use Rattle.std.specs.List.{All};
 ghost use Rattle.point_core.specs.declared.refusal.Refusal.TheVariants.{Write as WriteFault, Memory};
 ghost use Rattle.check_core.specs.Outcome.{ComesOf, IsOutcome};
 
-use crate::checking::check;
 use crate::form::{Form, Place};
 use crate::outcome::{Outcome, Verdict, verdict_of};
+use crate::reading::check;
 use crate::sink::Sink;
-use crate::summary::tell_summary;
-use crate::tap::{Test, tell_failed, tell_passed, tell_plan};
+use crate::summary::report_summary;
+use crate::tap::{Test, write_failed, write_passed, write_plan};
 use point_core::Refusal;
 use source_core::{Script, Source};
 use std::alloc::{AllocError, Global};
@@ -65,9 +65,9 @@ fn check_all<R: Files + Eprint + AllocGlobal, S: Read + Copy + Drop, O: Write, W
     ensures verdict { IfOk result (ComesOf (length names.now) plan.now.allows_empty) }
     ensures refusals { IfErr result (λ refusal. (refusal ≡ WriteFault) ⊎ (refusal ≡ Memory)) }
 {
-    tell_plan(rt.alloc(), plan.form, names.len(), output)?;
+    write_plan(rt.alloc(), plan.form, names.len(), output)?;
     check_each(rt, plan, names, standard_input, outcomes, output, errors)?;
-    tell_summary(rt.alloc(), plan, names, outcomes.as_slice(), errors)?;
+    report_summary(rt.alloc(), plan, names, outcomes.as_slice(), errors)?;
     Ok(verdict_of(outcomes.as_slice(), plan.allows_empty))
 }
 
@@ -168,11 +168,11 @@ fn report_test<'a, O: Write>(
         outcome,
         differences,
     };
-    tell_test(alloc, &test, outcome.passes(plan.allows_empty), output)?;
+    write_test(alloc, &test, outcome.passes(plan.allows_empty), output)?;
     Ok(outcome)
 }
 
-fn tell_test<O: Write>(
+fn write_test<O: Write>(
     alloc: Global,
     test: &Test<'_>,
     passes: bool,
@@ -181,9 +181,9 @@ fn tell_test<O: Write>(
     ensures refusals { IfErr result (λ refusal. (refusal ≡ WriteFault) ⊎ (refusal ≡ Memory)) }
 {
     if passes {
-        tell_passed(alloc, test, output)
+        write_passed(alloc, test, output)
     } else {
-        tell_failed(alloc, test, output)
+        write_failed(alloc, test, output)
     }
 }
 

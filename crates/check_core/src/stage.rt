@@ -5,7 +5,7 @@ ghost use Rattle.check_core.specs.Expected.{is_asked, differs};
 ghost use Rattle.check_core.specs.Tally.{one_if};
 
 use crate::finding::Finding;
-use crate::front::strip_line;
+use crate::prefix::strip_line;
 
 /// How far an answer came as expected, by the lines that are expected of it so far.
 #[derive(Clone, Copy)]

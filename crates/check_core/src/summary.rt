@@ -6,7 +6,7 @@ ghost use Rattle.check_core.specs.Tally.{count_text, totals_text};
 
 use crate::form::Form;
 use crate::outcome::Outcome;
-use crate::parts::{Part, tell_parts};
+use crate::parts::{Part, write_parts};
 use crate::scripts::Plan;
 use crate::tally::Tally;
 use itoa::Buffer;
@@ -17,7 +17,7 @@ use std::io::Write;
 
 /// Writes what the form of the plan has at the end, and flushes: a line for each script that does not pass, the counts, or
 /// nothing.
-pub(crate) fn tell_summary<W: Write>(
+pub(crate) fn report_summary<W: Write>(
     alloc: Global,
     plan: &Plan,
     names: &[String],
@@ -28,16 +28,16 @@ pub(crate) fn tell_summary<W: Write>(
 {
     match plan.form {
         Form::Lines { .. } => {
-            tell_scripts(alloc, names, outcomes, plan.allows_empty, writer)?;
-            tell_totals(outcomes.len(), &totals_of(outcomes), writer)
+            report_scripts(alloc, names, outcomes, plan.allows_empty, writer)?;
+            report_totals(outcomes.len(), &totals_of(outcomes), writer)
         }
-        Form::Counts => tell_totals(outcomes.len(), &totals_of(outcomes), writer),
+        Form::Counts => report_totals(outcomes.len(), &totals_of(outcomes), writer),
         Form::Tap(_) => flush(writer),
     }
 }
 
 /// Writes a line for each script that does not pass.
-fn tell_scripts<W: Write>(
+fn report_scripts<W: Write>(
     alloc: Global,
     names: &[String],
     outcomes: &[Outcome],
@@ -47,12 +47,12 @@ fn tell_scripts<W: Write>(
     ensures refusals { IfErr result (λ refusal. (refusal ≡ WriteFault) ⊎ (refusal ≡ Memory)) }
 {
     for (name, outcome) in names.iter().zip(outcomes.iter()) {
-        tell_script(alloc, name.as_str(), *outcome, allows_empty, writer)?;
+        report_script(alloc, name.as_str(), *outcome, allows_empty, writer)?;
     }
     Ok(())
 }
 
-fn tell_script<W: Write>(
+fn report_script<W: Write>(
     alloc: Global,
     name: &str,
     outcome: Outcome,
@@ -76,7 +76,7 @@ fn tell_script<W: Write>(
         end,
         Part::Text("\n"),
     ];
-    tell_parts(alloc, &parts, writer)
+    write_parts(alloc, &parts, writer)
 }
 
 /// What is wrong with a script that does not pass.
@@ -113,21 +113,21 @@ fn totals_of(outcomes: &[Outcome]) -> Tally {
 }
 
 /// Writes the line of counts, and flushes.
-fn tell_totals<W: Write>(files: usize, tally: &Tally, writer: &mut W) -> Result<(), Refusal>
+fn report_totals<W: Write>(files: usize, tally: &Tally, writer: &mut W) -> Result<(), Refusal>
     requires files { files < 2 ^ 64 }
     ensures ok { OnOk result (Appends (W.contents writer.old) (W.contents writer.new) (totals_text files tally.now)) }
     ensures refusals { IfErr result (λ refusal. refusal ≡ WriteFault) }
 {
-    tell_count(writer, "files: ", files as u64)?;
-    tell_count(writer, ", answers: ", tally.lines)?;
-    tell_count(writer, ", expectations: ", tally.checked)?;
-    tell_count(writer, ", differences: ", tally.differing)?;
+    report_count(writer, "files: ", files as u64)?;
+    report_count(writer, ", answers: ", tally.lines)?;
+    report_count(writer, ", expectations: ", tally.checked)?;
+    report_count(writer, ", differences: ", tally.differing)?;
     write_whole(writer, b"\n")?;
     flush(writer)?;
     Ok(())
 }
 
-fn tell_count<W: Write>(writer: &mut W, words: &str, count: u64) -> Result<(), Refusal>
+fn report_count<W: Write>(writer: &mut W, words: &str, count: u64) -> Result<(), Refusal>
     ensures ok { OnOk result (Appends (W.contents writer.old) (W.contents writer.new) (count_text words.now count)) }
     ensures refusals { IfErr result (λ refusal. refusal ≡ WriteFault) }
 {

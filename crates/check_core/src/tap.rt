@@ -4,14 +4,14 @@ ghost use Rattle.point_core.specs.declared.refusal.Refusal.TheVariants.{Write as
 
 use crate::form::Form;
 use crate::outcome::Outcome;
-use crate::parts::{Part, tell_parts};
+use crate::parts::{Part, write_parts};
 use crate::summary::parts_of_outcome;
 use point_core::Refusal;
 use std::alloc::Global;
 use std::io::Write;
 
 /// Writes the version and the plan, which has that many tests. Other forms have neither.
-pub(crate) fn tell_plan<W: Write>(
+pub(crate) fn write_plan<W: Write>(
     alloc: Global,
     form: Form,
     tests: usize,
@@ -29,7 +29,7 @@ pub(crate) fn tell_plan<W: Write>(
         Part::Number(tests as u64),
         Part::Text("\n"),
     ];
-    tell_parts(alloc, &parts, writer)
+    write_parts(alloc, &parts, writer)
 }
 
 /// The test of a script.
@@ -44,7 +44,7 @@ pub(crate) struct Test<'a> {
 }
 
 /// Writes a test that passes, which is skipped if its script expects nothing.
-pub(crate) fn tell_passed<W: Write>(
+pub(crate) fn write_passed<W: Write>(
     alloc: Global,
     test: &Test<'_>,
     writer: &mut W,
@@ -63,11 +63,11 @@ pub(crate) fn tell_passed<W: Write>(
         Part::Description(test.name),
         Part::Text(end),
     ];
-    tell_parts(alloc, &parts, writer)
+    write_parts(alloc, &parts, writer)
 }
 
 /// Writes a test that does not pass, why, and each answer that differs.
-pub(crate) fn tell_failed<W: Write>(
+pub(crate) fn write_failed<W: Write>(
     alloc: Global,
     test: &Test<'_>,
     writer: &mut W,
@@ -95,5 +95,5 @@ pub(crate) fn tell_failed<W: Write>(
         Part::Bytes(test.differences),
         Part::Text("  ...\n"),
     ];
-    tell_parts(alloc, &parts, writer)
+    write_parts(alloc, &parts, writer)
 }

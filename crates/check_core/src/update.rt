@@ -2,10 +2,10 @@
 ghost use Rattle.std.specs.Prelude.{◌≡◌, IfOk};
 ghost use Rattle.check_core.specs.Update.{Passes};
 
-use crate::checking::check;
 use crate::expected::expected_text;
 use crate::form::{Form, Place};
 use crate::page::Page;
+use crate::reading::check;
 use crate::rewriter::Rewriter;
 use line_core::{SCRIPT_BYTES, first_line};
 use point_core::{LimitKind, Refusal};

@@ -1,6 +1,6 @@
 // Scripts of files, each put in the place of what it was.
 use crate::outcome::Verdict;
-use crate::parts::{Part, tell_parts};
+use crate::parts::{Part, write_parts};
 use crate::update::updated;
 use line_core::SCRIPT_BYTES;
 use point_core::Refusal;
@@ -32,14 +32,14 @@ pub fn update_scripts<R: Files + Eprint + AllocGlobal, W: Write>(
     let mut written: u64 = 0;
     for name in names {
         let update = update_script(rt, name.as_str())?;
-        tell_update(rt.alloc(), name.as_str(), update, errors)?;
+        report_update(rt.alloc(), name.as_str(), update, errors)?;
         match update {
             Update::Same => {}
             Update::Written => written = written.saturating_add(1),
             Update::Failed(_) => verdict = Verdict::Failed,
         }
     }
-    tell_updates(rt.alloc(), names.len(), written, errors)?;
+    report_updates(rt.alloc(), names.len(), written, errors)?;
     Ok(verdict)
 }
 
@@ -77,7 +77,7 @@ fn put_text<R: Files + Eprint + AllocGlobal>(
     }
 }
 
-fn tell_update<W: Write>(
+fn report_update<W: Write>(
     alloc: Global,
     name: &str,
     update: Update,
@@ -85,7 +85,7 @@ fn tell_update<W: Write>(
 ) -> Result<(), Refusal> {
     match update {
         Update::Same => Ok(()),
-        Update::Written => tell_parts(
+        Update::Written => write_parts(
             alloc,
             &[Part::Text(name), Part::Text(": updated\n")],
             errors,
@@ -99,12 +99,12 @@ fn tell_update<W: Write>(
                 Part::Text(refusal.name()),
                 Part::Text("\n"),
             ];
-            tell_parts(alloc, &parts, errors)
+            write_parts(alloc, &parts, errors)
         }
     }
 }
 
-fn tell_updates<W: Write>(
+fn report_updates<W: Write>(
     alloc: Global,
     files: usize,
     written: u64,
@@ -117,5 +117,5 @@ fn tell_updates<W: Write>(
         Part::Number(written),
         Part::Text("\n"),
     ];
-    tell_parts(alloc, &parts, errors)
+    write_parts(alloc, &parts, errors)
 }

@@ -39,8 +39,9 @@ const ABOUT: &str =
 const VERSION: &str = "0.1.0 (proved in Rattle's logic dac8208d650f15bf)";
 
 const HELP: &str = "\
-A script is read from standard input or from FILE, one command a line; a line that begins with # is a note. A lone FILE that
-is no subcommand is run. At a terminal each line is prompted for, and a refused one is explained.
+A script is read from standard input or from FILE, one command a line; a line that begins with # is
+a note. A lone FILE that is no subcommand is run. At a terminal each line is prompted for, and a
+refused one is explained.
 
 Options of every command:
   --color <WHEN>  Colours help, checks and explanations: auto, always or never [default: auto]
@@ -61,15 +62,16 @@ Script commands:
   export F B FLAGS   makes file F of what B waits for        ok
   test B U           are B's fences up to usage U reached?   ok 1 or ok 0
   trim B             drops needless fences from buffer B     ok
-  watch F COOKIE     tells COOKIE once file F is signalled   ok
+  watch F COOKIE     reports COOKIE once F is signalled      ok
   unwatch COOKIE     removes that watch                      ok 1 or ok 0
   show B             what is pending in buffer B             ok N, then N rows
   report             everything                              ok N, then N rows
 
 U is kernel, write, read or bookkeep; FLAGS is read, write or rw.
 
-A name has 1 to 31 letters, digits, _, . or -; a number has 1 to 20 digits. There can be 256 timelines, 64 buffers,
-1,024 files and 4,096 watches, lines of 256 bytes, and scripts of 1,048,576 bytes.
+A name has 1 to 31 letters, digits, _, . or -; a number has 1 to 20 digits. There can be 256
+timelines, 64 buffers, 1,024 files and 4,096 watches, lines of 256 bytes, and scripts of 1,048,576
+bytes.
 
 A refused line is answered `err NUMBER NAME`, and changes nothing:
   1 Syntax    it is no command               7 Signalled  there is nothing to watch
@@ -80,17 +82,20 @@ A refused line is answered `err NUMBER NAME`, and changes nothing:
 
 The script language is documented in docs/SCRIPT.md.
 
-After a command a note `#= TEXT` expects TEXT as a line of its answer. `fencectl check` compares these in files and in the
-*.fence files below folders, and reports each answer that differs on standard error. `fencectl explain` reports there which
-word of a refused line is at fault, and why, and what a `wait` waits for. `fencectl draw` writes a picture of a run as SVG, which
+After a command a note `#= TEXT` expects TEXT as a line of its answer. `fencectl check` compares
+these in files and in the *.fence files below folders, and reports each answer that differs on
+standard error. `fencectl explain` reports there which word of a refused line is at fault, and why,
+and what a `wait` waits for. `fencectl draw` writes a picture of a run as SVG, which
 docs/PICTURES.md explains, and with --graph what waits for what as Graphviz DOT.
 
-`fencectl trace` reads the text of ftrace's dma_fence events, as tracefs, trace-cmd or perf print them, and reports which
-fences were never signalled, who waits for them, and what each timeline did; docs/TRACES.md says how to record one. With --script
-it writes what happened as a script, and with --draw it draws that; --from and --to, in seconds, choose a window.
+`fencectl trace` reads the text of ftrace's dma_fence events, as tracefs, trace-cmd or perf print
+them, and reports which fences were never signalled, who waits for them, and what each timeline did;
+docs/TRACES.md says how to record one. With --script it writes what happened as a script, and with
+--draw it draws that; --from and --to, in seconds, choose a window.
 
-Clients run on threads, each with a timeline of its own, and share two buffers; docs/THREADS.md says what they do. What
-they settle is the same in every run: a row for each timeline, and for each buffer the points that are pending.
+Clients run on threads, each with a timeline of its own, and share two buffers; docs/THREADS.md says
+what they do. What they settle is the same in every run: a row for each timeline, and for each
+buffer the points that are pending.
 
 `fencectl run --json` writes a JSON object for each answer, on a line of its own.
 
@@ -181,7 +186,7 @@ pub(crate) const LOCKS: &str = "locks";
 
 /// What the words of the command line match. The first of them is the program's own.
 ///
-/// The error has its kind where memory was refused.
+/// The error says by its kind that memory was refused.
 pub(crate) fn matches_of<'a>(alloc: Global, words: &'a [String]) -> Result<ArgMatches<'a>, Error>
     ensures matches { IfOk result (λ matches. subcommand_rows_of matches
         ≡ subcommand_of fencectl (map string_bytes words.entry.now)) }
@@ -205,7 +210,7 @@ fn command<'a>(alloc: Global) -> Result<Command<'a>, AllocError>
     with(command, clients(alloc))
 }
 
-/// The command with one subcommand more, where that could be made.
+/// The command with one subcommand more, if that could be made.
 fn with<'a>(
     command: Command<'a>,
     subcommand: Result<Command<'a>, AllocError>,

@@ -17,7 +17,7 @@ pub enum ColorChoice {
 }
 
 impl ColorChoice {
-    /// Whether a stream is coloured, which may be a terminal, where the environment asks for no colour or does not.
+    /// Whether a stream is coloured: whether it is a terminal, and whether the environment asks for no colour.
     pub fn is_on(self, terminal: bool, plain: bool) -> bool
         ensures { result ≡ is_on self terminal plain }
     {
@@ -51,9 +51,9 @@ fn choice_named(value: &str) -> Option<ColorChoice>
 }
 
 /// Takes the options `--color WHEN` and `--color=WHEN` out of the words of a command line, wherever they stand before a word
-/// `--`, and gives the last of them. `None` where a value is none of `auto`, `always` and `never`, which is then reported.
+/// `--`, and gives the last of them. `None` if a value is none of `auto`, `always` and `never`, which is then reported.
 ///
-/// Fails with `Write` where that could not be printed.
+/// Fails with `Write` if that could not be printed.
 pub fn take_color(
     rt: &impl Eprint,
     words: &mut Vec<String>,
@@ -66,7 +66,7 @@ pub fn take_color(
         match take_choice(words, place) {
             Some(taken) => choice = taken,
             None => {
-                tell_no_choice(rt)?;
+                report_no_choice(rt)?;
                 return Ok(None);
             }
         }
@@ -74,7 +74,7 @@ pub fn take_color(
     Ok(Some(choice))
 }
 
-fn tell_no_choice(rt: &impl Eprint) -> Result<(), Refusal> {
+fn report_no_choice(rt: &impl Eprint) -> Result<(), Refusal> {
     eprintln!(rt;
         "error: invalid value for '--color <WHEN>'\n  [possible values: auto, always, never]\n\nFor more information, try '--help'."
     ).map_err(|_| Refusal::Write)
@@ -94,7 +94,7 @@ fn place_of_color(words: &[String]) -> Option<usize> {
     None
 }
 
-/// Takes the option that stands there, and its value where that is a word of its own.
+/// Takes the option at that place, and its value if that is a word of its own.
 fn take_choice(words: &mut Vec<String>, place: usize) -> Option<ColorChoice> {
     let word = take_word(words, place)?;
     match word.as_str().strip_prefix("--color=") {

@@ -12,17 +12,17 @@ use std::io::Write;
 /// The status of a fault: the command line was wrong, or reading, writing or memory failed.
 pub const FAULT: u8 = 2;
 
-/// Writes `fencectl: NUMBER NAME` and a line feed, whatever becomes of the write, and gives the status of a fault. Where
-/// a write fails, a front of the line is written.
-pub fn tell_fault<W: Write>(refusal: &Refusal, writer: &mut W) -> u8
+/// Writes `fencectl: NUMBER NAME` and a line feed, whatever becomes of the write, and gives the status of a fault. If
+/// a write fails, a prefix of the line is written.
+pub fn report_fault<W: Write>(refusal: &Refusal, writer: &mut W) -> u8
     ensures status { result ≡ 2 }
-    ensures told { AppendsFront (W.contents writer.old) (W.contents writer.new) (fault_text refusal.now) }
+    ensures written { AppendsFront (W.contents writer.old) (W.contents writer.new) (fault_text refusal.now) }
 {
     let _ = write_fault(*refusal, writer);
     FAULT
 }
 
-/// Refused as Write, where a front of the line was written.
+/// Fails with Write after a prefix of the line.
 fn write_fault<W: Write>(refusal: Refusal, writer: &mut W) -> Result<(), Refusal>
     ensures ok { OnOk result (Appends (W.contents writer.old) (W.contents writer.new) (fault_text refusal)) }
     ensures err { OnErr result

@@ -14,5 +14,5 @@ mod usage;
 pub use action::{Action, Check, Clients, Draw, Report, Table, Trace};
 pub use clients::clients_report;
 pub use color::{ColorChoice, Colors, take_color};
-pub use fault::{FAULT, tell_fault};
-pub use usage::{action_of, tell_unread_word};
+pub use fault::{FAULT, report_fault};
+pub use usage::{action_of, report_unread_word};

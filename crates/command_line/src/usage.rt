@@ -1,4 +1,4 @@
-// The words of the command line: what they ask for, and what is printed where they ask for nothing.
+// The words of the command line: what they ask for, and what is printed if they ask for nothing.
 ghost use Rattle.std.specs.Prelude.{◌≡◌, Err, IfOk, IfSome, Some, map, string_bytes, true};
 ghost use Rattle.clap.specs.Words.{kind_of, subcommand_of, takes};
 ghost use Rattle.point_core.specs.declared.refusal.Refusal.TheVariants.{Memory};
@@ -20,9 +20,9 @@ use std::rt::Files;
 use std::{fs, io};
 
 /// What the words of the command line ask for; the first of them is the program's own. A lone word that is no subcommand asks to
-/// run the script of that file, where there is one. Help and the version are printed here, and wrong usage is reported.
+/// run the script of that file, if there is one. Help and the version are printed here, and wrong usage is reported.
 ///
-/// Refuses as `Write` where that could not be printed, as `Memory` where memory was refused, and as `Limit` as `clients_of`.
+/// Fails with `Write` if that could not be printed, with `Memory` if memory was refused, and with `Limit` as `clients_of`.
 pub fn action_of<'a>(
     rt: &(impl Print + Eprint + Files),
     alloc: Global,
@@ -60,7 +60,7 @@ fn action_instead<'a>(
             }
         }
     }
-    Ok(Action::End(tell_error(rt, alloc, colors, error)?))
+    Ok(Action::End(report_error(rt, alloc, colors, error)?))
 }
 
 /// Whether there is a file of that name, and no folder.
@@ -75,7 +75,7 @@ fn is_file(rt: &impl Files, name: &str) -> bool {
 /// subcommand, it also says how to run a script in a file.
 ///
 /// Fails with `Write` if that could not be printed, and with `Memory` if clap had none.
-fn tell_error(
+fn report_error(
     rt: &(impl Print + Eprint),
     alloc: Global,
     colors: Colors,
@@ -95,7 +95,7 @@ fn tell_error(
     Ok(error.exit_code() as u8)
 }
 
-/// Prints what clap says where it belongs, coloured where that stream is.
+/// Prints what clap says to the stream that it belongs to, coloured if that stream is.
 fn print_error(
     rt: &(impl Print + Eprint),
     alloc: Global,
@@ -121,7 +121,7 @@ fn print_error(
 /// Reports that the words of the command line could not be read, which is wrong usage if one is not UTF-8.
 ///
 /// Fails with `Memory` if there was no memory for them, and with `Write` if the report could not be printed.
-pub fn tell_unread_word(rt: &impl Eprint, error: io::Error) -> Result<u8, Refusal> {
+pub fn report_unread_word(rt: &impl Eprint, error: io::Error) -> Result<u8, Refusal> {
     if error.kind() == io::ErrorKind::OutOfMemory {
         return Err(Refusal::Memory);
     }

@@ -1,4 +1,4 @@
-use command_line::{Clients, FAULT, Table, clients_report, tell_fault};
+use command_line::{Clients, FAULT, Table, clients_report, report_fault};
 use point_core::Refusal;
 use std::io;
 use std::io::Write;
@@ -30,7 +30,7 @@ fn a_closed_writer_changes_no_status(rt: HostRuntime) {
 fn are_faults<W: Write>(refusals: &[Refusal], writer: &mut W) -> bool {
     let mut are = true;
     for refusal in refusals {
-        are &= tell_fault(refusal, writer) == FAULT;
+        are &= report_fault(refusal, writer) == FAULT;
     }
     are
 }

@@ -2,7 +2,7 @@
 ghost use Rattle.std.specs.Prelude.{◌≡◌, ◌+◌, ◌<◌, ◌≤◌, ◌⊎◌, ◌++◌, [], List, ℕ, Option, Some, OnOk, OnErr, IfErr};
 ghost use Rattle.point_core.specs.declared.refusal.Refusal.TheVariants.{Write as WriteFault, Memory};
 ghost use Rattle.script_core.specs.Answering.{HasAnswered};
-ghost use Rattle.script_core.specs.Output.{WritesFront};
+ghost use Rattle.script_core.specs.Output.{WritesPrefix};
 ghost use Rattle.line_core.specs.Script.{answered};
 ghost use Rattle.line_core.specs.declared.line.Line.{Line};
 
@@ -50,7 +50,7 @@ impl Explainer {
             → HasAnswered (done ++ answered line.now.number body []) answers.new start (W.contents writer.new)) }
         ensures err { OnErr result ((done : List Line) → (start : Option (List ℕ)) →
             HasAnswered done answers.old start (W.contents writer.old)
-            → WritesFront (done ++ answered line.now.number body []) start (W.contents writer.new)) }
+            → WritesPrefix (done ++ answered line.now.number body []) start (W.contents writer.new)) }
         ensures lines { answers.new.totals.lines ≤ answers.old.totals.lines + 1 }
         ensures refusals { IfErr result (λ refusal. (refusal ≡ WriteFault) ⊎ (refusal ≡ Memory)) }
     {
@@ -74,7 +74,7 @@ impl Explainer {
             → HasAnswered (done ++ answered line.now.number (Some body) []) answers.new start (W.contents writer.new)) }
         ensures err { OnErr result ((done : List Line) → (start : Option (List ℕ)) →
             HasAnswered done answers.old start (W.contents writer.old)
-            → WritesFront (done ++ answered line.now.number (Some body) []) start (W.contents writer.new)) }
+            → WritesPrefix (done ++ answered line.now.number (Some body) []) start (W.contents writer.new)) }
         ensures lines { answers.new.totals.lines ≤ answers.old.totals.lines + 1 }
         ensures refusals { IfErr result (λ refusal. (refusal ≡ WriteFault) ⊎ (refusal ≡ Memory)) }
     {
@@ -84,7 +84,7 @@ impl Explainer {
             return Ok(());
         };
         answers.write(writer)?;
-        self.tell(answers, line, &body, refusal, notes)?;
+        self.report(answers, line, &body, refusal, notes)?;
         Ok(())
     }
 
@@ -103,7 +103,7 @@ impl Explainer {
     /// Writes why a line was refused, the last that was answered, once its answer is written.
     ///
     /// Fails with `Write` if a write failed, and with `Memory`.
-    fn tell<N: Write>(
+    fn report<N: Write>(
         &self,
         answers: &Answers,
         line: &RawLine<'_>,

@@ -2,7 +2,7 @@
 #![tactic(auto)]
 
 mod explainer;
-mod explaining;
+mod reading;
 
-pub use explaining::explain;
+pub use reading::explain;
 pub use reason_core::Look;

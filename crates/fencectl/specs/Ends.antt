@@ -5,7 +5,7 @@ use Rattle.point_core.specs.declared.refusal.Refusal.{Refusal}
 use Rattle.point_core.specs.declared.refusal.Refusal.TheVariants.{Read as ReadFault}
 use Rattle.line_core.specs.Reading.{IsInput}
 use Rattle.line_core.specs.Script.{script_of}
-use Rattle.script_core.specs.Output.{WritesFront, AnswersScript, AnswersEndedLines}
+use Rattle.script_core.specs.Output.{WritesPrefix, AnswersScript, AnswersEndedLines}
 use Rattle.script_core.specs.declared.totals.Totals.{Totals}
 use Rattle.check_core.specs.declared.outcome.Verdict.{Verdict}
 use Rattle.check_core.specs.declared.outcome.Verdict.TheVariants.{Passed, Differs, Failed}
@@ -16,7 +16,7 @@ use Rattle.command_line.specs.Fault.{fault_text}
 pub record EndsRun (ended : Result Totals Refusal) (unread left before after : Option (List ℕ)) : Type 0 where
   pub ok : IfOk ended (λ totals. (script : List ℕ) × IsInput unread script × AnswersScript script totals before after)
   pub read : ended ≡ Err ReadFault → AnswersEndedLines unread left before after
-  pub err : OnErr ended ((script : List ℕ) × IsInput unread script × WritesFront (script_of script) before after)
+  pub err : OnErr ended ((script : List ℕ) × IsInput unread script × WritesPrefix (script_of script) before after)
 
 -- 0 if each line was accepted, 1 if one was refused, and 2 after a fault
 abbrev pub run_status : Result Totals Refusal → ℕ

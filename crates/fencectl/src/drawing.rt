@@ -11,11 +11,11 @@ use source_core::{Script, Source, put_file, reported};
 use std::io::{Read, Write};
 
 /// Draws a script's run, and writes the picture or the graph to standard output or to a file, which is written as a whole or not
-/// at all. Gives the status: 1 where a line was refused. Options that don't fit are reported, with the status of a fault.
+/// at all. Gives the status: 1 if a line was refused. Options that don't fit are reported, with the status of a fault.
 pub(crate) fn draw(rt: &HostRuntime, asked: &Draw<'_>) -> Result<u8, Refusal> {
     match window_of(asked) {
         Some(window) => draw_lines(rt, asked, &window),
-        None => tell(rt, wrong_options(asked)),
+        None => report_mistake(rt, wrong_options(asked)),
     }
 }
 
@@ -33,7 +33,7 @@ fn draw_script(
     script: &[u8],
 ) -> Result<u8, Refusal> {
     if is_too_long(rt, asked, script)? {
-        return tell(rt, TOO_LONG);
+        return report_mistake(rt, TOO_LONG);
     }
     let mut run = Run::of(rt.alloc(), script, window)?;
     draw_run(rt, asked, &mut run)
@@ -55,7 +55,7 @@ fn status_of(run: &Run) -> u8 {
 /// Draws a script that what happened in a trace was written as, to standard output.
 pub(crate) fn draw_trace(rt: &HostRuntime, script: &[u8]) -> Result<u8, Refusal> {
     if count_lines(rt.alloc(), script)? > COLUMNS {
-        return tell(rt, TOO_LONG_A_WINDOW);
+        return report_mistake(rt, TOO_LONG_A_WINDOW);
     }
     let mut run = Run::of(rt.alloc(), script, &Window::whole())?;
     draw_trace_run(rt, &mut run)
@@ -72,7 +72,7 @@ const TOO_LONG_A_WINDOW: &str =
 const TOO_LONG: &str =
     "fencectl: the script has more than 500 commands; choose the lines with --lines A..B";
 
-/// The lines that are drawn, or none where the options say no such.
+/// The lines that are drawn, or none if the options name no such lines.
 fn window_of(asked: &Draw<'_>) -> Option<Window> {
     if asked.graph {
         graph_window(asked)
@@ -114,7 +114,7 @@ fn wrong_options(asked: &Draw<'_>) -> &'static str {
     }
 }
 
-pub(crate) fn tell(rt: &HostRuntime, message: &str) -> Result<u8, Refusal> {
+pub(crate) fn report_mistake(rt: &HostRuntime, message: &str) -> Result<u8, Refusal> {
     eprintln!(rt; "{message}").map_err(|_| Refusal::Write)?;
     Ok(FAULT)
 }
@@ -160,7 +160,7 @@ fn svg_of(rt: &HostRuntime, run: &Run) -> Result<Vec<u8>, Refusal> {
     svg_text(rt.alloc(), &picture, run.history())
 }
 
-/// Gives that status where the document is written.
+/// Gives that status once the document is written.
 fn write_document(
     rt: &HostRuntime,
     output: Option<&str>,

@@ -10,8 +10,8 @@ mod traces;
 
 use check_core::{Form, Plan, check_scripts, update_scripts};
 use command_line::{
-    Action, Check, ColorChoice, Colors, FAULT, Report, action_of, clients_report, take_color,
-    tell_fault, tell_unread_word,
+    Action, Check, ColorChoice, Colors, FAULT, Report, action_of, clients_report, report_fault,
+    report_unread_word, take_color,
 };
 use drawing::draw;
 use explain_core::Look;
@@ -31,7 +31,7 @@ const GREETING: &str =
     "fencectl: type one command a line; Ctrl-D leaves, and 'fencectl --help' lists the commands";
 
 fn main(rt: HostRuntime) -> ExitCode {
-    let status = start(&rt, &rt).unwrap_or_else(|refusal| tell_fault(&refusal, &mut rt.stderr()));
+    let status = start(&rt, &rt).unwrap_or_else(|refusal| report_fault(&refusal, &mut rt.stderr()));
     ExitCode::from(status)
 }
 
@@ -45,7 +45,7 @@ fn start<T: Threads + Wait + Sync>(rt: &HostRuntime, threads: &T) -> Result<u8, 
                 None => Ok(FAULT),
             }
         }
-        Err(error) => tell_unread_word(rt, error),
+        Err(error) => report_unread_word(rt, error),
     }
 }
 
@@ -191,7 +191,7 @@ fn explain(rt: &HostRuntime, colors: Colors, script: Script) -> Result<u8, Refus
     ))
 }
 
-/// Bold where errors are coloured, else plain.
+/// Bold if errors are coloured, else plain.
 fn look(colors: Colors) -> Look {
     if colors.errors {
         Look::Bold

@@ -3,7 +3,7 @@ ghost use Rattle.std.specs.Prelude.{◌≡◌, ◌==◌, if◌then◌else◌};
 ghost use Rattle.fencectl.specs.Ends.{ReportsFault, check_status, run_status};
 
 use check_core::Verdict;
-use command_line::{FAULT, tell_fault};
+use command_line::{FAULT, report_fault};
 use point_core::Refusal;
 use script_core::Totals;
 use std::io::Write;
@@ -13,7 +13,7 @@ pub(crate) const ACCEPTED: u8 = 0;
 /// A line was refused, an answer differs, or something hangs.
 pub(crate) const REFUSED: u8 = 1;
 
-/// The status of a script that was answered to its end: 0 where every line was accepted, 1 where one was refused.
+/// The status of a script that was answered to its end: 0 if every line was accepted, 1 if one was refused.
 fn status_of_totals(totals: Totals) -> u8
     ensures { result ≡ (if totals.refused == 0 then 0 else 1) }
 {
@@ -24,18 +24,18 @@ fn status_of_totals(totals: Totals) -> u8
     }
 }
 
-/// The status of a run that ended so. A fault is reported to the writer, and its status is 2.
+/// The status of a run, by how it ended. A fault is reported to the writer, and its status is 2.
 pub(crate) fn status_of_run<W: Write>(ended: Result<Totals, Refusal>, writer: &mut W) -> u8
     ensures status { result ≡ run_status ended }
-    ensures told { ReportsFault ended (W.contents writer.old) (W.contents writer.new) }
+    ensures reported { ReportsFault ended (W.contents writer.old) (W.contents writer.new) }
 {
     match ended {
         Ok(totals) => status_of_totals(totals),
-        Err(refusal) => tell_fault(&refusal, writer),
+        Err(refusal) => report_fault(&refusal, writer),
     }
 }
 
-/// The status of a check: 0 where every script passes, 1 where one does not, and 2 where one could not be checked to its end.
+/// The status of a check: 0 if every script passes, 1 if one does not, and 2 if one could not be checked to its end.
 pub(crate) fn status_of_verdict(verdict: Verdict) -> u8
     ensures status { result ≡ check_status verdict }
 {

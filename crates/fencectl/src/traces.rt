@@ -1,5 +1,5 @@
 // Reports of traces, and what happened in them as scripts and pictures, each with its exit status.
-use crate::drawing::{draw_trace, tell, write_output};
+use crate::drawing::{draw_trace, report_mistake, write_output};
 use crate::status::{ACCEPTED, REFUSED};
 use command_line::{FAULT, Trace};
 use point_core::Refusal;
@@ -30,13 +30,13 @@ const NO_TIMES: &str =
 /// status of a fault.
 pub(crate) fn trace(rt: &HostRuntime, asked: &Trace<'_>) -> Result<u8, Refusal> {
     if has_several_forms(asked) {
-        return tell(rt, ONE_FORM);
+        return report_mistake(rt, ONE_FORM);
     }
     if asked.is_script || asked.is_drawing {
         return script(rt, asked);
     }
     if asked.from.is_some() || asked.to.is_some() {
-        return tell(rt, NO_WINDOW);
+        return report_mistake(rt, NO_WINDOW);
     }
     report(rt, asked)
 }
@@ -46,12 +46,12 @@ fn has_several_forms(asked: &Trace<'_>) -> bool {
         || (asked.is_script && asked.is_drawing)
 }
 
-/// Writes what happened as a script, or draws it. Gives 0, or 2 where the text has no event of a fence or more than a script may
+/// Writes what happened as a script, or draws it. Gives 0, or 2 if the text has no event of a fence or more than a script may
 /// have, which is reported on standard error.
 fn script(rt: &HostRuntime, asked: &Trace<'_>) -> Result<u8, Refusal> {
     match Span::read(asked.from, asked.to) {
         Some(span) => script_within(rt, asked, span),
-        None => tell(rt, NO_TIMES),
+        None => report_mistake(rt, NO_TIMES),
     }
 }
 
@@ -70,17 +70,17 @@ fn write_script(rt: &HostRuntime, is_drawing: bool, scripted: &Scripted) -> Resu
                 write_output(rt, text.as_slice(), ACCEPTED)
             }
         }
-        Scripted::NoEvents => tell_no_events(rt),
-        Scripted::TooLong => tell(rt, TOO_LONG),
+        Scripted::NoEvents => report_no_events(rt),
+        Scripted::TooLong => report_mistake(rt, TOO_LONG),
     }
 }
 
-fn tell_no_events(rt: &HostRuntime) -> Result<u8, Refusal> {
+fn report_no_events(rt: &HostRuntime) -> Result<u8, Refusal> {
     eprint!(rt; "{NO_EVENTS}").map_err(|_| Refusal::Write)?;
     Ok(FAULT)
 }
 
-/// Prints the report. Gives 0 where nothing hangs and no rule is broken, 1 where something does, and 2 where the text has no event
+/// Prints the report. Gives 0 if nothing hangs and no rule is broken, 1 if something does, and 2 if the text has no event
 /// of a fence, which is reported on standard error.
 fn report(rt: &HostRuntime, asked: &Trace<'_>) -> Result<u8, Refusal> {
     let mut source = Source::open(rt, asked.text, rt.stdin())?;
@@ -97,6 +97,6 @@ fn status_of_outcome(rt: &HostRuntime, outcome: Outcome) -> Result<u8, Refusal> 
     match outcome {
         Outcome::Sound => Ok(ACCEPTED),
         Outcome::Broken => Ok(REFUSED),
-        Outcome::NoEvents => tell_no_events(rt),
+        Outcome::NoEvents => report_no_events(rt),
     }
 }

@@ -21,13 +21,13 @@ use Rattle.script_core.specs.declared.totals.Totals.{Totals}
 use Rattle.script_core.specs.Answering.{history_along}
 use Rattle.script_core.specs.Bytes.{AppendsFront}
 use Rattle.script_core.proofs.Progress.{AppendsFront-none, AreLineAnswers-push}
-use Rattle.json_core.specs.Telling.{TellsPrefix}
-use Rattle.json_core.specs.Written.{BeginsScript, HasBegun, HasWritten, WritesPrefix, WritesScriptPrefix, objects_of}
+use Rattle.json_core.specs.Reporting.{ReportsPrefix}
+use Rattle.json_core.specs.Written.{BeginsScript, HasBegun, HasWritten, WritesObjectsPrefix, WritesScriptPrefix, objects_of}
 use Rattle.json_core.proofs.Writing.{objects-next}
 
 module _ {lines : List (List ℕ)} {said : List Line} {desk : DeskState} {out : List ℕ} {totals : Totals} {old now : Option (List ℕ)} (p : HasWritten lines said desk out totals old now) where
   -- what waited was written in part
-  pub prefix-out : {new : Option (List ℕ)} → AppendsFront now new out → (more : List (List ℕ)) → WritesPrefix (lines ++ more) said old new
+  pub prefix-out : {new : Option (List ℕ)} → AppendsFront now new out → (more : List (List ℕ)) → WritesObjectsPrefix (lines ++ more) said old new
   prefix-out {new} f more = record {
     first = said;
     rest = [];
@@ -43,8 +43,8 @@ module _ {lines : List (List ℕ)} {said : List Line} {desk : DeskState} {out : 
   }
 
   -- one line more has an answer, and of what waited and its object a prefix was written
-  pub prefix-one : {new : Option (List ℕ)} (line : List ℕ) (l : Line) → l.number ≡ length lines + 1 → TellsPrefix l.number (cut line) l.body desk out now new
-      → (more : List (List ℕ)) → WritesPrefix (lines ++ line ∷ more) (said ++ l ∷ []) old new
+  pub prefix-one : {new : Option (List ℕ)} (line : List ℕ) (l : Line) → l.number ≡ length lines + 1 → ReportsPrefix l.number (cut line) l.body desk out now new
+      → (more : List (List ℕ)) → WritesObjectsPrefix (lines ++ line ∷ more) (said ++ l ∷ []) old new
   prefix-one {new} line l number t more =
       let f = t.written in
       record {
@@ -64,16 +64,16 @@ module _ {lines : List (List ℕ)} {said : List Line} {desk : DeskState} {out : 
 -- after a line, where it has an answer
 pub prefix-next : (lines : List (List ℕ)) (said : List Line) (desk : DeskState) (out : List ℕ) (totals : Totals) (old now new : Option (List ℕ)) (line bytes : List ℕ) (number : ℕ) (body : Option Body)
     → HasWritten lines said desk out totals old now → number ≡ length lines + 1 → bytes ≡ cut line
-    → MatchOption body ⊥ (λ b. TellsPrefix number bytes b desk out now new)
-    → (more : List (List ℕ)) → WritesPrefix ((lines ++ line ∷ []) ++ more) (said ++ answered number body []) old new
+    → MatchOption body ⊥ (λ b. ReportsPrefix number bytes b desk out now new)
+    → (more : List (List ℕ)) → WritesObjectsPrefix ((lines ++ line ∷ []) ++ more) (said ++ answered number body []) old new
 prefix-next lines said desk out totals old now new line bytes number None p is held t more = absurd t
 prefix-next lines said desk out totals old now new line bytes number (Some body) p is held t more =
     let l : Line = record { number = number; body = body } in
-    let told : TellsPrefix number (cut line) body desk out now new = subst (λ xs. TellsPrefix number xs body desk out now new) held t in
-    subst (λ ls. WritesPrefix ls (said ++ l ∷ []) old new) (sym (append_assoc lines (line ∷ []) more)) (prefix-one p line l is told more)
+    let told : ReportsPrefix number (cut line) body desk out now new = subst (λ xs. ReportsPrefix number xs body desk out now new) held t in
+    subst (λ ls. WritesObjectsPrefix ls (said ++ l ∷ []) old new) (sym (append_assoc lines (line ∷ []) more)) (prefix-one p line l is told more)
 
 pub first-prefix : (input : Option (List ℕ)) (lines : List (List ℕ)) (said : List Line) (old new : Option (List ℕ)) → BeginsScript input lines said
-    → ((more : List (List ℕ)) → WritesPrefix (lines ++ more) said old new) → WritesScriptPrefix input old new
+    → ((more : List (List ℕ)) → WritesObjectsPrefix (lines ++ more) said old new) → WritesScriptPrefix input old new
 first-prefix input lines said old new b all =
     let w = all b.tail in
     record {
@@ -163,14 +163,14 @@ ends-so ending.Failed line body is some = absurd (some is)
 pub last-prefix : (before left : Option (List ℕ)) (t : LinesState) (end : Ending) (given : List (List ℕ)) (e : HasEnded before left t end given) (bytes : List ℕ) (number : ℕ) (body : Option Body)
     (desk : DeskState) (out : List ℕ) (totals : Totals) (old mid new : Option (List ℕ))
     → number ≡ t.number → bytes ≡ t.line → body ≡ last_body end bytes → HasWritten given (ended_lines 1 given) desk out totals old mid
-    → MatchOption body ⊥ (λ b. TellsPrefix number bytes b desk out mid new) → WritesScriptPrefix before old new
+    → MatchOption body ⊥ (λ b. ReportsPrefix number bytes b desk out mid new) → WritesScriptPrefix before old new
 last-prefix before left t end given e bytes number body desk out totals old mid new n held is w f =
     let place : number ≡ length given + 1 = n ∙ e.number in
     let next = prefix-next given (ended_lines 1 given) desk out totals old mid new e.last bytes number body w place (held ∙ e.is.held) f in
     let said = last-answered before left t end given e bytes number body n held is in
-    let all : (more : List (List ℕ)) → WritesPrefix (lines_of (take SCRIPT_BYTES e.bytes) ++ more) (lines_until end (take SCRIPT_BYTES e.bytes)) old new =
-    λ more. subst (λ ls. WritesPrefix (ls ++ more) (lines_until end (take SCRIPT_BYTES e.bytes)) old new) (sym e.split) (subst (λ ls. WritesPrefix ((given ++ e.last ∷ []) ++ more) ls old new) said (next more)) in
-    let ends : (end ≡ ending.Whole) ⊎ (end ≡ ending.TooLong) = ends-so end bytes body is (λ none. subst (λ b. MatchOption b ⊥ (λ b. TellsPrefix number bytes b desk out mid new)) none f) in
+    let all : (more : List (List ℕ)) → WritesObjectsPrefix (lines_of (take SCRIPT_BYTES e.bytes) ++ more) (lines_until end (take SCRIPT_BYTES e.bytes)) old new =
+    λ more. subst (λ ls. WritesObjectsPrefix (ls ++ more) (lines_until end (take SCRIPT_BYTES e.bytes)) old new) (sym e.split) (subst (λ ls. WritesObjectsPrefix ((given ++ e.last ∷ []) ++ more) ls old new) said (next more)) in
+    let ends : (end ≡ ending.Whole) ⊎ (end ≡ ending.TooLong) = ends-so end bytes body is (λ none. subst (λ b. MatchOption b ⊥ (λ b. ReportsPrefix number bytes b desk out mid new)) none f) in
     first-prefix before (lines_of (take SCRIPT_BYTES e.bytes)) (lines_until end (take SCRIPT_BYTES e.bytes)) old new (whole-begins before left e.bytes end e.read ends) all
 
 pub prefix-none : (input contents : Option (List ℕ)) → WritesScriptPrefix input contents contents

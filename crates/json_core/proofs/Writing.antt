@@ -25,7 +25,7 @@ use Rattle.script_core.specs.Answering.{history_along}
 use Rattle.script_core.specs.Output.{AreLineAnswers, Counts, history_after_line}
 use Rattle.script_core.proofs.Progress.{AreLineAnswers-push, history_along-push, length-answers}
 use Rattle.json_core.specs.Json.{line_text}
-use Rattle.json_core.specs.Telling.{TellsLine}
+use Rattle.json_core.specs.Reporting.{ReportsLine}
 use Rattle.json_core.specs.Written.{HasWritten, WritesEndedObjects, WritesObjects, objects_of, shown}
 
 objects_of-push : (lines : List (List ℕ)) (history : List Command) (ls : List Line) (given : List Answer) (l : Line) (a : Answer) → AreLineAnswers history ls given
@@ -68,7 +68,7 @@ module _ {lines : List (List ℕ)} {said : List Line} {desk : DeskState} {out : 
   }
 
   written-one : {desk' : DeskState} {out' : List ℕ} {totals' : Totals} {new : Option (List ℕ)} (line : List ℕ) (l : Line) → l.number ≡ length lines + 1
-      → TellsLine l.number (cut line) l.body desk desk' out out' totals totals' now new
+      → ReportsLine l.number (cut line) l.body desk desk' out out' totals totals' now new
       → HasWritten (lines ++ line ∷ []) (said ++ l ∷ []) desk' out' totals' old new
   written-one {desk'} {out'} {totals'} {new} line l number t =
       record {
@@ -102,7 +102,7 @@ module _ {lines : List (List ℕ)} {said : List Line} {desk : DeskState} {out : 
 
 pub written-next : (lines : List (List ℕ)) (said : List Line) (desk desk' : DeskState) (out out' : List ℕ) (totals totals' : Totals) (old now new : Option (List ℕ)) (line : List ℕ) (number : ℕ) (body : Option Body)
     → HasWritten lines said desk out totals old now → number ≡ length lines + 1
-    → MatchOption body ((desk' ≡ desk) × (out' ≡ out) × (totals' ≡ totals) × (new ≡ now)) (λ b. TellsLine number (cut line) b desk desk' out out' totals totals' now new)
+    → MatchOption body ((desk' ≡ desk) × (out' ≡ out) × (totals' ≡ totals) × (new ≡ now)) (λ b. ReportsLine number (cut line) b desk desk' out out' totals totals' now new)
     → HasWritten (lines ++ line ∷ []) (said ++ answered number body []) desk' out' totals' old new
 written-next lines said desk desk' out out' totals totals' old now new line number None p is same =
     rw (same.0, same.1, same.2, same.3, append-nil said) (written-none p line)

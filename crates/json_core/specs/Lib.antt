@@ -1,4 +1,4 @@
 pub mod Json
 pub mod Part
-pub mod Telling
+pub mod Reporting
 pub mod Written

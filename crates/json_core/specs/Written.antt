@@ -44,7 +44,7 @@ pub record WritesEndedObjects (before after old new : Option (List ℕ)) : Type 
 
 -- The lines that come first among those that have an answer have their own, one after another; a prefix of the objects of
 -- these was written, and nothing else.
-pub record WritesPrefix (lines : List (List ℕ)) (said : List Line) (old new : Option (List ℕ)) : Type 0 where
+pub record WritesObjectsPrefix (lines : List (List ℕ)) (said : List Line) (old new : Option (List ℕ)) : Type 0 where
   pub first : List Line
   pub rest : List Line
   pub given : List Answer
@@ -56,7 +56,7 @@ pub record WritesPrefix (lines : List (List ℕ)) (said : List Line) (old new : 
 pub record WritesScriptPrefix (input old new : Option (List ℕ)) : Type 0 where
   pub script : List ℕ
   pub is : IsInput input script
-  pub written : WritesPrefix (lines_of (take SCRIPT_BYTES script)) (script_of script) old new
+  pub written : WritesObjectsPrefix (lines_of (take SCRIPT_BYTES script)) (script_of script) old new
 
 -- a script begins with `lines`, and `said` are those of them that have an answer
 pub record BeginsScript (input : Option (List ℕ)) (lines : List (List ℕ)) (said : List Line) : Type 0 where

@@ -1,11 +1,11 @@
 //! Answers as JSON: an object on a line for each answer.
 #![tactic(auto)]
 
-mod engine;
 mod members;
 mod objects;
 mod part;
+mod reading;
 mod tables;
 
-pub use engine::run_json;
 pub use members::push_line;
+pub use reading::run_json;

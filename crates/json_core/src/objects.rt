@@ -10,7 +10,7 @@ ghost use Rattle.line_core.specs.Script.{answered};
 ghost use Rattle.script_core.specs.Bytes.{AppendsFront, PassesOn};
 ghost use Rattle.json_core.specs.Json.{line_text};
 ghost use Rattle.point_core.specs.declared.refusal.Refusal.TheVariants.{Write as WriteFault, Memory};
-ghost use Rattle.json_core.specs.Telling.{TellsLine, TellsPrefix};
+ghost use Rattle.json_core.specs.Reporting.{ReportsLine, ReportsPrefix};
 ghost use Rattle.json_core.specs.Written.{HasWritten};
 
 use crate::members::push_line;
@@ -69,7 +69,7 @@ impl Objects {
         // A line without an answer changes nothing, and doesn't fail.
         ensures none { body ≡ None → (self.new.desk ≡ self.old.desk) × (self.new.out.items ≡ self.old.out.items)
             × (self.new.totals ≡ self.old.totals) × (W.contents writer.new ≡ W.contents writer.old) }
-        ensures err { OnErr result (MatchOption body ⊥ (λ said. TellsPrefix number line.now said
+        ensures err { OnErr result (MatchOption body ⊥ (λ said. ReportsPrefix number line.now said
             self.old.desk self.old.out.items (W.contents writer.old) (W.contents writer.new))) }
         ensures lines { self.new.totals.lines ≤ self.old.totals.lines + 1 }
         ensures refusals { IfErr result (λ refusal. (refusal ≡ WriteFault) ⊎ (refusal ≡ Memory)) }
@@ -88,10 +88,10 @@ impl Objects {
         writer: &mut W,
     ) -> Result<(), Refusal>
         requires few { self.old.totals.lines < number }
-        ensures told { OnOk result (TellsLine number line.now body self.old.desk self.new.desk
+        ensures reported { OnOk result (ReportsLine number line.now body self.old.desk self.new.desk
             self.old.out.items self.new.out.items self.old.totals self.new.totals
             (W.contents writer.old) (W.contents writer.new)) }
-        ensures err { OnErr result (TellsPrefix number line.now body
+        ensures err { OnErr result (ReportsPrefix number line.now body
             self.old.desk self.old.out.items (W.contents writer.old) (W.contents writer.new)) }
         ensures lines { self.new.totals.lines ≤ self.old.totals.lines + 1 }
         ensures refusals { IfErr result (λ refusal. (refusal ≡ WriteFault) ⊎ (refusal ≡ Memory)) }

@@ -15,6 +15,7 @@ mod words;
 
 pub use cutter::LineCutter;
 pub use line::{Body, LINE_BYTES, Line, body_of};
-pub use number::DIGITS;
+pub use number::{DIGITS, is_number};
 pub use script::{Ending, SCRIPT_BYTES, first_line, last_body, read_script};
 pub use script_lines::{RawLine, ScriptLines};
+pub use usages::{is_flags, is_usage};

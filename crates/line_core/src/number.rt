@@ -1,5 +1,5 @@
 // Numbers of a line.
-ghost use Rattle.std.specs.Prelude.{◌≡◌};
+ghost use Rattle.std.specs.Prelude.{◌≡◌, is_some};
 ghost use Rattle.line_core.specs.Number.{number_of};
 
 /// The most digits of a number.
@@ -22,4 +22,11 @@ pub(crate) fn number(word: &[u8]) -> Option<u64>
         value = value.checked_mul(10)?.checked_add(u64::from(*byte - b'0'))?;
     }
     Some(value)
+}
+
+/// Whether the word spells a number.
+pub fn is_number(word: &[u8]) -> bool
+    ensures { result ≡ is_some (number_of word.now) }
+{
+    number(word).is_some()
 }

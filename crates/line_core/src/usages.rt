@@ -1,5 +1,5 @@
 // The words of a line that name usages and sync flags.
-ghost use Rattle.std.specs.Prelude.{◌≡◌};
+ghost use Rattle.std.specs.Prelude.{◌≡◌, is_some};
 ghost use Rattle.line_core.specs.Usages.{usage_of, flags_of};
 
 use crate::words::is;
@@ -42,4 +42,18 @@ pub(crate) fn flags(word: &[u8]) -> Option<u32>
     } else {
         None
     }
+}
+
+/// Whether the word names a usage.
+pub fn is_usage(word: &[u8]) -> bool
+    ensures { result ≡ is_some (usage_of word.now) }
+{
+    usage(word).is_some()
+}
+
+/// Whether the word names sync flags.
+pub fn is_flags(word: &[u8]) -> bool
+    ensures { result ≡ is_some (flags_of word.now) }
+{
+    flags(word).is_some()
 }

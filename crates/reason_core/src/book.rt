@@ -2,18 +2,20 @@
 ghost use Rattle.std.specs.Prelude.{◌≡◌, IfErr};
 ghost use Rattle.point_core.specs.declared.refusal.Refusal.TheVariants.{Memory};
 
-use crate::names::{Space, made_by};
+use crate::names::{Names, Space};
 use desk_core::{Command, Desk};
 use point_core::{Name, Refusal};
 use std::alloc::Global;
 use std::collections::HashMap;
 
-/// The book may have so many cookies more than twice those that stand for a watch.
+/// The book may have so many cookies more than twice those of pending watches.
 const SPARE_COOKIES: usize = 64;
 
-/// The lines that made the names and cookies that stand for something, and those that closed timelines. A cookie stays for a while once its watch has fired or
-/// was removed, and gets the line of its new watch when it is registered again. Whenever the book has more than twice as many
-/// cookies as stood for a watch when it last went through them, and `SPARE_COOKIES` more, it takes out those that stand for none.
+/// The lines that made the names and cookies that stand for something, and those that closed timelines.
+///
+/// A cookie stays for a while after its watch has fired or was removed, and gets the line of its new watch when it is
+/// registered again. Once the book has twice as many cookies as there were pending watches when it last looked, and
+/// `SPARE_COOKIES` more, it takes out those without a watch.
 #[derive(Drop)]
 pub struct Book {
     timelines: HashMap<Name, u32>,
@@ -21,12 +23,12 @@ pub struct Book {
     files: HashMap<Name, u32>,
     buffers: HashMap<Name, u32>,
     cookies: HashMap<u64, u32>,
-    // With so many cookies, the book first takes out those that stand for no watch.
+    // With so many cookies, the book first takes out those without a watch.
     room: usize,
 }
 
 impl Book {
-    /// A book without lines. It takes no memory yet.
+    /// A book without lines, which takes no memory yet.
     pub fn new(alloc: Global) -> Book {
         Book {
             timelines: HashMap::new(alloc),
@@ -56,7 +58,7 @@ impl Book {
     fn enter_name(&mut self, line: u32, command: &Command) -> Result<(), Refusal>
         ensures refusals { IfErr result (λ refusal. refusal ≡ Memory) }
     {
-        let Some((space, name)) = made_by(command) else {
+        let Some((space, name)) = Names::of(command).made else {
             return Ok(());
         };
         match space {
@@ -88,7 +90,7 @@ impl Book {
         Ok(())
     }
 
-    /// Takes out the cookies that stand for no watch any more.
+    /// Takes out the cookies whose watch is no longer pending.
     fn forget_cookies(&mut self, desk: &Desk) {
         self.cookies.retain(|cookie, _| desk.has_watch(*cookie));
         let pending = self.cookies.len();

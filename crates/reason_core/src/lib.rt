@@ -1,8 +1,9 @@
-//! Why lines of a script were refused: the word at fault and a sentence, from the line, the desk that refused it, and the lines
-//! that made what stands.
+//! Why lines of a script were refused: the word at fault and a sentence, by the line, the desk that refused it, and the lines
+//! that made what there is.
 #![tactic(auto)]
 
 mod book;
+mod grammar;
 mod look;
 mod names;
 mod refused;

@@ -5,7 +5,7 @@ ghost use Rattle.point_core.specs.declared.refusal.Refusal.TheVariants.{Write as
 use point_core::Refusal;
 use std::io::Write;
 
-/// Whether the line's number is set off.
+/// Whether the line's number stands out.
 #[derive(Clone, Copy, Debug, PartialEq, Eq)]
 pub enum Look {
     Plain,
@@ -30,7 +30,7 @@ pub(crate) enum Part<'a> {
 }
 
 /// Writes `line N: ` and the parts, and ends the line.
-pub(crate) fn tell<N: Write>(
+pub(crate) fn note<N: Write>(
     place: &Place,
     parts: &[Part<'_>],
     notes: &mut N,
@@ -43,7 +43,7 @@ pub(crate) fn tell<N: Write>(
 }
 
 /// Writes `line N: "WORD"` and the parts, and ends the line.
-pub(crate) fn tell_of<N: Write>(
+pub(crate) fn note_word<N: Write>(
     place: &Place,
     word: &[u8],
     parts: &[Part<'_>],

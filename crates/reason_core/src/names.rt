@@ -21,56 +21,84 @@ impl Space {
     }
 }
 
-/// The name that a command makes, where it is accepted.
-pub(crate) fn made_by(command: &Command) -> Option<(Space, Name)> {
-    match command {
-        Command::Timeline(name) => Some((Space::Timeline, *name)),
-        Command::Fence(name, _, _) | Command::Merge(name, _, _) | Command::Export(name, _, _) => {
-            Some((Space::File, *name))
+/// The names of a command, by what it does with them.
+#[derive(Clone, Copy, Debug)]
+pub(crate) struct Names {
+    /// The name that it makes if it is accepted.
+    pub(crate) made: Option<(Space, Name)>,
+    /// The names that it looks up, in the order in which they are reported as missing.
+    pub(crate) looked_up: [Option<(Space, Name)>; 2],
+    /// The timeline that it is refused for if that is closed.
+    pub(crate) needs_open: Option<Name>,
+}
+
+impl Names {
+    pub(crate) fn of(command: &Command) -> Names {
+        match command {
+            Command::Timeline(name) => none(Some((Space::Timeline, *name))),
+            Command::Inc(timeline, _) | Command::Shut(timeline) => needing_open(None, timeline),
+            Command::Value(name) => one(None, Space::Timeline, name),
+            Command::Fence(file, timeline, _) => {
+                needing_open(Some((Space::File, *file)), timeline)
+            }
+            Command::Merge(file, first, second) => both(
+                Some((Space::File, *file)),
+                (Space::File, *first),
+                (Space::File, *second),
+            ),
+            Command::Close(name)
+            | Command::Wait(name)
+            | Command::Info(name)
+            | Command::Watch(name, _) => one(None, Space::File, name),
+            Command::Buffer(name) => none(Some((Space::Buffer, *name))),
+            Command::Add(buffer, timeline, _, _) => {
+                both(None, (Space::Buffer, *buffer), (Space::Timeline, *timeline))
+            }
+            Command::Import(buffer, file, _) => {
+                both(None, (Space::Buffer, *buffer), (Space::File, *file))
+            }
+            Command::Export(file, buffer, _) => {
+                one(Some((Space::File, *file)), Space::Buffer, buffer)
+            }
+            Command::Test(name, _) | Command::Trim(name) | Command::Show(name) => {
+                one(None, Space::Buffer, name)
+            }
+            Command::Unwatch(_) | Command::Report => none(None),
         }
-        Command::Buffer(name) => Some((Space::Buffer, *name)),
-        _ => None,
     }
 }
 
-/// The names that a command looks up, in the order in which they are reported as missing.
-pub(crate) fn looked_up(command: &Command) -> [Option<(Space, Name)>; 2] {
-    match command {
-        Command::Inc(name, _)
-        | Command::Value(name)
-        | Command::Shut(name)
-        | Command::Fence(_, name, _) => [Some((Space::Timeline, *name)), None],
-        Command::Merge(_, first, second) => {
-            [Some((Space::File, *first)), Some((Space::File, *second))]
-        }
-        Command::Close(name)
-        | Command::Wait(name)
-        | Command::Info(name)
-        | Command::Watch(name, _) => [Some((Space::File, *name)), None],
-        Command::Add(buffer, timeline, _, _) => {
-            [
-                Some((Space::Buffer, *buffer)),
-                Some((Space::Timeline, *timeline)),
-            ]
-        }
-        Command::Import(buffer, file, _) => {
-            [Some((Space::Buffer, *buffer)), Some((Space::File, *file))]
-        }
-        Command::Export(_, name, _)
-        | Command::Test(name, _)
-        | Command::Trim(name)
-        | Command::Show(name) => [Some((Space::Buffer, *name)), None],
-        Command::Timeline(_) | Command::Buffer(_) | Command::Unwatch(_) | Command::Report => {
-            [None, None]
-        }
+/// Of a command that looks nothing up.
+fn none(made: Option<(Space, Name)>) -> Names {
+    Names {
+        made,
+        looked_up: [None, None],
+        needs_open: None,
     }
 }
 
-/// The timeline that a command would change, which it can't where that is closed.
-pub(crate) fn changed_by(command: &Command) -> Option<Name> {
-    match command {
-        Command::Inc(name, _) | Command::Shut(name) | Command::Fence(_, name, _) => Some(*name),
-        _ => None,
+fn one(made: Option<(Space, Name)>, space: Space, name: &Name) -> Names {
+    Names {
+        made,
+        looked_up: [Some((space, *name)), None],
+        needs_open: None,
+    }
+}
+
+fn both(made: Option<(Space, Name)>, first: (Space, Name), second: (Space, Name)) -> Names {
+    Names {
+        made,
+        looked_up: [Some(first), Some(second)],
+        needs_open: None,
+    }
+}
+
+/// Of a command that needs the timeline open.
+fn needing_open(made: Option<(Space, Name)>, timeline: &Name) -> Names {
+    Names {
+        made,
+        looked_up: [Some((Space::Timeline, *timeline)), None],
+        needs_open: Some(*timeline),
     }
 }
 

@@ -3,8 +3,8 @@ ghost use Rattle.std.specs.Prelude.{◌≡◌, IfErr};
 ghost use Rattle.point_core.specs.declared.refusal.Refusal.TheVariants.{Write as WriteFault};
 
 use crate::book::Book;
-use crate::look::{Part, Place, tell};
-use crate::names::{Space, changed_by, is_there, looked_up, made_by};
+use crate::look::{Part, Place, note};
+use crate::names::{Names, Space, is_there};
 use desk_core::{Command, Desk};
 use fence_core::WATCHES;
 use point_core::{BUFFERS, CONTEXTS, LimitKind, Name, Point, Refusal};
@@ -13,7 +13,24 @@ use syncfile_core::FILES;
 
 const UNSIGNALLED: Part<'static> = Part::Text("the file is not signalled");
 
-const NOTHING_TO_WATCH: &str = "the file is already signalled, so there is nothing to watch";
+/// Why a command was refused, with the line that matters.
+#[derive(Clone, Copy, Debug)]
+enum Reason {
+    /// There is nothing of that name.
+    Missing(Space, Name),
+    /// There is something of that name, which that line made.
+    Taken(Space, Name, u32),
+    /// That line registered a watch of the cookie.
+    Watched(u64, u32),
+    /// That line closed the timeline.
+    Closed(Name, u32),
+    /// The timeline of that name and value would be raised by so much.
+    Overflow(Name, u64, u64),
+    /// There are as many as there can be.
+    Limit(LimitKind),
+    /// What the text says.
+    Text(&'static str),
+}
 
 /// Writes to `notes` why the desk refused a command, which it has just done.
 ///
@@ -29,31 +46,154 @@ pub fn explain_command<N: Write>(
     ensures refusals { IfErr result (λ refusal. refusal ≡ WriteFault) }
 {
     match refusal {
-        Refusal::NoEntry => explain_missing(desk, place, command, notes),
-        Refusal::Exists => explain_exists(book, place, command, notes),
-        Refusal::Cancelled => explain_closed(book, place, command, notes),
-        Refusal::Overflow => explain_overflow(desk, place, command, notes),
         Refusal::TimedOut => explain_pending(desk, place, command, notes),
-        Refusal::Limit(kind) => explain_limit(place, kind, notes),
-        Refusal::Signalled => tell(place, &[Part::Text(NOTHING_TO_WATCH)], notes),
-        Refusal::Memory => tell(place, &[Part::Text("out of memory")], notes),
-        _ => tell(place, &[Part::Text(refusal.name())], notes),
+        _ => {
+            let reason = reason_of(desk, book, command, refusal);
+            explain_reason(place, &reason, notes)
+        }
     }
 }
 
-fn explain_limit<N: Write>(place: &Place, kind: LimitKind, notes: &mut N) -> Result<(), Refusal>
+fn reason_of(desk: &Desk, book: &Book, command: &Command, refusal: Refusal) -> Reason {
+    match refusal {
+        Refusal::NoEntry => missing(desk, command),
+        Refusal::Exists => taken(book, command),
+        Refusal::Cancelled => closed(book, command),
+        Refusal::Overflow => overflow(desk, command),
+        Refusal::Limit(kind) => Reason::Limit(kind),
+        Refusal::Signalled => {
+            Reason::Text("the file is already signalled, so there is nothing to watch")
+        }
+        Refusal::Memory => Reason::Text("out of memory"),
+        _ => Reason::Text(refusal.name()),
+    }
+}
+
+/// The first name that the command looks up and that stands for nothing.
+fn missing(desk: &Desk, command: &Command) -> Reason {
+    for (space, name) in Names::of(command).looked_up.into_iter().flatten() {
+        if !is_there(desk, space, &name) {
+            return Reason::Missing(space, name);
+        }
+    }
+    Reason::Text("there is nothing of that name")
+}
+
+fn taken(book: &Book, command: &Command) -> Reason {
+    if let Command::Watch(_, cookie) = command {
+        let line = book.line_of_cookie(*cookie).unwrap_or(0);
+        return Reason::Watched(*cookie, line);
+    }
+    match Names::of(command).made {
+        Some((space, name)) => {
+            let line = book.line_of(space, &name).unwrap_or(0);
+            Reason::Taken(space, name, line)
+        }
+        None => Reason::Text("the name is taken"),
+    }
+}
+
+fn closed(book: &Book, command: &Command) -> Reason {
+    match Names::of(command).needs_open {
+        Some(timeline) => {
+            let line = book.line_of_closing(&timeline).unwrap_or(0);
+            Reason::Closed(timeline, line)
+        }
+        None => Reason::Text("its timeline is closed"),
+    }
+}
+
+fn overflow(desk: &Desk, command: &Command) -> Reason {
+    match command {
+        Command::Inc(timeline, count) => {
+            let value = desk.timeline_value(timeline).unwrap_or(0);
+            Reason::Overflow(*timeline, value, *count)
+        }
+        _ => Reason::Text("the value would exceed the greatest number"),
+    }
+}
+
+fn explain_reason<N: Write>(place: &Place, reason: &Reason, notes: &mut N) -> Result<(), Refusal>
     ensures refusals { IfErr result (λ refusal. refusal ≡ WriteFault) }
 {
-    let parts = [
+    match reason {
+        Reason::Missing(space, name) => note(place, &parts_of_missing(*space, name), notes),
+        Reason::Taken(space, name, line) => note(
+            place,
+            &parts_of_taken(*space, name, *line),
+            notes,
+        ),
+        Reason::Watched(cookie, line) => note(place, &parts_of_watched(*cookie, *line), notes),
+        Reason::Closed(timeline, line) => note(place, &parts_of_closed(timeline, *line), notes),
+        Reason::Overflow(timeline, value, count) => {
+            note(place, &parts_of_overflow(timeline, *value, *count), notes)
+        }
+        Reason::Limit(kind) => note(place, &parts_of_limit(*kind), notes),
+        Reason::Text(text) => note(place, &[Part::Text(*text)], notes),
+    }
+}
+
+fn parts_of_missing(space: Space, name: &Name) -> [Part<'_>; 4] {
+    [
+        Part::Text("there is no "),
+        Part::Text(space.word()),
+        Part::Text(" named "),
+        Part::Bytes(name.as_bytes()),
+    ]
+}
+
+fn parts_of_taken(space: Space, name: &Name, line: u32) -> [Part<'_>; 6] {
+    [
+        Part::Text("there is already a "),
+        Part::Text(space.word()),
+        Part::Text(" named "),
+        Part::Bytes(name.as_bytes()),
+        Part::Text(", made on line "),
+        Part::Number(u64::from(line)),
+    ]
+}
+
+fn parts_of_watched(cookie: u64, line: u32) -> [Part<'static>; 4] {
+    [
+        Part::Text("cookie "),
+        Part::Number(cookie),
+        Part::Text(" is in use by the watch made on line "),
+        Part::Number(u64::from(line)),
+    ]
+}
+
+fn parts_of_closed(timeline: &Name, line: u32) -> [Part<'_>; 4] {
+    [
+        Part::Text("timeline "),
+        Part::Bytes(timeline.as_bytes()),
+        Part::Text(" was closed on line "),
+        Part::Number(u64::from(line)),
+    ]
+}
+
+fn parts_of_overflow(timeline: &Name, value: u64, count: u64) -> [Part<'_>; 8] {
+    [
+        Part::Text("timeline "),
+        Part::Bytes(timeline.as_bytes()),
+        Part::Text(" is at "),
+        Part::Number(value),
+        Part::Text("; adding "),
+        Part::Number(count),
+        Part::Text(" would exceed "),
+        Part::Number(u64::MAX),
+    ]
+}
+
+fn parts_of_limit(kind: LimitKind) -> [Part<'static>; 4] {
+    [
         Part::Text("limit reached: "),
         Part::Number(most_of(kind)),
         Part::Text(" "),
         Part::Text(kind.word()),
-    ];
-    tell(place, &parts, notes)
+    ]
 }
 
-/// How many there can be of what a command makes.
+/// How many there can be of them.
 fn most_of(kind: LimitKind) -> u64 {
     let most = match kind {
         LimitKind::Timelines => CONTEXTS,
@@ -63,178 +203,6 @@ fn most_of(kind: LimitKind) -> u64 {
         _ => 0,
     };
     most as u64
-}
-
-fn explain_missing<N: Write>(
-    desk: &Desk,
-    place: &Place,
-    command: &Command,
-    notes: &mut N,
-) -> Result<(), Refusal>
-    ensures refusals { IfErr result (λ refusal. refusal ≡ WriteFault) }
-{
-    match first_missing(desk, command) {
-        Some((space, name)) => explain_none(place, space, &name, notes),
-        None => tell(place, &[Part::Text("there is nothing of that name")], notes),
-    }
-}
-
-fn explain_none<N: Write>(
-    place: &Place,
-    space: Space,
-    name: &Name,
-    notes: &mut N,
-) -> Result<(), Refusal>
-    ensures refusals { IfErr result (λ refusal. refusal ≡ WriteFault) }
-{
-    let parts = [
-        Part::Text("there is no "),
-        Part::Text(space.word()),
-        Part::Text(" named "),
-        Part::Bytes(name.as_bytes()),
-    ];
-    tell(place, &parts, notes)
-}
-
-/// The first name that the command looks up and that stands for nothing.
-fn first_missing(desk: &Desk, command: &Command) -> Option<(Space, Name)> {
-    for (space, name) in looked_up(command).into_iter().flatten() {
-        if !is_there(desk, space, &name) {
-            return Some((space, name));
-        }
-    }
-    None
-}
-
-fn explain_exists<N: Write>(
-    book: &Book,
-    place: &Place,
-    command: &Command,
-    notes: &mut N,
-) -> Result<(), Refusal>
-    ensures refusals { IfErr result (λ refusal. refusal ≡ WriteFault) }
-{
-    if let Command::Watch(_, cookie) = command {
-        return explain_watched(book, place, *cookie, notes);
-    }
-    match made_by(command) {
-        Some((space, name)) => explain_made(book, place, space, &name, notes),
-        None => tell(place, &[Part::Text("the name is taken")], notes),
-    }
-}
-
-fn explain_watched<N: Write>(
-    book: &Book,
-    place: &Place,
-    cookie: u64,
-    notes: &mut N,
-) -> Result<(), Refusal>
-    ensures refusals { IfErr result (λ refusal. refusal ≡ WriteFault) }
-{
-    let line = book.line_of_cookie(cookie).unwrap_or(0);
-    let parts = [
-        Part::Text("cookie "),
-        Part::Number(cookie),
-        Part::Text(" is in use by the watch made on line "),
-        Part::Number(u64::from(line)),
-    ];
-    tell(place, &parts, notes)
-}
-
-fn explain_made<N: Write>(
-    book: &Book,
-    place: &Place,
-    space: Space,
-    name: &Name,
-    notes: &mut N,
-) -> Result<(), Refusal>
-    ensures refusals { IfErr result (λ refusal. refusal ≡ WriteFault) }
-{
-    let line = book.line_of(space, name).unwrap_or(0);
-    let parts = [
-        Part::Text("there is already a "),
-        Part::Text(space.word()),
-        Part::Text(" named "),
-        Part::Bytes(name.as_bytes()),
-        Part::Text(", made on line "),
-        Part::Number(u64::from(line)),
-    ];
-    tell(place, &parts, notes)
-}
-
-fn explain_closed<N: Write>(
-    book: &Book,
-    place: &Place,
-    command: &Command,
-    notes: &mut N,
-) -> Result<(), Refusal>
-    ensures refusals { IfErr result (λ refusal. refusal ≡ WriteFault) }
-{
-    match changed_by(command) {
-        Some(timeline) => explain_closing(book, place, &timeline, notes),
-        None => tell(place, &[Part::Text("its timeline is closed")], notes),
-    }
-}
-
-fn explain_closing<N: Write>(
-    book: &Book,
-    place: &Place,
-    timeline: &Name,
-    notes: &mut N,
-) -> Result<(), Refusal>
-    ensures refusals { IfErr result (λ refusal. refusal ≡ WriteFault) }
-{
-    let line = book.line_of_closing(timeline).unwrap_or(0);
-    let parts = [
-        Part::Text("timeline "),
-        Part::Bytes(timeline.as_bytes()),
-        Part::Text(" was closed on line "),
-        Part::Number(u64::from(line)),
-    ];
-    tell(place, &parts, notes)
-}
-
-fn explain_overflow<N: Write>(
-    desk: &Desk,
-    place: &Place,
-    command: &Command,
-    notes: &mut N,
-) -> Result<(), Refusal>
-    ensures refusals { IfErr result (λ refusal. refusal ≡ WriteFault) }
-{
-    match command {
-        Command::Inc(timeline, count) => {
-            let value = desk.timeline_value(timeline).unwrap_or(0);
-            explain_increment(place, timeline, value, *count, notes)
-        }
-        _ => tell(
-            place,
-            &[Part::Text("the value would exceed the greatest number")],
-            notes,
-        ),
-    }
-}
-
-fn explain_increment<N: Write>(
-    place: &Place,
-    timeline: &Name,
-    value: u64,
-    count: u64,
-    notes: &mut N,
-) -> Result<(), Refusal>
-    ensures refusals { IfErr result (λ refusal. refusal ≡ WriteFault) }
-{
-    let parts = [
-        Part::Text("timeline "),
-        Part::Bytes(timeline.as_bytes()),
-        Part::Text(" is at "),
-        Part::Number(value),
-        Part::Text("; adding "),
-        Part::Number(count),
-        Part::Text(" would exceed "),
-        Part::Number(u64::MAX),
-    ];
-    tell(place, &parts, notes)
 }
 
 /// Reports each point of the file that is not reached.
@@ -247,11 +215,11 @@ fn explain_pending<N: Write>(
     ensures refusals { IfErr result (λ refusal. refusal ≡ WriteFault) }
 {
     let Command::Wait(file) = command else {
-        return tell(place, &[UNSIGNALLED], notes);
+        return note(place, &[UNSIGNALLED], notes);
     };
     match desk.file_points(file) {
         Some(points) => explain_points(desk, place, file, points, notes),
-        None => tell(place, &[UNSIGNALLED], notes),
+        None => note(place, &[UNSIGNALLED], notes),
     }
 }
 
@@ -313,5 +281,5 @@ fn explain_wait<'a, N: Write>(
         Part::Number(point.saturating_sub(value)),
         Part::Text(" to go"),
     ];
-    tell(place, &parts, notes)
+    note(place, &parts, notes)
 }

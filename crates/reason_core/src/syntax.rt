@@ -2,63 +2,18 @@
 ghost use Rattle.std.specs.Prelude.{◌≡◌, ◌⊎◌, IfErr};
 ghost use Rattle.point_core.specs.declared.refusal.Refusal.TheVariants.{Write as WriteFault, Memory};
 
-use crate::look::{Part, Place, tell, tell_of};
-use line_core::{DIGITS, LINE_BYTES, RawLine, SCRIPT_BYTES};
-use point_core::{LimitKind, Name, Refusal};
+use crate::grammar::{Operand, commands, operands_of};
+use crate::look::{Part, Place, note, note_word};
+use line_core::{LINE_BYTES, RawLine, SCRIPT_BYTES};
+use point_core::{LimitKind, Refusal};
 use std::alloc::Global;
 use std::io::Write;
 use strsim::osa_distance;
 
-/// What a word after a command's may be.
-#[derive(Clone, Copy, Debug, PartialEq, Eq)]
-enum Kind {
-    Name,
-    Number,
-    Usage,
-    Flags,
-}
-
-/// The words of commands, and what follows each.
-fn commands() -> &'static [(&'static str, &'static [Kind])] {
-    &[
-        ("timeline", &[Kind::Name]),
-        ("inc", &[Kind::Name, Kind::Number]),
-        ("value", &[Kind::Name]),
-        ("shut", &[Kind::Name]),
-        ("fence", &[Kind::Name, Kind::Name, Kind::Number]),
-        ("merge", &[Kind::Name, Kind::Name, Kind::Name]),
-        ("close", &[Kind::Name]),
-        ("wait", &[Kind::Name]),
-        ("info", &[Kind::Name]),
-        ("buffer", &[Kind::Name]),
-        ("add", &[Kind::Name, Kind::Name, Kind::Number, Kind::Usage]),
-        ("import", &[Kind::Name, Kind::Name, Kind::Flags]),
-        ("export", &[Kind::Name, Kind::Name, Kind::Flags]),
-        ("test", &[Kind::Name, Kind::Usage]),
-        ("trim", &[Kind::Name]),
-        ("watch", &[Kind::Name, Kind::Number]),
-        ("unwatch", &[Kind::Number]),
-        ("show", &[Kind::Name]),
-        ("report", &[]),
-    ]
-}
-
-/// What follows a command's word, or none where the word is no command.
-fn kinds_of(word: &[u8]) -> Option<&'static [Kind]> {
-    for (command, kinds) in commands() {
-        if command.as_bytes() == word {
-            return Some(*kinds);
-        }
-    }
-    None
-}
-
 /// A word is taken for a command that differs from it in one letter of so many.
 const LETTERS: usize = 3;
 
-const GREATEST_NUMBER: &[u8] = b"18446744073709551615";
-
-/// Writes to `notes` why a line is no command, by the refusal that it is.
+/// Writes to `notes` why a line is no command, by the refusal that it was answered with.
 ///
 /// Fails with `Write` or `Memory`.
 pub fn explain_bad_line<N: Write>(
@@ -86,7 +41,7 @@ fn explain_long_line<N: Write>(place: &Place, length: usize, notes: &mut N) -> R
         Part::Text(" bytes long; the limit is "),
         Part::Number(LINE_BYTES as u64),
     ];
-    tell(place, &parts, notes)
+    note(place, &parts, notes)
 }
 
 fn explain_long_script<N: Write>(place: &Place, notes: &mut N) -> Result<(), Refusal>
@@ -97,11 +52,11 @@ fn explain_long_script<N: Write>(place: &Place, notes: &mut N) -> Result<(), Ref
         Part::Number(SCRIPT_BYTES as u64),
         Part::Text(" bytes"),
     ];
-    tell(place, &parts, notes)
+    note(place, &parts, notes)
 }
 
-/// Tells which word of a line that is no command is at fault: the first that has a byte no word of a command has; else the
-/// first word, where it is no command; else the first that is none of its kind, or that the number of words is wrong.
+/// Reports which word of a line that is no command is at fault: the first that has a byte no word of a command has; else the
+/// first word, if it is no command; else the first that does not match its operand, or that the number of words is wrong.
 fn explain_syntax<N: Write>(
     alloc: Global,
     place: &Place,
@@ -116,8 +71,8 @@ fn explain_syntax<N: Write>(
         }
     }
     let (word, rest) = first_word(line);
-    match kinds_of(word) {
-        Some(kinds) => explain_words(place, word, kinds, rest, notes),
+    match operands_of(word) {
+        Some(operands) => explain_words(place, word, operands, rest, notes),
         None => explain_no_command(alloc, place, word, notes),
     }
 }
@@ -131,7 +86,7 @@ fn explain_word<N: Write>(
 ) -> Result<(), Refusal>
     ensures refusals { IfErr result (λ refusal. refusal ≡ WriteFault) }
 {
-    tell_of(place, word, &[Part::Text(": "), Part::Text(reason)], notes)
+    note_word(place, word, &[Part::Text(": "), Part::Text(reason)], notes)
 }
 
 /// What is wrong with a word that has a byte which words never have.
@@ -173,7 +128,7 @@ fn explain_no_command<N: Write>(
 {
     match nearest(alloc, word)? {
         Some(command) => suggest(place, word, command, notes),
-        None => tell_of(place, word, &[Part::Text(": unknown command")], notes),
+        None => note_word(place, word, &[Part::Text(": unknown command")], notes),
     }
 }
 
@@ -190,12 +145,12 @@ fn suggest<N: Write>(
         Part::Text(command),
         Part::Text("\"?"),
     ];
-    tell_of(place, word, &parts, notes)
+    note_word(place, word, &parts, notes)
 }
 
-/// The command that differs in the fewest letters, where these are few; two letters in each other's place count as one.
+/// The command that differs in the fewest letters, if these are few; two letters that are swapped count as one.
 ///
-/// Fails only with Memory.
+/// Fails with `Memory` alone.
 fn nearest(alloc: Global, word: &[u8]) -> Result<Option<&'static str>, Refusal>
     ensures refusals { IfErr result (λ refusal. refusal ≡ Memory) }
 {
@@ -217,67 +172,37 @@ fn nearest(alloc: Global, word: &[u8]) -> Result<Option<&'static str>, Refusal>
 fn explain_words<N: Write>(
     place: &Place,
     command: &[u8],
-    kinds: &[Kind],
+    operands: &[Operand],
     rest: &[u8],
     notes: &mut N,
 ) -> Result<(), Refusal>
     ensures refusals { IfErr result (λ refusal. refusal ≡ WriteFault) }
 {
-    let mut kinds = kinds.iter();
+    let mut operands = operands.iter();
     for word in rest.split(|byte| *byte == b' ') {
         if word.is_empty() {
             continue;
         }
-        if let Some(reason) = wrong_for(word, kinds.next()) {
+        if let Some(reason) = wrong_for(word, operands.next()) {
             return explain_word(place, word, reason, notes);
         }
     }
-    explain_word(place, command, missing(kinds.next()), notes)
+    explain_word(place, command, missing(operands.next()), notes)
 }
 
 /// What is missing at the end of a line.
-fn missing(kind: Option<&Kind>) -> &'static str {
-    match kind {
-        Some(Kind::Name) => "a name is missing",
-        Some(Kind::Number) => "a number is missing",
-        Some(Kind::Usage) => "a usage is missing: kernel, write, read or bookkeep",
-        Some(Kind::Flags) => "flags are missing: read, write or rw",
+fn missing(operand: Option<&Operand>) -> &'static str {
+    match operand {
+        Some(operand) => operand.absence(),
         None => "a word is missing",
     }
 }
 
-/// What is wrong with a word in the place of that kind, or after the last one.
-fn wrong_for(word: &[u8], kind: Option<&Kind>) -> Option<&'static str> {
-    match kind {
-        Some(kind) if is_of_kind(word, *kind) => None,
-        Some(kind) => Some(why_not(*kind)),
+/// What is wrong with a word in the place of that operand, or after the last one.
+fn wrong_for(word: &[u8], operand: Option<&Operand>) -> Option<&'static str> {
+    match operand {
+        Some(operand) if operand.matches(word) => None,
+        Some(operand) => Some(operand.mismatch()),
         None => Some("unexpected extra word"),
-    }
-}
-
-fn is_of_kind(word: &[u8], kind: Kind) -> bool {
-    match kind {
-        Kind::Name => Name::read(word).is_some(),
-        Kind::Number => is_number(word),
-        Kind::Usage => is_one_of(word, &["kernel", "write", "read", "bookkeep"]),
-        Kind::Flags => is_one_of(word, &["read", "write", "rw"]),
-    }
-}
-
-fn is_number(word: &[u8]) -> bool {
-    word.iter().all(|byte| byte.is_ascii_digit())
-        && (word.len() < DIGITS || word.len() == DIGITS && word <= GREATEST_NUMBER)
-}
-
-fn is_one_of(word: &[u8], texts: &[&str]) -> bool {
-    texts.iter().any(|text| text.as_bytes() == word)
-}
-
-fn why_not(kind: Kind) -> &'static str {
-    match kind {
-        Kind::Name => "not a name: a name has 1 to 31 letters, digits, _, . or -",
-        Kind::Number => "not a number of 1 to 20 digits, up to 18446744073709551615",
-        Kind::Usage => "not a usage: kernel, write, read or bookkeep",
-        Kind::Flags => "not flags: read, write or rw",
     }
 }

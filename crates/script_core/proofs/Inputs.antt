@@ -16,7 +16,7 @@ use Rattle.line_core.specs.Reading.{IsInput, WasRead, EndsSo}
 use Rattle.line_core.specs.Script.{lines_until, script_of}
 use Rattle.line_core.specs.ScriptLines.{LinesState, HasGiven}
 use Rattle.script_core.specs.Text.{text_of}
-use Rattle.script_core.specs.Output.{answer_of_line, history_after_line, output_from, IsLineAnswer, AreLineAnswers, texts_of, NoneIsMemory, WritesAnswers, WritesFront, Counts, AnswersScript, AnswersEndedLines}
+use Rattle.script_core.specs.Output.{answer_of_line, history_after_line, output_from, IsLineAnswer, AreLineAnswers, texts_of, NoneIsMemory, WritesAnswers, WritesPrefix, Counts, AnswersScript, AnswersEndedLines}
 use Rattle.line_core.proofs.EndedLines.{ended_lines, given-first}
 use Rattle.line_core.proofs.Inputs.{input_from, script_of-whole, script_of-too_long, lines_until-short, first_lines}
 use Rattle.script_core.proofs.Progress.{AppendsFront-all}
@@ -45,8 +45,8 @@ AnswersScript-from script lines given totals old new e w counts =
       counts = counts;
     }
 
-pub WritesFront-more : (lines rest whole : List Line) (old new : Option (List ℕ)) → whole ≡ lines ++ rest → WritesFront lines old new → WritesFront whole old new
-WritesFront-more lines rest whole old new e w = record {
+pub WritesPrefix-more : (lines rest whole : List Line) (old new : Option (List ℕ)) → whole ≡ lines ++ rest → WritesPrefix lines old new → WritesPrefix whole old new
+WritesPrefix-more lines rest whole old new e w = record {
   first = w.first;
   rest = w.rest ++ rest;
   given = w.given;
@@ -55,8 +55,8 @@ WritesFront-more lines rest whole old new e w = record {
   written = w.written;
 }
 
-pub WritesFront-all : (lines : List Line) (given : List Answer) (old new : Option (List ℕ)) → WritesAnswers lines given old new → WritesFront lines old new
-WritesFront-all lines given old new w = record {
+pub WritesPrefix-all : (lines : List Line) (given : List Answer) (old new : Option (List ℕ)) → WritesAnswers lines given old new → WritesPrefix lines old new
+WritesPrefix-all lines given old new w = record {
   first = lines;
   rest = [];
   given = given;
@@ -69,11 +69,11 @@ module _ (known left : Option (List ℕ)) (bytes shown : List ℕ) (end : Ending
   among : lines ≡ lines_until end (take SCRIPT_BYTES bytes)
   among = of ∙ ap (λ xs. lines_until end (take SCRIPT_BYTES xs)) same
 
-  pub front_written : WritesFront lines old new → (script : List ℕ) × IsInput known script × WritesFront (script_of script) old new
-  front_written w =
+  pub prefix_written : WritesPrefix lines old new → (script : List ℕ) × IsInput known script × WritesPrefix (script_of script) old new
+  prefix_written w =
       let input = input_from known left bytes read.consumed in
       let first = first_lines known left bytes input.0 end input.1 read.ends in
-      (input.0, input.1.input, WritesFront-more lines first.0 (script_of input.0) old new (first.1 ∙ ap (λ ls. ls ++ first.0) (sym among)) w)
+      (input.0, input.1.input, WritesPrefix-more lines first.0 (script_of input.0) old new (first.1 ∙ ap (λ ls. ls ++ first.0) (sym among)) w)
 
   pub all_written : (totals : Totals) → (end ≡ ending.Whole) ⊎ (end ≡ ending.TooLong) → (given : List Answer) × WritesAnswers lines given old new × Counts totals given → (script : List ℕ) × IsInput known script × AnswersScript script totals old new
   all_written totals ends w =
@@ -92,7 +92,7 @@ module _ (known left : Option (List ℕ)) (bytes shown : List ℕ) (end : Ending
       record { bytes = bytes; consumed = read.consumed; few = short; given = w.0; answers = answers }
 
 -- the lines that were given come first among the script's
-pub given-front : (before now : Option (List ℕ)) (s : LinesState) (given : List (List ℕ)) (old new : Option (List ℕ)) → HasGiven before now s given → WritesFront (ended_lines 1 given) old new → (script : List ℕ) × IsInput before script × WritesFront (script_of script) old new
+pub given-front : (before now : Option (List ℕ)) (s : LinesState) (given : List (List ℕ)) (old new : Option (List ℕ)) → HasGiven before now s given → WritesPrefix (ended_lines 1 given) old new → (script : List ℕ) × IsInput before script × WritesPrefix (script_of script) old new
 given-front before now s given old new p w =
     let first = given-first before now s given p in
-    (first.0, first.1, WritesFront-more (ended_lines 1 given) first.2 (script_of first.0) old new first.3 w)
+    (first.0, first.1, WritesPrefix-more (ended_lines 1 given) first.2 (script_of first.0) old new first.3 w)

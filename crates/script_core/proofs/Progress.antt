@@ -13,7 +13,7 @@ use Rattle.line_core.specs.declared.line.Line.{Line}
 use Rattle.script_core.specs.declared.totals.Totals.{Totals}
 use Rattle.script_core.specs.Bytes.{AppendsFront}
 use Rattle.script_core.specs.Text.{text_of}
-use Rattle.script_core.specs.Output.{history_after_line, IsLineAnswer, AreLineAnswers, texts_of, WritesFront, Counts}
+use Rattle.script_core.specs.Output.{history_after_line, IsLineAnswer, AreLineAnswers, texts_of, WritesPrefix, Counts}
 use Rattle.script_core.specs.Answering.{history_along, Progress, AnswersLines}
 
 pub AreLineAnswers-push : (history : List Command) (ls : List Line) (given : List Answer) (l : Line) (a : Answer) → AreLineAnswers history ls given → IsLineAnswer (history_along history ls given) l.body a → AreLineAnswers history (ls ++ l ∷ []) (given ++ a ∷ [])
@@ -83,7 +83,7 @@ Progress-write done desk out out' totals old new new' p w = record {
 
 -- the writer failed, or nothing more was written
 pub Progress-front : (lines done rest : List Line) (desk : DeskState) (out : List ℕ) (totals : Totals) (old new new' : Option (List ℕ)) → Progress done desk out totals old new
-    → lines ≡ done ++ rest → AppendsFront new new' out → WritesFront lines old new'
+    → lines ≡ done ++ rest → AppendsFront new new' out → WritesPrefix lines old new'
 Progress-front lines done rest desk out totals old new new' p e f = record {
   first = done;
   rest = rest;
@@ -101,7 +101,7 @@ Progress-front lines done rest desk out totals old new new' p e f = record {
 -- one more line was answered, and of what waited and its text a front was written
 pub Progress-unwritten : (done : List Line) (desk : DeskState) (out : List ℕ) (totals : Totals) (old new new' : Option (List ℕ)) (l : Line) (a : Answer) → Progress done desk out totals old new
     → ((history : List Command) → HasHistory desk history → IsLineAnswer history l.body a)
-    → AppendsFront new new' (out ++ text_of l.number a) → WritesFront (done ++ l ∷ []) old new'
+    → AppendsFront new new' (out ++ text_of l.number a) → WritesPrefix (done ++ l ∷ []) old new'
 Progress-unwritten done desk out totals old new new' l a p is f = record {
   first = done ++ l ∷ [];
   rest = [];
@@ -133,7 +133,7 @@ Progress-flushed done desk out totals old new new' p none kept =
 
 -- the flush failed
 pub Progress-unflushed : (done : List Line) (desk : DeskState) (out : List ℕ) (totals : Totals) (old new new' : Option (List ℕ)) → Progress done desk out totals old new
-    → Keeps new new' → WritesFront done old new'
+    → Keeps new new' → WritesPrefix done old new'
 Progress-unflushed done desk out totals old new new' p kept = record {
   first = done;
   rest = [];
@@ -155,5 +155,5 @@ AppendsFront-none contents bytes = record { front = []; rest = bytes; whole = re
 pub AppendsFront-all : (old new : Option (List ℕ)) (bytes : List ℕ) → Appends old new bytes → AppendsFront old new bytes
 AppendsFront-all old new bytes appended = record { front = bytes; rest = []; whole = sym (append-nil bytes); appended = appended }
 
-pub WritesFront-none : (lines : List Line) (contents : Option (List ℕ)) → WritesFront lines contents contents
-WritesFront-none lines contents = record { first = []; rest = lines; given = []; whole = refl; each = tt; written = AppendsFront-none contents [] }
+pub WritesPrefix-none : (lines : List Line) (contents : Option (List ℕ)) → WritesPrefix lines contents contents
+WritesPrefix-none lines contents = record { first = []; rest = lines; given = []; whole = refl; each = tt; written = AppendsFront-none contents [] }

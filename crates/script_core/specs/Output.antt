@@ -76,7 +76,7 @@ pub record WritesAnswers (lines : List Line) (given : List Answer) (old new : Op
   pub written : Appends old new (texts_of lines given)
 
 -- a prefix of the answers of first lines was written
-pub record WritesFront (lines : List Line) (old new : Option (List ℕ)) : Type 0 where
+pub record WritesPrefix (lines : List Line) (old new : Option (List ℕ)) : Type 0 where
   pub first : List Line
   pub rest : List Line
   pub given : List Answer

@@ -6,7 +6,7 @@ ghost use Rattle.command_core.specs.declared.command.Command.{Command};
 ghost use Rattle.desk_core.specs.Desk.{HasHistory};
 ghost use Rattle.line_core.specs.declared.line.Line.{Line as LineModel};
 ghost use Rattle.line_core.specs.Script.{answered};
-ghost use Rattle.script_core.specs.Output.{IsLineAnswer, history_after_line, refusal_of, WritesFront};
+ghost use Rattle.script_core.specs.Output.{IsLineAnswer, history_after_line, refusal_of, WritesPrefix};
 
 use crate::passing::pass_answer;
 use crate::totals::Totals;
@@ -82,7 +82,7 @@ impl Answers {
             (W.contents writer.old) (W.contents writer.new))) }
         ensures err { OnErr result ((done : List LineModel) → (start : Option (List ℕ)) →
             HasAnswered done self.old start (W.contents writer.old)
-            → WritesFront (done ++ answered number body []) start (W.contents writer.new)) }
+            → WritesPrefix (done ++ answered number body []) start (W.contents writer.new)) }
         ensures lines { self.new.totals.lines ≤ self.old.totals.lines + 1 }
         ensures refusals { IfErr result (λ refusal. (refusal ≡ WriteFault) ⊎ (refusal ≡ Memory)) }
     {
@@ -106,7 +106,7 @@ impl Answers {
             self.old self.new (W.contents writer.old) (W.contents writer.new)) }
         ensures err { OnErr result ((done : List LineModel) → (start : Option (List ℕ)) →
             HasAnswered done self.old start (W.contents writer.old)
-            → WritesFront (done ++ record { number = number; body = body } ∷ []) start (W.contents writer.new)) }
+            → WritesPrefix (done ++ record { number = number; body = body } ∷ []) start (W.contents writer.new)) }
         ensures lines { self.new.totals.lines ≤ self.old.totals.lines + 1 }
         ensures refusals { IfErr result (λ refusal. (refusal ≡ WriteFault) ⊎ (refusal ≡ Memory)) }
     {
@@ -127,7 +127,7 @@ impl Answers {
         ensures none { OnOk result (self.new.out ≡ []) }
         ensures err { OnErr result ((done : List LineModel) → (start : Option (List ℕ)) →
             HasAnswered done self.old start (W.contents writer.old)
-            → WritesFront done start (W.contents writer.new)) }
+            → WritesPrefix done start (W.contents writer.new)) }
         ensures lines { self.new.totals ≡ self.old.totals }
         ensures refusals { IfErr result (λ refusal. refusal ≡ WriteFault) }
     {
@@ -144,7 +144,7 @@ impl Answers {
             → AnswersLines done totals start (W.contents writer.new)) }
         ensures err { OnErr result ((done : List LineModel) → (start : Option (List ℕ)) →
             HasAnswered done self.old start (W.contents writer.old)
-            → WritesFront done start (W.contents writer.new)) }
+            → WritesPrefix done start (W.contents writer.new)) }
         ensures refusals { IfErr result (λ refusal. refusal ≡ WriteFault) }
     {
         self.write(writer)?;

@@ -4,16 +4,16 @@
 //! a script's bytes stand here too.
 #![tactic(auto)]
 
-mod answering;
 mod answers;
 mod passing;
+mod reading;
 mod text;
 mod totals;
 mod writing;
 
-pub use answering::engine;
 pub use answers::{Answers, answer_line};
 pub use line_core::{Body, DIGITS, LINE_BYTES, Line, LineCutter, SCRIPT_BYTES, read_script};
+pub use reading::engine;
 pub use report_core::write_whole;
 pub use text::print;
 pub use totals::Totals;

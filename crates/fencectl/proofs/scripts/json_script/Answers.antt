@@ -6,6 +6,6 @@ returns g c = record {
   ended = (
     c.run_json-ended.result,
     c.status_of_run.ensures.status,
-    c.status_of_run.ensures.told,
+    c.status_of_run.ensures.reported,
   );
 }

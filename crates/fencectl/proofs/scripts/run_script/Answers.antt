@@ -11,6 +11,6 @@ returns g c = record {
       read = c.engine-ended.ensures.read;
       err = c.engine-ended.ensures.err;
     },
-    c.status_of_run.ensures.told,
+    c.status_of_run.ensures.reported,
   );
 }

@@ -1,0 +1,109 @@
+// A script from a reader, and how its answers differ from what its notes expect to a writer.
+ghost use Rattle.std.specs.Prelude.{◌≡◌, ◌+◌, ◌⊎◌, List, ℕ, Err, IfOk, IfErr};
+ghost use Rattle.std.specs.Io.KnownBytes.{Keeps};
+ghost use Rattle.point_core.specs.declared.refusal.Refusal.TheVariants.{Limit, Read as ReadFault, Write as WriteFault, Memory};
+ghost use Rattle.point_core.specs.declared.refusal.LimitKind.TheVariants.{Script};
+ghost use Rattle.line_core.specs.declared.script.Ending.TheVariants.{Whole};
+ghost use Rattle.line_core.specs.declared.script.TheConstants.{SCRIPT_BYTES};
+ghost use Rattle.line_core.specs.Reading.{ConsumesAtMost, IsInput, WasRead};
+ghost use Rattle.check_core.specs.Check.{ChecksScript, IsTooLong, IsFresh, HasCheckedBytes};
+
+use crate::checker::Checker;
+use crate::form::Place;
+use crate::tally::Tally;
+use line_core::{Ending, SCRIPT_BYTES, ScriptLines};
+use point_core::{LimitKind, Refusal};
+use std::alloc::Global;
+use std::io::{Read, Write};
+
+/// Runs a script as `engine` does, and compares the answer of each line with the lines that the notes after it expect; a
+/// line without such notes may answer anything. Writes each answer that differs in the form of its place, once that is known.
+///
+/// A line is answered when its end is read. Of the lines it keeps the last that has an answer, with its answer, and what the
+/// desk holds, so its memory does not grow with the script.
+///
+/// Fails with Read if a read failed, with Limit if the script has more than `SCRIPT_BYTES` bytes, with Write if a write
+/// failed, and with Memory if a growth was refused. Then the differences that were known so far are written.
+pub fn check<R: Read, W: Write>(
+    alloc: Global,
+    place: &Place<'_>,
+    reader: &mut R,
+    writer: &mut W,
+) -> Result<Tally, Refusal>
+    ensures ok { IfOk result (λ tally. (script : List ℕ) × IsInput (R.remaining reader.old) script
+        × ChecksScript script tally) }
+
+    // The whole script is read, which is no longer than one may be.
+    ensures reads { IfOk result (λ _. (script : List ℕ)
+        × WasRead (R.remaining reader.old) (R.remaining reader.new) script Whole) }
+
+    // If nothing differs, nothing is written.
+    ensures quiet { IfOk result (λ tally. tally.differing ≡ 0
+        → Keeps (W.contents writer.old) (W.contents writer.new)) }
+
+    // Whatever the result, no byte is read past the one after a script's limit, and after a failed read not that one.
+    ensures within { ConsumesAtMost (SCRIPT_BYTES + 1) (R.remaining reader.old) (R.remaining reader.new) }
+    ensures read { result ≡ Err ReadFault
+        → ConsumesAtMost SCRIPT_BYTES (R.remaining reader.old) (R.remaining reader.new) }
+    // A script is too long only if more of it was read than it may have.
+    ensures limit { result ≡ Err (Limit Script) → IsTooLong (R.remaining reader.old) (R.remaining reader.new) }
+    ensures refusals { IfErr result (λ refusal.
+        (refusal ≡ ReadFault) ⊎ (refusal ≡ Limit Script) ⊎ (refusal ≡ WriteFault) ⊎ (refusal ≡ Memory)) }
+{
+    let mut checker = Checker::new(alloc, place)?;
+    check_script(&mut checker, reader, writer)
+}
+
+/// Checks a script from its first line on.
+fn check_script<R: Read, W: Write>(
+    checker: &mut Checker<'_>,
+    reader: &mut R,
+    writer: &mut W,
+) -> Result<Tally, Refusal>
+    requires fresh { IsFresh checker.old }
+    ensures ok { IfOk result (λ tally. (script : List ℕ) × IsInput (R.remaining reader.old) script
+        × ChecksScript script tally) }
+    ensures reads { IfOk result (λ _. (script : List ℕ)
+        × WasRead (R.remaining reader.old) (R.remaining reader.new) script Whole) }
+    ensures quiet { IfOk result (λ tally. tally.differing ≡ 0
+        → Keeps (W.contents writer.old) (W.contents writer.new)) }
+    ensures within { ConsumesAtMost (SCRIPT_BYTES + 1) (R.remaining reader.old) (R.remaining reader.new) }
+    ensures read { result ≡ Err ReadFault
+        → ConsumesAtMost SCRIPT_BYTES (R.remaining reader.old) (R.remaining reader.new) }
+    ensures limit { result ≡ Err (Limit Script) → IsTooLong (R.remaining reader.old) (R.remaining reader.new) }
+    ensures refusals { IfErr result (λ refusal.
+        (refusal ≡ ReadFault) ⊎ (refusal ≡ Limit Script) ⊎ (refusal ≡ WriteFault) ⊎ (refusal ≡ Memory)) }
+{
+    match check_lines(reader, checker, writer)? {
+        Ending::Whole => Ok(checker.tally),
+        Ending::TooLong => Err(Refusal::Limit(LimitKind::Script)),
+        Ending::Failed => Err(Refusal::Read),
+    }
+}
+
+/// Reads the lines of a script, and checks each when its end was read.
+fn check_lines<R: Read, W: Write>(
+    reader: &mut R,
+    checker: &mut Checker<'_>,
+    writer: &mut W,
+) -> Result<Ending, Refusal>
+    requires fresh { IsFresh checker.old }
+    ensures ok { IfOk result (λ ending. HasCheckedBytes (R.remaining reader.old) (R.remaining reader.new) ending
+        checker.new.tally) }
+    ensures quiet { IfOk result (λ ending. ending ≡ Whole → checker.new.tally.differing ≡ 0
+        → Keeps (W.contents writer.old) (W.contents writer.new)) }
+    ensures within { ConsumesAtMost (SCRIPT_BYTES + 1) (R.remaining reader.old) (R.remaining reader.new) }
+    ensures refusals { IfErr result (λ refusal. (refusal ≡ WriteFault) ⊎ (refusal ≡ Memory)) }
+{
+    let mut lines = ScriptLines::new();
+    loop {
+        if lines.advance() {
+            let line = lines.line();
+            checker.take(line.number, line.bytes, writer)?;
+        } else if let Some(ending) = lines.read(reader) {
+            let line = lines.line();
+            checker.end(ending, line.number, line.bytes, writer)?;
+            return Ok(ending);
+        }
+    }
+}

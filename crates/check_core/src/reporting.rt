@@ -1,0 +1,107 @@
+// What a check reports of the answers of a script.
+ghost use Rattle.std.specs.Prelude.{◌≡◌, ◌⊎◌, IfErr};
+ghost use Rattle.point_core.specs.declared.refusal.Refusal.TheVariants.{Write as WriteFault, Memory};
+
+use crate::finding::Difference;
+use crate::form::{Form, Place};
+use crate::parts::{Part, write_parts};
+use line_core::first_line;
+use point_core::Refusal;
+use std::alloc::Global;
+use std::io::Write;
+
+/// Writes the first line of an answer that differs, by one write.
+pub(crate) fn report_difference<'a, W: Write>(
+    alloc: Global,
+    place: &Place<'a>,
+    difference: &Difference<'a>,
+    writer: &mut W,
+) -> Result<(), Refusal>
+    ensures refusals { IfErr result (λ refusal. (refusal ≡ WriteFault) ⊎ (refusal ≡ Memory)) }
+{
+    match place.form {
+        Form::Lines { bold } => report_line(alloc, place.name, bold, difference, writer),
+        Form::Counts => Ok(()),
+        Form::Tap(_) => report_item(alloc, difference, writer),
+    }
+}
+
+/// `FILE:LINE: COMMAND: expected .., came ..`. A difference before the first command is reported at line 1.
+fn report_line<'a, W: Write>(
+    alloc: Global,
+    name: &'a str,
+    bold: bool,
+    difference: &Difference<'a>,
+    writer: &mut W,
+) -> Result<(), Refusal>
+    ensures refusals { IfErr result (λ refusal. (refusal ≡ WriteFault) ⊎ (refusal ≡ Memory)) }
+{
+    let [begin, end] = around(bold);
+    let number = u64::from(difference.number.max(1));
+    let command = match difference.number {
+        0 => Part::Text("before the first command"),
+        _ => Part::Escaped(difference.command),
+    };
+    let expected = quoted_or(difference.expected, "nothing more");
+    let came = quoted_or(first_of(difference.came), "nothing");
+    let parts = [
+        Part::Text(begin),
+        Part::Text(name),
+        Part::Text(":"),
+        Part::Number(number),
+        Part::Text(end),
+        command,
+        Part::Text(": expected "),
+        expected,
+        Part::Text(", came "),
+        came,
+        Part::Text("\n"),
+    ];
+    write_parts(alloc, &parts, writer)
+}
+
+/// What is printed before `FILE:LINE` and after it.
+fn around(bold: bool) -> [&'static str; 2] {
+    if bold {
+        ["\x1b[1m", ":\x1b[0m "]
+    } else {
+        ["", ": "]
+    }
+}
+
+/// An item of the list of differences, in YAML. A difference before the first command is reported at line 0.
+fn report_item<W: Write>(
+    alloc: Global,
+    difference: &Difference<'_>,
+    writer: &mut W,
+) -> Result<(), Refusal>
+    ensures refusals { IfErr result (λ refusal. (refusal ≡ WriteFault) ⊎ (refusal ≡ Memory)) }
+{
+    let parts = [
+        Part::Text("    - line: "),
+        Part::Number(u64::from(difference.number)),
+        Part::Text("\n      command: "),
+        Part::Quoted(difference.command),
+        Part::Text("\n      expected: "),
+        quoted_or(difference.expected, "null"),
+        Part::Text("\n      came: "),
+        quoted_or(first_of(difference.came), "null"),
+        Part::Text("\n"),
+    ];
+    write_parts(alloc, &parts, writer)
+}
+
+fn quoted_or<'a>(line: Option<&'a [u8]>, other: &'static str) -> Part<'a> {
+    match line {
+        Some(line) => Part::Quoted(line),
+        None => Part::Text(other),
+    }
+}
+
+/// The first line of what came.
+fn first_of(came: &[u8]) -> Option<&[u8]> {
+    match first_line(came) {
+        Some((line, _)) => Some(line),
+        None => None,
+    }
+}

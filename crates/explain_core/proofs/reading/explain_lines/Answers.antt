@@ -1,0 +1,116 @@
+-- Each exit follows from the lines that were given, and by how far their answers have come.
+use Rattle.std.proofs.Common.{[], ◌∷◌, ◌++◌, take, length-append, refl, ap, subst, ◌∙◌, arith}
+use Rattle.std.proofs.lemmas.Result.{err_from_is_err_and}
+use Rattle.line_core.specs.declared.script.TheConstants.{SCRIPT_BYTES}
+use Rattle.script_core.specs.Answering.{HasAnswered}
+use Rattle.script_core.specs.Output.{WritesPrefix}
+use Rattle.line_core.specs.Script.{lines_until}
+use Rattle.line_core.proofs.EndedLines.{ended_lines, line-answered, last-answered, ended-within}
+use Rattle.script_core.proofs.Inputs.{given-front, prefix_written}
+use Rattle.explain_core.proofs.reading.explain_lines.Goals as goal
+
+pub explain-requires : goal.explain-requires
+explain-requires g c =
+    let at = c.loop-lines.invariant in
+    let more = c.if-advance.ensures.next (g.R.Read.remaining c.args.reader.now) (g.R.Read.remaining c.loop-lines.reader) at.0 at.1 in
+    record { few = omega (arith, at.3, more.number, c.line-line.ensures.number) }
+
+pub loop-lines-preserved-in-Continue-1 : goal.loop-lines-preserved-in-Continue-1
+loop-lines-preserved-in-Continue-1 g c =
+    let at = c.loop-lines.invariant in
+    let start = g.W.Write.contents c.args.writer.now in
+    let more = c.if-advance.ensures.next (g.R.Read.remaining c.args.reader.now) (g.R.Read.remaining c.loop-lines.reader) at.0 at.1 in
+    let line = c.line-line.result in
+    let e = line-answered at.0 more.line line.bytes.now line.number c.body_of.result (c.line-line.ensures.number ∙ more.number) (c.line-line.ensures.bytes ∙ more.is.held) c.body_of.ensures.body in
+    let answered = c.in_ok-explain.ensures.ok (ended_lines 1 at.0) start at.2 in (
+      at.0 ++ more.line ∷ [],
+      more.more,
+      subst (λ ls. HasAnswered ls c.explain.new.answers start (g.W.Write.contents c.explain.new.writer)) e answered,
+      omega (arith, at.3, c.in_ok-explain.ensures.lines, length-append at.0 (more.line ∷ [])),
+    )
+
+pub returns-in_err-explain-clause-err : goal.returns-in_err-explain-clause-err
+returns-in_err-explain-clause-err g c =
+    let q = err_from_is_err_and c.from_residual.result c.from_residual.ensures.1 in
+    let at = c.loop-lines.invariant in
+    let before = g.R.Read.remaining c.args.reader.now in
+    let now = g.R.Read.remaining c.loop-lines.reader in
+    let start = g.W.Write.contents c.args.writer.now in
+    let end = g.W.Write.contents c.explain.new.writer in
+    let more = c.if-advance.ensures.next before now at.0 at.1 in
+    let line = c.line-line.result in
+    let e = line-answered at.0 more.line line.bytes.now line.number c.body_of.result (c.line-line.ensures.number ∙ more.number) (c.line-line.ensures.bytes ∙ more.is.held) c.body_of.ensures.body in
+    let front = subst (λ ls. WritesPrefix ls start end) e (c.in_err-explain.ensures.err (ended_lines 1 at.0) start at.2) in
+    rw q.1 (given-front before now c.advance.new.self (at.0 ++ more.line ∷ []) start end more.more front)
+
+pub returns-in_err-write-clause-err : goal.returns-in_err-write-clause-err
+returns-in_err-write-clause-err g c =
+    let q = err_from_is_err_and c.from_residual-in_err-write.result c.from_residual-in_err-write.ensures.1 in
+    let at = c.loop-lines.invariant in
+    let before = g.R.Read.remaining c.args.reader.now in
+    let now = g.R.Read.remaining c.loop-lines.reader in
+    let start = g.W.Write.contents c.args.writer.now in
+    let none = c.if-advance.ensures.next before now at.0 at.1 in
+    rw q.1 (given-front before now c.advance.new.self at.0 start (g.W.Write.contents c.write.new.writer) none.0 (c.in_err-write.ensures.err (ended_lines 1 at.0) start at.2))
+
+pub read-requires : goal.read-requires
+read-requires g c =
+    let at = c.loop-lines.invariant in
+    let none = c.if-advance.ensures.next (g.R.Read.remaining c.args.reader.now) (g.R.Read.remaining c.loop-lines.reader) at.0 at.1 in
+    record { drained = none.1 }
+
+pub explain-requires-in-Some : goal.explain-requires-in-Some
+explain-requires-in-Some g c =
+    let at = c.loop-lines.invariant in
+    let before = g.R.Read.remaining c.args.reader.now in
+    let none = c.if-advance.ensures.next before (g.R.Read.remaining c.loop-lines.reader) at.0 at.1 in
+    let ended = c.in-Some.ensures.ended before at.0 none.0 in
+    record { few = omega (arith, at.3, ended.number, c.line-line-in-Some.ensures.number, ap (λ t. t.lines) c.in_ok-write.ensures.lines) }
+
+pub returns-in_err-explain-2-clause-within : goal.returns-in_err-explain-2-clause-within
+returns-in_err-explain-2-clause-within g c =
+    let at = c.loop-lines.invariant in
+    let before = g.R.Read.remaining c.args.reader.now in
+    let none = c.if-advance.ensures.next before (g.R.Read.remaining c.loop-lines.reader) at.0 at.1 in
+    ended-within before (g.R.Read.remaining c.read.new.reader) c.read.new.self c.in-Some.ending at.0 (c.in-Some.ensures.ended before at.0 none.0)
+
+pub returns-in-Some-clause-within : goal.returns-in-Some-clause-within
+returns-in-Some-clause-within g c =
+    let at = c.loop-lines.invariant in
+    let before = g.R.Read.remaining c.args.reader.now in
+    let none = c.if-advance.ensures.next before (g.R.Read.remaining c.loop-lines.reader) at.0 at.1 in
+    ended-within before (g.R.Read.remaining c.read.new.reader) c.read.new.self c.in-Some.ending at.0 (c.in-Some.ensures.ended before at.0 none.0)
+
+pub returns-in_err-explain-2-clause-err : goal.returns-in_err-explain-2-clause-err
+returns-in_err-explain-2-clause-err g c =
+    let q = err_from_is_err_and c.from_residual-in_err-explain-2.result c.from_residual-in_err-explain-2.ensures.1 in
+    let at = c.loop-lines.invariant in
+    let before = g.R.Read.remaining c.args.reader.now in
+    let left = g.R.Read.remaining c.read.new.reader in
+    let start = g.W.Write.contents c.args.writer.now in
+    let end = g.W.Write.contents c.explain-in-Some.new.writer in
+    let none = c.if-advance.ensures.next before (g.R.Read.remaining c.loop-lines.reader) at.0 at.1 in
+    let ended = c.in-Some.ensures.ended before at.0 none.0 in
+    let line = c.line-line-in-Some.result in
+    let e = last-answered before left c.read.new.self c.in-Some.ending at.0 ended line.bytes.now line.number c.last_body.result c.line-line-in-Some.ensures.number c.line-line-in-Some.ensures.bytes c.last_body.ensures.body in
+    let answered = c.in_ok-write.ensures.ok (ended_lines 1 at.0) start at.2 in
+    let front = subst (λ ls. WritesPrefix ls start end) e (c.in_err-explain-2.ensures.err (ended_lines 1 at.0) start answered) in
+    rw q.1 (prefix_written before left ended.bytes ended.bytes c.in-Some.ending (lines_until c.in-Some.ending (take SCRIPT_BYTES ended.bytes)) ended.read refl refl start end front)
+
+pub returns-in-Some-clause-ok : goal.returns-in-Some-clause-ok
+returns-in-Some-clause-ok g c =
+    let at = c.loop-lines.invariant in
+    let before = g.R.Read.remaining c.args.reader.now in
+    let left = g.R.Read.remaining c.read.new.reader in
+    let start = g.W.Write.contents c.args.writer.now in
+    let end = g.W.Write.contents c.explain-in-Some.new.writer in
+    let none = c.if-advance.ensures.next before (g.R.Read.remaining c.loop-lines.reader) at.0 at.1 in
+    let ended = c.in-Some.ensures.ended before at.0 none.0 in
+    let line = c.line-line-in-Some.result in
+    let e = last-answered before left c.read.new.self c.in-Some.ending at.0 ended line.bytes.now line.number c.last_body.result c.line-line-in-Some.ensures.number c.line-line-in-Some.ensures.bytes c.last_body.ensures.body in
+    let answered = c.in_ok-write.ensures.ok (ended_lines 1 at.0) start at.2 in
+    record {
+      bytes = ended.bytes;
+      read = ended.read;
+      answered = subst (λ ls. HasAnswered ls c.explain-in-Some.new.answers start end) e (c.in_ok-explain-2.ensures.ok (ended_lines 1 at.0) start answered);
+    }

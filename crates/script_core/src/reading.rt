@@ -1,0 +1,111 @@
+// A script from a reader, and its answers to a writer.
+ghost use Rattle.std.specs.Prelude.{◌≡◌, ◌+◌, ◌⊎◌, List, ℕ, [], take, Err, IfOk, IfSome, OnErr, IfErr};
+ghost use Rattle.std.specs.Io.KnownBytes.{Consumes};
+ghost use Rattle.point_core.specs.declared.refusal.Refusal.TheVariants.{Read as ReadFault, Write as WriteFault, Memory};
+ghost use Rattle.script_core.specs.Answering.{HasAnswered, HasAnsweredBytes};
+ghost use Rattle.line_core.specs.Reading.{ConsumesAtMost, IsInput};
+ghost use Rattle.script_core.specs.Output.{WritesPrefix, AnswersScript, AnswersEndedLines};
+ghost use Rattle.line_core.specs.Script.{script_of};
+
+use crate::answers::Answers;
+use crate::totals::Totals;
+use line_core::{Ending, SCRIPT_BYTES, ScriptLines, body_of, last_body};
+use point_core::Refusal;
+use std::alloc::Global;
+use std::io::{Read, Write};
+
+/// Reads a script and writes its answers: the text of each line's answer, in order. A line is answered when its end is read,
+/// and its answer is written before the next read. It reads up to the end, or one byte past the limit of a script, and
+/// flushes once, at the end. An interrupted read or write counts as failed.
+///
+/// Its memory does not grow with the script: of the lines it keeps what the desk holds.
+///
+/// Fails with Read if a read failed: then the lines whose line feed was read are answered. Fails with Write if a
+/// write failed or took no byte, or the flush failed, and with Memory if a growth was refused: then a prefix of the answers
+/// is written.
+pub fn engine<R: Read, W: Write>(
+    alloc: Global,
+    reader: &mut R,
+    writer: &mut W,
+) -> Result<Totals, Refusal>
+    ensures ok { IfOk result (λ totals. (script : List ℕ) × IsInput (R.remaining reader.old) script
+        × AnswersScript script totals (W.contents writer.old) (W.contents writer.new)) }
+
+    // What is read is the script, up to the byte after its limit.
+    ensures reads { IfOk result (λ _. IfSome (R.remaining reader.old) (λ input.
+        Consumes (R.remaining reader.old) (R.remaining reader.new) (take (SCRIPT_BYTES + 1) input))) }
+
+    // Whatever the result, no byte is read past that one.
+    ensures within { ConsumesAtMost (SCRIPT_BYTES + 1) (R.remaining reader.old) (R.remaining reader.new) }
+
+    // The lines whose line feed was read are answered.
+    ensures read { result ≡ Err ReadFault
+        → AnswersEndedLines (R.remaining reader.old) (R.remaining reader.new)
+        (W.contents writer.old) (W.contents writer.new) }
+
+    // A prefix of the answers is written.
+    ensures err { OnErr result ((script : List ℕ) × IsInput (R.remaining reader.old) script
+        × WritesPrefix (script_of script) (W.contents writer.old) (W.contents writer.new)) }
+    ensures refusals { IfErr result (λ refusal.
+        (refusal ≡ ReadFault) ⊎ (refusal ≡ WriteFault) ⊎ (refusal ≡ Memory)) }
+{
+    let mut answers = Answers::new(alloc)?;
+    answer_script(reader, &mut answers, writer)
+}
+
+fn answer_script<R: Read, W: Write>(
+    reader: &mut R,
+    answers: &mut Answers,
+    writer: &mut W,
+) -> Result<Totals, Refusal>
+    requires fresh { HasAnswered [] answers.old (W.contents writer.old) (W.contents writer.old) }
+    ensures ok { IfOk result (λ totals. (script : List ℕ) × IsInput (R.remaining reader.old) script
+        × AnswersScript script totals (W.contents writer.old) (W.contents writer.new)) }
+    ensures reads { IfOk result (λ _. IfSome (R.remaining reader.old) (λ input.
+        Consumes (R.remaining reader.old) (R.remaining reader.new) (take (SCRIPT_BYTES + 1) input))) }
+    ensures within { ConsumesAtMost (SCRIPT_BYTES + 1) (R.remaining reader.old) (R.remaining reader.new) }
+    ensures read { result ≡ Err ReadFault
+        → AnswersEndedLines (R.remaining reader.old) (R.remaining reader.new)
+        (W.contents writer.old) (W.contents writer.new) }
+    ensures err { OnErr result ((script : List ℕ) × IsInput (R.remaining reader.old) script
+        × WritesPrefix (script_of script) (W.contents writer.old) (W.contents writer.new)) }
+    ensures refusals { IfErr result (λ refusal.
+        (refusal ≡ ReadFault) ⊎ (refusal ≡ WriteFault) ⊎ (refusal ≡ Memory)) }
+{
+    let ending = answer_lines(reader, answers, writer)?;
+    let totals = answers.finish(writer)?;
+    match ending {
+        Ending::Failed => Err(Refusal::Read),
+        Ending::Whole | Ending::TooLong => Ok(totals),
+    }
+}
+
+/// Reads the lines of a script and answers each when its end was read. Nothing is read while an answer is not written.
+fn answer_lines<R: Read, W: Write>(
+    reader: &mut R,
+    answers: &mut Answers,
+    writer: &mut W,
+) -> Result<Ending, Refusal>
+    requires fresh { HasAnswered [] answers.old (W.contents writer.old) (W.contents writer.old) }
+    ensures ok { IfOk result (λ ending. HasAnsweredBytes (R.remaining reader.old) (R.remaining reader.new) ending
+        answers.new (W.contents writer.old) (W.contents writer.new)) }
+    ensures within { ConsumesAtMost (SCRIPT_BYTES + 1) (R.remaining reader.old) (R.remaining reader.new) }
+    ensures err { OnErr result ((script : List ℕ) × IsInput (R.remaining reader.old) script
+        × WritesPrefix (script_of script) (W.contents writer.old) (W.contents writer.new)) }
+    ensures refusals { IfErr result (λ refusal. (refusal ≡ WriteFault) ⊎ (refusal ≡ Memory)) }
+{
+    let mut lines = ScriptLines::new();
+    loop {
+        if lines.advance() {
+            let line = lines.line();
+            answers.answer(line.number, body_of(line.bytes), writer)?;
+        } else {
+            answers.write(writer)?;
+            if let Some(ending) = lines.read(reader) {
+                let line = lines.line();
+                answers.answer(line.number, last_body(ending, line.bytes), writer)?;
+                return Ok(ending);
+            }
+        }
+    }
+}
