@@ -52,21 +52,6 @@ fn floor_of_two(
     if reach.at_least_floor(&left.floor) && reach.at_least_floor(&right.floor) {
         return Floor::of(alloc, reach);
     }
-    joined_floors(alloc, left, right, reach)
-}
-
-/// The same for floors that are above the reach. It stands alone, so that no other merge pays for its table of all contexts.
-#[inline(never)]
-fn joined_floors(
-    alloc: Global,
-    left: &SyncFile,
-    right: &SyncFile,
-    reach: &Reach,
-) -> Result<Floor, Refusal>
-    ensures floor { IfOk result (λ f. f ≡ floor_of reach.now (left.now ∷ right.now ∷ [])) }
-    ensures floors { (length left.now.floor ≡ length reach.now) × (length right.now.floor ≡ length reach.now) }
-    ensures memory { IfErr result (λ e. e ≡ Memory) }
-{
     let mut floor = *reach;
     floor.join_floor(&left.floor);
     floor.join_floor(&right.floor);
