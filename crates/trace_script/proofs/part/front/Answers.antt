@@ -1,4 +1,4 @@
-use Rattle.std.proofs.Common.{◌≡◌, ◌≤◌, sym, length, length-take, arith}
+use Rattle.std.proofs.Common.{◌≤◌, sym, length, length-take, arith}
 use Rattle.std.proofs.lemmas.Bool.Decides.{nat_tests}
 use Rattle.std.proofs.lemmas.List.{take_all}
 use Rattle.trace_script.proofs.part.front.Goals as goal
