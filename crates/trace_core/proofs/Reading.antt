@@ -60,7 +60,7 @@ module _ (p : ℕ → Bool) where
       ap (λ n. list_all p (take n (x ∷ xs))) next ∙ and_from (p x) (list_all p (take (prefix_len p xs) xs)) e more
   run-all_step x xs false e more = refl
 
-  run-all : (xs : List ℕ) → list_all p (take (prefix_len p xs) xs) ≡ true
+  pub run-all : (xs : List ℕ) → list_all p (take (prefix_len p xs) xs) ≡ true
   run-all [] = refl
   run-all (x ∷ xs) = run-all_step x xs (p x) refl (run-all xs)
 

@@ -42,7 +42,11 @@ event_named name =
     (λ event. option_map (λ rest. (event, rest)) (after_colon (drop (prefix_len (is_of Word) name) name)))
     (kind_of (take (prefix_len (is_of Word) name) name))
 
+-- what follows the name of the events' system, once or twice, and `_`
+abbrev pub event_name : List ℕ → Option (List ℕ)
+event_name text =
+    option_and_then (λ rest. after (without_system rest) (codes "_")) (after text (codes "dma_fence"))
+
 -- the event that an event's text begins with, and what follows its name
 unfoldable pub event_at : List ℕ → Option (Event × List ℕ)
-event_at text =
-    option_and_then event_named (option_and_then (λ rest. after (without_system rest) (codes "_")) (after (without_blanks text) (codes "dma_fence")))
+event_at text = option_and_then event_named (event_name (without_blanks text))

@@ -75,10 +75,13 @@ abbrev pub joined_or_unread : Option (Printed × List ℕ) → List ℕ → Told
 joined_or_unread None rest = (Unread, rest)
 joined_or_unread (Some joined) rest = (Event joined.0, joined.1)
 
+-- the line with the next few where they are a record together, or the line alone
+abbrev pub joined_or_alone : List ℕ → List ℕ → Told × List ℕ
+joined_or_alone line rest = joined_or_unread (joined_from (RECORD_LINES - 1) line rest) rest
+
 -- an unread line that begins as a record may go on in the next lines
 abbrev pub with_lines : Told → List ℕ → List ℕ → Told × List ℕ
-with_lines Unread line rest =
-    if begins_record line then joined_or_unread (joined_from (RECORD_LINES - 1) line rest) rest else (Unread, rest)
+with_lines Unread line rest = if begins_record line then joined_or_alone line rest else (Unread, rest)
 with_lines (Event r) line rest = (Event r, rest)
 with_lines Other line rest = (Other, rest)
 with_lines (Lost cpu events) line rest = (Lost cpu events, rest)

@@ -29,9 +29,14 @@ pub record AreBlanks (bytes : List ℕ) : Type 0 where
 abbrev pub IsDash : List ℕ → Type 0
 IsDash bytes = (bytes ≡ codes "-") ⊎ AreBlanks bytes
 
--- nothing, or the thread's group in parentheses and a blank
+-- blanks, dashes and digits in parentheses, and a blank
+abbrev pub IsSomeGroup : List ℕ → Type 0
+IsSomeGroup bytes =
+    (inner : List ℕ) × (bytes ≡ codes "(" ++ (inner ++ codes ") ")) × (list_all (is_of Group) inner ≡ true)
+
+-- nothing, or the thread's group
 abbrev pub IsGroup : List ℕ → Type 0
-IsGroup bytes = (bytes ≡ []) ⊎ ((inner : List ℕ) × (bytes ≡ codes "(" ++ (inner ++ codes ") ")) × (list_all (is_of Group) inner ≡ true))
+IsGroup bytes = (bytes ≡ []) ⊎ IsSomeGroup bytes
 
 -- 4 to 6 flags and blanks
 pub record AreSomeFlags (bytes : List ℕ) : Type 0 where
@@ -55,6 +60,14 @@ pub record IsTime (seconds decimals : List ℕ) (time : ℕ) : Type 0 where
   pub value : time ≡ whole * SECOND + digits_value 10 (take DECIMALS decimals)
   pub fits : time < 2 ^ 64
 
+-- the processor in brackets, and what follows it
+abbrev pub bracketed : List ℕ → List ℕ → List ℕ
+bracketed cpu rest = codes "[" ++ (cpu ++ (codes "]" ++ rest))
+
+-- the time, and the text of the event
+abbrev pub timed : List ℕ → List ℕ → List ℕ → List ℕ
+timed seconds decimals text = seconds ++ (codes "." ++ (decimals ++ (codes ": " ++ text)))
+
 -- the header of a record and the text of its event
 pub record IsHead (piece : List ℕ) (head : Head) : Type 0 where
   pub name : List ℕ
@@ -67,7 +80,8 @@ pub record IsHead (piece : List ℕ) (head : Head) : Type 0 where
   pub flags : List ℕ
   pub seconds : List ℕ
   pub decimals : List ℕ
-  pub is : piece ≡ name ++ (dash ++ (pid ++ (blanks ++ (group ++ (codes "[" ++ (cpu ++ (codes "]" ++ (gap ++ (flags ++ (seconds ++ (codes "." ++ (decimals ++ (codes ": " ++ head.text)))))))))))))
+  pub is : piece
+      ≡ name ++ (dash ++ (pid ++ (blanks ++ (group ++ bracketed cpu (gap ++ (flags ++ timed seconds decimals head.text))))))
   pub padded : length name ≡ TASK_BYTES
   pub task : head.task ≡ trimmed name
   pub dashed : IsDash dash
@@ -91,13 +105,22 @@ pub record IsEvent (text : List ℕ) (event : Event) (fields : List ℕ) : Type 
   pub known : kind_of kind ≡ Some event
   pub apart : AreBlanks gap
 
--- The fields. The driver's name is the shortest that fits: it goes up to the first ` timeline=`. No digit is a blank, so the
--- timeline's name goes up to the last ` context=`.
+-- the names of the driver and the timeline
+abbrev pub named : List ℕ → List ℕ → List ℕ
+named driver timeline = driver ++ (codes " timeline=" ++ timeline)
+
+-- the numbers of the context and the fence
+abbrev pub numbered : List ℕ → List ℕ → List ℕ
+numbered context seqno = codes " context=" ++ (context ++ (codes " seqno=" ++ seqno))
+
+-- The fields. The driver's name is the shortest that fits: it goes up to the first ` timeline=`. No digit is a blank, so
+-- the timeline's name goes up to the last ` context=`.
 pub record IsFields (text : List ℕ) (body : Body) : Type 0 where
   pub context : List ℕ
   pub seqno : List ℕ
-  pub is : text ≡ codes "driver=" ++ (body.driver ++ (codes " timeline=" ++ (body.timeline ++ (codes " context=" ++ (context ++ (codes " seqno=" ++ seqno))))))
-  pub shortest : (driver timeline : List ℕ) → body.driver ++ (codes " timeline=" ++ body.timeline) ≡ driver ++ (codes " timeline=" ++ timeline) → length body.driver ≤ length driver
+  pub is : text ≡ codes "driver=" ++ named body.driver (body.timeline ++ numbered context seqno)
+  pub shortest : (driver timeline : List ℕ) →
+      named body.driver body.timeline ≡ named driver timeline → length body.driver ≤ length driver
   pub of_context : Spells (2 ^ 32) context body.context
   pub of_seqno : Spells (2 ^ 32) seqno body.seqno
 

@@ -1,7 +1,9 @@
 // The report as one JSON document.
 use crate::found::{Found, Pending};
 use crate::page::{Page, Part};
-use crate::table::{Timelines, latest, names_of};
+use crate::report::Form;
+use crate::table::names_of;
+use crate::walk::{Content, add_longest, add_waiters, write_open, write_pending, write_timelines};
 use point_core::Refusal;
 use std::io::Write;
 use track_core::{Context, ContextKey, FenceKey, Tally, TimelineKey, Tracker, Wait, WaitSum};
@@ -9,21 +11,23 @@ use track_core::{Context, ContextKey, FenceKey, Tally, TimelineKey, Tracker, Wai
 /// Writes the document.
 pub(crate) fn write_json<W: Write>(
     page: &mut Page,
-    tracker: &Tracker,
-    found: &Found,
-    timelines: &Timelines,
+    content: Content<'_>,
     writer: &mut W,
 ) -> Result<(), Refusal> {
+    let tracker = content.tracker;
+    let found = content.found;
     add_summary(page, tracker);
     add_events(page, tracker);
     write_waits(page, tracker, writer)?;
     add_totals(page, &tracker.ledger.total(), found);
-    write_timelines(page, tracker, timelines, writer)?;
+    page.add(&[Part::Text(" \"per_timeline_name\": {")]);
+    write_timelines(page, Form::Json, content, writer)?;
+    page.add(&[Part::Text("},\n")]);
     write_contexts(page, tracker, writer)?;
     page.add(&[Part::Text(" \"hangs\": [")]);
-    write_pending(page, tracker, found.hangs.as_slice(), writer)?;
+    write_pending(page, Form::Json, tracker, found.hangs.as_slice(), writer)?;
     page.add(&[Part::Text("],\n \"not_known\": [")]);
-    write_pending(page, tracker, found.unknown.as_slice(), writer)?;
+    write_pending(page, Form::Json, tracker, found.unknown.as_slice(), writer)?;
     page.add(&[Part::Text("]\n}\n")]);
     Ok(())
 }
@@ -99,31 +103,16 @@ fn write_waits<W: Write>(
         ("ends_without_start", waits.without_start()),
     ]);
     page.add(&[Part::Text("\n  \"longest\": [")]);
-    add_longest(page, tracker);
+    add_longest(page, Form::Json, tracker);
     page.add(&[Part::Text("],\n  \"unfinished\": [")]);
-    write_open(page, tracker, writer)?;
+    write_open(page, Form::Json, tracker, writer)?;
     page.add(&[Part::Text("],\n  \"by_timeline_count_total_longest_us\": {")]);
     write_sums(page, tracker, writer)?;
     page.add(&[Part::Text("}\n },\n")]);
     Ok(())
 }
 
-fn add_longest(page: &mut Page, tracker: &Tracker) {
-    for (index, wait) in tracker.waits.longest().iter().enumerate() {
-        add_wait(page, tracker, index, wait, wait.length);
-    }
-}
-
-fn write_open<W: Write>(page: &mut Page, tracker: &Tracker, writer: &mut W) -> Result<(), Refusal> {
-    for (index, (_, wait)) in tracker.waits.open().iter().enumerate() {
-        let length = latest(tracker).saturating_sub(wait.start);
-        add_wait(page, tracker, index, wait, length);
-        page.write_block(writer)?;
-    }
-    Ok(())
-}
-
-fn add_wait(page: &mut Page, tracker: &Tracker, index: usize, wait: &Wait, length: u64) {
+pub(crate) fn add_wait(page: &mut Page, tracker: &Tracker, index: usize, wait: &Wait, length: u64) {
     page.add(&[Part::Text(separator(index)), Part::Text("{")]);
     add_fence(page, tracker, &wait.key);
     page.members(&[
@@ -233,24 +222,20 @@ fn add_faults(page: &mut Page, tally: &Tally) {
     page.add(&[Part::Text("\"overtaken\": "), Part::Number(tally.overtaken)]);
 }
 
-fn write_timelines<W: Write>(
+pub(crate) fn add_timeline(
     page: &mut Page,
     tracker: &Tracker,
-    timelines: &Timelines,
-    writer: &mut W,
-) -> Result<(), Refusal> {
-    page.add(&[Part::Text(" \"per_timeline_name\": {")]);
-    for (index, (key, tally)) in tracker.ledger.timelines().by_key().iter().enumerate() {
-        add_timeline_name(page, tracker, index, key);
-        page.add(&[Part::Text("{")]);
-        add_counts(page, tally, timelines.pending(key));
-        add_delay(page, tracker, key);
-        add_faults(page, tally);
-        page.add(&[Part::Text("}")]);
-        page.write_block(writer)?;
-    }
-    page.add(&[Part::Text("},\n")]);
-    Ok(())
+    index: usize,
+    key: &TimelineKey,
+    tally: &Tally,
+    pending: u64,
+) {
+    add_timeline_name(page, tracker, index, key);
+    page.add(&[Part::Text("{")]);
+    add_counts(page, tally, pending);
+    add_delay(page, tracker, key);
+    add_faults(page, tally);
+    page.add(&[Part::Text("}")]);
 }
 
 fn add_counts(page: &mut Page, tally: &Tally, pending: u64) {
@@ -303,33 +288,18 @@ fn add_context(page: &mut Page, tracker: &Tracker, key: &ContextKey, context: &C
     add_faults(page, &context.tally);
 }
 
-fn write_pending<W: Write>(
-    page: &mut Page,
-    tracker: &Tracker,
-    pending: &[Pending],
-    writer: &mut W,
-) -> Result<(), Refusal> {
-    for (index, fence) in pending.iter().enumerate() {
-        let key = fence.key();
-        page.add(&[Part::Text(separator(index)), Part::Text("{")]);
-        add_fence(page, tracker, &key);
-        page.members(&[("since_us", fence.since)]);
-        page.add(&[Part::Text("\"waiters\": [")]);
-        add_waiters(page, tracker, &key);
-        page.add(&[Part::Text("]}")]);
-        page.write_block(writer)?;
-    }
-    Ok(())
+pub(crate) fn add_pending(page: &mut Page, tracker: &Tracker, index: usize, fence: &Pending) {
+    let key = fence.key();
+    page.add(&[Part::Text(separator(index)), Part::Text("{")]);
+    add_fence(page, tracker, &key);
+    page.members(&[("since_us", fence.since)]);
+    page.add(&[Part::Text("\"waiters\": [")]);
+    add_waiters(page, Form::Json, tracker, &key);
+    page.add(&[Part::Text("]}")]);
 }
 
-fn add_waiters(page: &mut Page, tracker: &Tracker, key: &FenceKey) {
-    let mut count: usize = 0;
-    for (_, wait) in tracker.waits.open().iter() {
-        if wait.key == *key {
-            page.add(&[Part::Text(separator(count)), Part::Text("{")]);
-            page.members(&[("pid", u64::from(wait.pid)), ("start_us", wait.start)]);
-            add_task(page, wait);
-            count = count.saturating_add(1);
-        }
-    }
+pub(crate) fn add_waiter(page: &mut Page, index: usize, wait: &Wait) {
+    page.add(&[Part::Text(separator(index)), Part::Text("{")]);
+    page.members(&[("pid", u64::from(wait.pid)), ("start_us", wait.start)]);
+    add_task(page, wait);
 }

@@ -8,5 +8,6 @@ mod reading;
 mod report;
 mod table;
 mod text;
+mod walk;
 
 pub use report::{Form, Outcome, report_trace};

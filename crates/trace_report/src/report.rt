@@ -5,6 +5,7 @@ use crate::page::Page;
 use crate::reading::read_trace;
 use crate::table::Timelines;
 use crate::text::write_text;
+use crate::walk::Content;
 use point_core::Refusal;
 use std::alloc::Global;
 use std::io::{Read, Write};
@@ -66,32 +67,33 @@ fn write_found<W: Write>(
     writer: &mut W,
 ) -> Result<(), Refusal> {
     let timelines = Timelines::new(alloc, found)?;
-    write_page(alloc, form, tracker, found, &timelines, writer)
+    let content = Content {
+        tracker,
+        found,
+        timelines: &timelines,
+    };
+    write_page(alloc, form, content, writer)
 }
 
 fn write_page<W: Write>(
     alloc: Global,
     form: Form,
-    tracker: &Tracker,
-    found: &Found,
-    timelines: &Timelines,
+    content: Content<'_>,
     writer: &mut W,
 ) -> Result<(), Refusal> {
     let mut page = Page::new(alloc);
-    write_form(&mut page, form, tracker, found, timelines, writer)
+    write_form(&mut page, form, content, writer)
 }
 
 fn write_form<W: Write>(
     page: &mut Page,
     form: Form,
-    tracker: &Tracker,
-    found: &Found,
-    timelines: &Timelines,
+    content: Content<'_>,
     writer: &mut W,
 ) -> Result<(), Refusal> {
     match form {
-        Form::Text => write_text(page, tracker, found, timelines, writer)?,
-        Form::Json => write_json(page, tracker, found, timelines, writer)?,
+        Form::Text => write_text(page, content, writer)?,
+        Form::Json => write_json(page, content, writer)?,
     }
     page.write(writer)
 }

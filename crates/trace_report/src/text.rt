@@ -1,7 +1,9 @@
 // The report as text.
 use crate::found::{Found, Pending};
 use crate::page::{Page, Part};
-use crate::table::{Timelines, latest, names_of};
+use crate::report::Form;
+use crate::table::{latest, names_of};
+use crate::walk::{Content, add_longest, add_waiters, write_open, write_pending, write_timelines};
 use point_core::Refusal;
 use std::io::Write;
 use track_core::{FenceKey, Summary, Tally, TimelineKey, Tracker, Wait};
@@ -9,21 +11,24 @@ use track_core::{FenceKey, Summary, Tally, TimelineKey, Tracker, Wait};
 /// Writes what was read, what hangs, who waits, which rules were broken, and what each timeline did.
 pub(crate) fn write_text<W: Write>(
     page: &mut Page,
-    tracker: &Tracker,
-    found: &Found,
-    timelines: &Timelines,
+    content: Content<'_>,
     writer: &mut W,
 ) -> Result<(), Refusal> {
+    let tracker = content.tracker;
+    let found = content.found;
     add_read(page, tracker);
     add_losses(page, &tracker.summary);
     add_hangs(page, found);
-    write_pending(page, tracker, found.hangs.as_slice(), writer)?;
+    write_pending(page, Form::Text, tracker, found.hangs.as_slice(), writer)?;
     add_first(page, tracker, found.hangs.as_slice());
     add_unknown(page, found);
-    write_pending(page, tracker, found.unknown.as_slice(), writer)?;
+    write_pending(page, Form::Text, tracker, found.unknown.as_slice(), writer)?;
     write_waits(page, tracker, writer)?;
     add_broken(page, &tracker.ledger.total());
-    write_timelines(page, tracker, timelines, writer)
+    page.add(&[Part::Text(
+        "\ntimelines, with the seconds from making or emitting to signalling:\n",
+    )]);
+    write_timelines(page, Form::Text, content, writer)
 }
 
 fn add_read(page: &mut Page, tracker: &Tracker) {
@@ -147,44 +152,31 @@ fn add_unknown(page: &mut Page, found: &Found) {
     }
 }
 
-/// The fences, a line each, and a line for each task that waits for it.
-fn write_pending<W: Write>(
-    page: &mut Page,
-    tracker: &Tracker,
-    pending: &[Pending],
-    writer: &mut W,
-) -> Result<(), Refusal> {
-    for fence in pending {
-        let key = fence.key();
-        page.add(&[Part::Text("  ")]);
-        add_fence(page, tracker, &key);
-        page.add(&[
-            Part::Text(" since "),
-            Part::Seconds(fence.since),
-            Part::Text(" for "),
-            Part::Seconds(latest(tracker).saturating_sub(fence.since)),
-            Part::Text(" s\n"),
-        ]);
-        add_waiters(page, tracker, &key);
-        page.write_block(writer)?;
-    }
-    Ok(())
+/// A fence, and a line for each task that waits for it.
+pub(crate) fn add_pending(page: &mut Page, tracker: &Tracker, fence: &Pending) {
+    let key = fence.key();
+    page.add(&[Part::Text("  ")]);
+    add_fence(page, tracker, &key);
+    page.add(&[
+        Part::Text(" since "),
+        Part::Seconds(fence.since),
+        Part::Text(" for "),
+        Part::Seconds(latest(tracker).saturating_sub(fence.since)),
+        Part::Text(" s\n"),
+    ]);
+    add_waiters(page, Form::Text, tracker, &key);
 }
 
-fn add_waiters(page: &mut Page, tracker: &Tracker, key: &FenceKey) {
-    for (_, wait) in tracker.waits.open().iter() {
-        if wait.key == *key {
-            page.add(&[
-                Part::Text("    "),
-                Part::Name(wait.task.as_bytes()),
-                Part::Text("-"),
-                Part::Number(u64::from(wait.pid)),
-                Part::Text(" waits for it since "),
-                Part::Seconds(wait.start),
-                Part::Text("\n"),
-            ]);
-        }
-    }
+pub(crate) fn add_waiter(page: &mut Page, wait: &Wait) {
+    page.add(&[
+        Part::Text("    "),
+        Part::Name(wait.task.as_bytes()),
+        Part::Text("-"),
+        Part::Number(u64::from(wait.pid)),
+        Part::Text(" waits for it since "),
+        Part::Seconds(wait.start),
+        Part::Text("\n"),
+    ]);
 }
 
 /// `DRIVER/TIMELINE context N seqno N`.
@@ -206,26 +198,18 @@ fn write_waits<W: Write>(
     tracker: &Tracker,
     writer: &mut W,
 ) -> Result<(), Refusal> {
-    let open = tracker.waits.open();
     page.add(&[
         Part::Text("\nwho waits: "),
-        Part::Number(open.len() as u64),
+        Part::Number(tracker.waits.open().len() as u64),
         Part::Text(" not ended\n"),
     ]);
-    for (_, wait) in open.iter() {
-        add_wait(
-            page,
-            tracker,
-            wait,
-            latest(tracker).saturating_sub(wait.start),
-        );
-        page.write_block(writer)?;
-    }
-    add_longest(page, tracker);
+    write_open(page, Form::Text, tracker, writer)?;
+    add_ended(page, tracker);
+    add_longest(page, Form::Text, tracker);
     Ok(())
 }
 
-fn add_longest(page: &mut Page, tracker: &Tracker) {
+fn add_ended(page: &mut Page, tracker: &Tracker) {
     let ended = tracker.waits.ended();
     page.add(&[
         Part::Text("  "),
@@ -236,12 +220,9 @@ fn add_longest(page: &mut Page, tracker: &Tracker) {
         Part::Number(tracker.waits.unsignalled()),
         Part::Text(" of them before a signal; the longest:\n"),
     ]);
-    for wait in tracker.waits.longest() {
-        add_wait(page, tracker, wait, wait.length);
-    }
 }
 
-fn add_wait(page: &mut Page, tracker: &Tracker, wait: &Wait, length: u64) {
+pub(crate) fn add_wait(page: &mut Page, tracker: &Tracker, wait: &Wait, length: u64) {
     page.add(&[
         Part::Text("  "),
         Part::Seconds(length),
@@ -285,28 +266,12 @@ fn add_broken(page: &mut Page, total: &Tally) {
     );
 }
 
-fn write_timelines<W: Write>(
-    page: &mut Page,
-    tracker: &Tracker,
-    timelines: &Timelines,
-    writer: &mut W,
-) -> Result<(), Refusal> {
-    page.add(&[Part::Text(
-        "\ntimelines, with the seconds from making or emitting to signalling:\n",
-    )]);
-    for (key, tally) in tracker.ledger.timelines().by_key().iter() {
-        add_timeline(page, tracker, key, tally, timelines);
-        page.write_block(writer)?;
-    }
-    Ok(())
-}
-
-fn add_timeline(
+pub(crate) fn add_timeline(
     page: &mut Page,
     tracker: &Tracker,
     key: &TimelineKey,
     tally: &Tally,
-    timelines: &Timelines,
+    pending: u64,
 ) {
     let (driver, timeline) = names_of(tracker, key);
     let delay = tracker.delays.delay(key);
@@ -322,7 +287,7 @@ fn add_timeline(
         Part::Text(" made, "),
         Part::Number(tally.events.signaled),
         Part::Text(" signalled, "),
-        Part::Number(timelines.pending(key)),
+        Part::Number(pending),
         Part::Text(" pending; median "),
     ]);
     page.add(&[

@@ -1,0 +1,4 @@
+pub mod Part
+pub mod Line
+pub mod Window
+pub mod Scripted

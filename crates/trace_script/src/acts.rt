@@ -37,6 +37,23 @@ pub(crate) enum Act {
     },
 }
 
+impl Act {
+    /// The place of its fence.
+    pub(crate) fn fence(&self) -> usize {
+        match self {
+            Act::Make(place) => *place,
+            Act::Signal(place) => *place,
+            Act::Close(place) => *place,
+            Act::Wait {
+                fence,
+                task: _,
+                pid: _,
+                time: _,
+            } => *fence,
+        }
+    }
+}
+
 /// A fence that is pending where the window begins. The first in order was made first.
 #[derive(Clone, Copy, Debug, PartialEq, Eq, PartialOrd, Ord)]
 struct Earlier {

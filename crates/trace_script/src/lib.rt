@@ -4,6 +4,8 @@
 #![tactic(auto)]
 
 mod acts;
+mod line;
+mod part;
 mod safe_names;
 mod text;
 mod window;

@@ -1,20 +1,20 @@
 // A script of a trace.
+ghost use Rattle.std.specs.Prelude.{◌≡◌, ◌≤◌, false, length, IfOk, OnOk};
+ghost use Rattle.line_core.specs.declared.script.TheConstants.{SCRIPT_BYTES};
+ghost use Rattle.trace_script.specs.Line.{AreLines};
+ghost use Rattle.trace_script.specs.Scripted.{IsScripted};
+
 use crate::acts::{Act, Acts, Fence, is_unnumbered};
+use crate::line::{Line, push_line};
+use crate::part::File;
 use crate::window::{Span, Stage};
-use itoa::Buffer;
 use line_core::SCRIPT_BYTES;
 use point_core::{CONTEXTS, Refusal};
-use std::alloc::Global;
+use std::alloc::{AllocError, Global};
 use std::io::Read;
 use syncfile_core::FILES;
 use trace_core::{Event, Item, Piece, Pieces, Progress, Record};
 use track_core::{TaskName, Tracker};
-
-/// Microseconds of a second.
-const SECOND: u64 = 1_000_000;
-
-/// The bytes of a name that a note has, so that its line is short enough.
-const NOTED_BYTES: usize = 64;
 
 /// What a trace gave.
 #[derive(Drop)]
@@ -39,15 +39,40 @@ pub fn script_of_trace<R: Read>(
     alloc: Global,
     span: Span,
     reader: &mut R,
-) -> Result<Scripted, Refusal> {
+) -> Result<Scripted, Refusal>
+    ensures scripted { IfOk result IsScripted }
+{
     let mut tracker = Tracker::new(alloc);
+    script_by(alloc, span, &mut tracker, reader)
+}
+
+fn script_by<R: Read>(
+    alloc: Global,
+    span: Span,
+    tracker: &mut Tracker,
+    reader: &mut R,
+) -> Result<Scripted, Refusal>
+    ensures scripted { IfOk result IsScripted }
+{
     let mut acts = Acts::new(alloc);
-    read_window(alloc, span, &mut tracker, &mut acts, reader)?;
+    script_of(alloc, span, tracker, &mut acts, reader)
+}
+
+fn script_of<R: Read>(
+    alloc: Global,
+    span: Span,
+    tracker: &mut Tracker,
+    acts: &mut Acts,
+    reader: &mut R,
+) -> Result<Scripted, Refusal>
+    ensures scripted { IfOk result IsScripted }
+{
+    read_window(alloc, span, tracker, acts, reader)?;
     if tracker.ledger.events() == 0 {
         return Ok(Scripted::NoEvents);
     }
     acts.number_the_rest();
-    written(alloc, &tracker, &acts)
+    written(alloc, tracker, acts)
 }
 
 /// Reads up to the end of the window.
@@ -133,174 +158,133 @@ struct Text {
     timelines: usize,
     // how many of its files are open
     files: usize,
-    // whether it has more than a script may have
-    too_long: bool,
+    // whether it had more files at a time, or acts, than a script may have
+    is_crowded: bool,
 }
 
-fn written(alloc: Global, tracker: &Tracker, acts: &Acts) -> Result<Scripted, Refusal> {
+fn written(alloc: Global, tracker: &Tracker, acts: &Acts) -> Result<Scripted, Refusal>
+    ensures scripted { IfOk result IsScripted }
+{
     let mut text = Text {
         bytes: Vec::new(alloc),
         timelines: 0,
         files: 0,
-        too_long: acts.are_too_many(),
+        is_crowded: acts.are_too_many(),
     };
-    for act in acts.acts.as_slice() {
-        if !text.too_long {
-            text.act(tracker, acts, act)?;
-        }
-    }
-    if text.too_long {
+    text.acts(tracker, acts)?;
+    if text.is_too_long() {
         return Ok(Scripted::TooLong);
     }
     Ok(Scripted::Script(text.bytes))
 }
 
 impl Text {
-    fn act(&mut self, tracker: &Tracker, acts: &Acts, act: &Act) -> Result<(), Refusal> {
-        let place = match act {
-            Act::Make(place) => *place,
-            Act::Signal(place) => *place,
-            Act::Close(place) => *place,
-            Act::Wait {
-                fence,
-                task: _,
-                pid: _,
-                time: _,
-            } => *fence,
-        };
-        let Some(fence) = acts.fences.get(place) else {
+    /// Whether it has more than a script may have.
+    fn is_too_long(&self) -> bool
+        ensures fits { result ≡ false → length self.now.bytes.items ≤ SCRIPT_BYTES }
+    {
+        self.is_crowded || self.timelines > CONTEXTS || self.bytes.len() > SCRIPT_BYTES
+    }
+
+    /// Adds what happened, up to where it is too long.
+    fn acts(&mut self, tracker: &Tracker, acts: &Acts) -> Result<(), AllocError>
+        ensures lines { OnOk result (AreLines self.old.bytes.items → AreLines self.new.bytes.items) }
+    {
+        for act in acts.acts.as_slice() {
+            if !self.is_too_long() {
+                self.act(tracker, acts, act)?;
+            }
+        }
+        Ok(())
+    }
+
+    fn act(&mut self, tracker: &Tracker, acts: &Acts, act: &Act) -> Result<(), AllocError>
+        ensures lines { OnOk result (AreLines self.old.bytes.items → AreLines self.new.bytes.items) }
+    {
+        let Some(fence) = acts.fences.get(act.fence()) else {
             return Ok(());
         };
         if is_unnumbered(&tracker.ledger, &fence.key) {
             return Ok(());
         }
-        self.line(tracker, acts, act, fence)?;
-        self.too_long = self.too_long
-            || self.timelines > CONTEXTS
-            || self.files > FILES
-            || self.bytes.len() > SCRIPT_BYTES;
-        Ok(())
+        self.act_of(tracker, acts, act, fence)
     }
 
-    fn line(
+    fn act_of(
         &mut self,
         tracker: &Tracker,
         acts: &Acts,
         act: &Act,
         fence: &Fence,
-    ) -> Result<(), Refusal> {
+    ) -> Result<(), AllocError>
+        ensures lines { OnOk result (AreLines self.old.bytes.items → AreLines self.new.bytes.items) }
+    {
+        let file = file_of(acts, fence);
         match act {
-            Act::Make(_) => self.make(tracker, acts, fence),
-            Act::Signal(_) => {
-                self.put(b"inc ")?;
-                self.put(acts.names.name(fence.timeline))?;
-                self.put(b" 1\n")
-            }
+            Act::Make(_) => self.make(tracker, acts, fence, file),
+            Act::Signal(_) => self.add(&Line::Signal(file.timeline)),
             Act::Close(_) => {
                 self.files = self.files.saturating_sub(1);
-                self.put(b"close ")?;
-                self.file(acts, fence)?;
-                self.put(b"\n")
+                self.add(&Line::Close(file))
             }
             Act::Wait {
                 fence: _,
                 task,
                 pid,
                 time,
-            } => {
-                self.waiter(task, *pid, *time)?;
-                self.file(acts, fence)?;
-                self.put(b"\n")
-            }
+            } => self.add(&Line::Wait {
+                file,
+                task: task.as_bytes(),
+                pid: *pid,
+                time: *time,
+            }),
         }
     }
 
     /// Makes the fence, and its timeline before it where there is none yet.
-    fn make(&mut self, tracker: &Tracker, acts: &Acts, fence: &Fence) -> Result<(), Refusal> {
-        for place in self.timelines..fence.timeline.saturating_add(1) {
+    fn make(
+        &mut self,
+        tracker: &Tracker,
+        acts: &Acts,
+        fence: &Fence,
+        file: File<'_>,
+    ) -> Result<(), AllocError>
+        ensures lines { OnOk result (AreLines self.old.bytes.items → AreLines self.new.bytes.items) }
+    {
+        let timelines = fence.timeline.saturating_add(1);
+        for place in self.timelines..timelines {
             self.timeline(tracker, acts, place)?;
         }
+        self.timelines = self.timelines.max(timelines);
         self.files = self.files.saturating_add(1);
-        self.put(b"fence ")?;
-        self.file(acts, fence)?;
-        self.put(b" ")?;
-        self.put(acts.names.name(fence.timeline))?;
-        self.put(b" ")?;
-        self.number(fence.point)?;
-        self.put(b"\n")
+        self.is_crowded = self.is_crowded || self.files > FILES;
+        self.add(&Line::Fence(file, fence.point))
     }
 
-    fn timeline(&mut self, tracker: &Tracker, acts: &Acts, place: usize) -> Result<(), Refusal> {
-        self.timelines = self.timelines.saturating_add(1);
-        if let Some(key) = acts.names.key(place) {
-            self.put(b"# ")?;
-            self.name(tracker.drivers.name(key.driver).unwrap_or(b""))?;
-            self.put(b"/")?;
-            self.name(tracker.timelines.name(key.timeline).unwrap_or(b""))?;
-        }
-        self.put(b"\ntimeline ")?;
-        self.put(acts.names.name(place))?;
-        self.put(b"\n")
+    fn timeline(&mut self, tracker: &Tracker, acts: &Acts, place: usize) -> Result<(), AllocError>
+        ensures lines { OnOk result (AreLines self.old.bytes.items → AreLines self.new.bytes.items) }
+    {
+        let Some(key) = acts.names.key(place) else {
+            return Ok(());
+        };
+        self.add(&Line::Timeline {
+            driver: tracker.drivers.name(key.driver).unwrap_or(b""),
+            raw: tracker.timelines.name(key.timeline).unwrap_or(b""),
+            name: acts.names.name(place),
+        })
     }
 
-    /// The name of a fence's file: its timeline's, its context and its seqno.
-    fn file(&mut self, acts: &Acts, fence: &Fence) -> Result<(), Refusal> {
-        self.put(acts.names.name(fence.timeline))?;
-        self.put(b".")?;
-        self.number(u64::from(fence.key.context))?;
-        self.put(b".")?;
-        self.number(u64::from(fence.key.seqno))
+    fn add(&mut self, line: &Line<'_>) -> Result<(), AllocError>
+        ensures lines { OnOk result (AreLines self.old.bytes.items → AreLines self.new.bytes.items) }
+    {
+        push_line(&mut self.bytes, line)
     }
+}
 
-    /// The front of a note on a task that waits.
-    fn waiter(&mut self, task: &TaskName, pid: u32, time: u64) -> Result<(), Refusal> {
-        self.put(b"# ")?;
-        self.seconds(time)?;
-        self.put(b" ")?;
-        self.name(task.as_bytes())?;
-        self.put(b"-")?;
-        self.number(u64::from(pid))?;
-        self.put(b" waits for ")
-    }
-
-    fn seconds(&mut self, time: u64) -> Result<(), Refusal> {
-        self.number(time / SECOND)?;
-        let mut digits = Buffer::new();
-        match digits
-            .format(SECOND + time % SECOND)
-            .as_bytes()
-            .split_first()
-        {
-            Some((_, decimals)) => {
-                self.put(b".")?;
-                self.put(decimals)
-            }
-            None => Ok(()),
-        }
-    }
-
-    fn number(&mut self, number: u64) -> Result<(), Refusal> {
-        let mut digits = Buffer::new();
-        self.put(digits.format(number).as_bytes())
-    }
-
-    /// The first bytes of a name, in a note: with `?` for bytes that are no printable ASCII.
-    fn name(&mut self, name: &[u8]) -> Result<(), Refusal> {
-        for (place, byte) in name.iter().enumerate() {
-            if place < NOTED_BYTES {
-                self.put(&[if b' ' <= *byte && *byte <= b'~' {
-                    *byte
-                } else {
-                    b'?'
-                }])?;
-            }
-        }
-        Ok(())
-    }
-
-    fn put(&mut self, bytes: &[u8]) -> Result<(), Refusal> {
-        self.bytes
-            .extend_from_slice(bytes)
-            .map_err(|_| Refusal::Memory)
+fn file_of<'a>(acts: &'a Acts, fence: &Fence) -> File<'a> {
+    File {
+        timeline: acts.names.name(fence.timeline),
+        context: fence.key.context,
+        seqno: fence.key.seqno,
     }
 }

@@ -1,4 +1,6 @@
 // A window of time.
+ghost use Rattle.std.specs.Prelude.{◌≡◌, ◌≤◌, IfSome};
+ghost use Rattle.trace_script.specs.Window.{stage_after, within};
 
 /// A window of a trace's time, in microseconds, both ends within.
 #[derive(Clone, Copy, Debug)]
@@ -16,7 +18,9 @@ const DECIMALS: usize = 6;
 impl Span {
     /// The window between two times in seconds, each with up to six decimals, or from the beginning or up to the end where none is
     /// given. None where a text is no time, or the window would end before it begins.
-    pub fn read(from: Option<&str>, to: Option<&str>) -> Option<Span> {
+    pub fn read(from: Option<&str>, to: Option<&str>) -> Option<Span>
+        ensures order { IfSome result (λ span. span.from ≤ span.to) }
+    {
         let span = Span {
             from: match from {
                 Some(text) => microseconds(text.as_bytes())?,
@@ -85,17 +89,31 @@ pub(crate) enum Stage {
 
 impl Stage {
     /// Where it is after an event of that time. Times may step back, but a window that began goes on, and one that ended is over.
-    pub(crate) fn after(self, span: Span, time: u64) -> Stage {
+    #[tactic(auto, unfolding(crate::specs::Window::stage_after))]
+    pub(crate) fn after(self, span: Span, time: u64) -> Stage
+        ensures { result ≡ stage_after span time self }
+    {
         match self {
-            Stage::Before if time < span.from => Stage::Before,
-            Stage::Before | Stage::Within => {
-                if time > span.to {
-                    Stage::After
+            Stage::Before => {
+                if time < span.from {
+                    Stage::Before
                 } else {
-                    Stage::Within
+                    within(span, time)
                 }
             }
+            Stage::Within => within(span, time),
             Stage::After => Stage::After,
         }
+    }
+}
+
+/// Where a reading is after an event of that time, once the window began.
+fn within(span: Span, time: u64) -> Stage
+    ensures { result ≡ within span time }
+{
+    if time > span.to {
+        Stage::After
+    } else {
+        Stage::Within
     }
 }

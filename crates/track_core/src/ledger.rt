@@ -14,6 +14,7 @@ use crate::tally::Tally;
 use crate::timelines::Timelines;
 use point_core::Refusal;
 use std::alloc::Global;
+use trace_core::Event;
 
 /// What the events of a trace say of its fences, context by context and timeline by timeline.
 #[derive(Drop)]
@@ -61,9 +62,20 @@ impl Ledger {
         Ok(life)
     }
 
-    /// Forgets the context of the key, where more are kept than need be, no fence of the key is alive, and it is the only one
-    /// of its context. Says whether it forgot it.
-    pub fn forget(&mut self, key: &FenceKey) -> bool
+    /// Forgets the context of an event's key, of which that was known before it, where more are kept than need be, no fence of
+    /// the key is alive, and it is the only one of its context. Says whether it forgot it.
+    pub fn forget(&mut self, sighting: &Sighting, life: Life) -> bool
+        ensures forgot { result ≡ true → (steps : List Step) →
+            IsLedgerOf self.old steps → IsLedgerOf self.new (Forgot sighting.now.key ∷ steps) }
+        ensures kept { result ≡ false → self.new ≡ self.old }
+    {
+        if may_end(sighting.event, life) {
+            return self.forget_past(&sighting.key);
+        }
+        false
+    }
+
+    fn forget_past(&mut self, key: &FenceKey) -> bool
         ensures forgot { result ≡ true → (steps : List Step) →
             IsLedgerOf self.old steps → IsLedgerOf self.new (Forgot key.now ∷ steps) }
         ensures kept { result ≡ false → self.new ≡ self.old }
@@ -159,5 +171,14 @@ impl Ledger {
         ensures lost { (steps : List Step) → IsLedgerOf self.old steps → IsLedgerOf self.new (Lost ∷ steps) }
     {
         self.loss = self.events;
+    }
+}
+
+/// Whether the event, before which that was known of its key, may leave no fence of the key alive.
+fn may_end(event: Event, life: Life) -> bool {
+    match event {
+        Event::Destroy => true,
+        Event::Init | Event::Emit | Event::Signaled => false,
+        Event::EnableSignal | Event::WaitStart | Event::WaitEnd => life.is_over(),
     }
 }

@@ -73,7 +73,7 @@ impl Tracker {
         let sighting = self.sighting(event)?;
         let life = self.ledger.see(&sighting)?;
         self.time(&sighting, life, event.task)?;
-        self.ledger.forget(&sighting.key);
+        self.ledger.forget(&sighting, life);
         Ok(())
     }
 

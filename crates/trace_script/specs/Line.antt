@@ -1,0 +1,51 @@
+-- The lines of a script.
+use Rattle.std.specs.Prelude.{◌≡◌, ℕ, List, ◌++◌, map, take, codes, decimal}
+use Rattle.std.specs.List.{flat_map}
+use Rattle.trace_script.specs.declared.line.Line.{Line}
+use Rattle.trace_script.specs.declared.line.Line.TheVariants as line
+use Rattle.trace_script.specs.declared.part.TheConstants.{NOTED_BYTES}
+use Rattle.trace_script.specs.Part.{file_name, noted, seconds}
+
+-- what a line says, with the bytes of its names
+pub data Said : Type 0 where
+  Timeline : List ℕ → List ℕ → List ℕ → Said
+  Fence : List ℕ → ℕ → ℕ → ℕ → Said
+  Signal : List ℕ → Said
+  Close : List ℕ → ℕ → ℕ → Said
+  Wait : List ℕ → ℕ → ℕ → List ℕ → ℕ → ℕ → Said
+
+abbrev pub said : Line → Said
+said (line.Timeline driver raw name) = Timeline driver.now raw.now name.now
+said (line.Fence file point) = Fence file.timeline.now file.context file.seqno point
+said (line.Signal name) = Signal name.now
+said (line.Close file) = Close file.timeline.now file.context file.seqno
+said (line.Wait file task pid time) = Wait file.timeline.now file.context file.seqno task.now pid time
+
+-- the first bytes of a name of the trace, in a note
+abbrev pub name_noted : List ℕ → List ℕ
+name_noted name = map noted (take NOTED_BYTES name)
+
+-- A timeline has a note before it, with the names that it stands for. A fence is a file at a point of its timeline, which its
+-- signal reaches by one step, and its end closes. A wait is a note.
+abbrev pub line_text : Said → List ℕ
+line_text (Timeline driver raw name) =
+    codes "# " ++ (name_noted driver ++ (codes "/" ++ (name_noted raw ++ (codes "\ntimeline " ++ (name ++ codes "\n")))))
+line_text (Fence name context seqno point) =
+    codes "fence "
+    ++ (file_name name context seqno ++ (codes " " ++ (name ++ (codes " " ++ (decimal point ++ codes "\n")))))
+line_text (Signal name) = codes "inc " ++ (name ++ codes " 1\n")
+line_text (Close name context seqno) = codes "close " ++ (file_name name context seqno ++ codes "\n")
+line_text (Wait name context seqno task pid time) =
+    codes "# "
+    ++ (seconds time
+    ++ (codes " "
+    ++ (name_noted task
+    ++ (codes "-" ++ (decimal pid ++ (codes " waits for " ++ (file_name name context seqno ++ codes "\n")))))))
+
+-- the text is that of these lines, one after another
+abbrev pub IsOf : List Said → List ℕ → Type 0
+IsOf lines text = text ≡ flat_map line_text lines
+
+-- each line of the text is one that a script of a trace has
+abbrev pub AreLines : List ℕ → Type 0
+AreLines text = (lines : List Said) × IsOf lines text
