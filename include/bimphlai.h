@@ -230,10 +230,10 @@ int bim_trim_n(bim_desk *desk, const char *buffer, size_t buffer_length);
 int bim_show_n(bim_desk *desk, const char *buffer, size_t buffer_length, bim_row *rows, size_t room, size_t *count);
 int bim_watch_n(bim_desk *desk, const char *file, size_t file_length, uint64_t cookie);
 
-/* ---- Words: timelines and flags by number, shared by threads without a lock -----------------------------------------
+/* ---- Words: timelines, flags and buffers by number, shared by threads without a lock --------------------------------
  *
- * Words have timelines with contexts from 1, and flags from 0. A seat is what one thread steps with: it
- * is used by one thread at a time, and each thread has its own. The words go with their last seat. No call waits for
+ * Words have timelines with contexts from 1, and flags and buffers from 0. A seat is what one thread steps with: it is
+ * used by one thread at a time, and each thread has its own. The words go with their last seat. No call waits for
  * another thread.
  */
 typedef struct bim_seat {
@@ -241,9 +241,8 @@ typedef struct bim_seat {
 } bim_seat;
 #define BIM_SEAT_INIT { 0 }
 
-/* Makes words of 1 to BIM_CONTEXTS timelines at 0 and up to BIM_WORD_FLAGS flags, and opens their first seat. There is no
- * call on buffers of words yet: 0 makes none, and BIM_BUFFERS is the most. Refused with BIM_EXISTS, BIM_LIMIT and
- * BIM_MEMORY. */
+/* Makes words of 1 to BIM_CONTEXTS timelines at 0, up to BIM_WORD_FLAGS flags and up to BIM_BUFFERS buffers, and opens
+ * their first seat. Refused with BIM_EXISTS, BIM_LIMIT and BIM_MEMORY. */
 int bim_words_open(bim_seat *seat, size_t contexts, size_t flags, size_t buffers);
 
 /* Opens another seat of the same words, for another thread. The first seat can be parted a thousand times, a seat
@@ -302,6 +301,17 @@ int bim_file_poll(bim_file *file, bim_seat *seat, int32_t *status);
 /* Polls a file until it is no longer active, `tries` times at most: BIM_OK, or BIM_TIMED_OUT. Refused with
  * BIM_NO_ENTRY and BIM_FOREIGN. sync_wait. */
 int bim_file_wait(bim_file *file, bim_seat *seat, uint32_t tries);
+
+/* Adds a fence to a buffer of the words: a point on a timeline, and what it is for (a bim_usage). Of each timeline and
+ * usage the buffer keeps the latest point. Refused with BIM_NO_ENTRY and BIM_FLAGS. Takes no memory.
+ * dma_resv_add_fence. */
+int bim_board_put(bim_seat *seat, size_t buffer, uint32_t context, uint64_t point, int usage);
+
+/* Makes a file of what is pending in a buffer of the words at a usage (a bim_usage) or a stronger one: of each timeline
+ * the latest point above the value that the call loads. It has what this seat has put there, and what any thread put
+ * before that this one knows of. Refused with BIM_NO_ENTRY, BIM_EXISTS, BIM_FLAGS and BIM_MEMORY.
+ * DMA_BUF_IOCTL_EXPORT_SYNC_FILE. */
+int bim_board_export(bim_file *file, bim_seat *seat, size_t buffer, int usage);
 
 /* Closes a handle of a file; with the last one its memory is given back. Does nothing to a closed one. close(2). */
 void bim_file_close(bim_file *file);

@@ -357,6 +357,8 @@ static void closed_seat(void)
     EXPECT(bim_seat_shut(&seat, &number), BIM_NO_ENTRY);
     EXPECT(bim_seat_load(&seat, 1, &number), BIM_NO_ENTRY);
     EXPECT(bim_seat_set_once(&seat, 0, &first), BIM_NO_ENTRY);
+    EXPECT(bim_board_put(&seat, 0, 1, 1, BIM_READ), BIM_NO_ENTRY);
+    EXPECT(bim_board_export(&file, &seat, 0, BIM_READ), BIM_NO_ENTRY);
     EXPECT(bim_file_plain(&file, 1, 1), BIM_OK);
     EXPECT(bim_file_poll(&file, &seat, &status), BIM_NO_ENTRY);
     EXPECT(bim_file_wait(&file, &seat, 1), BIM_NO_ENTRY);
@@ -397,7 +399,7 @@ static void drivers(bim_seat *seat, bim_seat *other)
     EXPECT(bim_seat_inc(seat, 1, &number), BIM_NO_ENTRY);
     EXPECT(bim_seat_shut(seat, &number), BIM_NO_ENTRY);
     EXPECT(bim_seat_drive(seat, 0), BIM_NO_ENTRY);
-    EXPECT(bim_seat_drive(seat, 3), BIM_NO_ENTRY);
+    EXPECT(bim_seat_drive(seat, 4), BIM_NO_ENTRY);
     EXPECT(bim_seat_drive(seat, UINT32_MAX), BIM_NO_ENTRY);
     EXPECT(bim_seat_drive(seat, 65537), BIM_NO_ENTRY);
     EXPECT(number, KEPT);
@@ -413,7 +415,7 @@ static void drivers(bim_seat *seat, bim_seat *other)
     EXPECT(number, 5);
     number = KEPT;
     EXPECT(bim_seat_load(other, 0, &number), BIM_NO_ENTRY);
-    EXPECT(bim_seat_load(other, 3, &number), BIM_NO_ENTRY);
+    EXPECT(bim_seat_load(other, 4, &number), BIM_NO_ENTRY);
     EXPECT(bim_seat_load(other, 65537, &number), BIM_NO_ENTRY);
     EXPECT(number, KEPT);
 
@@ -441,7 +443,7 @@ static void running_files(bim_seat *seat, bim_seat *other)
     EXPECT(bim_file_plain(&a, 1, 6), BIM_OK);
     EXPECT(bim_file_plain(&a, 1, 7), BIM_EXISTS);
     EXPECT(bim_file_plain(&b, 2, 2), BIM_OK);
-    EXPECT(bim_file_plain(&far, 3, 0), BIM_OK);
+    EXPECT(bim_file_plain(&far, 4, 0), BIM_OK);
 
     EXPECT(bim_file_merge(&both, &a, &none, seat), BIM_NO_ENTRY);
     EXPECT(bim_file_merge(&both, &none, &b, seat), BIM_NO_ENTRY);
@@ -503,17 +505,62 @@ static void closings(bim_seat *seat, bim_seat *other)
     bim_file_close(&file);
 }
 
+/* Both timelines are closed, timeline 1 at 6, so its later points are no longer pending; timeline 3 is at 0. What a look has
+ * to wait for depends on its usage. */
+static void boards(bim_seat *seat, bim_seat *other)
+{
+    bim_file writes = BIM_FILE_INIT, all = BIM_FILE_INIT, idle = BIM_FILE_INIT;
+    int32_t status;
+    uint64_t number;
+
+    EXPECT(bim_board_put(seat, 0, 3, 2, BIM_BOOKKEEP + 1), BIM_FLAGS);
+    EXPECT(bim_board_put(seat, 0, 3, 2, -1), BIM_FLAGS);
+    EXPECT(bim_board_put(seat, 1, 3, 2, BIM_WRITE), BIM_NO_ENTRY);
+    EXPECT(bim_board_put(seat, SIZE_MAX, 3, 2, BIM_WRITE), BIM_NO_ENTRY);
+    EXPECT(bim_board_put(seat, 0, 0, 2, BIM_WRITE), BIM_NO_ENTRY);
+    EXPECT(bim_board_put(seat, 0, 4, 2, BIM_WRITE), BIM_NO_ENTRY);
+    EXPECT(bim_board_export(&idle, seat, 0, BIM_BOOKKEEP), BIM_OK);
+    EXPECT(bim_file_wait(&idle, seat, 1), BIM_OK);
+    EXPECT(bim_board_put(seat, 0, 3, 2, BIM_WRITE), BIM_OK);
+    EXPECT(bim_board_put(seat, 0, 3, 1, BIM_WRITE), BIM_OK);
+    EXPECT(bim_board_put(other, 0, 3, 3, BIM_READ), BIM_OK);
+    EXPECT(bim_board_put(other, 0, 1, 9, BIM_KERNEL), BIM_OK);
+
+    EXPECT(bim_board_export(&writes, seat, 0, 4), BIM_FLAGS);
+    EXPECT(bim_board_export(&writes, seat, 0, -1), BIM_FLAGS);
+    EXPECT(bim_board_export(&writes, seat, 1, BIM_READ), BIM_NO_ENTRY);
+    EXPECT(bim_board_export(&writes, seat, SIZE_MAX, BIM_READ), BIM_NO_ENTRY);
+    HOLDS(writes.at == NULL);
+    EXPECT(bim_board_export(&writes, other, 0, BIM_WRITE), BIM_OK);
+    EXPECT(bim_board_export(&writes, other, 0, BIM_WRITE), BIM_EXISTS);
+    EXPECT(bim_board_export(&all, seat, 0, BIM_BOOKKEEP), BIM_OK);
+    EXPECT(bim_seat_drive(seat, 3), BIM_OK);
+    EXPECT(bim_file_wait(&writes, seat, 1), BIM_TIMED_OUT);
+    EXPECT(bim_seat_inc(seat, 2, &number), BIM_OK);
+    EXPECT(bim_file_wait(&writes, seat, 1), BIM_OK);
+    EXPECT(bim_file_poll(&all, seat, &status), BIM_OK);
+    EXPECT(status, BIM_IS_ACTIVE);
+    EXPECT(bim_seat_inc(seat, 1, &number), BIM_OK);
+    EXPECT(bim_file_poll(&all, seat, &status), BIM_OK);
+    EXPECT(status, BIM_IS_SIGNALLED);
+    EXPECT(bim_file_wait(&idle, seat, 1), BIM_OK);
+    bim_file_close(&idle);
+    bim_file_close(&writes);
+    bim_file_close(&all);
+}
+
 static void words(void)
 {
     bim_seat seat = BIM_SEAT_INIT, other = BIM_SEAT_INIT;
     uint64_t number;
 
-    EXPECT(bim_words_open(&seat, 2, 2, 1), BIM_OK);
+    EXPECT(bim_words_open(&seat, 3, 2, 1), BIM_OK);
     EXPECT(bim_seat_part(&seat, &other), BIM_OK);
     EXPECT(bim_seat_part(&seat, &other), BIM_EXISTS);
     drivers(&seat, &other);
     running_files(&seat, &other);
     closings(&seat, &other);
+    boards(&seat, &other);
     bim_seat_close(&seat);
     EXPECT(bim_seat_load(&other, 1, &number), BIM_OK);
     EXPECT(number, 6);

@@ -82,7 +82,7 @@ static void write_buffer(struct text *text, bim_desk *desk, const char *buffer)
 static struct {
     bim_desk desk;
     bim_seat seat, other;
-    bim_file file, copy, second, both;
+    bim_file file, copy, second, both, export;
     uint64_t number;
     int32_t status;
     size_t count;
@@ -100,8 +100,9 @@ static void write_service(struct text *text)
     uint64_t value;
 
     text->length = 0;
-    write_text(text, "%d %d %d %d %d %d %d\n", it.desk.at != NULL, it.seat.at != NULL, it.other.at != NULL,
-               it.file.at != NULL, it.copy.at != NULL, it.second.at != NULL, it.both.at != NULL);
+    write_text(text, "%d %d %d %d %d %d %d %d\n", it.desk.at != NULL, it.seat.at != NULL, it.other.at != NULL,
+               it.file.at != NULL, it.copy.at != NULL, it.second.at != NULL, it.both.at != NULL,
+               it.export.at != NULL);
     for (size_t i = 0; i < sizeof timelines / sizeof timelines[0]; i++) {
         value = KEPT;
         int refusal = bim_value(&it.desk, timelines[i], &value);
@@ -196,6 +197,10 @@ static void run_words(void)
     CALL(bim_file_poll(&it.both, &it.seat, &it.status), BIM_OK);
     EXPECT(it.status, BIM_IS_ACTIVE);
     CALL(bim_file_wait(&it.both, &it.seat, 2), BIM_TIMED_OUT);
+    CALL(bim_board_put(&it.seat, 0, 2, 4, BIM_READ), BIM_OK);
+    CALL(bim_board_export(&it.export, &it.seat, 0, BIM_BOOKKEEP), BIM_OK);
+    CALL(bim_board_export(&it.export, &it.seat, 0, BIM_BOOKKEEP), BIM_EXISTS);
+    CALL(bim_file_wait(&it.export, &it.other, 1), BIM_TIMED_OUT);
     CALL(bim_seat_shut(&it.seat, &it.number), BIM_OK);
 }
 
@@ -215,6 +220,7 @@ static void finish(struct text *text)
     bim_file_close(&it.copy);
     bim_file_close(&it.second);
     bim_file_close(&it.both);
+    bim_file_close(&it.export);
     bim_seat_close(&it.seat);
     bim_seat_close(&it.other);
     counting = false;
