@@ -9,8 +9,8 @@
  * What holds of every call:
  *
  * - A call that can be refused returns BIM_OK, or the number of its refusal. A refused call changes nothing: neither
- *   the service nor what its out-parameters point to. BIM_MEMORY comes only after every other refusal, but of
- *   bim_watch, and the call may be made again.
+ *   the service nor what its out-parameters point to. BIM_MEMORY comes only after every other refusal, and the call may
+ *   be made again.
  * - A handle is a struct of the caller's. It starts closed, as its BIM_..._INIT says, and an open call opens it. A
  *   closed handle is refused with BIM_NO_ENTRY, and an open one with BIM_EXISTS where a call is to open it. Copying
  *   the struct moves the handle: only one of the copies may be used from then on.
@@ -192,8 +192,7 @@ int bim_show(bim_desk *desk, const char *buffer, bim_row *rows, size_t room, siz
 
 /* Watches a file: once it is signalled or cancelled the cookie, a number of the caller's, fires. Closing the file
  * changes nothing of that. Refused with BIM_SYNTAX, BIM_NO_ENTRY, BIM_EXISTS (a watch has the cookie), BIM_LIMIT,
- * BIM_SIGNALLED and BIM_MEMORY, which comes before the others but BIM_SYNTAX when the queue of cookies can't grow.
- * dma_fence_add_callback. */
+ * BIM_SIGNALLED and BIM_MEMORY. dma_fence_add_callback. */
 int bim_watch(bim_desk *desk, const char *file, uint64_t cookie);
 
 /* Removes the watch of a cookie, and stores 1, or 0 where there was none. Refused only with BIM_NO_ENTRY, when the

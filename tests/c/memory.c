@@ -15,6 +15,9 @@
 /* What out-parameters hold where a refusal has to leave them. */
 enum { KEPT = 77 };
 
+/* Of `refused`: each allocation is. */
+#define EVERY SIZE_MAX
+
 /* Which allocation is refused, how many there were, and whether they count now. */
 static size_t refused, allocations;
 static bool counting;
@@ -24,7 +27,7 @@ void *__real_realloc(void *block, size_t size);
 
 static bool is_refused(void)
 {
-    return counting && ++allocations == refused;
+    return counting && (++allocations == refused || refused == EVERY);
 }
 
 void *__wrap_malloc(size_t size)
@@ -236,6 +239,36 @@ static void run(struct text *text, size_t which)
     finish(text);
 }
 
+/* Without memory for the queue of cookies, a watch is refused with what the desk refuses it for, before BIM_MEMORY. */
+static void watch_without_memory(void)
+{
+    bim_desk desk = BIM_DESK_INIT;
+    uint64_t number, cookie;
+
+    refused = EVERY;
+    EXPECT(bim_desk_open(&desk), BIM_OK);
+    EXPECT(bim_timeline(&desk, "a", &number), BIM_OK);
+    EXPECT(bim_fence(&desk, "now", "a", 1), BIM_OK);
+    EXPECT(bim_fence(&desk, "later", "a", 2), BIM_OK);
+    for (cookie = 0; cookie < BIM_WATCHES; cookie++)
+        EXPECT(bim_watch(&desk, cookie == 0 ? "now" : "later", cookie), BIM_OK);
+    counting = true;
+    EXPECT(bim_watch(&desk, "later", cookie), BIM_LIMIT);
+    EXPECT(bim_inc(&desk, "a", 1, &number), BIM_MEMORY);
+    counting = false;
+    EXPECT(bim_inc(&desk, "a", 1, &number), BIM_OK);
+    counting = true;
+    EXPECT(bim_watch(&desk, "none", 1), BIM_NO_ENTRY);
+    EXPECT(bim_watch(&desk, "later", 1), BIM_EXISTS);
+    EXPECT(bim_watch(&desk, "now", cookie), BIM_SIGNALLED);
+    EXPECT(bim_watch(&desk, "later", cookie), BIM_MEMORY);
+    counting = false;
+    EXPECT(bim_watch(&desk, "later", cookie), BIM_OK);
+    EXPECT(bim_take_fired(&desk, &number, 1), 1);
+    EXPECT(number, 0);
+    bim_desk_close(&desk);
+}
+
 int main(void)
 {
     struct text undisturbed, text;
@@ -249,6 +282,7 @@ int main(void)
         HOLDS(strcmp(text.bytes, undisturbed.bytes) == 0);
     }
     HOLDS(count > 0);
+    watch_without_memory();
     printf("%zu allocations were refused in turn\n", count);
     return report("memory");
 }
