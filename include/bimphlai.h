@@ -203,8 +203,38 @@ int bim_unwatch(bim_desk *desk, uint64_t cookie, int *was_there);
  * returns how many. The others wait: no cookie is lost. Returns 0 for a closed desk. Takes no memory. */
 size_t bim_take_fired(bim_desk *desk, uint64_t *cookies, size_t room);
 
+/* A timeline, a file and a buffer, as a report has them. */
+typedef struct bim_timeline_row {
+    char timeline[BIM_NAME_ROOM];
+    uint64_t value;
+    int32_t is_closed; /* 1 once bim_shut has closed it, else 0 */
+} bim_timeline_row;
+
+typedef struct bim_file_row {
+    char file[BIM_NAME_ROOM];
+    uint64_t fences; /* as bim_info counts them */
+    int32_t status;  /* a bim_status */
+} bim_file_row;
+
+typedef struct bim_buffer_row {
+    char buffer[BIM_NAME_ROOM];
+    uint64_t rows; /* as bim_show counts them */
+} bim_buffer_row;
+
+typedef struct bim_counts {
+    size_t timelines;
+    size_t files;
+    size_t buffers;
+} bim_counts;
+
+/* Stores how many timelines, files and buffers a desk has, and the first of each, as many as their room: timelines in
+ * order of their contexts, files and buffers in order of making; rows past them stay as they are. Refused with
+ * BIM_NO_ENTRY and BIM_MEMORY. debugfs's sync/info and dma_buf/bufinfo. */
+int bim_report(bim_desk *desk, bim_timeline_row *timelines, size_t timelines_room, bim_file_row *files,
+               size_t files_room, bim_buffer_row *buffers, size_t buffers_room, bim_counts *counts);
+
 /* The same calls with each name as a pointer and a length, for callers whose strings end with no NUL. The rows of
- * bim_info_n and bim_show_n may not be NULL. */
+ * bim_info_n, bim_show_n and bim_report_n may not be NULL. */
 int bim_timeline_n(bim_desk *desk, const char *timeline, size_t timeline_length, uint64_t *context);
 int bim_inc_n(bim_desk *desk, const char *timeline, size_t timeline_length, uint64_t n, uint64_t *value);
 int bim_shut_n(bim_desk *desk, const char *timeline, size_t timeline_length, uint64_t *value);
@@ -228,6 +258,8 @@ int bim_test_n(bim_desk *desk, const char *buffer, size_t buffer_length, int usa
 int bim_trim_n(bim_desk *desk, const char *buffer, size_t buffer_length);
 int bim_show_n(bim_desk *desk, const char *buffer, size_t buffer_length, bim_row *rows, size_t room, size_t *count);
 int bim_watch_n(bim_desk *desk, const char *file, size_t file_length, uint64_t cookie);
+int bim_report_n(bim_desk *desk, bim_timeline_row *timelines, size_t timelines_room, bim_file_row *files,
+                 size_t files_room, bim_buffer_row *buffers, size_t buffers_room, bim_counts *counts);
 
 /* ---- Words: timelines, flags and buffers by number, shared by threads without a lock --------------------------------
  *

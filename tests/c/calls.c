@@ -30,6 +30,7 @@ static void closed_desk(void)
     size_t count = KEPT;
     bim_fence_info info;
     bim_row row;
+    bim_counts counts = { KEPT, KEPT, KEPT };
 
     EXPECT(bim_timeline(&desk, "a", &number), BIM_NO_ENTRY);
     EXPECT(bim_inc(&desk, "a", 1, &number), BIM_NO_ENTRY);
@@ -50,6 +51,8 @@ static void closed_desk(void)
     EXPECT(bim_watch(&desk, "f", 1), BIM_NO_ENTRY);
     EXPECT(bim_unwatch(&desk, 1, &flag), BIM_NO_ENTRY);
     EXPECT(bim_take_fired(&desk, &number, 1), 0);
+    EXPECT(bim_report(&desk, NULL, 0, NULL, 0, NULL, 0, &counts), BIM_NO_ENTRY);
+    HOLDS(counts.timelines == KEPT && counts.files == KEPT && counts.buffers == KEPT);
     bim_desk_close(&desk);
     EXPECT(number, KEPT);
     EXPECT(status, KEPT);
@@ -251,6 +254,45 @@ static void watches(bim_desk *desk)
     EXPECT(cookies[3], 1);
     EXPECT(bim_take_fired(desk, cookies, 4), 0);
     EXPECT(bim_info(desk, "last", &(int32_t){ 0 }, &(bim_fence_info){ .point = 0 }, 1, &(size_t){ 0 }), BIM_OK);
+}
+
+/* A report of a desk of its own: each room is filled, whatever the others are, and every row is counted. */
+static void reports(void)
+{
+    bim_desk desk = BIM_DESK_INIT;
+    bim_timeline_row timelines[3];
+    bim_file_row files[3];
+    bim_buffer_row buffers[3];
+    bim_counts counts = { KEPT, KEPT, KEPT };
+    uint64_t number;
+
+    EXPECT(bim_desk_open(&desk), BIM_OK);
+    EXPECT(bim_report(&desk, NULL, 0, NULL, 0, NULL, 0, &counts), BIM_OK);
+    HOLDS(counts.timelines == 0 && counts.files == 0 && counts.buffers == 0);
+    EXPECT(bim_timeline(&desk, "a", &number), BIM_OK);
+    EXPECT(bim_timeline(&desk, LONGEST, &number), BIM_OK);
+    EXPECT(bim_inc(&desk, LONGEST, 5, &number), BIM_OK);
+    EXPECT(bim_shut(&desk, LONGEST, &number), BIM_OK);
+    EXPECT(bim_fence(&desk, "f", "a", 3), BIM_OK);
+    EXPECT(bim_buffer(&desk, "B"), BIM_OK);
+    EXPECT(bim_buffer(&desk, "C"), BIM_OK);
+    EXPECT(bim_add(&desk, "C", "a", 4, BIM_READ), BIM_OK);
+
+    memset(timelines, KEPT, sizeof timelines);
+    memset(files, KEPT, sizeof files);
+    memset(buffers, KEPT, sizeof buffers);
+    EXPECT(bim_report(&desk, timelines, 1, NULL, 0, buffers, 3, &counts), BIM_OK);
+    HOLDS(counts.timelines == 2 && counts.files == 1 && counts.buffers == 2);
+    HOLDS(strcmp(timelines[0].timeline, "a") == 0 && timelines[0].value == 0 && timelines[0].is_closed == 0);
+    HOLDS(timelines[1].timeline[0] == KEPT && files[0].file[0] == KEPT);
+    HOLDS(strcmp(buffers[0].buffer, "B") == 0 && buffers[0].rows == 0);
+    HOLDS(strcmp(buffers[1].buffer, "C") == 0 && buffers[1].rows == 2);
+    HOLDS(buffers[2].buffer[0] == KEPT);
+    EXPECT(bim_report_n(&desk, timelines, 3, files, 3, buffers, 0, &counts), BIM_OK);
+    HOLDS(strcmp(timelines[1].timeline, LONGEST) == 0 && timelines[1].value == 5 && timelines[1].is_closed == 1);
+    HOLDS(strcmp(files[0].file, "f") == 0 && files[0].fences == 1 && files[0].status == BIM_IS_ACTIVE);
+    HOLDS(timelines[2].timeline[0] == KEPT && files[1].file[0] == KEPT);
+    bim_desk_close(&desk);
 }
 
 /* One more than each limit. */
@@ -596,6 +638,7 @@ int main(void)
     texts();
     closed_desk();
     desks();
+    reports();
     limits();
     closed_seat();
     words_limits();
