@@ -339,9 +339,8 @@ int bim_file_wait(bim_file *file, bim_seat *seat, uint32_t tries);
 int bim_board_put(bim_seat *seat, size_t buffer, uint32_t context, uint64_t point, int usage);
 
 /* Makes a file of what is pending in a buffer of the words at a usage (a bim_usage) or a stronger one: of each timeline
- * the latest point above the value that the call loads. It has what this seat has put there, and what any thread put
- * before that this one knows of. Refused with BIM_NO_ENTRY, BIM_EXISTS, BIM_FLAGS and BIM_MEMORY.
- * DMA_BUF_IOCTL_EXPORT_SYNC_FILE. */
+ * the latest point above the value that the call loads. All that this seat has put there is in it, or reached. Refused
+ * with BIM_NO_ENTRY, BIM_EXISTS, BIM_FLAGS and BIM_MEMORY. DMA_BUF_IOCTL_EXPORT_SYNC_FILE. */
 int bim_board_export(bim_file *file, bim_seat *seat, size_t buffer, int usage);
 
 /* Closes a handle of a file; with the last one its memory is given back. Does nothing to a closed one. close(2). */
