@@ -117,3 +117,14 @@ int bim_watch(bim_desk *desk, const char *file, uint64_t cookie)
 {
     return bim_watch_n(desk, file, strlen(file), cookie);
 }
+
+int bim_report(bim_desk *desk, bim_timeline_row *timelines, size_t timelines_room, bim_file_row *files,
+               size_t files_room, bim_buffer_row *buffers, size_t buffers_room, bim_counts *counts)
+{
+    bim_timeline_row no_timeline;
+    bim_file_row no_file;
+    bim_buffer_row no_buffer;
+
+    return bim_report_n(desk, timelines_room ? timelines : &no_timeline, timelines_room, files_room ? files : &no_file,
+                        files_room, buffers_room ? buffers : &no_buffer, buffers_room, counts);
+}

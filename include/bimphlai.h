@@ -9,8 +9,8 @@
  * What holds of every call:
  *
  * - A call that can be refused returns BIM_OK, or the number of its refusal. A refused call changes nothing: neither
- *   the service nor what its out-parameters point to. BIM_MEMORY comes only after every other refusal, but of
- *   bim_watch, and the call may be made again.
+ *   the service nor what its out-parameters point to. BIM_MEMORY comes only after every other refusal, and the call may
+ *   be made again.
  * - A handle is a struct of the caller's. It starts closed, as its BIM_..._INIT says, and an open call opens it. A
  *   closed handle is refused with BIM_NO_ENTRY, and an open one with BIM_EXISTS where a call is to open it. Copying
  *   the struct moves the handle: only one of the copies may be used from then on.
@@ -192,8 +192,7 @@ int bim_show(bim_desk *desk, const char *buffer, bim_row *rows, size_t room, siz
 
 /* Watches a file: once it is signalled or cancelled the cookie, a number of the caller's, fires. Closing the file
  * changes nothing of that. Refused with BIM_SYNTAX, BIM_NO_ENTRY, BIM_EXISTS (a watch has the cookie), BIM_LIMIT,
- * BIM_SIGNALLED and BIM_MEMORY, which comes before the others but BIM_SYNTAX when the queue of cookies can't grow.
- * dma_fence_add_callback. */
+ * BIM_SIGNALLED and BIM_MEMORY. dma_fence_add_callback. */
 int bim_watch(bim_desk *desk, const char *file, uint64_t cookie);
 
 /* Removes the watch of a cookie, and stores 1, or 0 where there was none. Refused only with BIM_NO_ENTRY, when the
@@ -204,8 +203,38 @@ int bim_unwatch(bim_desk *desk, uint64_t cookie, int *was_there);
  * returns how many. The others wait: no cookie is lost. Returns 0 for a closed desk. Takes no memory. */
 size_t bim_take_fired(bim_desk *desk, uint64_t *cookies, size_t room);
 
+/* A timeline, a file and a buffer, as a report has them. */
+typedef struct bim_timeline_row {
+    char timeline[BIM_NAME_ROOM];
+    uint64_t value;
+    int32_t is_closed; /* 1 once bim_shut has closed it, else 0 */
+} bim_timeline_row;
+
+typedef struct bim_file_row {
+    char file[BIM_NAME_ROOM];
+    uint64_t fences; /* as bim_info counts them */
+    int32_t status;  /* a bim_status */
+} bim_file_row;
+
+typedef struct bim_buffer_row {
+    char buffer[BIM_NAME_ROOM];
+    uint64_t rows; /* as bim_show counts them */
+} bim_buffer_row;
+
+typedef struct bim_counts {
+    size_t timelines;
+    size_t files;
+    size_t buffers;
+} bim_counts;
+
+/* Stores how many timelines, files and buffers a desk has, and the first of each, as many as their room: timelines in
+ * order of their contexts, files and buffers in order of making; rows past them stay as they are. Refused with
+ * BIM_NO_ENTRY and BIM_MEMORY. debugfs's sync/info and dma_buf/bufinfo. */
+int bim_report(bim_desk *desk, bim_timeline_row *timelines, size_t timelines_room, bim_file_row *files,
+               size_t files_room, bim_buffer_row *buffers, size_t buffers_room, bim_counts *counts);
+
 /* The same calls with each name as a pointer and a length, for callers whose strings end with no NUL. The rows of
- * bim_info_n and bim_show_n may not be NULL. */
+ * bim_info_n, bim_show_n and bim_report_n may not be NULL. */
 int bim_timeline_n(bim_desk *desk, const char *timeline, size_t timeline_length, uint64_t *context);
 int bim_inc_n(bim_desk *desk, const char *timeline, size_t timeline_length, uint64_t n, uint64_t *value);
 int bim_shut_n(bim_desk *desk, const char *timeline, size_t timeline_length, uint64_t *value);
@@ -229,11 +258,13 @@ int bim_test_n(bim_desk *desk, const char *buffer, size_t buffer_length, int usa
 int bim_trim_n(bim_desk *desk, const char *buffer, size_t buffer_length);
 int bim_show_n(bim_desk *desk, const char *buffer, size_t buffer_length, bim_row *rows, size_t room, size_t *count);
 int bim_watch_n(bim_desk *desk, const char *file, size_t file_length, uint64_t cookie);
+int bim_report_n(bim_desk *desk, bim_timeline_row *timelines, size_t timelines_room, bim_file_row *files,
+                 size_t files_room, bim_buffer_row *buffers, size_t buffers_room, bim_counts *counts);
 
-/* ---- Words: timelines and flags by number, shared by threads without a lock -----------------------------------------
+/* ---- Words: timelines, flags and buffers by number, shared by threads without a lock --------------------------------
  *
- * Words have timelines with contexts from 1, and flags from 0. A seat is what one thread steps with: it
- * is used by one thread at a time, and each thread has its own. The words go with their last seat. No call waits for
+ * Words have timelines with contexts from 1, and flags and buffers from 0. A seat is what one thread steps with: it is
+ * used by one thread at a time, and each thread has its own. The words go with their last seat. No call waits for
  * another thread.
  */
 typedef struct bim_seat {
@@ -241,9 +272,8 @@ typedef struct bim_seat {
 } bim_seat;
 #define BIM_SEAT_INIT { 0 }
 
-/* Makes words of 1 to BIM_CONTEXTS timelines at 0 and up to BIM_WORD_FLAGS flags, and opens their first seat. There is no
- * call on buffers of words yet: 0 makes none, and BIM_BUFFERS is the most. Refused with BIM_EXISTS, BIM_LIMIT and
- * BIM_MEMORY. */
+/* Makes words of 1 to BIM_CONTEXTS timelines at 0, up to BIM_WORD_FLAGS flags and up to BIM_BUFFERS buffers, and opens
+ * their first seat. Refused with BIM_EXISTS, BIM_LIMIT and BIM_MEMORY. */
 int bim_words_open(bim_seat *seat, size_t contexts, size_t flags, size_t buffers);
 
 /* Opens another seat of the same words, for another thread. The first seat can be parted a thousand times, a seat
@@ -302,6 +332,16 @@ int bim_file_poll(bim_file *file, bim_seat *seat, int32_t *status);
 /* Polls a file until it is no longer active, `tries` times at most: BIM_OK, or BIM_TIMED_OUT. Refused with
  * BIM_NO_ENTRY and BIM_FOREIGN. sync_wait. */
 int bim_file_wait(bim_file *file, bim_seat *seat, uint32_t tries);
+
+/* Adds a fence to a buffer of the words: a point on a timeline, and what it is for (a bim_usage). Of each timeline and
+ * usage the buffer keeps the latest point. Refused with BIM_NO_ENTRY and BIM_FLAGS. Takes no memory.
+ * dma_resv_add_fence. */
+int bim_board_put(bim_seat *seat, size_t buffer, uint32_t context, uint64_t point, int usage);
+
+/* Makes a file of what is pending in a buffer of the words at a usage (a bim_usage) or a stronger one: of each timeline
+ * the latest point above the value that the call loads. All that this seat has put there is in it, or reached. Refused
+ * with BIM_NO_ENTRY, BIM_EXISTS, BIM_FLAGS and BIM_MEMORY. DMA_BUF_IOCTL_EXPORT_SYNC_FILE. */
+int bim_board_export(bim_file *file, bim_seat *seat, size_t buffer, int usage);
 
 /* Closes a handle of a file; with the last one its memory is given back. Does nothing to a closed one. close(2). */
 void bim_file_close(bim_file *file);

@@ -30,6 +30,7 @@ static void closed_desk(void)
     size_t count = KEPT;
     bim_fence_info info;
     bim_row row;
+    bim_counts counts = { KEPT, KEPT, KEPT };
 
     EXPECT(bim_timeline(&desk, "a", &number), BIM_NO_ENTRY);
     EXPECT(bim_inc(&desk, "a", 1, &number), BIM_NO_ENTRY);
@@ -50,6 +51,8 @@ static void closed_desk(void)
     EXPECT(bim_watch(&desk, "f", 1), BIM_NO_ENTRY);
     EXPECT(bim_unwatch(&desk, 1, &flag), BIM_NO_ENTRY);
     EXPECT(bim_take_fired(&desk, &number, 1), 0);
+    EXPECT(bim_report(&desk, NULL, 0, NULL, 0, NULL, 0, &counts), BIM_NO_ENTRY);
+    HOLDS(counts.timelines == KEPT && counts.files == KEPT && counts.buffers == KEPT);
     bim_desk_close(&desk);
     EXPECT(number, KEPT);
     EXPECT(status, KEPT);
@@ -253,6 +256,45 @@ static void watches(bim_desk *desk)
     EXPECT(bim_info(desk, "last", &(int32_t){ 0 }, &(bim_fence_info){ .point = 0 }, 1, &(size_t){ 0 }), BIM_OK);
 }
 
+/* A report of a desk of its own: each room is filled, whatever the others are, and every row is counted. */
+static void reports(void)
+{
+    bim_desk desk = BIM_DESK_INIT;
+    bim_timeline_row timelines[3];
+    bim_file_row files[3];
+    bim_buffer_row buffers[3];
+    bim_counts counts = { KEPT, KEPT, KEPT };
+    uint64_t number;
+
+    EXPECT(bim_desk_open(&desk), BIM_OK);
+    EXPECT(bim_report(&desk, NULL, 0, NULL, 0, NULL, 0, &counts), BIM_OK);
+    HOLDS(counts.timelines == 0 && counts.files == 0 && counts.buffers == 0);
+    EXPECT(bim_timeline(&desk, "a", &number), BIM_OK);
+    EXPECT(bim_timeline(&desk, LONGEST, &number), BIM_OK);
+    EXPECT(bim_inc(&desk, LONGEST, 5, &number), BIM_OK);
+    EXPECT(bim_shut(&desk, LONGEST, &number), BIM_OK);
+    EXPECT(bim_fence(&desk, "f", "a", 3), BIM_OK);
+    EXPECT(bim_buffer(&desk, "B"), BIM_OK);
+    EXPECT(bim_buffer(&desk, "C"), BIM_OK);
+    EXPECT(bim_add(&desk, "C", "a", 4, BIM_READ), BIM_OK);
+
+    memset(timelines, KEPT, sizeof timelines);
+    memset(files, KEPT, sizeof files);
+    memset(buffers, KEPT, sizeof buffers);
+    EXPECT(bim_report(&desk, timelines, 1, NULL, 0, buffers, 3, &counts), BIM_OK);
+    HOLDS(counts.timelines == 2 && counts.files == 1 && counts.buffers == 2);
+    HOLDS(strcmp(timelines[0].timeline, "a") == 0 && timelines[0].value == 0 && timelines[0].is_closed == 0);
+    HOLDS(timelines[1].timeline[0] == KEPT && files[0].file[0] == KEPT);
+    HOLDS(strcmp(buffers[0].buffer, "B") == 0 && buffers[0].rows == 0);
+    HOLDS(strcmp(buffers[1].buffer, "C") == 0 && buffers[1].rows == 2);
+    HOLDS(buffers[2].buffer[0] == KEPT);
+    EXPECT(bim_report_n(&desk, timelines, 3, files, 3, buffers, 0, &counts), BIM_OK);
+    HOLDS(strcmp(timelines[1].timeline, LONGEST) == 0 && timelines[1].value == 5 && timelines[1].is_closed == 1);
+    HOLDS(strcmp(files[0].file, "f") == 0 && files[0].fences == 1 && files[0].status == BIM_IS_ACTIVE);
+    HOLDS(timelines[2].timeline[0] == KEPT && files[1].file[0] == KEPT);
+    bim_desk_close(&desk);
+}
+
 /* One more than each limit. */
 static void limits(void)
 {
@@ -357,6 +399,8 @@ static void closed_seat(void)
     EXPECT(bim_seat_shut(&seat, &number), BIM_NO_ENTRY);
     EXPECT(bim_seat_load(&seat, 1, &number), BIM_NO_ENTRY);
     EXPECT(bim_seat_set_once(&seat, 0, &first), BIM_NO_ENTRY);
+    EXPECT(bim_board_put(&seat, 0, 1, 1, BIM_READ), BIM_NO_ENTRY);
+    EXPECT(bim_board_export(&file, &seat, 0, BIM_READ), BIM_NO_ENTRY);
     EXPECT(bim_file_plain(&file, 1, 1), BIM_OK);
     EXPECT(bim_file_poll(&file, &seat, &status), BIM_NO_ENTRY);
     EXPECT(bim_file_wait(&file, &seat, 1), BIM_NO_ENTRY);
@@ -397,7 +441,7 @@ static void drivers(bim_seat *seat, bim_seat *other)
     EXPECT(bim_seat_inc(seat, 1, &number), BIM_NO_ENTRY);
     EXPECT(bim_seat_shut(seat, &number), BIM_NO_ENTRY);
     EXPECT(bim_seat_drive(seat, 0), BIM_NO_ENTRY);
-    EXPECT(bim_seat_drive(seat, 3), BIM_NO_ENTRY);
+    EXPECT(bim_seat_drive(seat, 4), BIM_NO_ENTRY);
     EXPECT(bim_seat_drive(seat, UINT32_MAX), BIM_NO_ENTRY);
     EXPECT(bim_seat_drive(seat, 65537), BIM_NO_ENTRY);
     EXPECT(number, KEPT);
@@ -413,7 +457,7 @@ static void drivers(bim_seat *seat, bim_seat *other)
     EXPECT(number, 5);
     number = KEPT;
     EXPECT(bim_seat_load(other, 0, &number), BIM_NO_ENTRY);
-    EXPECT(bim_seat_load(other, 3, &number), BIM_NO_ENTRY);
+    EXPECT(bim_seat_load(other, 4, &number), BIM_NO_ENTRY);
     EXPECT(bim_seat_load(other, 65537, &number), BIM_NO_ENTRY);
     EXPECT(number, KEPT);
 
@@ -441,7 +485,7 @@ static void running_files(bim_seat *seat, bim_seat *other)
     EXPECT(bim_file_plain(&a, 1, 6), BIM_OK);
     EXPECT(bim_file_plain(&a, 1, 7), BIM_EXISTS);
     EXPECT(bim_file_plain(&b, 2, 2), BIM_OK);
-    EXPECT(bim_file_plain(&far, 3, 0), BIM_OK);
+    EXPECT(bim_file_plain(&far, 4, 0), BIM_OK);
 
     EXPECT(bim_file_merge(&both, &a, &none, seat), BIM_NO_ENTRY);
     EXPECT(bim_file_merge(&both, &none, &b, seat), BIM_NO_ENTRY);
@@ -503,17 +547,62 @@ static void closings(bim_seat *seat, bim_seat *other)
     bim_file_close(&file);
 }
 
+/* Both timelines are closed, timeline 1 at 6, so its later points are no longer pending; timeline 3 is at 0. What a look has
+ * to wait for depends on its usage. */
+static void boards(bim_seat *seat, bim_seat *other)
+{
+    bim_file writes = BIM_FILE_INIT, all = BIM_FILE_INIT, idle = BIM_FILE_INIT;
+    int32_t status;
+    uint64_t number;
+
+    EXPECT(bim_board_put(seat, 0, 3, 2, BIM_BOOKKEEP + 1), BIM_FLAGS);
+    EXPECT(bim_board_put(seat, 0, 3, 2, -1), BIM_FLAGS);
+    EXPECT(bim_board_put(seat, 1, 3, 2, BIM_WRITE), BIM_NO_ENTRY);
+    EXPECT(bim_board_put(seat, SIZE_MAX, 3, 2, BIM_WRITE), BIM_NO_ENTRY);
+    EXPECT(bim_board_put(seat, 0, 0, 2, BIM_WRITE), BIM_NO_ENTRY);
+    EXPECT(bim_board_put(seat, 0, 4, 2, BIM_WRITE), BIM_NO_ENTRY);
+    EXPECT(bim_board_export(&idle, seat, 0, BIM_BOOKKEEP), BIM_OK);
+    EXPECT(bim_file_wait(&idle, seat, 1), BIM_OK);
+    EXPECT(bim_board_put(seat, 0, 3, 2, BIM_WRITE), BIM_OK);
+    EXPECT(bim_board_put(seat, 0, 3, 1, BIM_WRITE), BIM_OK);
+    EXPECT(bim_board_put(other, 0, 3, 3, BIM_READ), BIM_OK);
+    EXPECT(bim_board_put(other, 0, 1, 9, BIM_KERNEL), BIM_OK);
+
+    EXPECT(bim_board_export(&writes, seat, 0, 4), BIM_FLAGS);
+    EXPECT(bim_board_export(&writes, seat, 0, -1), BIM_FLAGS);
+    EXPECT(bim_board_export(&writes, seat, 1, BIM_READ), BIM_NO_ENTRY);
+    EXPECT(bim_board_export(&writes, seat, SIZE_MAX, BIM_READ), BIM_NO_ENTRY);
+    HOLDS(writes.at == NULL);
+    EXPECT(bim_board_export(&writes, other, 0, BIM_WRITE), BIM_OK);
+    EXPECT(bim_board_export(&writes, other, 0, BIM_WRITE), BIM_EXISTS);
+    EXPECT(bim_board_export(&all, seat, 0, BIM_BOOKKEEP), BIM_OK);
+    EXPECT(bim_seat_drive(seat, 3), BIM_OK);
+    EXPECT(bim_file_wait(&writes, seat, 1), BIM_TIMED_OUT);
+    EXPECT(bim_seat_inc(seat, 2, &number), BIM_OK);
+    EXPECT(bim_file_wait(&writes, seat, 1), BIM_OK);
+    EXPECT(bim_file_poll(&all, seat, &status), BIM_OK);
+    EXPECT(status, BIM_IS_ACTIVE);
+    EXPECT(bim_seat_inc(seat, 1, &number), BIM_OK);
+    EXPECT(bim_file_poll(&all, seat, &status), BIM_OK);
+    EXPECT(status, BIM_IS_SIGNALLED);
+    EXPECT(bim_file_wait(&idle, seat, 1), BIM_OK);
+    bim_file_close(&idle);
+    bim_file_close(&writes);
+    bim_file_close(&all);
+}
+
 static void words(void)
 {
     bim_seat seat = BIM_SEAT_INIT, other = BIM_SEAT_INIT;
     uint64_t number;
 
-    EXPECT(bim_words_open(&seat, 2, 2, 1), BIM_OK);
+    EXPECT(bim_words_open(&seat, 3, 2, 1), BIM_OK);
     EXPECT(bim_seat_part(&seat, &other), BIM_OK);
     EXPECT(bim_seat_part(&seat, &other), BIM_EXISTS);
     drivers(&seat, &other);
     running_files(&seat, &other);
     closings(&seat, &other);
+    boards(&seat, &other);
     bim_seat_close(&seat);
     EXPECT(bim_seat_load(&other, 1, &number), BIM_OK);
     EXPECT(number, 6);
@@ -549,6 +638,7 @@ int main(void)
     texts();
     closed_desk();
     desks();
+    reports();
     limits();
     closed_seat();
     words_limits();

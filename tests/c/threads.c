@@ -1,4 +1,5 @@
-/* Eight threads with a seat each drive, merge, poll and set flags beside each other, and end with the settled values.
+/* Eight threads with a seat each drive, merge, poll, put, export and set flags beside each other, and end with the settled
+ * values.
  *
  * usage: threads MILLISECONDS
  */
@@ -57,6 +58,20 @@ static int merge(struct worker *worker, uint32_t other, uint64_t point)
     return 1;
 }
 
+/* Puts the next step of its own timeline into the buffer that all share: an export then has it, whatever the others do. */
+static int put(struct worker *worker)
+{
+    bim_file file = BIM_FILE_INIT;
+    int32_t status;
+
+    NEED(bim_board_put(&worker->seat, 0, worker->context, worker->value + 1, BIM_WRITE) == BIM_OK);
+    NEED(bim_board_export(&file, &worker->seat, 0, BIM_READ) == BIM_OK);
+    NEED(bim_file_poll(&file, &worker->seat, &status) == BIM_OK);
+    NEED(status == BIM_IS_ACTIVE);
+    bim_file_close(&file);
+    return 1;
+}
+
 /* One round: merges of what is to come, and then the timeline goes a step. */
 static int step(struct worker *worker)
 {
@@ -66,6 +81,7 @@ static int step(struct worker *worker)
 
     NEED(bim_seat_load(&worker->seat, other, &seen) == BIM_OK);
     NEED(merge(worker, other, seen + worker->value % 3));
+    NEED(put(worker));
     NEED(bim_seat_inc(&worker->seat, 1, &value) == BIM_OK);
     NEED(value == worker->value + 1);
     worker->value = value;
@@ -87,14 +103,17 @@ static void *work(void *given)
     return NULL;
 }
 
-/* Each timeline is where its thread left it, each flag was won once, and a file of the next step of all of them is
- * signalled when the last is made. */
+/* Each timeline is where its thread left it, each flag was won once, nothing that was put is pending, and a file of the next
+ * step of all timelines is signalled when the last is made. */
 static void settle(struct worker *workers)
 {
     bim_file all = BIM_FILE_INIT, next = BIM_FILE_INIT, merged = BIM_FILE_INIT;
     bim_seat *seat = &workers[0].seat;
     uint64_t value, won = 0;
 
+    EXPECT(bim_board_export(&all, seat, 0, BIM_BOOKKEEP), BIM_OK);
+    EXPECT(bim_file_wait(&all, seat, 1), BIM_OK);
+    bim_file_close(&all);
     for (int i = 0; i < THREADS; i++) {
         EXPECT(bim_seat_load(seat, workers[i].context, &value), BIM_OK);
         EXPECT(value, workers[i].value);
@@ -126,7 +145,7 @@ int main(int count, char **words)
 
     for (int i = 0; i < THREADS; i++)
         workers[i] = (struct worker){ .seat = BIM_SEAT_INIT, .context = (uint32_t)i + 1, .end = end };
-    EXPECT(bim_words_open(&workers[0].seat, THREADS, FLAGS, 0), BIM_OK);
+    EXPECT(bim_words_open(&workers[0].seat, THREADS, FLAGS, 1), BIM_OK);
     for (int i = 1; i < THREADS; i++)
         EXPECT(bim_seat_part(&workers[0].seat, &workers[i].seat), BIM_OK);
     for (int i = 0; i < THREADS; i++)

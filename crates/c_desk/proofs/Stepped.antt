@@ -1,19 +1,11 @@
--- What a refused step leaves, and what a result tells of a test of it.
-use Rattle.std.proofs.Common.{◌≡◌, true, false, ◌∙◌, ℕ, List, ◌++◌, Result, Ok, Err, is_err, OnOk, OnErr}
+-- What a refused step leaves.
+use Rattle.std.proofs.Common.{◌≡◌, ◌∙◌, ℕ, List, ◌++◌}
 use Rattle.std.proofs.lemmas.List.{append-nil}
 use Rattle.command_core.specs.declared.answer.Answer.{Answer}
 use Rattle.command_core.specs.declared.answer.Answer.TheVariants as answer
 use Rattle.desk_core.specs.Answer.{OnRefused}
 use Rattle.desk_core.specs.Desk.{DeskState}
 use Rattle.c_desk.specs.Service.{ServiceState, cookies_of}
-
-pub on_err : {T E : Type 0} (r : Result T E) (fact : Type 0) → is_err r ≡ true → OnErr r fact → fact
-on_err (Ok x) fact is h = absurd (cc)
-on_err (Err e) fact is h = h
-
-pub on_ok : {T E : Type 0} (r : Result T E) (fact : Type 0) → is_err r ≡ false → OnOk r fact → fact
-on_ok (Ok x) fact is h = h
-on_ok (Err e) fact is h = absurd (cc)
 
 abbrev state : DeskState → List ℕ → ServiceState
 state d fired = record { desk = d; fired = fired }

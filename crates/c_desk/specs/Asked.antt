@@ -99,3 +99,6 @@ asked_watch f cookie = of_one (λ f. command.Watch f cookie) f
 
 abbrev pub asked_unwatch : ℕ → Asked
 asked_unwatch cookie = Ok (command.Unwatch cookie)
+
+abbrev pub asked_report : Asked
+asked_report = Ok command.Report

@@ -1,6 +1,5 @@
 -- A desk and the cookies that wait to be taken, and what one command makes of both.
-use Rattle.std.specs.Prelude.{◌≡◌, ◌⊎◌, ℕ, ◌+◌, ◌≤◌, Bool, true, false, List, [], ◌++◌, length}
-use Rattle.point_core.specs.declared.refusal.Refusal.TheVariants.{Memory}
+use Rattle.std.specs.Prelude.{◌≡◌, ℕ, ◌+◌, ◌≤◌, Bool, true, false, List, [], ◌++◌, length}
 use Rattle.command_core.specs.declared.command.Command.{Command}
 use Rattle.command_core.specs.declared.command.Command.TheVariants as command
 use Rattle.command_core.specs.declared.answer.Answer.{Answer}
@@ -56,13 +55,9 @@ pub record HasRoom (desk : DeskState) (len capacity : ℕ) : Type 0 where
   pub stands : HasHistory desk history
   pub room : len + length desk.watches.pending ≤ capacity
 
--- the command is a watch, and there was no memory for its cookie
-abbrev pub IsOutOfRoom : Command → Answer → Type 0
-IsOutOfRoom command given = (registers_watch command ≡ true) × (given ≡ answer.Refused Memory)
-
 -- the command was answered as a desk answers it, and what it fired waits after what waited before
 pub record IsStep (old new : ServiceState) (command : Command) (given : Answer) : Type 0 where
-  pub answered : Answers old.desk command given ⊎ IsOutOfRoom command given
+  pub answered : Answers old.desk command given
   pub stands : (history : List Command) → HasHistory old.desk history → HasHistory new.desk (history_after history command given)
   pub unchanged : OnRefused given (new ≡ old)
   pub kept : new.fired ≡ old.fired ++ cookies_of given

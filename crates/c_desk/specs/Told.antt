@@ -1,5 +1,5 @@
 -- What an answer tells, as C programs see it.
-use Rattle.std.specs.Prelude.{◌≡◌, ℕ, ℤ, pos, ◌-◌, List, ◌++◌, length, map, replicate, codes}
+use Rattle.std.specs.Prelude.{◌≡◌, ℕ, ℤ, pos, ◌-◌, if◌then◌else◌, List, ◌++◌, length, map, replicate, codes}
 use Rattle.point_core.specs.Status.{status_number}
 use Rattle.point_core.specs.Usage.{usage_number}
 use Rattle.command_core.specs.declared.answer.Answer.{Answer}
@@ -7,11 +7,19 @@ use Rattle.command_core.specs.declared.answer.Answer.TheVariants as answer
 use Rattle.command_core.specs.declared.answer.FenceRow.{FenceRow}
 use Rattle.command_core.specs.declared.answer.ShowRow.{ShowRow}
 use Rattle.command_core.specs.declared.answer.Info.{Info}
+use Rattle.command_core.specs.declared.answer.FileRow.{FileRow}
+use Rattle.command_core.specs.declared.answer.BufferRows.{BufferRows}
+use Rattle.command_core.specs.Tables.{Tables}
+use Rattle.point_core.specs.declared.timeline_row.TimelineRow.{TimelineRow}
 use Rattle.command_core.specs.declared.answer.Maker.{Maker}
 use Rattle.command_core.specs.declared.answer.Maker.TheVariants.{SwSync, Stub}
 use Rattle.c_desk.specs.declared.rows.TheConstants.{NAME_ROOM, DRIVER_ROOM}
 use Rattle.c_desk.specs.declared.rows.FenceInfo.{FenceInfo}
 use Rattle.c_desk.specs.declared.rows.BufferRow.{BufferRow}
+use Rattle.c_desk.specs.declared.rows.TimelineInfo.{TimelineInfo}
+use Rattle.c_desk.specs.declared.rows.FileInfo.{FileInfo}
+use Rattle.c_desk.specs.declared.rows.BufferInfo.{BufferInfo}
+use Rattle.c_desk.specs.declared.rows.Counts.{Counts}
 use Rattle.c_desk.specs.Rows.{over}
 
 -- the text, and zeros after it
@@ -30,6 +38,15 @@ fence_info r = record { timeline = filled r.timeline; point = r.point; driver = 
 
 abbrev pub buffer_row : ShowRow → BufferRow
 buffer_row r = record { usage = pos (usage_number r.usage); timeline = filled r.timeline; point = r.point }
+
+abbrev pub timeline_info : TimelineRow → TimelineInfo
+timeline_info r = record { timeline = filled r.name; value = r.value; is_closed = if r.closed then pos 1 else pos 0 }
+
+abbrev pub file_info : FileRow → FileInfo
+file_info r = record { file = filled r.name; fences = r.count; status = status_number r.status }
+
+abbrev pub buffer_info : BufferRows → BufferInfo
+buffer_info b = record { buffer = filled b.name; rows = length b.rows }
 
 -- what is made of file information where the answer is that, or what stood there
 abbrev pub info_or : {A : Type 0} → Answer → (Info → A) → A → A
@@ -61,3 +78,25 @@ pub record StoresInfo (given : Answer) (old_status new_status : ℤ) (old_rows n
 pub record StoresTable (given : Answer) (old_rows new_rows : List BufferRow) (old_count new_count : ℕ) : Type 0 where
   pub rows : new_rows ≡ table_or given (λ table. over (map buffer_row table) old_rows) old_rows
   pub count : new_count ≡ table_or given (λ table. length table) old_count
+
+-- what is made of a report where the answer is that, or what stood there
+abbrev pub report_or : {A : Type 0} → Answer → (Tables → A) → A → A
+report_or (answer.Report report) made old = made report
+report_or answer.Done made old = old
+report_or (answer.Value n) made old = old
+report_or (answer.Raised n fired) made old = old
+report_or (answer.Info i) made old = old
+report_or (answer.Show rows) made old = old
+report_or (answer.Refused r) made old = old
+
+-- how many rows a report has of each kind
+abbrev pub counts_of : Tables → Counts
+counts_of t = record { timelines = length t.timelines; files = length t.files; buffers = length t.buffers }
+
+-- the numbers of a report's timelines, files and buffers, and as many of each as there is room for
+pub record StoresReport (given : Answer) (old_timelines new_timelines : List TimelineInfo) (old_files new_files : List FileInfo)
+    (old_buffers new_buffers : List BufferInfo) (old_counts new_counts : Counts) : Type 0 where
+  pub timelines : new_timelines ≡ report_or given (λ t. over (map timeline_info t.timelines) old_timelines) old_timelines
+  pub files : new_files ≡ report_or given (λ t. over (map file_info t.files) old_files) old_files
+  pub buffers : new_buffers ≡ report_or given (λ t. over (map buffer_info t.buffers) old_buffers) old_buffers
+  pub counts : new_counts ≡ report_or given counts_of old_counts

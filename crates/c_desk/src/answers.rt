@@ -1,9 +1,9 @@
 // What an answer says to a C program.
 ghost use Rattle.std.specs.Prelude.{◌≡◌};
-ghost use Rattle.c_desk.specs.Told.{StoresInfo, StoresTable};
+ghost use Rattle.c_desk.specs.Told.{StoresInfo, StoresReport, StoresTable};
 ghost use Rattle.c_desk.specs.Call.{number_of, number_of_answer, told_or, yes_or};
 
-use crate::rows::{BufferRow, FenceInfo, put_fences, put_table};
+use crate::rows::{BufferInfo, BufferRow, Counts, FenceInfo, FileInfo, TimelineInfo, put};
 use command_core::Answer;
 use point_core::Refusal;
 
@@ -54,7 +54,7 @@ pub fn store_info(answer: &Answer, status: &mut i32, rows: &mut [FenceInfo], cou
         let fences = info.fences.as_slice();
         *status = info.status.number();
         *count = fences.len();
-        put_fences(fences, rows);
+        put(fences, rows);
     }
 }
 
@@ -65,6 +65,31 @@ pub fn store_table(answer: &Answer, rows: &mut [BufferRow], count: &mut usize)
     if let Answer::Show(table) = answer {
         let table = table.as_slice();
         *count = table.len();
-        put_table(table, rows);
+        put(table, rows);
+    }
+}
+
+/// Stores a report, as much as there is room for, and nothing where the answer is none.
+pub fn store_report(
+    answer: &Answer,
+    timelines: &mut [TimelineInfo],
+    files: &mut [FileInfo],
+    buffers: &mut [BufferInfo],
+    counts: &mut Counts,
+)
+    ensures { StoresReport answer.now timelines.old timelines.new files.old files.new
+        buffers.old buffers.new counts.old counts.new }
+{
+    if let Answer::Report(report) = answer {
+        let (all_timelines, all_files) = (report.timelines.as_slice(), report.files.as_slice());
+        let all_buffers = report.buffers.as_slice();
+        *counts = Counts {
+            timelines: all_timelines.len(),
+            files: all_files.len(),
+            buffers: all_buffers.len(),
+        };
+        put(all_timelines, timelines);
+        put(all_files, files);
+        put(all_buffers, buffers);
     }
 }

@@ -4,9 +4,9 @@
 #![tactic(auto)]
 
 ghost use Rattle.std.specs.Prelude.{◌≡◌, false, IfOk, IfErr, ⊤};
-ghost use Rattle.c_desk.specs.Asked.{asked_timeline, asked_inc, asked_shut, asked_value, asked_fence, asked_merge, asked_close, asked_wait, asked_info, asked_buffer, asked_add, asked_import, asked_export, asked_test, asked_trim, asked_show, asked_watch, asked_unwatch};
+ghost use Rattle.c_desk.specs.Asked.{asked_timeline, asked_inc, asked_shut, asked_value, asked_fence, asked_merge, asked_close, asked_wait, asked_info, asked_buffer, asked_add, asked_import, asked_export, asked_test, asked_trim, asked_show, asked_watch, asked_unwatch, asked_report};
 ghost use Rattle.c_desk.specs.Call.{IsCall, told_or, yes_or, IsNew, IsOpening, IsTaking};
-ghost use Rattle.c_desk.specs.Told.{StoresInfo, StoresTable};
+ghost use Rattle.c_desk.specs.Told.{StoresInfo, StoresReport, StoresTable};
 ghost use Rattle.c_desk.specs.Handle.{is_open};
 
 mod answers;
@@ -16,9 +16,9 @@ mod parts;
 mod rows;
 mod service;
 
-use crate::answers::{number, refused, store, store_if, store_info, store_table};
+use crate::answers::{number, refused, store, store_if, store_info, store_report, store_table};
 use crate::handle::DeskHandle;
-use crate::rows::{BufferRow, FenceInfo};
+use crate::rows::{BufferInfo, BufferRow, Counts, FenceInfo, FileInfo, TimelineInfo};
 use crate::service::Service;
 use command_core::Command;
 use point_core::Refusal;
@@ -244,6 +244,25 @@ pub extern "C" fn bim_show_n(
 {
     let answer = desk.ask(asked::show(buffer));
     store_table(&answer, rows, count);
+    number(&answer)
+}
+
+/// `report`, as Linux's debugfs lists what it knows: stores the numbers of the timelines, files and buffers, and the first
+/// of each, as many as there is room for.
+#[unsafe(no_mangle)]
+pub extern "C" fn bim_report_n(
+    desk: &mut DeskHandle,
+    timelines: &mut [TimelineInfo],
+    files: &mut [FileInfo],
+    buffers: &mut [BufferInfo],
+    counts: &mut Counts,
+) -> i32
+    ensures { IsCall desk.old desk.new asked_report result (λ given.
+        StoresReport given timelines.old timelines.new files.old files.new
+        buffers.old buffers.new counts.old counts.new) }
+{
+    let answer = desk.ask(Ok(Command::Report));
+    store_report(&answer, timelines, files, buffers, counts);
     number(&answer)
 }
 

@@ -1,16 +1,24 @@
 // Rows, as C programs see them.
 ghost use Rattle.std.specs.Prelude.{◌≡◌, map};
 ghost use Rattle.c_desk.specs.Rows.{over};
-ghost use Rattle.c_desk.specs.Told.{filled, driver_text, fence_info, buffer_row};
+ghost use Rattle.c_desk.specs.Told.{filled, driver_text, fence_info, buffer_row, timeline_info, file_info, buffer_info};
 
-use command_core::{FenceRow, Maker, ShowRow};
-use point_core::Name;
+use command_core::{BufferRows, FenceRow, FileRow, Maker, ShowRow};
+use point_core::{Name, TimelineRow};
 
 /// The bytes of a name in a row, zeros after it, of which there is one at least.
 pub const NAME_ROOM: usize = 32;
 
 /// The bytes of a driver's name, likewise.
 pub const DRIVER_ROOM: usize = 8;
+
+/// A row that C programs see, which is made of a row of an answer.
+pub trait RowOf<T>: Copy + Drop {
+    ghost made_of: { T → Self };
+
+    fn of(row: &T) -> Self
+        ensures { result ≡ made_of row.now };
+}
 
 /// A fence of a file: `struct bim_fence_info`.
 #[repr(C)]
@@ -31,42 +39,107 @@ pub struct BufferRow {
     pub point: u64,
 }
 
-/// Stores the first fences, as many as there is room for.
-pub fn put_fences(fences: &[FenceRow], rows: &mut [FenceInfo])
-    ensures { rows.new ≡ over (map fence_info fences.now) rows.old }
-{
-    for index in 0..fences.len().min(rows.len()) {
-        rows[index] = fence_info(&fences[index]);
+/// A timeline of a report: `struct bim_timeline_row`.
+#[repr(C)]
+#[derive(Clone, Copy, Drop)]
+pub struct TimelineInfo {
+    pub timeline: [u8; NAME_ROOM],
+    pub value: u64,
+    pub is_closed: i32,
+}
+
+/// A file of a report: `struct bim_file_row`.
+#[repr(C)]
+#[derive(Clone, Copy, Drop)]
+pub struct FileInfo {
+    pub file: [u8; NAME_ROOM],
+    pub fences: u64,
+    pub status: i32,
+}
+
+/// A buffer of a report: `struct bim_buffer_row`.
+#[repr(C)]
+#[derive(Clone, Copy, Drop)]
+pub struct BufferInfo {
+    pub buffer: [u8; NAME_ROOM],
+    pub rows: u64,
+}
+
+/// How many rows a report has of each kind: `struct bim_counts`.
+#[repr(C)]
+#[derive(Clone, Copy, Drop)]
+pub struct Counts {
+    pub timelines: usize,
+    pub files: usize,
+    pub buffers: usize,
+}
+
+impl RowOf<FenceRow> for FenceInfo {
+    ghost made_of = { fence_info };
+
+    fn of(row: &FenceRow) -> FenceInfo {
+        FenceInfo {
+            timeline: filled(&row.timeline),
+            point: row.point,
+            driver: driver_text(row.driver),
+            status: row.status.number(),
+        }
     }
 }
 
-/// Stores the first rows of a table, as many as there is room for.
-pub fn put_table(table: &[ShowRow], rows: &mut [BufferRow])
-    ensures { rows.new ≡ over (map buffer_row table.now) rows.old }
-{
-    for index in 0..table.len().min(rows.len()) {
-        rows[index] = buffer_row(&table[index]);
+impl RowOf<ShowRow> for BufferRow {
+    ghost made_of = { buffer_row };
+
+    fn of(row: &ShowRow) -> BufferRow {
+        BufferRow {
+            usage: i32::from(row.usage.number()),
+            timeline: filled(&row.timeline),
+            point: row.point,
+        }
     }
 }
 
-fn fence_info(row: &FenceRow) -> FenceInfo
-    ensures { result ≡ fence_info row.now }
-{
-    FenceInfo {
-        timeline: filled(&row.timeline),
-        point: row.point,
-        driver: driver_text(row.driver),
-        status: row.status.number(),
+impl RowOf<TimelineRow> for TimelineInfo {
+    ghost made_of = { timeline_info };
+
+    fn of(row: &TimelineRow) -> TimelineInfo {
+        TimelineInfo {
+            timeline: filled(&row.name),
+            value: row.value,
+            is_closed: i32::from(row.closed),
+        }
     }
 }
 
-fn buffer_row(row: &ShowRow) -> BufferRow
-    ensures { result ≡ buffer_row row.now }
+impl RowOf<FileRow> for FileInfo {
+    ghost made_of = { file_info };
+
+    fn of(row: &FileRow) -> FileInfo {
+        FileInfo {
+            file: filled(&row.name),
+            fences: row.count,
+            status: row.status.number(),
+        }
+    }
+}
+
+impl RowOf<BufferRows> for BufferInfo {
+    ghost made_of = { buffer_info };
+
+    fn of(row: &BufferRows) -> BufferInfo {
+        BufferInfo {
+            buffer: filled(&row.name),
+            rows: row.rows.as_slice().len() as u64,
+        }
+    }
+}
+
+/// Stores the first rows, as many as there is room for.
+pub fn put<T, R: RowOf<T>>(given: &[T], rows: &mut [R])
+    ensures { rows.new ≡ over (map R.made_of given.now) rows.old }
 {
-    BufferRow {
-        usage: i32::from(row.usage.number()),
-        timeline: filled(&row.timeline),
-        point: row.point,
+    for index in 0..given.len().min(rows.len()) {
+        rows[index] = R::of(&given[index]);
     }
 }
 

@@ -1,11 +1,12 @@
 // A desk, and the cookies that it fired.
-ghost use Rattle.std.specs.Prelude.{◌≡◌, ◌≤◌, ◌+◌, [], ◌++◌, length, drop, min, true, IsOk, IfOk, OnOk, OnErr};
+ghost use Rattle.std.specs.Prelude.{◌≡◌, ◌≤◌, ◌+◌, [], ◌++◌, length, drop, min, IsOk, IfOk, IfErr, OnOk};
 ghost use Rattle.std.specs.VecDeque.{deque_len, deque_capacity};
 ghost use Rattle.command_core.specs.declared.command.Command.{Command};
-ghost use Rattle.desk_core.specs.Desk.{HasHistory};
+ghost use Rattle.command_core.specs.declared.answer.Answer.TheVariants as answer;
+ghost use Rattle.desk_core.specs.Desk.{Answers, HasHistory};
 ghost use Rattle.fence_core.specs.declared.watches.TheConstants.{WATCHES};
 ghost use Rattle.c_desk.specs.Rows.{over};
-ghost use Rattle.c_desk.specs.Service.{IsStep, cookies_of, registers_watch, IsReadyFor};
+ghost use Rattle.c_desk.specs.Service.{IsStep, cookies_of, IsReadyFor};
 
 use desk_core::{Answer, Command, Desk};
 use fence_core::WATCHES;
@@ -46,14 +47,12 @@ impl Service {
     }
 
     /// The answer of one command, as `Desk::step`. What it fires waits in the queue.
-    ///
-    /// A watch fails with `Memory` before anything else if the queue can't grow.
     #[inline(always)]
     pub fn step(&mut self, command: Command) -> Answer
         ensures { IsStep self.old self.new command result }
     {
-        if reserve(&mut self.fired, &command).is_err() {
-            return Answer::Refused(Refusal::Memory);
+        if let Err(refusal) = reserve(&mut self.fired, &self.desk, &command) {
+            return Answer::Refused(refusal);
         }
         let answer = self.desk.step(command);
         keep(&mut self.fired, &answer);
@@ -74,15 +73,19 @@ impl Service {
 }
 
 /// Makes room for all watches that can be pending, if the command registers one.
-fn reserve(fired: &mut VecDeque<u64>, command: &Command) -> Result<(), Refusal>
+///
+/// Fails with what the desk refuses the watch for, and with `Memory` if that is nothing.
+fn reserve(fired: &mut VecDeque<u64>, desk: &Desk, command: &Command) -> Result<(), Refusal>
     ensures items { fired.new.items ≡ fired.old.items }
     ensures len { deque_len fired.new ≡ deque_len fired.old }
     ensures capacity { deque_capacity fired.old ≤ deque_capacity fired.new }
     ensures ready { OnOk result (IsReadyFor command.now (deque_len fired.new) (deque_capacity fired.new)) }
-    ensures watch { OnErr result (registers_watch command.now ≡ true) }
+    ensures refused { IfErr result (λ e. Answers desk.now command.now (answer.Refused e)) }
 {
-    if let Command::Watch(_, _) = command {
-        fired.reserve(WATCHES)?;
+    if let Command::Watch(file, cookie) = command
+        && fired.reserve(WATCHES).is_err()
+    {
+        return Err(desk.watch_refusal(file, *cookie));
     }
     Ok(())
 }

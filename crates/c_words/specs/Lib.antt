@@ -1,4 +1,5 @@
 pub mod Answers
+pub mod Exports
 pub mod FileCalls
 pub mod FileLending
 pub mod Files

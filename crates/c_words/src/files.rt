@@ -10,8 +10,8 @@ ghost use Rattle.c_words.specs.Seats.{IsOpen as IsOpenSeat, IsClosed as IsClosed
 use crate::file_handle::FileHandle;
 use crate::numbers::{OK, refused};
 use crate::seat_handle::SeatHandle;
-use crate::shared_file::SharedFile;
-use point_core::{CONTEXTS, Context, Name, Point, Refusal};
+use crate::shared_file::{SharedFile, file_name};
+use point_core::{CONTEXTS, Context, Point, Refusal};
 use std::alloc::Global;
 use syncfile_core::SyncFile;
 
@@ -149,8 +149,7 @@ fn plain(alloc: Global, context: u32, point: u64) -> Result<Box<SharedFile>, Ref
     ensures memory { IfErr result (λ e. 1 ≤ context → context ≤ CONTEXTS → e ≡ refusal.Memory) }
 {
     let ctx = context_of(context)?;
-    let name = Name::read(b"file").ok_or(Refusal::Memory)?;
-    let file = SyncFile::plain(alloc, name, Point { ctx, value: point })?;
+    let file = SyncFile::plain(alloc, file_name()?, Point { ctx, value: point })?;
     boxed(alloc, SharedFile::of(alloc, file)?)
 }
 

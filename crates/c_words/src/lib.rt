@@ -4,6 +4,7 @@
 //! at as they were.
 #![tactic(auto)]
 
+mod exporting;
 mod file_handle;
 mod files;
 mod limits;

@@ -2,6 +2,7 @@
 ghost use Rattle.std.specs.Prelude.{◌≡◌, ◌↔◌, ◌+◌, ◌^◌, ◌<◌, ◌≤◌, ◌⊎◌, None, Err};
 ghost use Rattle.std.specs.Prelude.{IfOk, IfErr, IsOk, IsErr, OnErr, OnOk, IsTrue, IfSome, IsSome, MatchBool};
 ghost use Rattle.point_core.specs.declared.context.TheConstants.{CONTEXTS};
+ghost use Rattle.point_core.specs.Agreement.{HasRisingContexts};
 ghost use Rattle.point_core.specs.Reach.{GREATEST};
 ghost use Rattle.point_core.specs.Refusal.{refusal_number};
 ghost use Rattle.point_core.specs.Status.{status_number};
@@ -12,7 +13,9 @@ ghost use Rattle.c_words.specs.declared.limits.TheConstants.{LEAST_PARTS};
 ghost use Rattle.c_words.specs.Shares.{share_of};
 
 use crate::limits::{LEAST_PARTS, SHARE};
-use point_core::{Context, Refusal, Status, Usage};
+use clients_core::Board;
+use point_core::{Context, Listing, Refusal, Status, Usage};
+use resv_core::SharedTable;
 use std::alloc::Global;
 use std::marker::Model;
 use std::sync::Arc;
@@ -43,6 +46,7 @@ impl Member {
     ghost use Rattle.c_words.specs.Member.{HasAdded, HasShut, HasSet, HasFoundSet, HasBuffer, HasPut, after_loss};
     ghost use Rattle.c_words.specs.FileCalls.{HasLooked, TellsStatus, FindsForeign};
     ghost use Rattle.c_words.specs.FileCalls.{HasWaited, HasTimedOut, TurnsForeign, HasMerged};
+    ghost use Rattle.c_words.specs.Exports.{HasExported, HasOnlyLooked};
     ghost use Rattle.words_core.specs.Seat.{both_of};
 
     /// The first member of new words.
@@ -268,6 +272,26 @@ impl Member {
             ⊎ ((e ≡ refusal.Memory) × (IsBorneOut self.new.seat a.now × IsBorneOut self.new.seat b.now))) }
     {
         SyncFile::merge_with(alloc, a.name, a, b, &self.words, &mut self.seat)
+    }
+
+    /// What is pending in a buffer of the board at a usage or a stronger one, as `Board::export`.
+    ///
+    /// Fails with `NoEntry` if the words have no such buffer, and then with `Memory`.
+    pub fn export(&mut self, alloc: Global, buffer: usize, usage: Usage) -> Result<Listing, Refusal>
+        ensures exported { IfOk result (λ listing. HasExported self.old self.new buffer usage listing) }
+        ensures rising { IfOk result (λ listing. HasRisingContexts listing.points) }
+        ensures known { OnOk result (HasBuffer self.old buffer) }
+        ensures no_buffer { IfErr result (λ e. ¬ HasBuffer self.old buffer →
+            (e ≡ refusal.NoEntry) × (self.new ≡ self.old)) }
+        ensures memory { IfErr result (λ e. HasBuffer self.old buffer →
+            (e ≡ refusal.Memory) × HasOnlyLooked self.old self.new) }
+    {
+        if buffer >= self.words.buffers() {
+            return Err(Refusal::NoEntry);
+        }
+        let board = Board::empty(alloc, &self.words)?;
+        let listing = board.export(alloc, &self.words, &mut self.seat, buffer, usage)?;
+        Ok(listing)
     }
 
     /// The context of that number.

@@ -1,8 +1,9 @@
 // A sync file that handles share.
 ghost use Rattle.std.specs.Prelude.{◌≡◌, IfOk, IfErr};
 ghost use Rattle.point_core.specs.declared.refusal.Refusal.TheVariants as refusal;
+ghost use Rattle.c_words.specs.FileCalls.{file_name};
 
-use point_core::Refusal;
+use point_core::{Name, Refusal};
 use std::alloc::Global;
 use std::marker::Model;
 use std::sync::Arc;
@@ -53,4 +54,14 @@ impl SharedFile {
     {
         &self.file
     }
+}
+
+/// The name of a file of C's, which no call shows.
+///
+/// Fails with `Memory` alone, which it never does: the name is one.
+pub fn file_name() -> Result<Name, Refusal>
+    ensures name { IfOk result (λ name. name ≡ file_name) }
+    ensures memory { IfErr result (λ e. e ≡ refusal.Memory) }
+{
+    Name::read(b"file").ok_or(Refusal::Memory)
 }

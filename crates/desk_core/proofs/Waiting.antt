@@ -98,6 +98,11 @@ pub accepted_again : (T U : Type 0) (o : Option Refusal) (t : T) (u : U) → IsR
 accepted_again T U (Some cause) t u refused = absurd (cc)
 accepted_again T U None t u refused = tt
 
+-- what is not refused has no cause
+pub uncaused : {T : Type 0} (o : Option Refusal) (r : Result T Refusal) (t : T) → IsRefusedFor o r → r ≡ Ok t → o ≡ None
+uncaused None r t refused ok = refl
+uncaused (Some cause) r t refused ok = absurd (cc)
+
 -- what a call tells that is refused where there is none of that name
 pub told_where : (b : Bool) (r : Result Bool Refusal) (s : Bool) (P : Bool → Type 0) → MatchBool b (IsOkAnd r P) (r ≡ Err NoEntry) → r ≡ Ok s → P s
 told_where true (Ok s') s P told ok = let same : s' ≡ s = cc in rw (← same) told

@@ -1,7 +1,6 @@
 -- The watches that a desk keeps, and those of the world.
 use Rattle.std.proofs.Common.{◌≡◌, ◌≤◌, ℕ, ◌+◌, max, arith, Bool, true, false, not, ◌&&◌, ◌||◌, if◌then◌else◌, refl, sym, ap, ◌∙◌, List, [], ◌∷◌, length, nat_le, nat_lt, Option, None, Some, option_map, unwrap_or, is_some, Result, Ok, Err, IsOk}
-use Rattle.std.specs.Prelude.{MatchOption, option_copied}
-use denote.Bor.{Bor}
+use Rattle.std.specs.Prelude.{MatchOption}
 use Rattle.fence_core.specs.declared.fence.Fence.{Fence}
 use Rattle.std.proofs.lemmas.Bool.{false≢true, leb-true, leb-false, lt-ltb, le-ltb}
 use Rattle.std.proofs.lemmas.Slice.Zip.{AllZip-long}
@@ -175,6 +174,12 @@ members-fence_of [] = refl
 members-fence_of (p ∷ []) = refl
 members-fence_of (p ∷ q ∷ points) = refl
 
+-- the file is there
+pub watch-there : (d : DeskState) (f : List ℕ) (cookie : ℕ) (file : File) → sync_file_at d.files f ≡ Some file → cause_of d (command.Watch f cookie) ≡ cause_to_refuse_watch d.watches cookie (points_at d.files f) (reach_of d.timelines)
+watch-there d f cookie file found =
+    let has = has_sync_file-found d.files f ∙ ap is_some found in
+    ap (λ b. if b then cause_to_refuse_watch d.watches cookie (points_at d.files f) (reach_of d.timelines) else Some NoEntry) has
+
 module _ (d : DeskState) (f : List ℕ) (cookie : ℕ) (clocks : List Clock) (r : Result Status Refusal) (at : clocks ≡ clocks_of d.timelines) (told : MatchOption (sync_file_at d.files f) (r ≡ Err NoEntry) (λ g. r ≡ Ok (common_status clocks g.points))) where
   pub watch-missing : (e : Refusal) → r ≡ Err e → (cause_of d (command.Watch f cookie) ≡ Some NoEntry) × (e ≡ NoEntry)
   watch-missing e err =
@@ -182,12 +187,8 @@ module _ (d : DeskState) (f : List ℕ) (cookie : ℕ) (clocks : List Clock) (r 
       let missing = has_sync_file-found d.files f ∙ ap is_some none.0 in
       (ap (λ b. if b then cause_to_refuse_watch d.watches cookie (points_at d.files f) (reach_of d.timelines) else Some NoEntry) missing, none.1)
 
-  -- the file is there
-  pub watch-found : (s : Status) → r ≡ Ok s → cause_of d (command.Watch f cookie) ≡ cause_to_refuse_watch d.watches cookie (points_at d.files f) (reach_of d.timelines)
-  watch-found s ok =
-      let found = found_status (sync_file_at d.files f) clocks r s told ok in
-      let has = has_sync_file-found d.files f ∙ ap is_some found.1 in
-      ap (λ b. if b then cause_to_refuse_watch d.watches cookie (points_at d.files f) (reach_of d.timelines) else Some NoEntry) has
+  watch-found : (s : Status) → r ≡ Ok s → cause_of d (command.Watch f cookie) ≡ cause_to_refuse_watch d.watches cookie (points_at d.files f) (reach_of d.timelines)
+  watch-found s ok = let found = found_status (sync_file_at d.files f) clocks r s told ok in watch-there d f cookie found.0 found.1
 
   -- the cookie is not free
   pub watch-taken : (s : Status) → r ≡ Ok s → (e : Refusal) → cause_to_refuse d.watches cookie ≡ Some e → cause_of d (command.Watch f cookie) ≡ Some e
@@ -229,7 +230,7 @@ sure-fired d reach later (Ok v) e at none ok err = absurd (cc)
 sure-fired d reach later (Err f) e at none ok err = false≢true (ok (ap (fired_by d.watches) at ∙ fired-none later d.watches.pending none))
 
 -- the points of the fence that is made of a file's
-pub watch_points : (fs : List File) (name : List ℕ) (o : Option (Bor File)) (b : Bor File) (points : List Point) (fence : Fence) → option_copied o ≡ sync_file_at fs name → o ≡ Some b → points ≡ b.now.points → fence ≡ fence_of points → members_of fence ≡ points_at fs name
-watch_points fs name o b points fence found is listed made =
+pub watch_points : (fs : List File) (name : List ℕ) (file : File) (points : List Point) (fence : Fence) → sync_file_at fs name ≡ Some file → points ≡ file.points → fence ≡ fence_of points → members_of fence ≡ points_at fs name
+watch_points fs name file points fence found listed made =
     ap members_of made ∙ members-fence_of points ∙ listed
-    ∙ ap (λ p. unwrap_or (option_map (λ (g : File). g.points) p) []) (sym (ap option_copied is) ∙ found)
+    ∙ ap (λ p. unwrap_or (option_map (λ (g : File). g.points) p) []) (sym found)

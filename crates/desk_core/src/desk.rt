@@ -1,5 +1,5 @@
 // One command in, one answer out.
-ghost use Rattle.std.specs.Prelude.{◌≡◌, ◌≢◌, ◌↔◌, false, List, [], option_copied, option_map, IsTrue, IsSome, IfSome, IsOk, IfOk, IfErr, OnErr};
+ghost use Rattle.std.specs.Prelude.{◌≡◌, ◌≢◌, ◌↔◌, false, List, [], Some, option_copied, option_map, IsTrue, IsSome, IfSome, IsOk, IfOk, IfErr, OnErr};
 ghost use Rattle.command_core.specs.declared.command.Command.{Command};
 
 use crate::{info, report};
@@ -9,7 +9,7 @@ use fence_core::{Fence, Watches};
 use point_core::{Context, Items, Name, Point, Refusal, Status, Usage};
 use std::alloc::Global;
 use std::marker::Model;
-use syncfile_core::Files;
+use syncfile_core::{Files, SyncFile};
 use timeline_core::Timelines;
 
 /// All timelines, files, buffers and watches of a service. It keeps of each file what was pending when it was made, of each
@@ -162,6 +162,18 @@ impl Desk {
         ensures { result ≡ has_watch self.now.watches cookie }
     {
         matches!(self.watches.free(cookie), Err(Refusal::Exists))
+    }
+
+    /// Why a watch for which the caller has no memory is refused: the first refusal whose cause holds, else `Memory`.
+    ///
+    /// Takes no memory.
+    pub fn watch_refusal(&self, file: &Name, cookie: u64) -> Refusal
+        ensures { Answers self.now (Command.Watch file.now cookie) (Answer.Refused result) }
+    {
+        match self.watchable(file, cookie) {
+            Ok(_) => Refusal::Memory,
+            Err(cause) => cause,
+        }
     }
 
     // A function pays at its start for the locals of all that is inlined into it. So the commands with many of them, and the rare
@@ -365,15 +377,26 @@ impl Desk {
         ensures done { IfOk result (λ given. IsDone self.old (Command.Watch name.now cookie) given self.new) }
         ensures unchanged { OnErr result (self.new ≡ self.old) }
     {
+        let file = self.watchable(name, cookie)?;
+        let fence = Fence::of(self.alloc, file.points.as_slice())?;
+        self.watches.add(cookie, &fence, self.timelines.as_reach())?;
+        Ok(Answer::Done)
+    }
+
+    /// The file of that name, where a watch of it under the cookie may be registered.
+    ///
+    /// Takes no memory.
+    fn watchable(&self, name: &Name, cookie: u64) -> Result<&SyncFile, Refusal>
+        ensures refused { IsRefusedFor (cause_of self.now (Command.Watch name.now cookie)) result }
+        ensures sure { IfErr result (λ e. e ≢ Refusal.Memory) }
+        ensures found { IfOk result (λ file. file_at self.now.files name.now ≡ Some file.now) }
+    {
         let status = self.files.status(name, self.timelines.as_clocks())?;
         self.watches.free(cookie)?;
         if status.is_signalled() {
             return Err(Refusal::Signalled);
         }
-        let file = self.files.get(name).unwrap();
-        let fence = Fence::of(self.alloc, file.points.as_slice())?;
-        self.watches.add(cookie, &fence, self.timelines.as_reach())?;
-        Ok(Answer::Done)
+        Ok(self.files.get(name).unwrap())
     }
 
     fn unwatch(&mut self, cookie: u64) -> Answer

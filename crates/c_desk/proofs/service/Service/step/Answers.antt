@@ -1,19 +1,20 @@
-use Rattle.std.proofs.Common.{◌≡◌, ◌+◌, ◌≤◌, refl, sym, ap, subst, ◌∙◌, ◌++◌, length, arith, inl, inr}
+use Rattle.std.proofs.Common.{◌≡◌, ◌+◌, ◌≤◌, sym, ap, subst, ◌∙◌, ◌++◌, length, arith}
 use Rattle.std.specs.VecDeque.{deque_len, deque_capacity}
 use Rattle.std.proofs.lemmas.List.{append-nil}
-use Rattle.desk_core.specs.Desk.{HasHistory}
+use Rattle.command_core.specs.declared.answer.Answer.TheVariants as answer
+use Rattle.desk_core.specs.Desk.{Answers, HasHistory}
 use Rattle.desk_core.specs.History.{history_after}
 use Rattle.c_desk.specs.Service.{ServiceState, IsStep, cookies_of}
 use Rattle.c_desk.proofs.Room.{room-after}
-use Rattle.c_desk.proofs.Stepped.{on_err, on_ok, refused_same}
+use Rattle.c_desk.proofs.Stepped.{refused_same}
 use Rattle.c_desk.proofs.service.Service.step.Goals as goal
 
-pub returns-then-is_err : goal.returns-then-is_err
-returns-then-is_err c =
+pub returns-in-Err : goal.returns-in-Err
+returns-in-Err c =
     let new : ServiceState = record { desk = c.self.inside.desk; fired = c.reserve.new.fired.items } in
     let same : new ≡ c.args.self.now = (λ i. record { desk = c.self.inside.desk; fired = c.reserve.ensures.items i }) ∙ c.self.view_is in
     record {
-      answered = inr (on_err c.reserve.result _ (sym c.is_err.ensures.value ∙ c.if-is_err.true) c.reserve.ensures.watch, refl);
+      answered = subst (λ (s : ServiceState). Answers s.desk c.args.command (answer.Refused c.in-Err.refusal)) c.self.view_is c.in-Err.ensures.refused;
       stands = λ history is. subst (λ (s : ServiceState). HasHistory s.desk history) (sym same) is;
       unchanged = same;
       kept = ap (λ (s : ServiceState). s.fired) same ∙ sym (append-nil c.args.self.now.fired);
@@ -25,7 +26,7 @@ room_then : (c : goal.After-answer-1)
 room_then c =
     let history = c.self.invariant.history in
     let stands = c.self.invariant.stands in
-    let ready = on_ok c.reserve.result _ (sym c.is_err.ensures.value ∙ c.if-is_err.false) c.reserve.ensures.ready in
+    let ready = c.in_default.ensures.ready in
     let room = c.self.invariant.room in
     let len = c.reserve.ensures.len in
     let capacity = c.reserve.ensures.capacity in
@@ -38,7 +39,7 @@ keep-requires c = let room = room_then c in record { room = omega (arith, room) 
 pub invariant_of-self-2 : goal.invariant_of-self-2
 invariant_of-self-2 c =
     let history = c.self.invariant.history in
-    let ready = on_ok c.reserve.result _ (sym c.is_err.ensures.value ∙ c.if-is_err.false) c.reserve.ensures.ready in
+    let ready = c.in_default.ensures.ready in
     let before = c.self.invariant.room in
     let len = c.reserve.ensures.len in
     let capacity = c.reserve.ensures.capacity in
@@ -58,7 +59,7 @@ returns c =
     let new : ServiceState = record { desk = c.step-answer.new.self; fired = c.keep.new.fired.items } in
     let kept = c.keep.ensures.items ∙ ap (λ l. l ++ cookies_of c.step-answer.result) c.reserve.ensures.items in
     subst (λ (s : ServiceState). IsStep s new c.args.command c.step-answer.result) c.self.view_is (record {
-      answered = inl c.step-answer.ensures.answer;
+      answered = c.step-answer.ensures.answer;
       stands = c.step-answer.ensures.stands;
       unchanged = refused_same c.step-answer.result c.self.inside.desk c.step-answer.new.self c.self.inside.fired.items c.keep.new.fired.items c.step-answer.ensures.unchanged kept;
       kept = kept;

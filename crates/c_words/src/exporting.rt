@@ -1,0 +1,98 @@
+// The export of a buffer of the board.
+ghost use Rattle.std.specs.Prelude.{◌≡◌, ◌⊎◌, pos, IfOk, IfErr, OnOk};
+ghost use Rattle.point_core.specs.Agreement.{HasRisingContexts};
+ghost use Rattle.point_core.specs.declared.entry.Usage.{Usage};
+ghost use Rattle.point_core.specs.declared.refusal.Refusal.TheVariants as refusal;
+ghost use Rattle.point_core.specs.Usage.{usage_number};
+ghost use Rattle.c_words.specs.Answers.{done, refused, IsUsage};
+ghost use Rattle.c_words.specs.Exports.{HasExportedFile, HasOnlyLooked, listed_file};
+ghost use Rattle.c_words.specs.Files.{IsOpen, IsClosed};
+ghost use Rattle.c_words.specs.Member.{HasBuffer};
+ghost use Rattle.c_words.specs.Seats.{IsOpen as IsOpenSeat, IsClosed as IsClosedSeat};
+
+use crate::file_handle::FileHandle;
+use crate::files::boxed;
+use crate::member::Member;
+use crate::numbers::{OK, refused, usage_of};
+use crate::seat_handle::SeatHandle;
+use crate::shared_file::{SharedFile, file_name};
+use point_core::{Floor, Listing, Refusal, Usage};
+use std::alloc::Global;
+use syncfile_core::SyncFile;
+
+/// Makes a file of what is pending in a buffer of the board at a usage or a stronger one, as `Board::export` by the
+/// seat.
+///
+/// Fails with `NoEntry` if the seat's handle is closed, with `Exists` if the file's is open, with `Flags` if the number
+/// is no usage, with `NoEntry` if the words have no such buffer, and with `Memory`.
+#[unsafe(no_mangle)]
+pub extern "C" fn bim_board_export(
+    alloc: Global,
+    file: &mut FileHandle,
+    seat: &mut SeatHandle,
+    buffer: usize,
+    usage: i32,
+) -> i32
+    ensures seat_closed { IsClosedSeat seat.old → (result ≡ refused refusal.NoEntry) × (seat.new ≡ seat.old) }
+    ensures exists { IsOpenSeat seat.old → IsOpen file.old → (result ≡ refused refusal.Exists) × (seat.new ≡ seat.old) }
+    ensures flags { IsOpenSeat seat.old → IsClosed file.old → ¬ IsUsage usage →
+        (result ≡ refused refusal.Flags) × (seat.new ≡ seat.old) }
+    ensures no_buffer { IsOpenSeat seat.old → IsClosed file.old → IsUsage usage → ¬ HasBuffer seat.old.held buffer →
+        (result ≡ refused refusal.NoEntry) × (seat.new ≡ seat.old) }
+    ensures memory { IsOpenSeat seat.old → IsClosed file.old → IsUsage usage → HasBuffer seat.old.held buffer →
+        (result ≡ done) ⊎ ((result ≡ refused refusal.Memory) × HasOnlyLooked seat.old.held seat.new.held) }
+    ensures stays { IsOpenSeat seat.old → IsOpenSeat seat.new }
+    ensures exported { result ≡ done → IsOpen file.new × ((u : Usage) → usage ≡ pos (usage_number u) →
+        HasExportedFile seat.old.held seat.new.held buffer u file.new.held) }
+    ensures unchanged { (result ≡ done) ⊎ (file.new ≡ file.old) }
+{
+    if !seat.is_open() {
+        return refused(Refusal::NoEntry);
+    }
+    if file.is_open() {
+        return refused(Refusal::Exists);
+    }
+    let Some(usage) = usage_of(usage) else {
+        return refused(Refusal::Flags);
+    };
+    match exported(alloc, seat.get_mut(), buffer, usage) {
+        Err(refusal) => refused(refusal),
+        Ok(made) => {
+            file.open(made);
+            OK
+        }
+    }
+}
+
+// The file of a buffer, on the heap.
+fn exported(
+    alloc: Global,
+    member: &mut Member,
+    buffer: usize,
+    usage: Usage,
+) -> Result<Box<SharedFile>, Refusal>
+    ensures exported { IfOk result (λ file. HasExportedFile member.old member.new buffer usage file.value) }
+    ensures known { OnOk result (HasBuffer member.old buffer) }
+    ensures no_buffer { IfErr result (λ e. ¬ HasBuffer member.old buffer →
+        (e ≡ refusal.NoEntry) × (member.new ≡ member.old)) }
+    ensures memory { IfErr result (λ e. HasBuffer member.old buffer →
+        (e ≡ refusal.Memory) × HasOnlyLooked member.old member.new) }
+{
+    let listing = member.export(alloc, buffer, usage)?;
+    listed(alloc, listing)
+}
+
+// The file of a listing, on the heap.
+fn listed(alloc: Global, listing: Listing) -> Result<Box<SharedFile>, Refusal>
+    requires rising { HasRisingContexts listing.points }
+    ensures file { IfOk result (λ file. file.value ≡ listed_file listing) }
+    ensures memory { IfErr result (λ e. e ≡ refusal.Memory) }
+{
+    let Listing { points, floor } = listing;
+    let file = SyncFile {
+        name: file_name()?,
+        points,
+        floor: Floor::of(alloc, &floor)?,
+    };
+    boxed(alloc, SharedFile::of(alloc, file)?)
+}
