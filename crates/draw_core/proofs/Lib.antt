@@ -1,1 +1,5 @@
-mod Each
+mod Entering
+mod Lines
+mod Showing
+mod Staying
+mod Waits

@@ -1,6 +1,7 @@
 -- What is drawn of files, and what the desk says of them.
-use Rattle.std.specs.Prelude.{◌≡◌, ◌<◌, ◌-◌, ℕ, nat_le, if◌then◌else◌, List, Option, None, Some, option_map, IfSome, IsSome, false, true, length, slice_index_or}
+use Rattle.std.specs.Prelude.{◌≡◌, ◌<◌, ◌≤◌, ◌-◌, ℕ, nat_le, if◌then◌else◌, List, Option, None, Some, option_map, IfSome, IsSome, false, true, length, slice_index_or}
 use Rattle.point_core.specs.Clocks.{common_status, status_at}
+use Rattle.point_core.specs.Status.{is_signalled}
 use Rattle.point_core.specs.declared.entry.Point.{Point}
 use Rattle.point_core.specs.declared.status.Status.{Status}
 use Rattle.point_core.specs.declared.status.Status.TheVariants.{Active}
@@ -24,6 +25,10 @@ settled_at (Some s) column = if nat_le s.column column then s.status else Active
 abbrev pub drawn_at : Bar → ℕ → Status
 drawn_at bar column = settled_at bar.settled column
 
+-- where it is settled, that is in this column or before, and as signalled or cancelled
+abbrev pub IsSettledBy : ℕ → Bar → Type 0
+IsSettledBy column b = IfSome b.settled (λ s. (s.column ≤ column) × (is_signalled s.status ≡ true))
+
 -- A bar after the command of a column, by the desk as that command left it. Where it was still pending and its file is there,
 -- it is drawn in that column with the file's status. Earlier columns don't change, and
 -- neither does a bar that is settled or closed.
@@ -32,7 +37,10 @@ pub record IsAsked (desk : DeskState) (column : ℕ) (old new : Bar) : Type 0 wh
   pub before : (c : ℕ) → c < column → drawn_at new c ≡ drawn_at old c
   pub settled : IsSome old.settled → new ≡ old
   pub closed : IsSome old.closed → new ≡ old
+  pub signalled : IsSettledBy column old → IsSettledBy column new
   pub name : new.name ≡ old.name
+  pub made : new.made ≡ old.made
+  pub closed_in : new.closed ≡ old.closed
 
 -- each bar is asked, and none comes or goes
 pub record AreAsked (desk : DeskState) (column : ℕ) (old new : List Bar) : Type 0 where

@@ -1,2 +1,4 @@
 pub mod Columns
 pub mod Drawn
+pub mod Progress
+pub mod Shown

@@ -1,7 +1,14 @@
 // A run of a script, recorded.
-ghost use Rattle.std.specs.Prelude.{◌≡◌, ◌∷◌, ◌++◌, [], if◌then◌else◌, length, IfOk, OnOk};
+ghost use Rattle.std.specs.Prelude.{◌≡◌, ◌<◌, ◌≤◌, ◌+◌, ◌∷◌, ◌++◌, [], List, All, length, true, IfOk, OnOk};
+ghost use Rattle.desk_core.specs.Answer.{is_refused};
+ghost use Rattle.desk_core.specs.Desk.{HasHistory};
+ghost use Rattle.line_core.specs.declared.line.Line.{Line as LineModel};
 ghost use Rattle.line_core.specs.Script.{script_of};
+ghost use Rattle.picture_core.specs.Bars.{bars_after};
 ghost use Rattle.draw_core.specs.Columns.{drawn_lines, is_in_window, lines_drawn};
+ghost use Rattle.draw_core.specs.Progress.{AddsWaits, AreAskedFirst, HasDrawn, IsWaitBy, bars_after_line};
+ghost use Rattle.draw_core.specs.Drawn.{AreAsked};
+ghost use Rattle.draw_core.specs.Shown.{AreRising, ShowsRun};
 
 use crate::asking::ask_all;
 use crate::graph::enter_all;
@@ -48,6 +55,8 @@ impl Run {
     pub fn of(alloc: Global, script: &[u8], window: &Window) -> Result<Run, Refusal>
         ensures columns { IfOk result (λ run.
             lines_drawn run.history.columns.items ≡ drawn_lines window.now (script_of script.now)) }
+        ensures shown { IfOk result (λ run. ShowsRun window.now (script_of script.now)
+            run.history.columns.items run.history.bars.items run.history.waits.items) }
     {
         let lines = read_script(alloc, script)?;
         let mut run = Run::new(alloc, window)?;
@@ -88,8 +97,10 @@ impl Run {
     }
 
     fn new(alloc: Global, window: &Window) -> Result<Run, Refusal>
-        ensures columns { IfOk result (λ run. run.history.columns.items ≡ []) }
+        ensures drawn { IfOk result (λ run.
+            HasDrawn window.now [] run.desk run.history.columns.items run.history.bars.items) }
         ensures window { IfOk result (λ run. run.window ≡ window.now) }
+        ensures waits { IfOk result (λ run. run.history.waits.items ≡ []) }
     {
         Ok(Run {
             alloc,
@@ -101,8 +112,11 @@ impl Run {
     }
 
     fn take_all(&mut self, lines: &[Line], script: &[u8]) -> Result<(), Refusal>
-        requires none { self.old.history.columns.items ≡ [] }
-        ensures columns { OnOk result (lines_drawn self.new.history.columns.items ≡ drawn_lines self.old.window lines.now) }
+        requires rising { AreRising 1 lines.now }
+        requires none { HasDrawn self.old.window [] self.old.desk self.old.history.columns.items self.old.history.bars.items }
+        ensures drawn { OnOk result (HasDrawn self.old.window lines.now
+            self.new.desk self.new.history.columns.items self.new.history.bars.items) }
+        ensures waits { self.new.history.waits ≡ self.old.history.waits }
     {
         let mut texts = Texts::of(script);
         for line in lines {
@@ -116,14 +130,16 @@ impl Run {
     ///
     /// Fails with `Memory` alone.
     fn take(&mut self, line: &RawLine<'_>, body: &Body) -> Result<(), Refusal>
-        ensures columns { OnOk result (lines_drawn self.new.history.columns.items
-            ≡ lines_drawn self.old.history.columns.items
-            ++ (if is_in_window self.old.window line.now.number then line.now.number ∷ [] else [])) }
+        ensures drawn { OnOk result ((done : List LineModel) → All (λ (l : LineModel). l.number < line.now.number) done →
+            HasDrawn self.old.window done self.old.desk self.old.history.columns.items self.old.history.bars.items →
+            HasDrawn self.old.window (done ++ record { number = line.now.number; body = body.now } ∷ [])
+            self.new.desk self.new.history.columns.items self.new.history.bars.items) }
         ensures window { self.new.window ≡ self.old.window }
+        ensures waits { self.new.history.waits ≡ self.old.history.waits }
     {
         if self.window.has(line.number) {
             self.take_drawn(line, body)
-        } else if line.number < self.window.first {
+        } else if line.number <= self.window.last {
             self.take_undrawn(line.number, body)
         } else {
             Ok(())
@@ -131,17 +147,27 @@ impl Run {
     }
 
     fn take_undrawn(&mut self, line: u32, body: &Body) -> Result<(), Refusal>
-        ensures columns { self.new.history.columns ≡ self.old.history.columns }
+        requires before { line < self.old.window.first }
+        requires within { line ≤ self.old.window.last }
+        ensures drawn { OnOk result ((done : List LineModel) → All (λ (l : LineModel). l.number < line) done →
+            HasDrawn self.old.window done self.old.desk self.old.history.columns.items self.old.history.bars.items →
+            HasDrawn self.old.window (done ++ record { number = line; body = body.now } ∷ [])
+            self.new.desk self.new.history.columns.items self.new.history.bars.items) }
         ensures window { self.new.window ≡ self.old.window }
+        ensures waits { self.new.history.waits ≡ self.old.history.waits }
     {
         let answer = answer_line(&mut self.desk, *body);
         self.enter(0, line, body, &answer)
     }
 
     fn take_drawn(&mut self, line: &RawLine<'_>, body: &Body) -> Result<(), Refusal>
-        ensures columns { OnOk result (lines_drawn self.new.history.columns.items
-            ≡ lines_drawn self.old.history.columns.items ++ line.now.number ∷ []) }
+        requires within { is_in_window self.old.window line.now.number ≡ true }
+        ensures drawn { OnOk result ((done : List LineModel) → All (λ (l : LineModel). l.number < line.now.number) done →
+            HasDrawn self.old.window done self.old.desk self.old.history.columns.items self.old.history.bars.items →
+            HasDrawn self.old.window (done ++ record { number = line.now.number; body = body.now } ∷ [])
+            self.new.desk self.new.history.columns.items self.new.history.bars.items) }
         ensures window { self.new.window ≡ self.old.window }
+        ensures waits { self.new.history.waits ≡ self.old.history.waits }
     {
         self.ask_first();
         let answer = answer_line(&mut self.desk, *body);
@@ -150,8 +176,12 @@ impl Run {
 
     /// Before the first column, settles the bars of the files that are there and signalled.
     fn ask_first(&mut self)
+        ensures asked { AreAskedFirst self.old.history.columns.items self.old.desk
+            self.old.history.bars.items self.new.history.bars.items }
         ensures columns { self.new.history.columns ≡ self.old.history.columns }
+        ensures desk { self.new.desk ≡ self.old.desk }
         ensures window { self.new.window ≡ self.old.window }
+        ensures waits { self.new.history.waits ≡ self.old.history.waits }
     {
         if self.history.columns.is_empty() {
             ask_all(self.history.bars.as_mut_slice(), &self.desk, 0);
@@ -162,9 +192,14 @@ impl Run {
     fn record(&mut self, line: &RawLine<'_>, body: &Body, answer: &Answer) -> Result<(), Refusal>
         ensures columns { OnOk result (lines_drawn self.new.history.columns.items
             ≡ lines_drawn self.old.history.columns.items ++ line.now.number ∷ []) }
+        ensures bars { OnOk result (AreAsked self.old.desk (length self.old.history.columns.items + 1)
+            (bars_after_line (length self.old.history.columns.items + 1) body.now answer.now self.old.history.bars.items)
+            self.new.history.bars.items) }
+        ensures desk { self.new.desk ≡ self.old.desk }
         ensures window { self.new.window ≡ self.old.window }
+        ensures waits { self.new.history.waits ≡ self.old.history.waits }
     {
-        let column = self.history.columns.len().saturating_add(1);
+        let column = self.history.columns.len() + 1;
         self.enter(column, line.number, body, answer)?;
         let note = self.note_of(line, body, answer)?;
         self.history.add_column(Column {
@@ -186,7 +221,11 @@ impl Run {
         answer: &Answer,
     ) -> Result<(), Refusal>
         ensures columns { self.new.history.columns ≡ self.old.history.columns }
+        ensures bars { OnOk result (self.new.history.bars.items
+            ≡ bars_after_line column body.now answer.now self.old.history.bars.items) }
+        ensures desk { self.new.desk ≡ self.old.desk }
         ensures window { self.new.window ≡ self.old.window }
+        ensures waits { self.new.history.waits ≡ self.old.history.waits }
     {
         if is_refused(answer) {
             self.history.refused = true;
@@ -206,7 +245,11 @@ impl Run {
         answer: &Answer,
     ) -> Result<(), Refusal>
         ensures columns { self.new.history.columns ≡ self.old.history.columns }
+        ensures bars { OnOk result (self.new.history.bars.items
+            ≡ bars_after column command.now self.old.history.bars.items) }
+        ensures desk { self.new.desk ≡ self.old.desk }
         ensures window { self.new.window ≡ self.old.window }
+        ensures waits { self.new.history.waits ≡ self.old.history.waits }
     {
         self.book.enter(line, command, &self.desk)?;
         let points = points_of(&self.desk, command);
@@ -251,6 +294,10 @@ impl Run {
 
     /// Enters what the pending files wait for.
     fn finish(&mut self) -> Result<(), Refusal>
+        requires none { self.old.history.waits.items ≡ [] }
+        ensures asked { OnOk result (AreAskedFirst self.old.history.columns.items self.old.desk
+            self.old.history.bars.items self.new.history.bars.items) }
+        ensures waits { OnOk result (All (IsWaitBy self.old.desk self.new.history.bars.items) self.new.history.waits.items) }
         ensures columns { self.new.history.columns ≡ self.old.history.columns }
     {
         self.ask_first();
@@ -258,7 +305,11 @@ impl Run {
     }
 
     fn wait_for_all(&mut self) -> Result<(), Refusal>
+        ensures waits { OnOk result (All (IsWaitBy self.old.desk self.old.history.bars.items) self.old.history.waits.items →
+            All (IsWaitBy self.old.desk self.old.history.bars.items) self.new.history.waits.items) }
         ensures columns { self.new.history.columns ≡ self.old.history.columns }
+        ensures bars { self.new.history.bars ≡ self.old.history.bars }
+        ensures desk { self.new.desk ≡ self.old.desk }
     {
         for place in 0..self.history.bars.len() {
             self.wait_for(place)?;
@@ -267,7 +318,11 @@ impl Run {
     }
 
     fn wait_for(&mut self, place: usize) -> Result<(), Refusal>
+        ensures waits { OnOk result (All (IsWaitBy self.old.desk self.old.history.bars.items) self.old.history.waits.items →
+            All (IsWaitBy self.old.desk self.old.history.bars.items) self.new.history.waits.items) }
         ensures columns { self.new.history.columns ≡ self.old.history.columns }
+        ensures bars { self.new.history.bars ≡ self.old.history.bars }
+        ensures desk { self.new.desk ≡ self.old.desk }
     {
         let Some(bar) = self.history.bars.get(place) else {
             return Ok(());
@@ -290,7 +345,9 @@ fn points_of<'a>(desk: &'a Desk, command: &Command) -> &'a [Point] {
     }
 }
 
-fn is_refused(answer: &Answer) -> bool {
+fn is_refused(answer: &Answer) -> bool
+    ensures { result ≡ is_refused answer.now }
+{
     match answer {
         Answer::Refused(_) => true,
         _ => false,
@@ -321,7 +378,9 @@ fn push_waits(
     points: &[Point],
     history: &mut History,
 ) -> Result<(), Refusal>
+    ensures waits { OnOk result (AddsWaits desk.now bar points.now history.old.waits.items history.new.waits.items) }
     ensures columns { history.new.columns ≡ history.old.columns }
+    ensures bars { history.new.bars ≡ history.old.bars }
 {
     for point in points {
         if let Some(waiting) = waiting_for(desk, point) {

@@ -1,4 +1,6 @@
 // The bars of sync files.
+ghost use Rattle.std.specs.Prelude.{◌≡◌};
+ghost use Rattle.picture_core.specs.Bars.{bar_of, closed_if, is_open_of};
 
 use point_core::{Name, Status};
 
@@ -24,7 +26,9 @@ pub struct Bar {
 
 impl Bar {
     /// Of a file that was made by the command of that column.
-    pub(crate) fn of(name: &Name, made: usize) -> Bar {
+    pub(crate) fn of(name: &Name, made: usize) -> Bar
+        ensures { result ≡ bar_of name.now made }
+    {
         Bar {
             name: *name,
             made,
@@ -32,12 +36,28 @@ impl Bar {
             closed: None,
         }
     }
+
+    /// Whether it is the bar of a file of that name that is not closed.
+    pub(crate) fn is_open_of(&self, name: &Name) -> bool
+        ensures { result ≡ is_open_of name.now self.now }
+    {
+        self.closed.is_none() && self.name == *name
+    }
+
+    /// Closes it in that column, where it is the open bar of that name.
+    pub(crate) fn close_if(&mut self, column: usize, name: &Name)
+        ensures { self.new ≡ closed_if column name.now self.old }
+    {
+        if self.is_open_of(name) {
+            self.closed = Some(column);
+        }
+    }
 }
 
 /// The place of the bar of the file of that name which is not closed.
 pub(crate) fn open_place(bars: &[Bar], name: &Name) -> Option<usize> {
     for (place, bar) in bars.iter().enumerate() {
-        if bar.closed.is_none() && bar.name == *name {
+        if bar.is_open_of(name) {
             return Some(place);
         }
     }

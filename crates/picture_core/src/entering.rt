@@ -1,5 +1,6 @@
 // What an accepted command did, entered into the history.
-ghost use Rattle.std.specs.Prelude.{◌≡◌};
+ghost use Rattle.std.specs.Prelude.{◌≡◌, ◌∷◌, ◌++◌, [], suc, map, OnOk};
+ghost use Rattle.picture_core.specs.Bars.{bar_of, bars_after, closed_if, with_closed};
 
 use crate::bar::{Bar, open_place};
 use crate::history::{
@@ -25,6 +26,7 @@ impl History {
         points: &[Point],
     ) -> Result<(), Refusal>
         ensures columns { self.new.columns ≡ self.old.columns }
+        ensures bars { OnOk result (self.new.bars.items ≡ bars_after column command.now self.old.bars.items) }
         ensures waits { self.new.waits ≡ self.old.waits }
     {
         enter_file(&mut self.bars, column, command)?;
@@ -37,7 +39,9 @@ impl History {
 }
 
 /// The bars after a command, which makes a file, closes one, or neither.
-fn enter_file(bars: &mut Vec<Bar>, column: usize, command: &Command) -> Result<(), Refusal> {
+fn enter_file(bars: &mut Vec<Bar>, column: usize, command: &Command) -> Result<(), Refusal>
+    ensures { OnOk result (bars.new.items ≡ bars_after column command.now bars.old.items) }
+{
     match command {
         Command::Fence(name, _, _) => push_bar(bars, column, name),
         Command::Merge(name, _, _) => push_bar(bars, column, name),
@@ -50,21 +54,28 @@ fn enter_file(bars: &mut Vec<Bar>, column: usize, command: &Command) -> Result<(
     }
 }
 
-fn push_bar(bars: &mut Vec<Bar>, column: usize, name: &Name) -> Result<(), Refusal> {
+fn push_bar(bars: &mut Vec<Bar>, column: usize, name: &Name) -> Result<(), Refusal>
+    ensures { OnOk result (bars.new.items ≡ bars.old.items ++ bar_of name.now column ∷ []) }
+{
     push(bars, Bar::of(name, column))
 }
 
 /// A file that was closed before the first column is not drawn.
-fn close_bar(bars: &mut Vec<Bar>, column: usize, name: &Name) {
-    let Some(place) = open_place(bars.as_slice(), name) else {
-        return;
-    };
-    if column > 0 {
-        if let Some(bar) = bars.get_mut(place) {
-            bar.closed = Some(column);
-        }
-    } else if place < bars.len() {
-        bars.remove(place);
+fn close_bar(bars: &mut Vec<Bar>, column: usize, name: &Name)
+    ensures { bars.new.items ≡ with_closed column name.now bars.old.items }
+{
+    if column == 0 {
+        bars.retain(|bar| !bar.is_open_of(name));
+    } else {
+        close_drawn_bars(bars.as_mut_slice(), column, name);
+    }
+}
+
+fn close_drawn_bars(bars: &mut [Bar], column: usize, name: &Name)
+    ensures { bars.new ≡ map (closed_if column name.now) bars.old }
+{
+    for bar in bars.iter_mut() {
+        bar.close_if(column, name);
     }
 }
 

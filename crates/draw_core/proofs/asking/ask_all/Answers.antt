@@ -1,7 +1,7 @@
 use Rattle.std.proofs.Common.{arith, ◌∙◌, ◌<◌, length}
 use Rattle.std.proofs.lemmas.List.{length-set}
 use Rattle.draw_core.specs.Drawn.{IsAsked}
-use Rattle.draw_core.proofs.Each.{each_more, rest_more, here_at}
+use Rattle.picture_core.proofs.Each.{each_more, rest_more, here_at}
 use Rattle.draw_core.proofs.asking.ask_all.Goals as goal
 
 pub loop-bar-preserved : goal.loop-bar-preserved

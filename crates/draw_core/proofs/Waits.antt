@@ -1,0 +1,106 @@
+-- What bars wait for, by the desk and by its history.
+use Rattle.std.proofs.Common.{◌≡◌, Bool, false, ℕ, ◌+◌, ◌-◌, ◌<◌, ◌≤◌, refl, sym, ap, subst, ◌∙◌, List, [], ◌∷◌, ◌++◌, length, get_or, Option, None, Some, option_map, All, arith}
+use Rattle.std.specs.Prelude.{Contains, OnOk, Result, Ok, Err, is_some}
+use Rattle.std.proofs.lemmas.List.{append-nil, append_assoc}
+use Rattle.std.proofs.lemmas.List.Elements.{All-nil, All-push, All-weaker, All-append}
+use Rattle.std.proofs.lemmas.Option.{same_Some}
+use Rattle.point_core.specs.declared.entry.Point.{Point}
+use Rattle.timeline_core.specs.Timeline.{Timeline, clocks_of, name_at, value_of}
+use Rattle.syncfile_core.specs.SyncFile.{File}
+use Rattle.syncfile_core.specs.Files.{file_at}
+use Rattle.desk_core.specs.World.{World, MadeFile, file_named}
+use Rattle.desk_core.specs.Answer.{listed_points}
+use Rattle.desk_core.specs.Desk.{DeskState}
+use Rattle.desk_core.specs.Keeping.{Keeps}
+use Rattle.desk_core.proofs.Answering.{Keeps-stands}
+use Rattle.desk_core.proofs.Keeping.{sync_file_at-points}
+use Rattle.line_core.specs.declared.line.Line.{Line}
+use Rattle.picture_core.specs.declared.bar.Bar.{Bar}
+use Rattle.picture_core.specs.declared.history.BarWait.{BarWait}
+use Rattle.picture_core.specs.declared.history.Column.{Column}
+use Rattle.picture_core.specs.declared.waiting.Waiting.{Waiting}
+use Rattle.draw_core.specs.declared.window.Window.{Window}
+use Rattle.draw_core.specs.Drawn.{IsWaitingFor}
+use Rattle.draw_core.specs.Shown.{IsPending, IsWaitIn, ShowsRun}
+use Rattle.draw_core.specs.Progress.{AddsWaits, AreAskedFirst, HasDrawn, IsWaitBy}
+use Rattle.draw_core.proofs.Showing.{HasShown, HasShown-asked, ShowsRun-shown}
+
+abbrev IsAdded : DeskState → ℕ → List Point → BarWait → Type 0
+IsAdded desk bar points w = (w.bar ≡ bar) × ((p : Point) × Contains points p × IsWaitingFor desk p w.waiting)
+
+pub AddsWaits-none : (desk : DeskState) (bar : ℕ) (points : List Point) (waits : List BarWait) → AddsWaits desk bar points waits waits
+AddsWaits-none desk bar points waits = record { more = []; added = sym (append-nil waits); each = All-nil (IsAdded desk bar points) }
+
+pub AddsWaits-one : {old now new : List BarWait} (desk : DeskState) (bar : ℕ) (points : List Point) (i : ℕ) (p : Point) (waiting : Waiting) → AddsWaits desk bar points old now → i < length points → p ≡ get_or points i p → IsWaitingFor desk p waiting
+    → new ≡ now ++ record { bar = bar; waiting = waiting } ∷ [] → AddsWaits desk bar points old new
+AddsWaits-one {old} {now} {new} desk bar points i p waiting h low at waits is = record {
+  more = h.more ++ record { bar = bar; waiting = waiting } ∷ [];
+  added = is ∙ ap (λ ws. ws ++ record { bar = bar; waiting = waiting } ∷ []) h.added ∙ append_assoc old h.more (record { bar = bar; waiting = waiting } ∷ []);
+  each = All-push (IsAdded desk bar points) h.more (record { bar = bar; waiting = waiting }) h.each (refl, (p, (i, low, sym at), waits));
+}
+
+-- the waits of one bar, beside those of others
+pub IsWaitBy-added : {old new : List BarWait} (desk : DeskState) (bars : List Bar) (place : ℕ) (b : Bar) (f : File) (points : List Point) → place < length bars → get_or bars place b ≡ b → b.settled ≡ None → b.closed ≡ None → file_at desk.files b.name ≡ Some f → f.points ≡ points
+    → AddsWaits desk place points old new → All (IsWaitBy desk bars) old → All (IsWaitBy desk bars) new
+IsWaitBy-added {old} {new} desk bars place b f points low at unsettled unclosed file same h all =
+    rw h.added (All-append (IsWaitBy desk bars) old h.more all (All-weaker (IsAdded desk place points) (IsWaitBy desk bars) (λ w added. record {
+      bar = b;
+      within = rw added.0 low;
+      of_bar = rw added.0 at;
+      unsettled = unsettled;
+      unclosed = unclosed;
+      file = f;
+      of_file = file;
+      point = added.1.0;
+      listed = rw same added.1.1;
+      waits = added.1.2;
+    }) h.more h.each))
+
+-- by the world that the desk keeps
+
+made_of : (w : World) (name : List ℕ) (f : File) (o : Option File) (p : Option MadeFile) → o ≡ Some f → option_map (λ (g : File). g.points) o ≡ option_map listed_points p → (g : MadeFile) × (p ≡ Some g) × (f.points ≡ listed_points g)
+made_of w name f o None at is = absurd (cc)
+made_of w name f o (Some g) at is = (g, refl, same_Some f.points (listed_points g) (sym (ap (option_map (λ (g : File). g.points)) at) ∙ is))
+
+IsPending-world : (desk : DeskState) (ts : List Timeline) (p : Point) (waiting : Waiting) → desk.timelines ≡ ts → IsWaitingFor desk p waiting → IsPending ts p waiting
+IsPending-world desk ts p waiting same h = rw (sym same) (record { timeline = h.timeline; active = h.active; point_is = h.to_go.point_is; to_go = h.to_go.to_go; some = h.to_go.some })
+
+IsWaitIn-by : (desk : DeskState) (w : World) (bars : List Bar) → Keeps desk w → (wait : BarWait) → IsWaitBy desk bars wait → IsWaitIn w bars wait
+IsWaitIn-by desk w bars keeps wait h =
+    let made = made_of w h.bar.name h.file (file_at desk.files h.bar.name) (file_named w.files h.bar.name) h.of_file (sync_file_at-points desk.files w.files h.bar.name keeps.holds.names keeps.holds.points) in
+    record {
+      bar = h.bar;
+      within = h.within;
+      of_bar = h.of_bar;
+      unsettled = h.unsettled;
+      unclosed = h.unclosed;
+      file = made.0;
+      of_file = made.1;
+      point = h.point;
+      listed = subst (λ ps. Contains ps h.point) made.2 h.listed;
+      waits = IsPending-world desk w.timelines h.point wait.waiting keeps.holds.timelines h.waits;
+    }
+
+-- the run as a whole
+pub ShowsRun-finished : (window : Window) (lines : List Line) (desk : DeskState) (columns : List Column) (bars asked : List Bar) (waits : List BarWait) → HasDrawn window lines desk columns bars → AreAskedFirst columns desk bars asked → All (IsWaitBy desk asked) waits → ShowsRun window lines columns asked waits
+ShowsRun-finished window lines desk columns bars asked waits drawn first all =
+    let h = HasShown-asked window lines desk columns bars asked first drawn in
+    ShowsRun-shown window lines desk columns asked waits h (All-weaker (IsWaitBy desk asked) (IsWaitIn _ asked) (λ wait by. IsWaitIn-by desk _ asked (Keeps-stands h.stands) wait by) waits all)
+
+-- what a call that answers a Result says of what it did
+
+pub on_ok : {T E : Type 0} (r : Result T E) (P Q : Type 0) → OnOk r P → (P → Q) → OnOk r Q
+on_ok (Ok x) P Q p f = f p
+on_ok (Err e) P Q p f = tt
+
+pub on_both : {T E : Type 0} (r : Result T E) (P P' Q : Type 0) → OnOk r P → OnOk r P' → (P → P' → Q) → OnOk r Q
+on_both (Ok x) P P' Q p q f = f p q
+on_both (Err e) P P' Q p q f = tt
+
+pub none_of : {X : Type 0} (o : Option X) → is_some o ≡ false → o ≡ None
+none_of None is = refl
+none_of (Some x) is = absurd (cc)
+
+pub file_of : (o : Option File) (ps : List Point) → Some ps ≡ option_map (λ (f : File). f.points) o → (f : File) × (o ≡ Some f) × (f.points ≡ ps)
+file_of None ps is = absurd (cc)
+file_of (Some f) ps is = (f, refl, sym (same_Some ps f.points is))

@@ -1,0 +1,6 @@
+use Rattle.draw_core.proofs.Showing.{HasDrawn-none}
+use Rattle.draw_core.proofs.run.Run.new.Goals as goal
+
+pub returns-clause-drawn : goal.returns-clause-drawn
+returns-clause-drawn c =
+    rw (c.new-3.ensures.columns, c.new-3.ensures.bars) (HasDrawn-none c.args.window.now c.in_ok-new.field-0 c.in_ok-new.ensures.empty)

@@ -1,0 +1,45 @@
+-- The bars of files, as commands make and close them.
+use Rattle.std.specs.Prelude.{ℕ, zero, suc, Bool, ◌&&◌, not, if◌then◌else◌, List, [], ◌∷◌, ◌++◌, map, filter, None, Some, is_none}
+use Rattle.point_core.specs.Named.{same_name}
+use Rattle.command_core.specs.declared.command.Command.{Command}
+use Rattle.command_core.specs.declared.command.Command.TheVariants as command
+use Rattle.picture_core.specs.declared.bar.Bar.{Bar}
+
+-- the bar of a file that was made in that column
+abbrev pub bar_of : List ℕ → ℕ → Bar
+bar_of name column = record { name = name; made = column; settled = None; closed = None }
+
+-- the bar of a file of that name that is not closed
+abbrev pub is_open_of : List ℕ → Bar → Bool
+is_open_of name b = is_none b.closed && same_name b.name name
+
+-- the bar, closed in that column where it is the open one of that name
+abbrev pub closed_if : ℕ → List ℕ → Bar → Bar
+closed_if column name b = if is_open_of name b then record b { closed = Some column } else b
+
+-- the bars once the file of that name is closed in that column; one that is closed before the first column isn't drawn
+abbrev pub with_closed : ℕ → List ℕ → List Bar → List Bar
+with_closed zero name bars = filter (λ b. not (is_open_of name b)) bars
+with_closed (suc c) name bars = map (closed_if (suc c) name) bars
+
+-- the bars after an accepted command in that column: it makes a file, closes one, or neither
+abbrev pub bars_after : ℕ → Command → List Bar → List Bar
+bars_after column (command.Fence f t p) bars = bars ++ bar_of f column ∷ []
+bars_after column (command.Merge f a b) bars = bars ++ bar_of f column ∷ []
+bars_after column (command.Export f b flags) bars = bars ++ bar_of f column ∷ []
+bars_after column (command.Close f) bars = with_closed column f bars
+bars_after column (command.Timeline t) bars = bars
+bars_after column (command.Inc t n) bars = bars
+bars_after column (command.Value t) bars = bars
+bars_after column (command.Shut t) bars = bars
+bars_after column (command.Wait f) bars = bars
+bars_after column (command.Info f) bars = bars
+bars_after column (command.Buffer b) bars = bars
+bars_after column (command.Add b t p u) bars = bars
+bars_after column (command.Import b f flags) bars = bars
+bars_after column (command.Test b u) bars = bars
+bars_after column (command.Trim b) bars = bars
+bars_after column (command.Watch f cookie) bars = bars
+bars_after column (command.Unwatch cookie) bars = bars
+bars_after column (command.Show b) bars = bars
+bars_after column command.Report bars = bars
