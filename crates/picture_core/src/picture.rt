@@ -6,7 +6,7 @@ use crate::legend::{LEGEND_HEIGHT, LEGEND_WIDTH, push_legend};
 use crate::links::push_links;
 use crate::list::push;
 use crate::shapes::{Canvas, ColumnArea, Face, Fill, Heading, Label, Mark, Picture, Spot};
-use crate::sheet::{BAR, BUFFER, HEADING, PAD, Sheet, TIMELINE, WATCH};
+use crate::sheet::{HEADING, PAD, Sheet};
 use point_core::Refusal;
 use std::alloc::Global;
 
@@ -66,16 +66,16 @@ fn push_stripes(
     canvas: &mut Canvas,
 ) -> Result<(), Refusal> {
     for place in 0..history.lanes.timelines.len() {
-        push_stripe(sheet, width, place, Lane::Timeline(place), TIMELINE, canvas)?;
+        push_stripe(sheet, width, place, Lane::Timeline(place), canvas)?;
     }
     for place in 0..history.bars.len() {
-        push_stripe(sheet, width, place, Lane::Bar(place), BAR, canvas)?;
+        push_stripe(sheet, width, place, Lane::Bar(place), canvas)?;
     }
     for place in 0..history.lanes.buffers.len() {
-        push_stripe(sheet, width, place, Lane::Buffer(place), BUFFER, canvas)?;
+        push_stripe(sheet, width, place, Lane::Buffer(place), canvas)?;
     }
     for place in 0..history.lanes.watches.len() {
-        push_stripe(sheet, width, place, Lane::Watch(place), WATCH, canvas)?;
+        push_stripe(sheet, width, place, Lane::Watch(place), canvas)?;
     }
     Ok(())
 }
@@ -85,7 +85,6 @@ fn push_stripe(
     width: u64,
     place: usize,
     lane: Lane,
-    height: u64,
     canvas: &mut Canvas,
 ) -> Result<(), Refusal> {
     if place % 2 == 0 {
@@ -93,7 +92,7 @@ fn push_stripe(
             x: 0,
             y: sheet.top(lane),
         };
-        canvas.area(Fill::Stripe, &at, width, height)?;
+        canvas.area(Fill::Stripe, &at, width, sheet.lane_height(lane))?;
     }
     Ok(())
 }

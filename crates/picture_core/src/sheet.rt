@@ -11,13 +11,13 @@ pub(crate) const HEAD: u64 = 50;
 /// The height of a heading over lanes.
 pub(crate) const HEADING: u64 = 24;
 /// The heights of lanes.
-pub(crate) const TIMELINE: u64 = 50;
+const TIMELINE: u64 = 50;
 
-pub(crate) const BAR: u64 = 24;
+const BAR: u64 = 24;
 
-pub(crate) const BUFFER: u64 = 30;
+const BUFFER: u64 = 30;
 
-pub(crate) const WATCH: u64 = 24;
+const WATCH: u64 = 24;
 /// Where the axis of a timeline lies in its lane.
 pub(crate) const AXIS: u64 = 44;
 /// The height of a line of text.
@@ -31,6 +31,13 @@ const BESIDE: u64 = 14;
 /// What lies between two kinds of lanes.
 const APART: u64 = 10;
 
+/// The top and the height of a lane.
+#[derive(Clone, Copy)]
+struct Span {
+    top: u64,
+    height: u64,
+}
+
 /// Where columns and lanes lie, in pixels.
 #[derive(Drop)]
 pub(crate) struct Sheet {
@@ -41,8 +48,8 @@ pub(crate) struct Sheet {
     /// What the lanes and the texts beside them take.
     pub(crate) width: u64,
     pub(crate) timelines: u64,
-    /// The top of each bar's lane.
-    bars: Vec<u64>,
+    /// The lanes of bars.
+    bars: Vec<Span>,
     pub(crate) buffers: u64,
     pub(crate) watches: u64,
     pub(crate) bottom: u64,
@@ -95,9 +102,25 @@ impl Sheet {
     pub(crate) fn top(&self, lane: Lane) -> u64 {
         match lane {
             Lane::Timeline(place) => below(self.timelines, place, TIMELINE),
-            Lane::Bar(place) => self.bars.get(place).copied().unwrap_or(self.bottom),
+            Lane::Bar(place) => match self.bars.get(place) {
+                Some(span) => span.top,
+                None => self.bottom,
+            },
             Lane::Buffer(place) => below(self.buffers, place, BUFFER),
             Lane::Watch(place) => below(self.watches, place, WATCH),
+        }
+    }
+
+    /// How high a lane is.
+    pub(crate) fn lane_height(&self, lane: Lane) -> u64 {
+        match lane {
+            Lane::Timeline(_) => TIMELINE,
+            Lane::Bar(place) => match self.bars.get(place) {
+                Some(span) => span.height,
+                None => BAR,
+            },
+            Lane::Buffer(_) => BUFFER,
+            Lane::Watch(_) => WATCH,
         }
     }
 
@@ -134,19 +157,20 @@ fn lanes(top: u64, count: usize, height: u64) -> (u64, u64) {
     (first, below(first, count, height).saturating_add(APART))
 }
 
-/// The top of each bar's lane, which is as high as what it waits for, and what lies under them all.
-fn bars_of(alloc: Global, history: &History, top: u64) -> Result<(Vec<u64>, u64), Refusal> {
+/// The lane of each bar, which is as high as what it waits for, and what lies under them all.
+fn bars_of(alloc: Global, history: &History, top: u64) -> Result<(Vec<Span>, u64), Refusal> {
     let heights = bar_heights(alloc, history)?;
-    let mut tops = Vec::with_capacity(alloc, heights.len())?;
+    let mut spans = Vec::with_capacity(alloc, heights.len())?;
     if heights.is_empty() {
-        return Ok((tops, top));
+        return Ok((spans, top));
     }
-    let mut next = top.saturating_add(HEADING);
+    let mut top = top.saturating_add(HEADING);
     for height in &heights {
-        push(&mut tops, next)?;
-        next = next.saturating_add(*height);
+        let height = *height;
+        push(&mut spans, Span { top, height })?;
+        top = top.saturating_add(height);
     }
-    Ok((tops, next.saturating_add(APART)))
+    Ok((spans, top.saturating_add(APART)))
 }
 
 fn bar_heights(alloc: Global, history: &History) -> Result<Vec<u64>, Refusal> {
