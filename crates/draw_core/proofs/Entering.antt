@@ -1,17 +1,17 @@
 -- What becomes of bars as a command is entered, and as they are asked for their status after it.
-use Rattle.std.proofs.Common.{◌≡◌, ◌⊎◌, ℕ, zero, suc, ◌+◌, ◌<◌, ◌≤◌, Bool, true, false, not, ◌&&◌, nat_le, cond, refl, sym, ap, subst, ◌∙◌, List, [], ◌∷◌, ◌++◌, length, map, get_or, filter, Option, None, Some, is_some, is_none, IsSome, option_map, inl, inr, All, arith}
+use Rattle.std.proofs.Common.{◌≡◌, ℕ, zero, suc, ◌<◌, ◌≤◌, Bool, true, false, not, ◌&&◌, nat_le, cond, refl, sym, ap, subst, ◌∙◌, List, [], ◌∷◌, ◌++◌, length, map, get_or, filter, Option, None, Some, is_some, is_none, IsSome, option_map, All, arith}
 use Rattle.std.specs.Prelude.{if◌then◌else◌, IfSome}
 use Rattle.std.specs.Cmp.Lexicographic.{nat_list_eq_equiv}
-use Rattle.std.proofs.lemmas.Bool.{false≢true, le-leb, lt-leb, leb-true, leb-false, and_parts, and_right, and_from, not-true, cases_Bool}
+use Rattle.std.proofs.lemmas.Bool.{false≢true, le-leb, lt-leb, and_parts, and_right, and_from, not-true}
 use Rattle.std.proofs.lemmas.Option.{same_Some}
 use Rattle.std.proofs.lemmas.List.{append-nil, map-append, length-map, get_or-map}
-use Rattle.std.proofs.lemmas.List.Elements.{All-nil, All-cons, All-head, All-tail, All-weaker, All-push, All-map, filter-append, filter_passes, All-filter}
+use Rattle.std.proofs.lemmas.List.Elements.{All-head, All-tail, All-weaker, All-push, All-map, filter-append, filter_passes, All-filter}
 use Rattle.point_core.specs.Named.{same_name, is_named}
 use Rattle.point_core.specs.Status.{is_signalled}
 use Rattle.point_core.specs.declared.status.Status.{Status}
 use Rattle.point_core.specs.declared.status.Status.TheVariants.{Active}
 use Rattle.point_core.specs.Agreement.{all_reached}
-use Rattle.point_core.specs.Clocks.{common_status, some_cancelled, status_of}
+use Rattle.point_core.specs.Clocks.{common_status, some_cancelled}
 use Rattle.point_core.proofs.Agreement.{AgreesAbove-sym}
 use Rattle.point_core.proofs.Ticking.{is_signalled-of}
 use Rattle.point_core.proofs.Reached.{all_reached-AgreesAbove}
@@ -25,7 +25,7 @@ use Rattle.dmabuf_core.specs.Flags.{is_sync_flags}
 use Rattle.desk_core.proofs.Sound.{first_of-none}
 use Rattle.desk_core.specs.World.{World, MadeFile, file_named, files_without, has_file, has_made_buffer, after}
 use Rattle.desk_core.specs.Answer.{first_of, causes, cause, making_file, file_status, listed_points}
-use Rattle.desk_core.specs.Desk.{DeskState, Holds}
+use Rattle.desk_core.specs.Desk.{DeskState}
 use Rattle.desk_core.specs.Keeping.{Keeps}
 use Rattle.desk_core.specs.Sound.{IsSound, WasMade}
 use Rattle.desk_core.proofs.Keeping.{AgreesAbove-listed_points, sync_file_at-points, file_named-All}
@@ -33,8 +33,8 @@ use Rattle.desk_core.proofs.Signalling.{common_status-told}
 use Rattle.picture_core.specs.declared.bar.Bar.{Bar}
 use Rattle.picture_core.specs.declared.bar.Settled.{Settled}
 use Rattle.picture_core.specs.Bars.{bar_of, bars_after, closed_if, is_open_of, with_closed}
-use Rattle.draw_core.specs.Drawn.{AreAsked, IsAsked, IsSettledBy, drawn_at, settled_at, file_status as desk_status}
-use Rattle.draw_core.specs.Shown.{IsShown, ShowFiles, file_names, is_closed_by, is_there, names_there, status_in}
+use Rattle.draw_core.specs.Drawn.{AreAsked, IsAsked, drawn_at, settled_at, file_status as desk_status}
+use Rattle.draw_core.specs.Shown.{IsShown, file_names, is_closed_by, is_there, names_there, status_in}
 use Rattle.draw_core.specs.Progress.{AreBarsOf, IsKept, IsPast}
 use Rattle.draw_core.proofs.Staying.{closes, file_named-after, file_status-after, find-new, has_file-free}
 

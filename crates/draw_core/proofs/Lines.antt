@@ -1,9 +1,9 @@
 -- The lines of a script rise, and what their histories are as one line follows another.
-use Rattle.std.proofs.Common.{◌≡◌, ℕ, zero, suc, ◌+◌, ◌-◌, ◌<◌, ◌≤◌, Bool, true, false, ◌&&◌, nat_le, nat_lt, refl, sym, ap, subst, ◌∙◌, cond, List, [], ◌∷◌, ◌++◌, length, map, get_or, take, filter, All, arith, inl, inr}
+use Rattle.std.proofs.Common.{◌≡◌, ℕ, zero, suc, ◌+◌, ◌<◌, ◌≤◌, Bool, true, false, nat_le, nat_lt, refl, sym, ap, subst, ◌∙◌, cond, List, [], ◌∷◌, ◌++◌, length, map, get_or, take, filter, All, arith}
 use Rattle.std.specs.Prelude.{if◌then◌else◌}
-use Rattle.std.proofs.lemmas.Bool.{le-leb, lt-leb, leb-true, leb-false, lt-ltb, le-ltb, and_from, and_left, and_right, cases_lt, cases_Bool, and_cases}
+use Rattle.std.proofs.lemmas.Bool.{le-leb, lt-leb, leb-true, lt-ltb, le-ltb, and_left}
 use Rattle.std.proofs.lemmas.List.{append-nil, map-append, length-map, get_or_append_left, get_or_push, length_push, take_more}
-use Rattle.std.proofs.lemmas.List.Elements.{All-nil, All-cons, All-head, All-tail, All-weaker, All-append, All-push, All-map, filter-append, All-filter, filter_passes}
+use Rattle.std.proofs.lemmas.List.Elements.{All-nil, All-cons, All-head, All-tail, All-weaker, All-map, filter-append, All-filter, filter_passes}
 use Rattle.command_core.specs.declared.command.Command.{Command}
 use Rattle.command_core.specs.declared.answer.Answer.{Answer}
 use Rattle.line_core.specs.declared.line.Body.{Body}
@@ -15,7 +15,6 @@ use Rattle.line_core.specs.Script.{answered, ending_of, last_body, lines_of, num
 use Rattle.std.specs.Prelude.{Option, None, Some}
 use Rattle.script_core.specs.Output.{AreLineAnswers, history_after_line}
 use Rattle.script_core.specs.Answering.{history_along}
-use Rattle.script_core.proofs.Progress.{length-answers}
 use Rattle.draw_core.specs.declared.window.Window.{Window}
 use Rattle.picture_core.specs.declared.history.Column.{Column}
 use Rattle.draw_core.specs.Columns.{is_in_window, drawn_lines, lines_drawn}

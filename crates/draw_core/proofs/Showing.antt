@@ -1,17 +1,16 @@
 -- A run shows the files of its history, line by line.
-use Rattle.std.proofs.Common.{◌≡◌, ◌⊎◌, ℕ, zero, suc, ◌+◌, ◌<◌, ◌≤◌, Bool, true, false, ◌&&◌, nat_le, cond, refl, sym, ap, subst, ◌∙◌, List, [], ◌∷◌, ◌++◌, length, map, get_or, filter, Option, None, Some, inl, inr, All, arith}
+use Rattle.std.proofs.Common.{◌≡◌, ◌⊎◌, ℕ, zero, suc, ◌+◌, ◌<◌, ◌≤◌, Bool, true, false, nat_le, refl, sym, ap, subst, ◌∙◌, List, [], ◌∷◌, ◌++◌, length, None, inl, inr, All, arith}
 use Rattle.std.specs.Prelude.{if◌then◌else◌}
-use Rattle.std.proofs.lemmas.Bool.{cases_Bool, leb-true, leb-false, and_parts, and_left, and_right, and_from, le-leb, lt-leb, cases_lt}
-use Rattle.std.proofs.lemmas.List.{nil_from_length, length-map}
-use Rattle.std.proofs.lemmas.List.Elements.{All-nil, All-push, All-weaker}
+use Rattle.std.proofs.lemmas.Bool.{leb-true, and_parts, and_left, and_right, lt-leb, cases_lt}
+use Rattle.std.proofs.lemmas.List.{length-map}
+use Rattle.std.proofs.lemmas.List.Elements.{All-push, All-weaker}
 use Rattle.command_core.specs.declared.command.Command.{Command}
 use Rattle.command_core.specs.declared.answer.Answer.{Answer}
-use Rattle.command_core.specs.declared.answer.Answer.TheVariants as answer
 use Rattle.line_core.specs.declared.line.Body.{Body}
 use Rattle.line_core.specs.declared.line.Body.TheVariants.{Cmd, Bad}
 use Rattle.line_core.specs.declared.line.Line.{Line}
-use Rattle.desk_core.specs.World.{World, after, empty_world}
-use Rattle.desk_core.specs.Answer.{first_of, causes, answer_to, is_refused}
+use Rattle.desk_core.specs.World.{World, empty_world}
+use Rattle.desk_core.specs.Answer.{first_of, causes, is_refused}
 use Rattle.desk_core.specs.History.{world_of, IsAnswer}
 use Rattle.desk_core.specs.Desk.{DeskState, HasHistory}
 use Rattle.desk_core.proofs.Answering.{Keeps-stands, world_from-push}

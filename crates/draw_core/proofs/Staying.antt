@@ -1,39 +1,36 @@
 -- A file that an accepted command doesn't close stays, and once it is signalled its status stays.
-use Rattle.std.proofs.Common.{◌≡◌, ◌≢◌, ℕ, ◌+◌, ◌-◌, ◌<◌, ◌≤◌, Bool, true, false, not, ◌&&◌, ◌||◌, cond, find, refl, sym, ap, subst, ◌∙◌, List, [], ◌∷◌, ◌++◌, length, get_or, set, Option, None, Some, option_map, is_some, inl, inr, All, arith, filter}
-use Rattle.std.specs.Prelude.{if◌then◌else◌, nat_le, ◌↔◌}
+use Rattle.std.proofs.Common.{◌≡◌, ℕ, ◌+◌, ◌-◌, ◌<◌, ◌≤◌, Bool, true, false, not, ◌&&◌, ◌||◌, cond, find, refl, sym, ap, ◌∙◌, List, [], ◌∷◌, ◌++◌, length, get_or, set, Option, None, Some, inl, inr, arith}
+use Rattle.std.specs.Prelude.{if◌then◌else◌, nat_le}
 use Rattle.std.specs.List.{list_all, list_any}
 use Rattle.std.specs.Cmp.Lexicographic.{nat_list_eq_equiv, same_text}
 use Rattle.std.proofs.lemmas.Bool.{false≢true, leb-true, le-leb, and_left, and_right, and_parts, or_parts, leb-false, cases_Bool, cases_lt, cases_eq, not_from_true}
 use Rattle.std.proofs.lemmas.List.{get_or-set_same, get_or-set_other, set_past}
-use Rattle.std.proofs.lemmas.Option.{same_Some}
 use Rattle.point_core.specs.declared.context.TheConstants.{CONTEXTS}
 use Rattle.point_core.specs.declared.entry.Point.{Point}
 use Rattle.point_core.specs.declared.clocks.Clock.{Clock}
 use Rattle.point_core.specs.declared.refusal.Refusal.TheVariants.{NoEntry, Exists, Limit, Overflow, Cancelled as AlreadyClosed}
 use Rattle.point_core.specs.declared.refusal.LimitKind.TheVariants.{Timelines, Files}
-use Rattle.point_core.specs.Named.{same_name, is_named, named}
-use Rattle.point_core.specs.Clocks.{clock_of, new_clock, closed_clock, clock_at, with_clock, reach_of_clocks, reached_by, is_cancelled, some_cancelled, status_of}
-use Rattle.point_core.specs.Reach.{IsAtLeast, value_at, is_reached}
-use Rattle.point_core.specs.Agreement.{all_reached, IsReached}
+use Rattle.point_core.specs.Named.{same_name, is_named}
+use Rattle.point_core.specs.Clocks.{clock_of, new_clock, closed_clock, clock_at, reach_of_clocks, reached_by, is_cancelled, some_cancelled, status_of}
+use Rattle.point_core.specs.Reach.{IsAtLeast, is_reached}
+use Rattle.point_core.specs.Agreement.{all_reached}
 use Rattle.point_core.proofs.Agreement.{AgreesAbove-sym}
 use Rattle.point_core.proofs.Values.{IsAtLeast-refl}
 use Rattle.point_core.proofs.Ticking.{value_at-reach_of_clocks}
 use Rattle.point_core.proofs.Reached.{all_reached-IsReached, all_reached-AgreesAbove, all_reached-points}
 use Rattle.syncfile_core.specs.declared.files.TheConstants.{FILES}
-use Rattle.timeline_core.specs.Timeline.{Timeline, clocks_of, reach_of, context_of, clock_named, has_timeline, is_closed, raised, shut, value_of}
+use Rattle.timeline_core.specs.Timeline.{clocks_of, reach_of, context_of, clock_named, has_timeline, is_closed, value_of}
 use Rattle.timeline_core.proofs.Raising.{clocks_of-raised, clocks_of-shut, is_closed-open}
 use Rattle.timeline_core.proofs.Storing.{clocks_of-new, reach_of-new}
 use Rattle.command_core.specs.declared.command.Command.{Command}
 use Rattle.command_core.specs.declared.command.Command.TheVariants as command
-use Rattle.desk_core.specs.World.{World, MadeFile, has_file, file_named, files_without, has_made_buffer, after}
+use Rattle.desk_core.specs.World.{World, MadeFile, has_file, file_named, files_without, after}
 use Rattle.desk_core.specs.Answer.{first_of, cause, causes, making_file, file_status, listed_points}
-use Rattle.dmabuf_core.specs.Flags.{is_sync_flags}
 use Rattle.desk_core.specs.Sound.{IsSound, WasMade}
 use Rattle.desk_core.proofs.Keeping.{AgreesAbove-listed_points}
 use Rattle.desk_core.proofs.Sound.{first_of-none, not-false, IsAtLeast-raised, IsAtLeast-shut}
-use Rattle.std.proofs.Common.{nat_eq, ◌^◌}
+use Rattle.std.proofs.Common.{◌^◌}
 use Rattle.point_core.specs.declared.refusal.Refusal.{Refusal}
-use Rattle.point_core.specs.declared.refusal.Refusal.TheVariants.{Flags}
 
 -- which file a command closes
 abbrev pub closes : Command → List ℕ → Bool

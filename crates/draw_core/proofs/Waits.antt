@@ -1,11 +1,11 @@
 -- What bars wait for, by the desk and by its history.
-use Rattle.std.proofs.Common.{◌≡◌, Bool, false, ℕ, ◌+◌, ◌-◌, ◌<◌, ◌≤◌, refl, sym, ap, subst, ◌∙◌, List, [], ◌∷◌, ◌++◌, length, get_or, Option, None, Some, option_map, All, arith}
+use Rattle.std.proofs.Common.{◌≡◌, false, ℕ, ◌<◌, refl, sym, ap, subst, ◌∙◌, List, [], ◌∷◌, ◌++◌, length, get_or, Option, None, Some, option_map, All}
 use Rattle.std.specs.Prelude.{Contains, OnOk, Result, Ok, Err, is_some}
 use Rattle.std.proofs.lemmas.List.{append-nil, append_assoc}
 use Rattle.std.proofs.lemmas.List.Elements.{All-nil, All-push, All-weaker, All-append}
 use Rattle.std.proofs.lemmas.Option.{same_Some}
 use Rattle.point_core.specs.declared.entry.Point.{Point}
-use Rattle.timeline_core.specs.Timeline.{Timeline, clocks_of, name_at, value_of}
+use Rattle.timeline_core.specs.Timeline.{Timeline}
 use Rattle.syncfile_core.specs.SyncFile.{File}
 use Rattle.syncfile_core.specs.Files.{file_at}
 use Rattle.desk_core.specs.World.{World, MadeFile, file_named}
@@ -23,7 +23,7 @@ use Rattle.draw_core.specs.declared.window.Window.{Window}
 use Rattle.draw_core.specs.Drawn.{IsWaitingFor}
 use Rattle.draw_core.specs.Shown.{IsPending, IsWaitIn, ShowsRun}
 use Rattle.draw_core.specs.Progress.{AddsWaits, AreAskedFirst, HasDrawn, IsWaitBy}
-use Rattle.draw_core.proofs.Showing.{HasShown, HasShown-asked, ShowsRun-shown}
+use Rattle.draw_core.proofs.Showing.{HasShown-asked, ShowsRun-shown}
 
 abbrev IsAdded : DeskState → ℕ → List Point → BarWait → Type 0
 IsAdded desk bar points w = (w.bar ≡ bar) × ((p : Point) × Contains points p × IsWaitingFor desk p w.waiting)

@@ -1,11 +1,11 @@
 -- What is drawn of files, and what the desk says of them.
-use Rattle.std.specs.Prelude.{◌≡◌, ◌<◌, ◌≤◌, ◌-◌, ℕ, nat_le, if◌then◌else◌, List, Option, None, Some, option_map, IfSome, IsSome, false, true, length, slice_index_or}
+use Rattle.std.specs.Prelude.{◌≡◌, ◌<◌, ◌≤◌, ◌-◌, ℕ, nat_le, if◌then◌else◌, List, Option, None, Some, option_map, IfSome, IsSome, true, length, slice_index_or}
 use Rattle.point_core.specs.Clocks.{common_status, status_at}
 use Rattle.point_core.specs.Status.{is_signalled}
 use Rattle.point_core.specs.declared.entry.Point.{Point}
 use Rattle.point_core.specs.declared.status.Status.{Status}
 use Rattle.point_core.specs.declared.status.Status.TheVariants.{Active}
-use Rattle.desk_core.specs.Timeline.{Timeline, clocks_of, name_at, value_of}
+use Rattle.desk_core.specs.Timeline.{clocks_of, name_at, value_of}
 use Rattle.desk_core.specs.SyncFile.{File}
 use Rattle.desk_core.specs.Files.{file_at}
 use Rattle.desk_core.specs.Desk.{DeskState}

@@ -1,5 +1,5 @@
 -- How far a run has come, and what its bars are then.
-use Rattle.std.specs.Prelude.{◌≡◌, ◌<◌, ◌≤◌, ℕ, true, if◌then◌else◌, List, [], All, length, Option, None, is_some, IfSome}
+use Rattle.std.specs.Prelude.{◌≡◌, ◌<◌, ◌≤◌, ℕ, true, if◌then◌else◌, List, [], All, length, None, is_some, IfSome}
 use Rattle.command_core.specs.declared.answer.Answer.{Answer}
 use Rattle.line_core.specs.declared.line.Body.{Body}
 use Rattle.line_core.specs.declared.line.Body.TheVariants.{Cmd, Bad}
