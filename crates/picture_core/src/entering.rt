@@ -50,7 +50,21 @@ fn enter_file(bars: &mut Vec<Bar>, column: usize, command: &Command) -> Result<(
             close_bar(bars, column, name);
             Ok(())
         }
-        _ => Ok(()),
+        Command::Timeline(_)
+        | Command::Inc(_, _)
+        | Command::Value(_)
+        | Command::Shut(_)
+        | Command::Wait(_)
+        | Command::Info(_)
+        | Command::Buffer(_)
+        | Command::Add(_, _, _, _)
+        | Command::Import(_, _, _)
+        | Command::Test(_, _)
+        | Command::Trim(_)
+        | Command::Watch(_, _)
+        | Command::Unwatch(_)
+        | Command::Show(_)
+        | Command::Report => Ok(()),
     }
 }
 
@@ -104,7 +118,15 @@ impl Lanes {
                 end_watch(&mut self.watches, *cookie, WatchEnd::Removed(column));
                 Ok(())
             }
-            _ => Ok(()),
+            Command::Value(_)
+            | Command::Fence(_, _, _)
+            | Command::Merge(_, _, _)
+            | Command::Close(_)
+            | Command::Wait(_)
+            | Command::Info(_)
+            | Command::Test(_, _)
+            | Command::Show(_)
+            | Command::Report => Ok(()),
         }
     }
 
@@ -166,7 +188,19 @@ impl Lanes {
             Command::Watch(name, _) => {
                 self.link(column, bar_lane(bars, name), self.last_watch())
             }
-            _ => Ok(()),
+            Command::Timeline(_)
+            | Command::Inc(_, _)
+            | Command::Value(_)
+            | Command::Shut(_)
+            | Command::Close(_)
+            | Command::Wait(_)
+            | Command::Info(_)
+            | Command::Buffer(_)
+            | Command::Test(_, _)
+            | Command::Trim(_)
+            | Command::Unwatch(_)
+            | Command::Show(_)
+            | Command::Report => Ok(()),
         }
     }
 
