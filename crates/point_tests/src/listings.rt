@@ -144,7 +144,9 @@ fn is_used_again(rt: &impl Abort, alloc: Global, latest: &mut LatestPoints) {
     let mut points = points_of(rt, alloc, &[(9, 9)]);
     latest.restart(&Reach::zero());
     latest.put(point(rt, 4, 1));
-    latest.list(&Reach::zero(), &mut points).expect(rt, "memory");
+    latest
+        .list(&Reach::zero(), &mut points)
+        .expect(rt, "memory");
     has_points(rt, alloc, points.as_slice(), &[(4, 1)]);
 }
 
@@ -172,7 +174,10 @@ fn a_listing_keeps_its_points(rt: HostRuntime) {
     let made = listing(&rt, rt.alloc(), rows);
     let same = listing(&rt, rt.alloc(), rows);
     holds(&rt, made == same);
-    holds(&rt, Listing::empty(rt.alloc()) == listing(&rt, rt.alloc(), &[]));
+    holds(
+        &rt,
+        Listing::empty(rt.alloc()) == listing(&rt, rt.alloc(), &[]),
+    );
     has_points(&rt, rt.alloc(), made.points.as_slice(), rows);
     let Listing { points, floor: _ } = same;
     has_points(&rt, rt.alloc(), points.into_vec().as_slice(), rows);
