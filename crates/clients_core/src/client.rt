@@ -143,7 +143,8 @@ fn act_listed<R: Wait, T: SharedTable, G: Gate>(
         All (IsWithin shared.now.words.now.contexts shared.now.words.now.buffers) done →
         HaveActed (T.puts shared.now.table.now) (T.exports shared.now.table.now) done
         acts.now (client_of driver.old seat.old) (client_of driver.new seat.new)) }
-    ensures known { OnOk result ((done : List Act) → KnowPuts shared.now.words.now.contexts own.old done → KnowPuts shared.now.words.now.contexts own.new (done ++ acts.now)) }
+    ensures known { OnOk result ((done : List Act) → KnowPuts shared.now.words.now.contexts own.old done →
+        KnowPuts shared.now.words.now.contexts own.new (done ++ acts.now)) }
     ensures stopped { IfErr result (λ e. (done : List Act) → KnowPuts shared.now.words.now.contexts own.old done →
         All (IsWithin shared.now.words.now.contexts shared.now.words.now.buffers) done →
         HasStopped (T.puts shared.now.table.now) (T.exports shared.now.table.now) done
@@ -183,7 +184,8 @@ fn act_once<R: Wait, T: SharedTable, G: Gate>(
         All (IsWithin shared.now.words.now.contexts shared.now.words.now.buffers) done →
         HasActed (T.puts shared.now.table.now) (T.exports shared.now.table.now) done
         act.now (client_of driver.old seat.old) (client_of driver.new seat.new) result }
-    ensures known { OnOk result ((done : List Act) → KnowPuts shared.now.words.now.contexts own.old done → KnowPuts shared.now.words.now.contexts own.new (done ++ act.now ∷ [])) }
+    ensures known { OnOk result ((done : List Act) → KnowPuts shared.now.words.now.contexts own.old done →
+        KnowPuts shared.now.words.now.contexts own.new (done ++ act.now ∷ [])) }
     ensures buffers { length own.new ≡ length own.old }
     ensures advanced { OnOk result (driver.new.value ≡ driver.old.value + increment_by act.now) }
     ensures refusals { IfErr result IsClientRefusal }
@@ -223,7 +225,8 @@ fn look<R: Wait, T: SharedTable, G: Gate>(
     requires own { (T.made_for shared.now.table.now ≡ shared.now.words.now) × IsSinglePart shared.now.words.now seat.old }
     requires buffer { buffer < shared.now.words.now.buffers }
     ensures seat { IsSinglePart shared.now.words.now seat.new }
-    ensures judged { (es : List Entry) → AreOwnPuts shared.now.words.now.contexts own.now es → All (λ e. e.point.ctx ≤ shared.now.words.now.contexts) es →
+    ensures judged { (es : List Entry) → AreOwnPuts shared.now.words.now.contexts own.now es →
+        All (λ e. e.point.ctx ≤ shared.now.words.now.contexts) es →
         (listed : Result Listing Refusal) × T.exports shared.now.table.now buffer usage seat.old seat.new listed
         × (result ≡ judged (usage_number usage) es listed) }
     ensures refusals { IfErr result IsClientRefusal }
