@@ -40,7 +40,7 @@ every-round p b client next a (suc n) each =
     twice true = refl
     twice false = refl
 
--- so the first round tells whether all are within
+-- so the first round shows whether all are within
 pub within-first : (contexts buffers client next n : ℕ) → 0 < n → list_all (is_within contexts buffers) (rounds_of n client next) ≡ list_all (is_within contexts buffers) (round_of client next 1)
 within-first contexts buffers client next zero some = absurd (omega arith)
 within-first contexts buffers client next (suc n) some = every-round (is_within contexts buffers) (list_all (is_within contexts buffers) (round_of client next 1)) client next 1 n (λ r. refl)

@@ -8,7 +8,7 @@ use crate::part::{Part, put_all};
 use command_core::{BufferRows, FileRow, Report, ShowRow};
 use json::Writer;
 use point_core::TimelineRow;
-use report_core::Kind;
+use report_core::RowKind;
 use std::alloc::AllocError;
 
 pub(crate) fn put_show(writer: &mut Writer, rows: &[ShowRow]) -> Result<(), AllocError>
@@ -38,7 +38,7 @@ fn put_rows(writer: &mut Writer, rows: &[ShowRow]) -> Result<(), AllocError>
 fn put_row(writer: &mut Writer, row: &ShowRow) -> Result<(), AllocError>
     ensures added { OnOk result (Adds writer.old writer.new (show_row_tokens row.now)) }
 {
-    let usage = Kind::Level(row.usage).word();
+    let usage = RowKind::Level(row.usage).word();
     let parts = [
         Part::BeginObject,
         Part::Key("usage"),

@@ -33,7 +33,7 @@ front-padded values zero rest all past =
 front-padded [] (suc used) rest all past = absurd (omega (arith, all))
 front-padded (v ∷ vs) (suc used) rest all past = ap (λ behind. v ∷ behind) (front-padded vs used rest (omega (arith, all)) (λ k low. past (suc k) (omega arith)))
 
--- the front of a table tells all of it
+-- the part in use determines the table
 pub padded-front : (values : List ℕ) (used : ℕ) → AreValues values used → padded (take used values) ≡ values
 padded-front values used h =
     let full = h.0 in

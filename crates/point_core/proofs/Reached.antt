@@ -77,7 +77,7 @@ all_reached-AgreesAbove {reach} {es} {fs} usage there back =
     let right = all_reached-IsReached reach usage fs in
     same_Bool _ _ (λ is. right.1 (IsReached-AgreesAbove usage there (left.0 is))) (λ is. left.1 (IsReached-AgreesAbove usage back (right.0 is)))
 
--- a status tells whether all is reached
+-- a status shows whether all is reached
 pub status_if-Signalled : (b : Bool) (P : Type 0) → ((b ≡ true) ↔ P) → (status_if b ≡ Signalled) ↔ P
 status_if-Signalled true P h = (λ _. h.0 refl, λ _. refl)
 status_if-Signalled false P h = (λ is. absurd (cc), λ p. absurd (false≢true (h.1 p)))

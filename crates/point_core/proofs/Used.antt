@@ -51,7 +51,7 @@ unfolding used_of
 used_of-last [] some = absurd (omega arith)
 used_of-last (v ∷ vs) some = last_with v vs (used_of vs) refl (used_of-last vs) some
 
--- which tells how many are used
+-- which gives how many are used
 pub used_of-is : (values : List ℕ) (n : ℕ) → ((k : ℕ) → n ≤ k → get_or values k 0 ≡ 0) → (0 < n → 0 < get_or values (n - 1) 0) → n ≡ used_of values
 used_of-is values n past last = elim (cases_lt n (used_of values)) [
   | inl more ↦

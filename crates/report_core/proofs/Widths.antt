@@ -6,12 +6,12 @@ use Rattle.report_core.specs.Status.{status_text}
 use Rattle.point_core.specs.declared.status.Status.{Status}
 use Rattle.point_core.specs.declared.status.Status.TheVariants.{Active, Signalled, Cancelled}
 use Rattle.point_core.specs.declared.entry.Usage.TheVariants.{Kernel, Write, Read, Bookkeep}
-use Rattle.report_core.specs.declared.kind.Kind.{Kind}
-use Rattle.report_core.specs.declared.kind.Kind.TheVariants.{Timeline, Closed, File, Buffer, Level}
+use Rattle.report_core.specs.declared.row_kind.RowKind.{RowKind}
+use Rattle.report_core.specs.declared.row_kind.RowKind.TheVariants.{Timeline, Closed, File, Buffer, Level}
 use Rattle.report_core.specs.declared.rows.TheConstants.{KIND_WIDTH, SUBJECT_WIDTH, NUMBER_WIDTH, COUNT_WIDTH, ROW_BYTES, FILE_ROW_BYTES}
 use Rattle.report_core.proofs.Statuses.{text-Active, text-Signalled, text-Cancelled}
 use Rattle.report_core.specs.Columns.{left, column, right}
-use Rattle.report_core.specs.Kind.{kind_word}
+use Rattle.report_core.specs.RowKind.{kind_word}
 use Rattle.command_core.specs.declared.answer.FileRow.{FileRow}
 use Rattle.report_core.specs.Row.{columns, row_text, file_row_text}
 
@@ -24,7 +24,7 @@ length-column width text h = omega (arith, length-append (left width text) (32 �
 length-right : (width : ℕ) (text : List ℕ) → length text ≤ width → length (right width text) ≡ width
 length-right width text h = omega (arith, length-append (replicate {A = ℕ} (width - length text) 32) text, length-replicate {A = ℕ} (width - length text) 32)
 
-length-kind_word : (kind : Kind) → length (kind_word kind) ≤ KIND_WIDTH
+length-kind_word : (kind : RowKind) → length (kind_word kind) ≤ KIND_WIDTH
 length-kind_word Timeline = omega arith
 length-kind_word Closed = omega arith
 length-kind_word File = omega arith
@@ -37,10 +37,10 @@ length-kind_word (Level Bookkeep) = omega arith
 pub length-decimal : (number : ℕ) → number < 2 ^ 64 → length (decimal number) ≤ NUMBER_WIDTH
 length-decimal number n = length-decimal-le 20 number (omega arith) (omega arith) n
 
-pub length-kind_column : (kind : Kind) → length (column KIND_WIDTH (kind_word kind)) ≡ KIND_WIDTH + 1
+pub length-kind_column : (kind : RowKind) → length (column KIND_WIDTH (kind_word kind)) ≡ KIND_WIDTH + 1
 length-kind_column kind = length-column KIND_WIDTH (kind_word kind) (length-kind_word kind)
 
-length-columns : (kind : Kind) (subject number : List ℕ) → length subject ≤ SUBJECT_WIDTH → length number ≤ NUMBER_WIDTH → length (columns kind subject number) + 1 ≡ ROW_BYTES
+length-columns : (kind : RowKind) (subject number : List ℕ) → length subject ≤ SUBJECT_WIDTH → length number ≤ NUMBER_WIDTH → length (columns kind subject number) + 1 ≡ ROW_BYTES
 length-columns kind subject number s n =
     let first = column KIND_WIDTH (kind_word kind) in
     let second = column SUBJECT_WIDTH subject in
@@ -52,7 +52,7 @@ length-columns kind subject number s n =
     let d : length third ≡ NUMBER_WIDTH = length-right NUMBER_WIDTH number n in
     omega (arith, whole, front, a, b, d)
 
-pub length-row : (old new : List ℕ) (kind : Kind) (subject : List ℕ) (number : ℕ) → length subject ≤ SUBJECT_WIDTH → number < 2 ^ 64 → new ≡ old ++ row_text kind subject number → length new ≡ length old + ROW_BYTES
+pub length-row : (old new : List ℕ) (kind : RowKind) (subject : List ℕ) (number : ℕ) → length subject ≤ SUBJECT_WIDTH → number < 2 ^ 64 → new ≡ old ++ row_text kind subject number → length new ≡ length old + ROW_BYTES
 length-row old new kind subject number s n e =
     let whole : length (old ++ row_text kind subject number) ≡ length old + length (row_text kind subject number) = length-append old (row_text kind subject number) in
     let text : length (row_text kind subject number) ≡ length (columns kind subject (decimal number)) + 1 = length-append (columns kind subject (decimal number)) (10 ∷ []) in

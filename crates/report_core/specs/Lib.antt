@@ -1,6 +1,6 @@
 pub mod Bytes
 pub mod Columns
-pub mod Kind
+pub mod RowKind
 pub mod Row
 pub mod Settled
 pub mod Status

@@ -3,7 +3,7 @@ use Rattle.std.specs.Prelude.{ℕ, List, ◌++◌, length, codes, decimal}
 use Rattle.std.specs.List.{flat_map, enumerate_from}
 use Rattle.point_core.specs.declared.listing.TopRow.{TopRow}
 use Rattle.resv_core.specs.declared.plan.Settled.{Settled}
-use Rattle.report_core.specs.declared.kind.Kind.TheVariants.{Timeline, Buffer, Level}
+use Rattle.report_core.specs.declared.row_kind.RowKind.TheVariants.{Timeline, Buffer, Level}
 use Rattle.report_core.specs.Row.{row_text}
 
 abbrev pub client_name : ℕ → List ℕ

@@ -1,8 +1,8 @@
 -- The texts of tables, row by row.
 use Rattle.std.specs.Prelude.{ℕ, if◌then◌else◌, List, ◌++◌, length}
 use Rattle.std.specs.List.{flat_map}
-use Rattle.report_core.specs.declared.kind.Kind.TheVariants.{Timeline, Closed, Buffer, Level}
-use Rattle.report_core.specs.declared.kind.Kind.{Kind}
+use Rattle.report_core.specs.declared.row_kind.RowKind.TheVariants.{Timeline, Closed, Buffer, Level}
+use Rattle.report_core.specs.declared.row_kind.RowKind.{RowKind}
 use Rattle.point_core.specs.declared.timeline_row.TimelineRow.{TimelineRow}
 use Rattle.command_core.specs.declared.answer.ShowRow.{ShowRow}
 use Rattle.command_core.specs.declared.answer.BufferRows.{BufferRows}
@@ -17,7 +17,7 @@ abbrev pub show_text : List ShowRow → List ℕ
 show_text rows = flat_map show_row_text rows
 
 -- a closed timeline has a kind of its own
-abbrev pub timeline_kind : TimelineRow → Kind
+abbrev pub timeline_kind : TimelineRow → RowKind
 timeline_kind timeline = if timeline.closed then Closed else Timeline
 
 abbrev pub timeline_text : TimelineRow → List ℕ

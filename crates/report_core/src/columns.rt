@@ -5,7 +5,7 @@ ghost use Rattle.report_core.specs.Columns.{right};
 ghost use Rattle.report_core.specs.Subject.{subject_text};
 ghost use Rattle.report_core.specs.Row.{columns};
 
-use crate::kind::Kind;
+use crate::row_kind::RowKind;
 use crate::line::{TEXT_LINE_BYTES, TextLine};
 use crate::rows::{COUNT_WIDTH, KIND_BYTES, NUMBER_WIDTH, ROW_BYTES, SUBJECT_WIDTH};
 use itoa::{Buffer, write_digits};
@@ -24,7 +24,7 @@ pub(crate) enum Subject<'a> {
 #[inline(always)]
 pub(crate) fn push_columns(
     out: &mut Vec<u8>,
-    kind: Kind,
+    kind: RowKind,
     subject: Subject<'_>,
     number: u64,
     last: u8,
@@ -46,7 +46,7 @@ pub(crate) fn push_columns(
 /// Fails only with Memory, and then leaves `out` as it was.
 pub(crate) fn push_text_columns(
     out: &mut Vec<u8>,
-    kind: Kind,
+    kind: RowKind,
     subject: Subject<'_>,
     text: &[u8],
     last: u8,

@@ -4,7 +4,7 @@
 #![tactic(auto)]
 
 mod columns;
-mod kind;
+mod row_kind;
 mod line;
 mod report;
 mod rows;
@@ -12,7 +12,7 @@ mod settled;
 mod status;
 mod writing;
 
-pub use kind::Kind;
+pub use row_kind::RowKind;
 pub use line::{TEXT_LINE_BYTES, TextLine};
 pub use report::{buffer_text, report_text, show_text, timelines_text};
 pub use rows::{

@@ -6,7 +6,7 @@ ghost use Rattle.point_core.specs.declared.refusal.Refusal.TheVariants.{Memory};
 ghost use Rattle.report_core.specs.Row.{file_row_text};
 ghost use Rattle.report_core.specs.Tables.{show_text, timeline_kind, timeline_text, buffer_text, report_text};
 
-use crate::kind::Kind;
+use crate::row_kind::RowKind;
 use crate::rows::{file_row, row};
 use command_core::{BufferRows, FileRow, Report, ShowRow};
 use point_core::{Refusal, TimelineRow};
@@ -19,7 +19,7 @@ pub fn show_text(rows: &[ShowRow], out: &mut Vec<u8>) -> Result<(), Refusal>
     ensures err { OnErr result ((result ≡ Err Memory) × StartsWith out.new.items out.old.items) }
 {
     for shown in rows {
-        row(Kind::Level(shown.usage), &shown.timeline, shown.point, out)?;
+        row(RowKind::Level(shown.usage), &shown.timeline, shown.point, out)?;
     }
     Ok(())
 }
@@ -51,13 +51,13 @@ pub fn timelines_text(timelines: &[TimelineRow], out: &mut Vec<u8>) -> Result<()
     Ok(())
 }
 
-fn kind_of(timeline: &TimelineRow) -> Kind
+fn kind_of(timeline: &TimelineRow) -> RowKind
     ensures { result ≡ timeline_kind timeline.now }
 {
     if timeline.closed {
-        Kind::Closed
+        RowKind::Closed
     } else {
-        Kind::Timeline
+        RowKind::Timeline
     }
 }
 
@@ -89,7 +89,7 @@ pub fn buffer_text(buffer: &BufferRows, out: &mut Vec<u8>) -> Result<(), Refusal
     ensures err { OnErr result ((result ≡ Err Memory) × StartsWith out.new.items out.old.items) }
 {
     let rows = buffer.rows.as_slice();
-    row(Kind::Buffer, &buffer.name, rows.len() as u64, out)?;
+    row(RowKind::Buffer, &buffer.name, rows.len() as u64, out)?;
     show_text(rows, out)?;
     Ok(())
 }

@@ -6,7 +6,7 @@ ghost use Rattle.report_core.specs.Subject.{subject_text};
 ghost use Rattle.report_core.specs.Row.{row_text, file_row_text};
 
 use crate::columns::{Subject, push_columns, push_text_columns, put_number};
-use crate::kind::Kind;
+use crate::row_kind::RowKind;
 use crate::line::TextLine;
 use crate::status::status_text;
 use command_core::FileRow;
@@ -49,7 +49,7 @@ const _: () = prove!(FILE_ROW_BYTES == 66);
 /// space, the number in decimal on the right of its column, and a line feed.
 ///
 /// Fails only with Memory. `out` then begins with what it was.
-pub fn row(kind: Kind, name: &Name, number: u64, out: &mut Vec<u8>) -> Result<(), Refusal>
+pub fn row(kind: RowKind, name: &Name, number: u64, out: &mut Vec<u8>) -> Result<(), Refusal>
     ensures ok { OnOk result (out.new.items ≡ out.old.items ++ row_text kind name.now number) }
     ensures width { OnOk result (length out.new.items ≡ length out.old.items + ROW_BYTES) }
     ensures err { OnErr result ((result ≡ Err Memory) × StartsWith out.new.items out.old.items) }
@@ -83,14 +83,14 @@ fn push_file_row(out: &mut Vec<u8>, file: &FileRow) -> Result<(), Refusal>
     let status = status_text(file.status);
     let mut count = TextLine::new();
     put_number(&mut count, file.count, COUNT_WIDTH);
-    push_text_columns(out, Kind::File, Subject::Named(&file.name), status, b' ')?;
+    push_text_columns(out, RowKind::File, Subject::Named(&file.name), status, b' ')?;
     count.push_to(out)
 }
 
 #[inline(always)]
 pub(crate) fn push_row(
     out: &mut Vec<u8>,
-    kind: Kind,
+    kind: RowKind,
     subject: Subject<'_>,
     number: u64,
 ) -> Result<(), Refusal>

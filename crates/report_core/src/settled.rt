@@ -6,7 +6,7 @@ ghost use Rattle.point_core.specs.declared.refusal.Refusal.TheVariants.{Memory};
 ghost use Rattle.report_core.specs.Settled.{client_text, top_text, table_text, settled_text};
 
 use crate::columns::Subject;
-use crate::kind::Kind;
+use crate::row_kind::RowKind;
 use crate::rows::push_row;
 use point_core::{Items, Refusal, TopRow};
 use resv_core::Settled;
@@ -29,7 +29,7 @@ fn push_clients(out: &mut Vec<u8>, values: &[u64]) -> Result<(), Refusal>
     ensures err { OnErr result ((result ≡ Err Memory) × StartsWith out.new.items out.old.items) }
 {
     for (place, value) in values.iter().enumerate() {
-        push_row(out, Kind::Timeline, client(place as u64 + 1), *value)?;
+        push_row(out, RowKind::Timeline, client(place as u64 + 1), *value)?;
     }
     Ok(())
 }
@@ -50,7 +50,7 @@ fn push_table(out: &mut Vec<u8>, buffer: u64, rows: &[TopRow]) -> Result<(), Ref
 {
     push_row(
         out,
-        Kind::Buffer,
+        RowKind::Buffer,
         Subject::Numbered(b'b', buffer),
         rows.len() as u64,
     )?;
@@ -65,7 +65,7 @@ fn push_tops(out: &mut Vec<u8>, rows: &[TopRow]) -> Result<(), Refusal>
     for row in rows {
         push_row(
             out,
-            Kind::Level(row.usage),
+            RowKind::Level(row.usage),
             client(u64::from(row.ctx.number())),
             row.point,
         )?;

@@ -1,4 +1,4 @@
--- Calls on a table, one after another, and what a table tells.
+-- Calls on a table, one after another, and what a table shows.
 use Rattle.std.proofs.Common.{◌≡◌, ℕ, ◌↔◌, sym, ap, List, [], ◌∷◌, ◌++◌, map, append_assoc, append-nil, Contains}
 use Rattle.point_core.specs.declared.entry.Entry.{Entry}
 use Rattle.point_core.specs.declared.entry.Usage.{Usage}

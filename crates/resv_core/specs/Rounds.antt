@@ -33,7 +33,7 @@ abbrev pub acts_from : Source → List Act
 acts_from (source.Listed list) = list.items
 acts_from (source.InRounds rounds) = acts_of_rounds rounds
 
--- the acts that a plan tells
+-- the acts of a plan
 abbrev pub acts_in : Acts → List Act
 acts_in (acts.Listed list) = list.now
 acts_in (acts.InRounds rounds) = acts_of_rounds rounds

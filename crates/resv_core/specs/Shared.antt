@@ -1,7 +1,7 @@
 -- What a call on a shared table does to its seat.
 use Rattle.std.specs.Prelude.{◌≡◌, ℕ, ◌≤◌, List}
 use Rattle.words_core.specs.declared.trace.Step.{Step}
-use Rattle.words_core.specs.declared.trace.Kind.TheVariants.{Load}
+use Rattle.words_core.specs.declared.trace.StepKind.TheVariants.{Load}
 use Rattle.words_core.specs.Layout.{mark_word}
 use Rattle.words_core.specs.Trace.{if_kind, shuts_of, total}
 use Rattle.words_core.specs.Loads.{HasLoadedAll}

@@ -27,7 +27,7 @@ pub fn a_table_agrees_with_all_that_was_added()
 
 /// What `table` and `test` give of a table depends only on what it agrees with. Of what `collect` lists,
 /// `listings_show_agreement` of `point_core` says so.
-pub fn tables_that_agree_tell_the_same()
+pub fn tables_that_agree_show_the_same()
     ensures table { (reach : List ℕ) (es fs : List Entry) →
         AgreesAbove reach es fs → rows_of es reach ≡ rows_of fs reach }
     ensures test { (reach : List ℕ) (es fs : List Entry) (usage : ℕ) →

@@ -14,7 +14,7 @@ mod tops;
 pub use adding::SCANNED;
 pub use laws::{
     a_table_agrees_with_all_that_was_added, a_trimmed_table_has_one_entry_of_each_usage,
-    tables_that_agree_tell_the_same,
+    tables_that_agree_show_the_same,
 };
 pub use plan::{Act, Acts, Plan, ROUND_ACTS, Rounds, Settled};
 pub use resv::{PLACES, PLACES_PER_CONTEXT, Resv};

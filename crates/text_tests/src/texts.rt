@@ -2,7 +2,7 @@
 use crate::values::{context, holds, name};
 use command_core::{BufferRows, FileRow, Report, ShowRow};
 use point_core::{Items, Name, Status, TimelineRow, TopRow, Usage};
-use report_core::{Kind, file_row, report_text, row, settled_text, show_text};
+use report_core::{RowKind, file_row, report_text, row, settled_text, show_text};
 use resv_core::Settled;
 use std::alloc::Global;
 use std::process::Abort;
@@ -19,18 +19,18 @@ bookkeep abcdefghijklmnopqrstuvwxyz_0.-9 18446744073709551615\n\
 file     abcdefghijklmnopqrstuvwxyz_0.-9                    1 999\n\
 ";
 
-fn full_row(rt: &impl Abort, kind: Kind, name: &Name, out: &mut Vec<u8>) {
+fn full_row(rt: &impl Abort, kind: RowKind, name: &Name, out: &mut Vec<u8>) {
     row(kind, name, u64::MAX, out).expect(rt, "memory");
 }
 
 fn writes_each_kind(rt: &impl Abort, out: &mut Vec<u8>) {
     let longest = name(rt, LONGEST_NAME);
-    full_row(rt, Kind::Timeline, &longest, out);
-    full_row(rt, Kind::Buffer, &longest, out);
-    full_row(rt, Kind::Level(Usage::Kernel), &longest, out);
-    full_row(rt, Kind::Level(Usage::Write), &longest, out);
-    full_row(rt, Kind::Level(Usage::Read), &longest, out);
-    full_row(rt, Kind::Level(Usage::Bookkeep), &longest, out);
+    full_row(rt, RowKind::Timeline, &longest, out);
+    full_row(rt, RowKind::Buffer, &longest, out);
+    full_row(rt, RowKind::Level(Usage::Kernel), &longest, out);
+    full_row(rt, RowKind::Level(Usage::Write), &longest, out);
+    full_row(rt, RowKind::Level(Usage::Read), &longest, out);
+    full_row(rt, RowKind::Level(Usage::Bookkeep), &longest, out);
     let file = FileRow {
         name: longest,
         status: Status::Signalled,

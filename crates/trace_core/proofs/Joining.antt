@@ -9,7 +9,7 @@ use Rattle.std.proofs.lemmas.Bool.{false≢true, cases_lt}
 use Rattle.trace_core.specs.declared.item.TheConstants.{PIECE_BYTES}
 use Rattle.trace_core.specs.declared.piece.Piece.{Piece}
 use Rattle.trace_core.specs.Cutting.{MayFollow, HasNoLineFeed, IsLine, AreLines, IsJoined, IsFirstPiece}
-use Rattle.trace_core.specs.Item.{Told, Unread, told}
+use Rattle.trace_core.specs.Item.{Meaning, Unread, meaning_of}
 use Rattle.trace_core.specs.Loss.{lost, note}
 use Rattle.trace_core.specs.Steps.{after}
 use Rattle.trace_core.specs.Piece.{is_line_feed, is_unread, item_of, lost_or_record, with_lines, first_line, after_line, begins_record, record_or, joined_from, joined_or_unread, first_item}
@@ -130,10 +130,10 @@ module _ (bytes : List ℕ) (whole : Bool) (lines : List ℕ) (end : ℕ) (are :
           stepped short begins ∙ ap (λ o. record_or o (drop (end + len) bytes ++ more) (joined_from n (lines ++ 10 ∷ line) (drop (end + len) bytes ++ more))) (ap record_of (sym with_line) ∙ sym e)
 
 module _ (bytes : List ℕ) (whole : Bool) (line : List ℕ) (first : ℕ) (piece : Piece) where
-  pub IsJoined-none : told piece.item ≡ Unread → piece.length ≡ first
+  pub IsJoined-none : meaning_of piece.item ≡ Unread → piece.length ≡ first
       → ((more : List ℕ) → MayFollow whole more → joined_from 3 line (drop first bytes ++ more) ≡ None) → IsJoined bytes whole line first piece
   IsJoined-none item length none more may =
-      ap (λ o. joined_or_unread o (drop first bytes ++ more)) (none more may) ∙ ap (λ i. (i, drop first bytes ++ more)) (sym item) ∙ ap (λ n. (told piece.item, drop n bytes ++ more)) (sym length)
+      ap (λ o. joined_or_unread o (drop first bytes ++ more)) (none more may) ∙ ap (λ i. (i, drop first bytes ++ more)) (sym item) ∙ ap (λ n. (meaning_of piece.item, drop n bytes ++ more)) (sym length)
 
 -- one line fewer is left
 pub fewer : (lines : ℕ) → lines < 5 → 5 - lines ≡ suc (4 - lines)
@@ -148,12 +148,12 @@ module _ (bytes : List ℕ) (whole : Bool) (line : List ℕ) (len : ℕ) (is : I
   first-joined u b (Some piece) h = λ more may.
       first_item-line bytes whole line len is more may ∙ with_lines-joined line (drop len bytes ++ more) (item_of line) u b ∙ h more may
 
-  pub first-alone : is_unread (item_of line) ≡ true → begins_record line ≡ false → (item : Told) → item ≡ item_of line
+  pub first-alone : is_unread (item_of line) ≡ true → begins_record line ≡ false → (item : Meaning) → item ≡ item_of line
       → (more : List ℕ) → MayFollow whole more → first_item (bytes ++ more) ≡ (item, drop len bytes ++ more)
   first-alone u b item e more may =
       first_item-line bytes whole line len is more may ∙ with_lines-alone line (drop len bytes ++ more) (item_of line) u b ∙ ap (λ i. (i, drop len bytes ++ more)) (sym e)
 
-  pub first-read : is_unread (item_of line) ≡ false → (item : Told) → item ≡ item_of line
+  pub first-read : is_unread (item_of line) ≡ false → (item : Meaning) → item ≡ item_of line
       → (more : List ℕ) → MayFollow whole more → first_item (bytes ++ more) ≡ (item, drop len bytes ++ more)
   first-read u item e more may =
       first_item-line bytes whole line len is more may ∙ with_lines-read line (drop len bytes ++ more) (item_of line) u ∙ ap (λ i. (i, drop len bytes ++ more)) (sym e)

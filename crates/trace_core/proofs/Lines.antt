@@ -9,7 +9,7 @@ use Rattle.std.proofs.lemmas.List.Sums.{position_or_len_is, fails_before_first, 
 use Rattle.std.proofs.lemmas.Option.{cond_some}
 use Rattle.trace_core.specs.declared.item.TheConstants.{PIECE_BYTES}
 use Rattle.trace_core.specs.Cutting.{MayFollow, HasNoLineFeed, IsLine, IsRestOfLine}
-use Rattle.trace_core.specs.Item.{Told, Event, Other, Unread, Lost, BufferStarted, Counts, Note}
+use Rattle.trace_core.specs.Item.{Meaning, Event, Other, Unread, Lost, BufferStarted, Counts, Note}
 use Rattle.trace_core.specs.Piece.{is_line_feed, is_unread, item_of, first_line, after_line, begins_record, record_or, joined_from, joined_or_unread, with_lines, first_item}
 use Rattle.trace_core.specs.Record.{Printed, record_of}
 
@@ -103,7 +103,7 @@ module _ (bytes : List ℕ) (whole : Bool) (line : List ℕ) (len : ℕ) (is : I
       ap (λ l. with_lines (item_of l) l (after_line (bytes ++ more))) line-first ∙ ap (with_lines (item_of line) line) line-after
 
 module _ (line rest : List ℕ) where
-  pub with_lines-read : (item : Told) → is_unread item ≡ false → with_lines item line rest ≡ (item, rest)
+  pub with_lines-read : (item : Meaning) → is_unread item ≡ false → with_lines item line rest ≡ (item, rest)
   with_lines-read (Event r) e = refl
   with_lines-read Other e = refl
   with_lines-read Unread e = absurd (false≢true (sym e))
@@ -112,7 +112,7 @@ module _ (line rest : List ℕ) where
   with_lines-read (Counts held written processors) e = refl
   with_lines-read Note e = refl
 
-  unread : (item : Told) → is_unread item ≡ true → item ≡ Unread
+  unread : (item : Meaning) → is_unread item ≡ true → item ≡ Unread
   unread (Event r) e = absurd (false≢true e)
   unread Other e = absurd (false≢true e)
   unread Unread e = refl
@@ -121,11 +121,11 @@ module _ (line rest : List ℕ) where
   unread (Counts held written processors) e = absurd (false≢true e)
   unread Note e = absurd (false≢true e)
 
-  pub with_lines-alone : (item : Told) → is_unread item ≡ true → begins_record line ≡ false → with_lines item line rest ≡ (item, rest)
+  pub with_lines-alone : (item : Meaning) → is_unread item ≡ true → begins_record line ≡ false → with_lines item line rest ≡ (item, rest)
   with_lines-alone item u b =
       ap (λ i. with_lines i line rest) (unread item u) ∙ ap (λ t. cond t (joined_or_unread (joined_from 3 line rest) rest) (Unread, rest)) b ∙ ap (λ i. (i, rest)) (sym (unread item u))
 
-  pub with_lines-joined : (item : Told) → is_unread item ≡ true → begins_record line ≡ true → with_lines item line rest ≡ joined_or_unread (joined_from 3 line rest) rest
+  pub with_lines-joined : (item : Meaning) → is_unread item ≡ true → begins_record line ≡ true → with_lines item line rest ≡ joined_or_unread (joined_from 3 line rest) rest
   with_lines-joined item u b =
       ap (λ i. with_lines i line rest) (unread item u) ∙ ap (λ t. cond t (joined_or_unread (joined_from 3 line rest) rest) (Unread, rest)) b
 

@@ -13,7 +13,7 @@ use Rattle.std.proofs.lemmas.List.Sums.{position_or_len_is, fails_before_first}
 use Rattle.trace_core.specs.declared.item.TheConstants.{PIECE_BYTES}
 use Rattle.trace_core.specs.declared.piece.Piece.{Piece}
 use Rattle.trace_core.specs.Cutting.{MayFollow, HasNoLineFeed, IsLine, IsRestOfLine, IsFirstPiece, NeedsMore}
-use Rattle.trace_core.specs.Item.{Told, Unread, told}
+use Rattle.trace_core.specs.Item.{Meaning, Unread, meaning_of}
 use Rattle.trace_core.specs.Piece.{is_line_feed, first_item, ReadsAs}
 use Rattle.trace_core.specs.Pieces.{Unpassed, WasLetGo, HasPassed, HasReadAll, IsNext, IsWaiting, passed}
 use Rattle.trace_core.proofs.Joining.{first-long}
@@ -66,14 +66,14 @@ module _ (front bytes : List ℕ) (whole : Bool) (len : ℕ) (alone : HasNoLineF
   ]
 
 module _ (s : Unpassed) where
-  pub next-rest : (item : Told) (len : ℕ) → s.long ≡ true → item ≡ Unread → IsRestOfLine s.bytes s.whole len → IsNext s item len
+  pub next-rest : (item : Meaning) (len : ℕ) → s.long ≡ true → item ≡ Unread → IsRestOfLine s.bytes s.whole len → IsNext s item len
   next-rest item len l e is = record {
     within = is.within;
     some = λ short. absurd (false≢true (sym short ∙ l));
     first = λ front more gone may. rest-unread front s.bytes s.whole len gone.alone (gone.long l) is more may ∙ ap (λ i. (i, drop len s.bytes ++ more)) (sym e);
   }
 
-  pub next-first : (piece : Piece) → s.long ≡ false → 1 ≤ piece.length → piece.length ≤ length s.bytes → IsFirstPiece s.bytes s.whole piece → IsNext s (told piece.item) piece.length
+  pub next-first : (piece : Piece) → s.long ≡ false → 1 ≤ piece.length → piece.length ≤ length s.bytes → IsFirstPiece s.bytes s.whole piece → IsNext s (meaning_of piece.item) piece.length
   next-first piece l some within is = record {
     within = within;
     some = λ _. some;
@@ -97,12 +97,12 @@ module _ (s : Unpassed) where
 abbrev nothing : List ℕ
 nothing = []
 
-ReadsAs-cons : (text rest : List ℕ) (item : Told) (later : List Told) → 1 ≤ length text → first_item text ≡ (item, rest) → ReadsAs rest later → ReadsAs text (item ∷ later)
+ReadsAs-cons : (text rest : List ℕ) (item : Meaning) (later : List Meaning) → 1 ≤ length text → first_item text ≡ (item, rest) → ReadsAs rest later → ReadsAs text (item ∷ later)
 ReadsAs-cons [] rest item later some e h = absurd (omega arith)
 ReadsAs-cons (x ∷ xs) rest item later some e h =
     (ap (λ p. p.0) e, subst (λ r. ReadsAs r later) (sym (ap (λ p. p.1) e)) h)
 
-module _ (before now : Option (List ℕ)) (s : Unpassed) (items : List Told) (p : HasPassed before now s items) where
+module _ (before now : Option (List ℕ)) (s : Unpassed) (items : List Meaning) (p : HasPassed before now s items) where
   pub passed-all : s.whole ≡ true → (s.long ≡ false) × (s.bytes ≡ []) → HasReadAll before now items
   passed-all w none =
       let left : p.front ++ s.bytes ++ nothing ≡ [] = append-nil (p.front ++ s.bytes) ∙ ap (λ xs. xs ++ s.bytes) (p.gone.short none.0) ∙ none.1 in
@@ -114,14 +114,14 @@ module _ (before now : Option (List ℕ)) (s : Unpassed) (items : List Told) (p 
         reads = subst (λ xs. ReadsAs xs items) (append-nil p.text) (subst (ReadsAs (p.text ++ [])) (append-nil items) reads);
       }
 
-  some-left : (item : Told) (len : ℕ) (more : List ℕ) → IsNext s item len → (b : Bool) → s.long ≡ b → 1 ≤ length (p.front ++ s.bytes ++ more)
+  some-left : (item : Meaning) (len : ℕ) (more : List ℕ) → IsNext s item len → (b : Bool) → s.long ≡ b → 1 ≤ length (p.front ++ s.bytes ++ more)
   some-left item len more next true l =
       omega (arith, p.gone.long l, length-append p.front s.bytes, length-append (p.front ++ s.bytes) more)
   some-left item len more next false l =
       omega (arith, next.some l, next.within, length-append p.front s.bytes, length-append (p.front ++ s.bytes) more)
 
   -- the next piece is passed
-  pub passed-more : (item : Told) (len : ℕ) → IsNext s item len → HasPassed before now (passed s len) (items ++ item ∷ [])
+  pub passed-more : (item : Meaning) (len : ℕ) → IsNext s item len → HasPassed before now (passed s len) (items ++ item ∷ [])
   passed-more item len next = record {
     text = p.text;
     consumed = p.consumed;
@@ -161,7 +161,7 @@ passed-none known s bytes whole long = record {
   reads = λ more later may h. subst (λ xs. ReadsAs (xs ++ more) later) bytes h;
 }
 
-module _ (before now : Option (List ℕ)) (s : Unpassed) (items : List Told) (p : HasPassed before now s items) (waits : IsWaiting s) (going : s.whole ≡ false) where
+module _ (before now : Option (List ℕ)) (s : Unpassed) (items : List Meaning) (p : HasPassed before now s items) (waits : IsWaiting s) (going : s.whole ≡ false) where
   split : (b : Bool) → s.bytes ≡ cond b s.bytes nothing ++ cond b nothing s.bytes
   split true = sym (append-nil s.bytes)
   split false = refl
@@ -230,13 +230,13 @@ kept-few false n false e = grind (arith, nat_tests)
 
 -- what `next` answers
 module _ (s : Unpassed) (bytes : List ℕ) (whole : Bool) (same : bytes ≡ s.bytes) (so : whole ≡ s.whole) where
-  pub if-rest : s.long ≡ true → (r : Option Piece) → IfSome r (λ piece. told piece.item ≡ Unread) → IfSome r (λ piece. IsRestOfLine bytes whole piece.length) → IfSome r (λ piece. IsNext s (told piece.item) piece.length)
+  pub if-rest : s.long ≡ true → (r : Option Piece) → IfSome r (λ piece. meaning_of piece.item ≡ Unread) → IfSome r (λ piece. IsRestOfLine bytes whole piece.length) → IfSome r (λ piece. IsNext s (meaning_of piece.item) piece.length)
   if-rest l None e h = tt
   if-rest l (Some piece) e h =
-      next-rest s (told piece.item) piece.length l e (subst (λ w. IsRestOfLine s.bytes w piece.length) so (subst (λ xs. IsRestOfLine xs whole piece.length) same h))
+      next-rest s (meaning_of piece.item) piece.length l e (subst (λ w. IsRestOfLine s.bytes w piece.length) so (subst (λ xs. IsRestOfLine xs whole piece.length) same h))
 
   pub if-all : s.long ≡ false → (r : Option Piece) → IfNone r (NeedsMore bytes whole)
-      → IfNone r (s.whole ≡ true → (before now : Option (List ℕ)) → (items : List Told) → HasPassed before now s items → HasReadAll before now items)
+      → IfNone r (s.whole ≡ true → (before now : Option (List ℕ)) → (items : List Meaning) → HasPassed before now s items → HasReadAll before now items)
   if-all l None h = λ w before now items p. passed-all before now s items p w (l, sym same ∙ h.all (so ∙ w))
   if-all l (Some piece) h = tt
 
@@ -247,7 +247,7 @@ bytes-passed held start end count h =
     sym (ap (λ n. drop count (take n (drop start held))) whole ∙ drop-take count (end - (start + count)) (drop start held) ∙ ap (take (end - (start + count))) (drop-drop count start held))
 
 -- what a read leaves, by the bytes that are held: `end` is where those end that are not passed
-module _ (before now now' : Option (List ℕ)) (s : Unpassed) (items : List Told) (held held' buf : List ℕ) (start end kept count room stop : ℕ) (before_long long whole : Bool) where
+module _ (before now now' : Option (List ℕ)) (s : Unpassed) (items : List Meaning) (held held' buf : List ℕ) (start end kept count room stop : ℕ) (before_long long whole : Bool) where
   pub held-passed : HasPassed before now s items → IsWaiting s → s.whole ≡ false → start ≤ end → end ≤ length held → take (end - start) (drop start held) ≡ s.bytes → before_long ≡ s.long
       → long ≡ (before_long || nat_lt PIECE_BYTES (end - start)) → kept ≡ cond long 0 (end - start) → held' ≡ paste held 0 (drop (end - kept) held) (end - (end - kept)) → count ≤ length buf → stop ≡ kept + count
       → Consumes now now' (take count buf) → (whole ≡ true → IsAtEnd now')
@@ -260,7 +260,7 @@ module _ (before now now' : Option (List ℕ)) (s : Unpassed) (items : List Told
       read-passed before now s items p waits going now' (record { bytes = take (stop - 0) (drop 0 (put_mid kept room held' buf)); whole = whole; long = long }) (take count buf) consumed (ap (λ n. take n (put_mid kept room held' buf)) stops ∙ left ∙ ap (λ xs. xs ++ take count buf) same) (is_long ∙ ap (λ b. b || nat_lt PIECE_BYTES (end - start)) l ∙ ap (λ n. s.long || nat_lt PIECE_BYTES n) size) at_end
 
 -- a text has one reading
-pub ReadsAs-one : (text : List ℕ) (items others : List Told) → ReadsAs text items → ReadsAs text others → items ≡ others
+pub ReadsAs-one : (text : List ℕ) (items others : List Meaning) → ReadsAs text items → ReadsAs text others → items ≡ others
 ReadsAs-one text [] [] a b = refl
 ReadsAs-one [] [] (o ∷ others) a b = absurd b
 ReadsAs-one (x ∷ xs) [] (o ∷ others) a b = absurd (cc)

@@ -5,7 +5,7 @@ use Rattle.trace_core.specs.declared.item.TheConstants.{PIECE_BYTES}
 use Rattle.trace_core.specs.declared.piece.Joining.{Joining}
 use Rattle.trace_core.specs.declared.piece.Joining.TheVariants.{Waits, Alone, Whole, Longer}
 use Rattle.trace_core.specs.declared.piece.Piece.{Piece}
-use Rattle.trace_core.specs.Item.{Told, told}
+use Rattle.trace_core.specs.Item.{Meaning, meaning_of}
 use Rattle.trace_core.specs.Piece.{is_line_feed, joined_from, joined_or_alone, first_item}
 use Rattle.trace_core.specs.Record.{Printed, printed}
 
@@ -58,8 +58,8 @@ abbrev pub Takes : List ℕ → Piece → Type 0
 Takes bytes piece = (1 ≤ piece.length) × (piece.length ≤ length bytes)
 
 -- what the piece is, and what follows it where the text goes on so
-abbrev pub piece_and_rest : List ℕ → Piece → List ℕ → Told × List ℕ
-piece_and_rest bytes piece more = (told piece.item, drop piece.length bytes ++ more)
+abbrev pub piece_and_rest : List ℕ → Piece → List ℕ → Meaning × List ℕ
+piece_and_rest bytes piece more = (meaning_of piece.item, drop piece.length bytes ++ more)
 
 -- the piece is that of the first lines, whichever way the text goes on
 abbrev pub IsJoined : List ℕ → Bool → List ℕ → ℕ → Piece → Type 0
@@ -72,7 +72,7 @@ abbrev pub IsFirstPiece : List ℕ → Bool → Piece → Type 0
 IsFirstPiece bytes whole piece =
     (more : List ℕ) → MayFollow whole more → first_item (bytes ++ more) ≡ piece_and_rest bytes piece more
 
--- no piece can be told before more was read
+-- no piece ends before more was read
 pub record NeedsMore (bytes : List ℕ) (whole : Bool) : Type 0 where
   pub all : whole ≡ true → bytes ≡ []
   pub short : length bytes ≤ PIECE_BYTES ⊎ HasNoLineFeed bytes

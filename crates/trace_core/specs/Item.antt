@@ -5,20 +5,20 @@ use Rattle.trace_core.specs.declared.item.Item.TheVariants as item
 use Rattle.trace_core.specs.Record.{Printed, printed}
 
 -- what an item says, with the bytes of its names
-pub data Told : Type 0 where
-  Event : Printed → Told
-  Other : Told
-  Unread : Told
-  Lost : ℕ → Option ℕ → Told
-  BufferStarted : ℕ → Told
-  Counts : ℕ → ℕ → ℕ → Told
-  Note : Told
+pub data Meaning : Type 0 where
+  Event : Printed → Meaning
+  Other : Meaning
+  Unread : Meaning
+  Lost : ℕ → Option ℕ → Meaning
+  BufferStarted : ℕ → Meaning
+  Counts : ℕ → ℕ → ℕ → Meaning
+  Note : Meaning
 
-abbrev pub told : Item → Told
-told (item.Event r) = Event (printed r)
-told item.Other = Other
-told item.Unread = Unread
-told (item.Lost cpu events) = Lost cpu events
-told (item.BufferStarted cpu) = BufferStarted cpu
-told (item.Counts held written processors) = Counts held written processors
-told item.Note = Note
+abbrev pub meaning_of : Item → Meaning
+meaning_of (item.Event r) = Event (printed r)
+meaning_of item.Other = Other
+meaning_of item.Unread = Unread
+meaning_of (item.Lost cpu events) = Lost cpu events
+meaning_of (item.BufferStarted cpu) = BufferStarted cpu
+meaning_of (item.Counts held written processors) = Counts held written processors
+meaning_of item.Note = Note

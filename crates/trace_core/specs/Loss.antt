@@ -1,8 +1,8 @@
--- Lines that tell of lost events, and notes.
+-- Lines that report lost events, and notes.
 use Rattle.std.specs.Prelude.{ℕ, ◌^◌, ◌||◌, if◌then◌else◌, List, Option, None, Some, option_map, codes}
 use Rattle.std.specs.Option.{option_and_then}
 use Rattle.std.specs.Str.{bytes_eq}
-use Rattle.trace_core.specs.Item.{Told, BufferStarted, Counts, Note}
+use Rattle.trace_core.specs.Item.{Meaning, BufferStarted, Counts, Note}
 use Rattle.trace_core.specs.Number.{number_at}
 use Rattle.trace_core.specs.Steps.{after, after_blanks}
 
@@ -47,14 +47,14 @@ counts line =
     (option_and_then (number_at (2 ^ 64)) (after held.1 (codes "/"))))
     (option_and_then (number_at (2 ^ 64)) (after line (codes "# entries-in-buffer/entries-written: ")))
 
-abbrev pub counts_or_note : Option (ℕ × ℕ × ℕ) → Told
+abbrev pub counts_or_note : Option (ℕ × ℕ × ℕ) → Meaning
 counts_or_note None = Note
 counts_or_note (Some n) = Counts n.0 n.1 n.2
 
-abbrev pub started_or : Option ℕ → Told → Told
+abbrev pub started_or : Option ℕ → Meaning → Meaning
 started_or None otherwise = otherwise
 started_or (Some cpu) otherwise = BufferStarted cpu
 
 -- what a line says that begins with `#`
-unfoldable pub note : List ℕ → Told
+unfoldable pub note : List ℕ → Meaning
 note line = started_or (buffer_started line) (counts_or_note (counts line))

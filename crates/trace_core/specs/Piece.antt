@@ -6,33 +6,33 @@ use Rattle.trace_core.specs.declared.item.TheConstants.{PIECE_BYTES}
 use Rattle.trace_core.specs.declared.piece.TheConstants.{RECORD_LINES}
 use Rattle.trace_core.specs.Event.{event_at}
 use Rattle.trace_core.specs.Header.{Head, header_of}
-use Rattle.trace_core.specs.Item.{Told, Event, Other, Unread, Lost, BufferStarted, Counts, Note}
+use Rattle.trace_core.specs.Item.{Meaning, Event, Other, Unread, Lost, BufferStarted, Counts, Note}
 use Rattle.trace_core.specs.Loss.{lost, note}
 use Rattle.trace_core.specs.Record.{Printed, record_of, record_with}
 use Rattle.trace_core.specs.Steps.{after}
 
-abbrev pub event_or_unread : Option Printed → Told
+abbrev pub event_or_unread : Option Printed → Meaning
 event_or_unread None = Unread
 event_or_unread (Some r) = Event r
 
 -- a header and its event
-abbrev pub told_of_event : Head → Option (EventKind × List ℕ) → Told
-told_of_event head None = Other
-told_of_event head (Some event) = event_or_unread (record_with head event.0 event.1)
+abbrev pub meaning_of_event : Head → Option (EventKind × List ℕ) → Meaning
+meaning_of_event head None = Other
+meaning_of_event head (Some event) = event_or_unread (record_with head event.0 event.1)
 
-abbrev pub told_of_header : Option Head → Told
-told_of_header None = Unread
-told_of_header (Some head) = told_of_event head (event_at head.text)
+abbrev pub meaning_of_header : Option Head → Meaning
+meaning_of_header None = Unread
+meaning_of_header (Some head) = meaning_of_event head (event_at head.text)
 
-unfoldable pub record_or_other : List ℕ → Told
-record_or_other piece = told_of_header (header_of piece)
+unfoldable pub record_or_other : List ℕ → Meaning
+record_or_other piece = meaning_of_header (header_of piece)
 
-abbrev pub lost_or_record : Option (ℕ × Option ℕ) → List ℕ → Told
+abbrev pub lost_or_record : Option (ℕ × Option ℕ) → List ℕ → Meaning
 lost_or_record (Some loss) piece = Lost loss.0 loss.1
 lost_or_record None piece = record_or_other piece
 
 -- what the piece is
-unfoldable pub item_of : List ℕ → Told
+unfoldable pub item_of : List ℕ → Meaning
 item_of piece =
     if nat_lt PIECE_BYTES (length piece) then Unread
     else if is_some (after piece (codes "#")) then note piece
@@ -67,20 +67,20 @@ joined_from (suc n) lines (x ∷ xs) =
     if nat_lt PIECE_BYTES (length piece) || begins_record line then None
     else record_or (record_of piece) (after_line (x ∷ xs)) (joined_from n piece (after_line (x ∷ xs)))
 
-abbrev pub is_unread : Told → Bool
+abbrev pub is_unread : Meaning → Bool
 is_unread Unread = true
 is_unread _ = false
 
-abbrev pub joined_or_unread : Option (Printed × List ℕ) → List ℕ → Told × List ℕ
+abbrev pub joined_or_unread : Option (Printed × List ℕ) → List ℕ → Meaning × List ℕ
 joined_or_unread None rest = (Unread, rest)
 joined_or_unread (Some joined) rest = (Event joined.0, joined.1)
 
 -- the line with the next few where they are a record together, or the line alone
-abbrev pub joined_or_alone : List ℕ → List ℕ → Told × List ℕ
+abbrev pub joined_or_alone : List ℕ → List ℕ → Meaning × List ℕ
 joined_or_alone line rest = joined_or_unread (joined_from (RECORD_LINES - 1) line rest) rest
 
 -- an unread line that begins as a record may go on in the next lines
-abbrev pub with_lines : Told → List ℕ → List ℕ → Told × List ℕ
+abbrev pub with_lines : Meaning → List ℕ → List ℕ → Meaning × List ℕ
 with_lines Unread line rest = if begins_record line then joined_or_alone line rest else (Unread, rest)
 with_lines (Event r) line rest = (Event r, rest)
 with_lines Other line rest = (Other, rest)
@@ -90,11 +90,11 @@ with_lines (Counts held written processors) line rest = (Counts held written pro
 with_lines Note line rest = (Note, rest)
 
 -- what the first piece of a text is, and what follows it
-unfoldable pub first_item : List ℕ → Told × List ℕ
+unfoldable pub first_item : List ℕ → Meaning × List ℕ
 first_item text = with_lines (item_of (first_line text)) (first_line text) (after_line text)
 
 -- the text, piece after piece, is these
-abbrev pub ReadsAs : List ℕ → List Told → Type 0
+abbrev pub ReadsAs : List ℕ → List Meaning → Type 0
 ReadsAs text [] = text ≡ []
 ReadsAs [] (item ∷ items) = ⊥
 ReadsAs (x ∷ xs) (item ∷ items) =

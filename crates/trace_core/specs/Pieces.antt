@@ -4,7 +4,7 @@ use Rattle.std.specs.Io.KnownBytes.{Consumes, IsAtEnd}
 use Rattle.trace_core.specs.declared.item.TheConstants.{PIECE_BYTES}
 use Rattle.trace_core.specs.declared.pieces.TheConstants.{HELD_BYTES}
 use Rattle.trace_core.specs.Cutting.{MayFollow, HasNoLineFeed}
-use Rattle.trace_core.specs.Item.{Told}
+use Rattle.trace_core.specs.Item.{Meaning}
 use Rattle.trace_core.specs.Piece.{first_item, ReadsAs}
 
 -- how far a text was read, and its pieces were passed
@@ -23,30 +23,30 @@ pub record WasLetGo (s : Unpassed) (front : List ℕ) : Type 0 where
   pub alone : HasNoLineFeed front
 
 -- the pieces of what was read so far are these and those that are still to come
-pub record HasPassed (before now : Option (List ℕ)) (s : Unpassed) (items : List Told) : Type 0 where
+pub record HasPassed (before now : Option (List ℕ)) (s : Unpassed) (items : List Meaning) : Type 0 where
   pub text : List ℕ
   pub consumed : Consumes before now text
   pub whole : s.whole ≡ true → IsAtEnd now
   pub front : List ℕ
   pub gone : WasLetGo s front
-  pub reads : (more : List ℕ) → (later : List Told) → MayFollow s.whole more
+  pub reads : (more : List ℕ) → (later : List Meaning) → MayFollow s.whole more
       → ReadsAs (front ++ s.bytes ++ more) later → ReadsAs (text ++ more) (items ++ later)
 
 -- the text was read to its end, and is these pieces
-pub record HasReadAll (before now : Option (List ℕ)) (items : List Told) : Type 0 where
+pub record HasReadAll (before now : Option (List ℕ)) (items : List Meaning) : Type 0 where
   pub text : List ℕ
   pub consumed : Consumes before now text
   pub end : IsAtEnd now
   pub reads : ReadsAs text items
 
 -- the next piece is that item and takes so many of the bytes, whichever way the text goes on
-pub record IsNext (s : Unpassed) (item : Told) (len : ℕ) : Type 0 where
+pub record IsNext (s : Unpassed) (item : Meaning) (len : ℕ) : Type 0 where
   pub within : len ≤ length s.bytes
   pub some : s.long ≡ false → 1 ≤ len
   pub first : (front more : List ℕ) → WasLetGo s front → MayFollow s.whole more
       → first_item (front ++ s.bytes ++ more) ≡ (item, drop len s.bytes ++ more)
 
--- no piece can be told before more was read
+-- no piece ends before more was read
 pub record IsWaiting (s : Unpassed) : Type 0 where
   pub all : s.whole ≡ true → (s.long ≡ false) × (s.bytes ≡ [])
   pub short : length s.bytes ≤ PIECE_BYTES ⊎ HasNoLineFeed s.bytes

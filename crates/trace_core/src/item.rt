@@ -1,6 +1,6 @@
 // What a piece of the text is.
 ghost use Rattle.std.specs.Prelude.{◌≡◌};
-ghost use Rattle.trace_core.specs.Item.{told};
+ghost use Rattle.trace_core.specs.Item.{meaning_of};
 ghost use Rattle.trace_core.specs.Piece.{item_of, record_or_other};
 
 use crate::event::event_at;
@@ -44,7 +44,7 @@ pub enum Item<'a> {
 /// What the piece is.
 #[tactic(auto, unfolding(crate::specs::Piece::item_of))]
 pub fn item_of(piece: &[u8]) -> Item<'_>
-    ensures item { told result ≡ item_of piece.now }
+    ensures item { meaning_of result ≡ item_of piece.now }
 {
     if piece.len() > PIECE_BYTES {
         return Item::Unread;
@@ -61,7 +61,7 @@ pub fn item_of(piece: &[u8]) -> Item<'_>
 #[inline(always)]
 #[tactic(auto, unfolding(crate::specs::Piece::record_or_other))]
 fn record_or_other(piece: &[u8]) -> Item<'_>
-    ensures item { told result ≡ record_or_other piece.now }
+    ensures item { meaning_of result ≡ record_or_other piece.now }
 {
     let Some(header) = header_of(piece) else {
         return Item::Unread;

@@ -2,7 +2,7 @@
 ghost use Rattle.std.specs.Prelude.{◌≡◌, List, ℕ, Some};
 ghost use Rattle.trace_core.specs.declared.item.TheConstants.{PIECE_BYTES};
 ghost use Rattle.trace_core.specs.declared.piece.TheConstants.{RECORD_LINES};
-ghost use Rattle.trace_core.specs.Item.{Told};
+ghost use Rattle.trace_core.specs.Item.{Meaning};
 ghost use Rattle.trace_core.specs.Piece.{ReadsAs};
 ghost use Rattle.trace_core.specs.Printing.{IsRecord};
 ghost use Rattle.trace_core.specs.Record.{Printed, record_of};
@@ -15,7 +15,7 @@ pub fn records_as_printed()
 
 /// A text has one reading.
 pub fn one_reading()
-    ensures { (text : List ℕ) → (items others : List Told) → ReadsAs text items → ReadsAs text others → items ≡ others }
+    ensures { (text : List ℕ) → (items others : List Meaning) → ReadsAs text items → ReadsAs text others → items ≡ others }
 {}
 
 /// The limits of pieces, as numbers.

@@ -1,6 +1,6 @@
-// Lines that tell of lost events, and notes.
+// Lines that report lost events, and notes.
 ghost use Rattle.std.specs.Prelude.{◌≡◌};
-ghost use Rattle.trace_core.specs.Item.{told};
+ghost use Rattle.trace_core.specs.Item.{meaning_of};
 ghost use Rattle.trace_core.specs.Loss.{lost, losses, counted, buffer_started, counts, note};
 
 use crate::item::Item;
@@ -47,7 +47,7 @@ fn counted(bytes: &[u8], text: &str) -> Option<Option<u64>>
 #[inline(never)]
 #[tactic(auto, unfolding(crate::specs::Loss::note))]
 pub(crate) fn note(line: &[u8]) -> Item<'_>
-    ensures note { told result ≡ note line.now }
+    ensures note { meaning_of result ≡ note line.now }
 {
     if let Some(cpu) = buffer_started(line) {
         return Item::BufferStarted { cpu };

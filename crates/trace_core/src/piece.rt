@@ -1,7 +1,7 @@
 // The first piece of a text.
 ghost use Rattle.std.specs.Prelude.{◌≡◌, ◌+◌, ◌-◌, ◌≤◌, ◌⊎◌, ◌++◌, List, ℕ, true, false, [], length, take, drop, IfSome, IfNone, position};
 ghost use Rattle.trace_core.specs.declared.item.TheConstants.{PIECE_BYTES};
-ghost use Rattle.trace_core.specs.Item.{told, Unread};
+ghost use Rattle.trace_core.specs.Item.{meaning_of, Unread};
 ghost use Rattle.trace_core.specs.Piece.{is_line_feed, is_unread, begins_record, first_item};
 ghost use Rattle.trace_core.specs.Cutting.{IsLine, AreLines, IsJoining, IsJoined, IsFirstPiece, NeedsMore, Takes, IsRestOfLine, HasNoLineFeed, MayFollow};
 
@@ -26,7 +26,7 @@ pub struct Piece<'a> {
     pub length: usize,
 }
 
-/// The first piece of the bytes, or none where it takes more bytes to tell. `whole` says that none are to come.
+/// The first piece of the bytes, or none if that takes more bytes. `whole` says that none are to come.
 pub(crate) fn first_piece(bytes: &[u8], whole: bool) -> Option<Piece<'_>>
     ensures piece { IfSome result (IsFirstPiece bytes.now whole) }
     ensures takes { IfSome result (Takes bytes.now) }
@@ -46,7 +46,7 @@ pub(crate) fn first_piece(bytes: &[u8], whole: bool) -> Option<Piece<'_>>
 
 #[inline(always)]
 fn is_unread(item: &Item<'_>) -> bool
-    ensures unread { result ≡ is_unread (told item.now) }
+    ensures unread { result ≡ is_unread (meaning_of item.now) }
 {
     match item {
         Item::Unread => true,
@@ -63,7 +63,7 @@ fn begins_record(line: &[u8]) -> bool
 
 /// The rest of a line that is too long.
 pub(crate) fn rest_of_line(bytes: &[u8], whole: bool) -> Option<Piece<'_>>
-    ensures unread { IfSome result (λ p. told p.item ≡ Unread) }
+    ensures unread { IfSome result (λ p. meaning_of p.item ≡ Unread) }
     ensures rest { IfSome result (λ p. IsRestOfLine bytes.now whole p.length) }
     ensures none { IfNone result ((whole ≡ false) × HasNoLineFeed bytes.now) }
 {
@@ -135,7 +135,7 @@ fn joined<'a>(bytes: &'a [u8], line: &[u8], first: usize, whole: bool) -> Option
 
 /// A line that is unread, and takes so many bytes.
 fn unread_line<'a>(length: usize) -> Piece<'a>
-    ensures unread { told result.item ≡ Unread }
+    ensures unread { meaning_of result.item ≡ Unread }
     ensures length { result.length ≡ length }
 {
     Piece {

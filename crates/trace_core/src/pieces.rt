@@ -1,6 +1,6 @@
 // The pieces of a text, from a reader.
 ghost use Rattle.std.specs.Prelude.{◌≡◌, ◌≤◌, ◌++◌, ◌∷◌, ◌||◌, [], List, ℕ, Option, true, false, nat_lt, length, IfSome, IfNone, if◌then◌else◌};
-ghost use Rattle.trace_core.specs.Item.{Told, told};
+ghost use Rattle.trace_core.specs.Item.{Meaning, meaning_of};
 
 use crate::item::PIECE_BYTES;
 use crate::piece::{Piece, first_piece, rest_of_line};
@@ -76,11 +76,11 @@ impl Pieces {
 
     /// The next piece, or none where more has to be read first or the text is at its end.
     pub fn next(&self) -> Option<Piece<'_>>
-        ensures next { IfSome result (λ p. IsNext self.now (told p.item) p.length) }
+        ensures next { IfSome result (λ p. IsNext self.now (meaning_of p.item) p.length) }
         ensures waiting { IfNone result (IsWaiting self.now) }
 
         // Then each piece of the text was passed.
-        ensures all { IfNone result (self.now.whole ≡ true → (before now : Option (List ℕ)) → (items : List Told) →
+        ensures all { IfNone result (self.now.whole ≡ true → (before now : Option (List ℕ)) → (items : List Meaning) →
             HasPassed before now self.now items → HasReadAll before now items) }
     {
         if self.long {
@@ -94,7 +94,7 @@ impl Pieces {
     pub fn pass(&mut self, count: usize)
         requires within { count ≤ length self.old.bytes }
         ensures passed { self.new ≡ passed self.old count }
-        ensures more { (before now : Option (List ℕ)) → (items : List Told) → (item : Told) →
+        ensures more { (before now : Option (List ℕ)) → (items : List Meaning) → (item : Meaning) →
             HasPassed before now self.old items → IsNext self.old item count
             → HasPassed before now self.new (items ++ item ∷ []) }
     {
@@ -113,7 +113,7 @@ impl Pieces {
     pub fn read<R: Read>(&mut self, reader: &mut R) -> Progress
         requires waiting { IsWaiting self.old }
         requires unfinished { self.old.whole ≡ false }
-        ensures more { (before : Option (List ℕ)) → (items : List Told) →
+        ensures more { (before : Option (List ℕ)) → (items : List Meaning) →
             HasPassed before (R.remaining reader.old) self.old items
             → HasPassed before (R.remaining reader.new) self.new items }
     {

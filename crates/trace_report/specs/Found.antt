@@ -17,11 +17,11 @@ abbrev pub is_unnumbered : List Step → FenceKey → Bool
 is_unnumbered steps key =
     key.seqno == 0 && nat_lt 0 (tally_in (is_of_timeline (timeline_of key)) steps).events.emit
 
--- whether a fence of the key is told as hanging
-abbrev pub is_told : List Step → FenceKey → Bool
-is_told steps key = hangs steps key && not (is_unnumbered steps key)
+-- whether a fence of the key is reported as hanging
+abbrev pub is_reported : List Step → FenceKey → Bool
+is_reported steps key = hangs steps key && not (is_unnumbered steps key)
 
 -- The fences are those of the keys that hang, each once. A key that hangs is alive, and a ledger has each that is alive once.
 abbrev pub AreHangs : Ledger → List Step → List Pending → Type 0
 AreHangs ledger steps found =
-    IsPermutation (filter (is_told steps) (keys_of ledger.lives.by_key.entries)) (map key_of found)
+    IsPermutation (filter (is_reported steps) (keys_of ledger.lives.by_key.entries)) (map key_of found)

@@ -4,7 +4,7 @@ ghost use Rattle.std.specs.List.{filter};
 ghost use Rattle.std.specs.List.Sorted.{IsPermutation};
 ghost use Rattle.std.specs.Map.{keys_of};
 ghost use Rattle.track_core.specs.History.{Step, IsLedgerOf};
-ghost use Rattle.trace_report.specs.Found.{AreHangs, is_told, is_unnumbered, key_of};
+ghost use Rattle.trace_report.specs.Found.{AreHangs, is_reported, is_unnumbered, key_of};
 
 use indexmap::IndexMap;
 use point_core::Refusal;
@@ -93,11 +93,11 @@ impl Found {
 /// The fences that hang.
 fn hangs_of(alloc: Global, ledger: &Ledger) -> Result<Vec<Pending>, Refusal>
     ensures hangs { IfOk result (λ v. (steps : List Step) → IsLedgerOf ledger.now steps →
-        map key_of v.items ≡ filter (is_told steps) (keys_of ledger.now.lives.by_key.entries)) }
+        map key_of v.items ≡ filter (is_reported steps) (keys_of ledger.now.lives.by_key.entries)) }
 {
     let mut hangs = Vec::new(alloc);
     for (key, life) in ledger.lives().by_key().iter() {
-        if is_told(ledger, key) {
+        if is_reported(ledger, key) {
             let Ok(()) = hangs.push(Pending::new(key, life)) else {
                 return Err(Refusal::Memory);
             };
@@ -107,8 +107,8 @@ fn hangs_of(alloc: Global, ledger: &Ledger) -> Result<Vec<Pending>, Refusal>
 }
 
 /// Whether a fence of the key hangs. One that its driver has not numbered is no fence yet.
-fn is_told(ledger: &Ledger, key: &FenceKey) -> bool
-    ensures told { (steps : List Step) → IsLedgerOf ledger.now steps → result ≡ is_told steps key.now }
+fn is_reported(ledger: &Ledger, key: &FenceKey) -> bool
+    ensures reported { (steps : List Step) → IsLedgerOf ledger.now steps → result ≡ is_reported steps key.now }
 {
     ledger.hangs(key) && !is_unnumbered(ledger, key)
 }

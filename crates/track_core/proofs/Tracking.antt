@@ -1,13 +1,13 @@
 -- What a tracker keeps, when names are added and an event is seen.
 use Rattle.std.proofs.Common.{◌≡◌, Bool, true, false, refl, sym, subst, List, [], ◌∷◌, Option, None, Some}
-use Rattle.trace_core.specs.Item.{Told, Event}
+use Rattle.trace_core.specs.Item.{Meaning, Event}
 use Rattle.trace_core.specs.Record.{Printed}
 use Rattle.track_core.specs.declared.names.Names.{Names}
 use Rattle.track_core.specs.declared.sighting.Sighting.{Sighting}
 use Rattle.track_core.specs.declared.ledger.Ledger.{Ledger}
 use Rattle.track_core.specs.declared.sighting.FenceKey.{FenceKey}
 use Rattle.track_core.specs.History.{Step, Seen, Lost, Forgot, IsLedgerOf}
-use Rattle.track_core.specs.Tracker.{Says, IsStep, AreSteps, Keeps, steps_told, unforgetting}
+use Rattle.track_core.specs.Tracker.{Says, IsStep, AreSteps, Keeps, steps_of, unforgetting}
 
 module _ (d e t u : Names) (drivers : Keeps d e) (timelines : Keeps t u) where
   says-kept : (s : Sighting) (r : Printed) → Says d t s r → Says e u s r
@@ -21,7 +21,7 @@ module _ (d e t u : Names) (drivers : Keeps d e) (timelines : Keeps t u) where
     pid = says.pid;
   }
 
-  step-kept : (told : Option Printed) (step : Step) → IsStep d t told step → IsStep e u told step
+  step-kept : (said : Option Printed) (step : Step) → IsStep d t said step → IsStep e u said step
   step-kept (Some r) (Seen s) is = says-kept s r is
   step-kept (Some r) Lost is = is
   step-kept None (Seen s) is = is
@@ -29,15 +29,15 @@ module _ (d e t u : Names) (drivers : Keeps d e) (timelines : Keeps t u) where
   step-kept None (Forgot key) is = elim is [ ]
   step-kept (Some r) (Forgot key) is = elim is [ ]
 
-  pub steps-kept : (told : List (Option Printed)) (steps : List Step) → AreSteps d t told steps → AreSteps e u told steps
+  pub steps-kept : (said : List (Option Printed)) (steps : List Step) → AreSteps d t said steps → AreSteps e u said steps
   steps-kept [] [] are = are
   steps-kept [] (step ∷ steps) are = are
   steps-kept (x ∷ more) [] are = are
   steps-kept (x ∷ more) (step ∷ steps) are = (step-kept x step are.0, steps-kept more steps are.1)
 
-pub seen : (d d1 d2 t t1 t2 : Names) (items : List Told) (s : Sighting) (r : Printed) (steps : List Step) → AreSteps d t (steps_told items) (unforgetting steps) → Keeps d d1 → Keeps t t1 → Says d1 t1 s r → d2 ≡ d1 → t2 ≡ t1 → AreSteps d2 t2 (steps_told (Event r ∷ items)) (unforgetting (Seen s ∷ steps))
+pub seen : (d d1 d2 t t1 t2 : Names) (items : List Meaning) (s : Sighting) (r : Printed) (steps : List Step) → AreSteps d t (steps_of items) (unforgetting steps) → Keeps d d1 → Keeps t t1 → Says d1 t1 s r → d2 ≡ d1 → t2 ≡ t1 → AreSteps d2 t2 (steps_of (Event r ∷ items)) (unforgetting (Seen s ∷ steps))
 seen d d1 d2 t t1 t2 items s r steps are drivers timelines says d-is t-is =
-    subst (λ x. AreSteps x t2 (Some r ∷ steps_told items) (Seen s ∷ unforgetting steps)) (sym d-is) (subst (λ x. AreSteps d1 x (Some r ∷ steps_told items) (Seen s ∷ unforgetting steps)) (sym t-is) (says, steps-kept d d1 t t1 drivers timelines (steps_told items) (unforgetting steps) are))
+    subst (λ x. AreSteps x t2 (Some r ∷ steps_of items) (Seen s ∷ unforgetting steps)) (sym d-is) (subst (λ x. AreSteps d1 x (Some r ∷ steps_of items) (Seen s ∷ unforgetting steps)) (sym t-is) (says, steps-kept d d1 t t1 drivers timelines (steps_of items) (unforgetting steps) are))
 
 -- a ledger of the same events, of which a context may have been forgotten
 pub record IsLedgerLike (l : Ledger) (steps : List Step) : Type 0 where

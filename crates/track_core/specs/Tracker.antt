@@ -1,6 +1,6 @@
 -- What a tracker keeps of the items of a text.
 use Rattle.std.specs.Prelude.{◌≡◌, ℕ, ⊤, List, [], ◌∷◌, Option, None, Some}
-use Rattle.trace_core.specs.Item.{Told, Event, Other, Unread, Lost as LostEvents, BufferStarted, Counts, Note}
+use Rattle.trace_core.specs.Item.{Meaning, Event, Other, Unread, Lost as LostEvents, BufferStarted, Counts, Note}
 use Rattle.trace_core.specs.Record.{Printed}
 use Rattle.track_core.specs.declared.names.Names.{Names}
 use Rattle.track_core.specs.declared.sighting.Sighting.{Sighting}
@@ -19,22 +19,22 @@ pub record Says (drivers timelines : Names) (e : Sighting) (r : Printed) : Type 
   pub pid : e.pid ≡ r.pid
 
 -- what the items say of fences: the record of an event, or none where events were lost
-abbrev pub steps_told : List Told → List (Option Printed)
-steps_told [] = []
-steps_told (Event r ∷ items) = Some r ∷ steps_told items
-steps_told (LostEvents cpu events ∷ items) = None ∷ steps_told items
-steps_told (BufferStarted cpu ∷ items) = None ∷ steps_told items
-steps_told (Other ∷ items) = steps_told items
-steps_told (Unread ∷ items) = steps_told items
-steps_told (Counts held written processors ∷ items) = steps_told items
-steps_told (Note ∷ items) = steps_told items
+abbrev pub steps_of : List Meaning → List (Option Printed)
+steps_of [] = []
+steps_of (Event r ∷ items) = Some r ∷ steps_of items
+steps_of (LostEvents cpu events ∷ items) = None ∷ steps_of items
+steps_of (BufferStarted cpu ∷ items) = None ∷ steps_of items
+steps_of (Other ∷ items) = steps_of items
+steps_of (Unread ∷ items) = steps_of items
+steps_of (Counts held written processors ∷ items) = steps_of items
+steps_of (Note ∷ items) = steps_of items
 
 abbrev pub IsStep : Names → Names → Option Printed → Step → Type 0
 IsStep drivers timelines (Some r) (Seen e) = Says drivers timelines e r
 IsStep drivers timelines (Some r) Lost = ⊥
 IsStep drivers timelines None (Seen e) = ⊥
 IsStep drivers timelines None Lost = ⊤
-IsStep drivers timelines told (Forgot key) = ⊥
+IsStep drivers timelines said (Forgot key) = ⊥
 
 -- the steps but for what was forgotten
 abbrev pub unforgetting : List Step → List Step
@@ -47,16 +47,16 @@ unforgetting (Forgot key ∷ earlier) = unforgetting earlier
 abbrev pub AreSteps : Names → Names → List (Option Printed) → List Step → Type 0
 AreSteps drivers timelines [] [] = ⊤
 AreSteps drivers timelines [] (step ∷ steps) = ⊥
-AreSteps drivers timelines (told ∷ more) [] = ⊥
-AreSteps drivers timelines (told ∷ more) (step ∷ steps) =
-    IsStep drivers timelines told step × AreSteps drivers timelines more steps
+AreSteps drivers timelines (said ∷ more) [] = ⊥
+AreSteps drivers timelines (said ∷ more) (step ∷ steps) =
+    IsStep drivers timelines said step × AreSteps drivers timelines more steps
 
 -- a name keeps its number
 abbrev pub Keeps : Names → Names → Type 0
 Keeps old new = (n : ℕ) (name : List ℕ) → name_at old n ≡ Some name → name_at new n ≡ Some name
 
 -- the ledger is that of the items' events and losses, each once and in order
-pub record Tracks (t : Tracker) (items : List Told) : Type 0 where
+pub record Tracks (t : Tracker) (items : List Meaning) : Type 0 where
   pub steps : List Step
-  pub are : AreSteps t.drivers t.timelines (steps_told items) (unforgetting steps)
+  pub are : AreSteps t.drivers t.timelines (steps_of items) (unforgetting steps)
   pub ledger : IsLedgerOf t.ledger steps

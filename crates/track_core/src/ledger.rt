@@ -109,7 +109,7 @@ impl Ledger {
 
     /// Whether a fence of the key hangs: one was made or emitted, none was signalled, and no events were lost since.
     pub fn hangs(&self, key: &FenceKey) -> bool
-        ensures told { (steps : List Step) → IsLedgerOf self.now steps → result ≡ hangs steps key.now }
+        ensures hangs { (steps : List Step) → IsLedgerOf self.now steps → result ≡ hangs steps key.now }
     {
         let life = self.lives.life(key);
         life.is_pending() && self.loss <= life.born

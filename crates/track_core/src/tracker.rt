@@ -1,6 +1,6 @@
 // A trace, piece by piece.
 ghost use Rattle.std.specs.Prelude.{◌≡◌, List, [], ◌∷◌, IfOk, OnOk};
-ghost use Rattle.trace_core.specs.Item.{Told, told, Event as EventTold};
+ghost use Rattle.trace_core.specs.Item.{Meaning, meaning_of, Event as EventMeaning};
 ghost use Rattle.trace_core.specs.Record.{printed};
 ghost use Rattle.track_core.specs.Tracker.{Keeps, Says, Tracks};
 
@@ -47,8 +47,8 @@ impl Tracker {
     ///
     /// Refuses as `Memory` alone; then it is not to be used further.
     pub fn take(&mut self, piece: &Piece<'_>) -> Result<(), Refusal>
-        ensures more { OnOk result ((items : List Told) →
-            Tracks self.old items → Tracks self.new (told piece.now.item ∷ items)) }
+        ensures more { OnOk result ((items : List Meaning) →
+            Tracks self.old items → Tracks self.new (meaning_of piece.now.item ∷ items)) }
     {
         self.summary.take(piece)?;
         match &piece.item {
@@ -67,8 +67,8 @@ impl Tracker {
     }
 
     fn see(&mut self, event: &Record<'_>) -> Result<(), Refusal>
-        ensures seen { OnOk result ((items : List Told) →
-            Tracks self.old items → Tracks self.new (EventTold (printed event.now) ∷ items)) }
+        ensures seen { OnOk result ((items : List Meaning) →
+            Tracks self.old items → Tracks self.new (EventMeaning (printed event.now) ∷ items)) }
     {
         let sighting = self.sighting(event)?;
         let life = self.ledger.see(&sighting)?;

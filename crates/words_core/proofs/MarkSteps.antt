@@ -2,8 +2,8 @@
 use Rattle.std.proofs.Common.{◌≡◌, ℕ, ◌+◌, ◌<◌, ◌≤◌, max, ◌⊎◌, inl, inr, ⊎_elim, List, [], ◌∷◌, ◌++◌, set, refl, arith}
 use mathlib.Core.Option.{some}
 use lib.ListN.{get_elem?}
-use Rattle.words_core.specs.declared.trace.Kind.{Kind}
-use Rattle.words_core.specs.declared.trace.Kind.TheVariants.{Load, Add, Won, Lost, Raise, Shown, Shut}
+use Rattle.words_core.specs.declared.trace.StepKind.{StepKind}
+use Rattle.words_core.specs.declared.trace.StepKind.TheVariants.{Load, Add, Won, Lost, Raise, Shown, Shut}
 use Rattle.words_core.specs.declared.trace.Step.{Step}
 use Rattle.words_core.specs.Trace.{if_kind, total, greatest, is_win, is_shut, shut_to, load, shut}
 use Rattle.words_core.specs.Rule.{WordTrace, made_in, wins_in, ShutsAsDriver, IsZeroOr, KnowsZeroOr, IsMark}
@@ -31,7 +31,7 @@ greatest_zero_or n [] h = inl refl
 greatest_zero_or n (x ∷ xs) h = max_zero_or x.value (greatest xs) n h.0 (greatest_zero_or n xs h.1)
 
 -- what is no closing leaves nothing
-no_mark : (kind : Kind) (n : ℕ) → if_kind Shut kind 1 ≡ 0 → if_kind Shut kind n ≡ 0
+no_mark : (kind : StepKind) (n : ℕ) → if_kind Shut kind 1 ≡ 0 → if_kind Shut kind n ≡ 0
 no_mark Load n h = refl
 no_mark Add n h = refl
 no_mark Won n h = refl

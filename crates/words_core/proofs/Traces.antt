@@ -6,8 +6,8 @@ use Rattle.std.proofs.lemmas.Bool.{eq-eqb, ne_eqb}
 use Rattle.std.proofs.lemmas.Bool.Decides.{nat_tests}
 use Rattle.std.proofs.lemmas.List.{append-nil}
 use Rattle.std.proofs.lemmas.List.Elements.{filter-append}
-use Rattle.words_core.specs.declared.trace.Kind.{Kind}
-use Rattle.words_core.specs.declared.trace.Kind.TheVariants.{Load, Add, Won, Lost, Raise, Shown, Shut}
+use Rattle.words_core.specs.declared.trace.StepKind.{StepKind}
+use Rattle.words_core.specs.declared.trace.StepKind.TheVariants.{Load, Add, Won, Lost, Raise, Shown, Shut}
 use Rattle.words_core.specs.declared.trace.Step.{Step}
 use Rattle.words_core.specs.Trace.{if_kind, amount_of, is_add, is_win, is_loss, is_test, is_load_of, is_add_to, target_of, is_raise_to, is_sight_of, load, add, raise, shown, total, on, greatest, raised, added, HasRunningSums}
 
@@ -51,7 +51,7 @@ HasRunningSums-append n (x ∷ xs) ys h t = let e : n + (amount_of x + added xs)
     (h.0, HasRunningSums-append (n + amount_of x) xs ys h.1 (subst (λ (m : ℕ). HasRunningSums m ys) e t))
 
 -- what is no addition adds nothing
-no_amount : (kind : Kind) (n : ℕ) → if_kind Add kind 1 ≡ 0 → if_kind Add kind n ≡ 0
+no_amount : (kind : StepKind) (n : ℕ) → if_kind Add kind 1 ≡ 0 → if_kind Add kind n ≡ 0
 no_amount Load n h = refl
 no_amount Add n h = absurd (omega arith)
 no_amount Won n h = refl
@@ -109,7 +109,7 @@ max_from_left a b x h = grind arith
 max_from_right : (a b x : ℕ) → x ≤ b → x ≤ max a b
 max_from_right a b x h = grind arith
 
-raise_to_le : (kind : Kind) (p x : ℕ) → 0 < if_kind Raise kind (cond (p == x) 1 0) → x ≤ if_kind Raise kind p
+raise_to_le : (kind : StepKind) (p x : ℕ) → 0 < if_kind Raise kind (cond (p == x) 1 0) → x ≤ if_kind Raise kind p
 raise_to_le Load p x h = absurd (omega arith)
 raise_to_le Add p x h = absurd (omega arith)
 raise_to_le Won p x h = absurd (omega arith)

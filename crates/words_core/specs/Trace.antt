@@ -1,7 +1,7 @@
 -- Steps, and what a list of them says of one word.
 use Rattle.std.specs.Prelude.{◌≡◌, ℕ, ◌+◌, ◌<◌, ◌≤◌, ◌==◌, max, if◌then◌else◌, filter, List, [], ◌∷◌}
-use Rattle.words_core.specs.declared.trace.Kind.{Kind}
-use Rattle.words_core.specs.declared.trace.Kind.TheVariants.{Load, Add, Won, Lost, Raise, Shown, Shut}
+use Rattle.words_core.specs.declared.trace.StepKind.{StepKind}
+use Rattle.words_core.specs.declared.trace.StepKind.TheVariants.{Load, Add, Won, Lost, Raise, Shown, Shut}
 use Rattle.words_core.specs.declared.trace.Step.{Step}
 
 -- the word w was read, and v found
@@ -37,7 +37,7 @@ abbrev pub set_once_step : ℕ → ℕ → Step
 set_once_step w found = if found == 0 then won w else lost w
 
 -- n where the kinds are one, and else 0
-abbrev pub if_kind : Kind → Kind → ℕ → ℕ
+abbrev pub if_kind : StepKind → StepKind → ℕ → ℕ
 if_kind Load Load n = n
 if_kind Add Add n = n
 if_kind Won Won n = n

@@ -3,7 +3,7 @@ use crate::words::Sizes;
 use std::collections::LinkedList;
 
 /// What a step does to its word.
-pub enum Kind {
+pub enum StepKind {
     /// Reads it.
     Load,
     /// Adds the operand to it.
@@ -22,7 +22,7 @@ pub enum Kind {
 
 /// One step of a seat on one word.
 pub struct Step {
-    pub kind: Kind,
+    pub kind: StepKind,
     pub word: u64,
     pub operand: u64,
     /// The value that it found, or for what changes the value, left. It is 0 where a word is set once.

@@ -1,5 +1,5 @@
 use Rattle.std.proofs.Common.{◌≡◌, rules}
-use Rattle.report_core.specs.Kind.{usage_word}
+use Rattle.report_core.specs.RowKind.{usage_word}
 use Rattle.json_core.proofs.tables.put_row.Goals as goal
 
 pub returns : goal.returns

@@ -3,7 +3,7 @@ use Rattle.std.specs.List.{flat_map, enumerate_from}
 use Rattle.std.proofs.lemmas.List.{get_or_default}
 use Rattle.std.proofs.lemmas.Result.{err_from_is_err_and}
 use Rattle.report_core.specs.Settled.{client_text}
-use Rattle.report_core.specs.declared.kind.Kind.TheVariants.{Timeline}
+use Rattle.report_core.specs.declared.row_kind.RowKind.TheVariants.{Timeline}
 use Rattle.report_core.specs.Row.{row_text}
 use Rattle.report_core.specs.Subject.{subject_text}
 use Rattle.report_core.proofs.Fronts.{StartsWith-trans}

@@ -2,7 +2,7 @@ use Rattle.std.proofs.Common.{◌∷◌, sym, subst}
 use Rattle.trace_core.specs.Item.{Event}
 use Rattle.trace_core.specs.Record.{printed}
 use Rattle.track_core.specs.History.{Seen, IsLedgerOf}
-use Rattle.track_core.specs.Tracker.{AreSteps, steps_told}
+use Rattle.track_core.specs.Tracker.{AreSteps, steps_of}
 use Rattle.track_core.proofs.Tracking.{seen, maybe}
 use Rattle.track_core.proofs.tracker.Tracker.see.Goals as goal
 
@@ -15,7 +15,7 @@ returns c = record {
       let are = seen c.args.self.now.drivers c.sighting.new.self.drivers c.time.new.self.drivers c.args.self.now.timelines c.sighting.new.self.timelines c.time.new.self.timelines items s (printed c.args.event.now) old.steps old.are c.sighting.ensures.drivers c.sighting.ensures.timelines c.in_ok-sighting.ensures.says c.time.ensures.drivers c.time.ensures.timelines in
       record {
         steps = like.more;
-        are = subst (AreSteps c.time.new.self.drivers c.time.new.self.timelines (steps_told (Event (printed c.args.event.now) ∷ items))) (sym like.same) are;
+        are = subst (AreSteps c.time.new.self.drivers c.time.new.self.timelines (steps_of (Event (printed c.args.event.now) ∷ items))) (sym like.same) are;
         ledger = like.ledger;
       };
 }

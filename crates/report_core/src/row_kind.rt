@@ -1,14 +1,14 @@
 // What a row is about.
 ghost use Rattle.std.specs.Prelude.{◌≡◌};
 ghost use Rattle.report_core.specs.Columns.{column};
-ghost use Rattle.report_core.specs.Kind.{usage_word, kind_word};
+ghost use Rattle.report_core.specs.RowKind.{usage_word, kind_word};
 
 use crate::rows::{KIND_BYTES, KIND_WIDTH};
 use point_core::Usage;
 
 /// What a row is about: its first column.
 #[derive(Clone, Copy, Debug, PartialEq, Eq, Hash)]
-pub enum Kind {
+pub enum RowKind {
     Timeline,
     /// A timeline that is closed.
     Closed,
@@ -18,17 +18,17 @@ pub enum Kind {
     Level(Usage),
 }
 
-impl Kind {
+impl RowKind {
     /// The word of the first column.
     pub fn word(self) -> &'static str
         ensures { result.now ≡ kind_word self }
     {
         match self {
-            Kind::Timeline => "timeline",
-            Kind::Closed => "closed",
-            Kind::File => "file",
-            Kind::Buffer => "buffer",
-            Kind::Level(usage) => usage_word(usage),
+            RowKind::Timeline => "timeline",
+            RowKind::Closed => "closed",
+            RowKind::File => "file",
+            RowKind::Buffer => "buffer",
+            RowKind::Level(usage) => usage_word(usage),
         }
     }
 
@@ -38,14 +38,14 @@ impl Kind {
         ensures { result.now ≡ column KIND_WIDTH (kind_word self) }
     {
         match self {
-            Kind::Timeline => b"timeline ",
-            Kind::Closed => b"closed   ",
-            Kind::File => b"file     ",
-            Kind::Buffer => b"buffer   ",
-            Kind::Level(Usage::Kernel) => b"kernel   ",
-            Kind::Level(Usage::Write) => b"write    ",
-            Kind::Level(Usage::Read) => b"read     ",
-            Kind::Level(Usage::Bookkeep) => b"bookkeep ",
+            RowKind::Timeline => b"timeline ",
+            RowKind::Closed => b"closed   ",
+            RowKind::File => b"file     ",
+            RowKind::Buffer => b"buffer   ",
+            RowKind::Level(Usage::Kernel) => b"kernel   ",
+            RowKind::Level(Usage::Write) => b"write    ",
+            RowKind::Level(Usage::Read) => b"read     ",
+            RowKind::Level(Usage::Bookkeep) => b"bookkeep ",
         }
     }
 }

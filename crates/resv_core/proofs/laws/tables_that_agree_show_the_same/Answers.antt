@@ -1,7 +1,7 @@
 use Rattle.point_core.proofs.Agreement.{AgreesAbove-sym}
 use Rattle.point_core.proofs.Reached.{IsReached-AgreesAbove}
 use Rattle.resv_core.proofs.Runs.{rows_of-AgreesAbove}
-use Rattle.resv_core.proofs.laws.tables_that_agree_tell_the_same.Goals as goal
+use Rattle.resv_core.proofs.laws.tables_that_agree_show_the_same.Goals as goal
 
 pub returns-clause-table : goal.returns-clause-table
 returns-clause-table c = λ reach es fs same. rows_of-AgreesAbove same
