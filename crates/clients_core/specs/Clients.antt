@@ -10,7 +10,7 @@ use Rattle.resv_core.specs.declared.plan.Act.{Act}
 use Rattle.resv_core.specs.Settled.{IsWithin, increments_of}
 use Rattle.clients_core.specs.declared.workers.Ended.{Ended}
 
--- a client's acts are refused as one of these alone
+-- a client's acts fail with one of these alone
 abbrev pub IsClientRefusal : Refusal → Type 0
 IsClientRefusal e = (e ≡ Exists) ⊎ ((e ≡ TimedOut) ⊎ ((e ≡ Torn) ⊎ (e ≡ Memory)))
 

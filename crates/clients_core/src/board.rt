@@ -59,7 +59,7 @@ impl Board {
     /// The pending points of a buffer at the usage or a stronger one, by rising context, above the values, which are loaded
     /// first and are the listing's floor. Then each place is looked at once.
     ///
-    /// Refuses as `Memory` alone.
+    /// Fails with `Memory` alone.
     pub fn export(
         &self,
         alloc: Global,
@@ -84,7 +84,7 @@ impl Board {
     /// The same look, into a listing that its caller keeps for many looks: what it had goes. Its list takes memory only where
     /// there is no room in it for a point of each context of the words.
     ///
-    /// Refuses as `Memory` alone. Nothing is said of the listing then.
+    /// Fails with `Memory` alone. Nothing is said of the listing then.
     pub fn export_into(
         &self,
         alloc: Global,
@@ -112,7 +112,7 @@ impl Board {
 
     /// The values that the gathered seat knows, and the tables of the plans above them.
     ///
-    /// Refuses as `Torn` where a context is closed, or where some buffer's raises say something else above these values
+    /// Fails with `Torn` if a context is closed, or where some buffer's raises say something else above these values
     /// than the plans' puts, and then as `Memory`.
     pub fn settle(
         &self,
@@ -208,7 +208,7 @@ impl SharedTable for Board {
 /// The latest point that a buffer shows of each context up to the level, where it is above the reach, by one look at each
 /// place. What the list had goes.
 ///
-/// Refuses as `Memory` alone, before the first look.
+/// Fails with `Memory` alone, before the first look.
 fn latest_shown(
     words: &Words,
     seat: &mut Seat,

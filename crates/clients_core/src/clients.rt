@@ -57,7 +57,7 @@ pub fn run_clients<R: Threads + Wait + Sync, T: SharedTable, G: Gate>(
 
 /// Gathers the seat and settles the table.
 ///
-/// Refuses as `Torn`, where a context's value is not what its plan adds up to, and as the table's `settle`.
+/// Fails with `Torn`, if a context's value is not what its plan adds up to, and as the table's `settle`.
 fn settle<R: Wait, T: SharedTable>(
     rt: &R,
     alloc: Global,

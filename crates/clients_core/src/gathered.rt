@@ -31,7 +31,7 @@ pub(crate) fn gathered(words: &Words, all: &mut Whole) -> Reach
 
 /// The same values, where no context is closed.
 ///
-/// Refuses as `Torn` where one is: a floor that was loaded then is the greatest value, above the gathered one.
+/// Fails with `Torn` if one is: a floor that was loaded then is the greatest value, above the gathered one.
 pub(crate) fn gathered_open(words: &Words, all: &mut Whole) -> Result<Reach, Refusal>
     requires own { all.old.words ≡ words.now }
     ensures stepped { HasStepped all.old all.new }

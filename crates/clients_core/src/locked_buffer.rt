@@ -37,7 +37,7 @@ impl Model for LockedBuffer {
 impl LockedBuffer {
     /// Nothing was put, and the floor is 0.
     ///
-    /// Refuses as `Memory` alone.
+    /// Fails with `Memory` alone.
     pub fn new(alloc: Global) -> Result<Self, Refusal>
         ensures empty { result ≡ Ok (record { journal = []; floor = replicate CONTEXTS 0 }) }
     {
@@ -73,7 +73,7 @@ impl LockedBuffer {
 
     /// The pending points of all puts at the usage or a stronger one, and the reach as their floor.
     ///
-    /// Refuses as `put` does.
+    /// Fails as `put` does.
     pub fn export(&mut self, usage: Usage, reach: &Reach) -> Result<Listing, Refusal>
         ensures torn { (result ≡ Err refusal.Torn) ↔ (¬ IsAtLeast reach.now self.old.floor) }
         ensures refusals { IfErr result (λ e. (e ≡ refusal.Torn) ⊎ (e ≡ refusal.Memory)) }
@@ -96,7 +96,7 @@ impl LockedBuffer {
     /// The same points as `export` lists, into a list that is kept, by a table that is kept: what both had goes. The reach is
     /// their floor.
     ///
-    /// Refuses as `put` does.
+    /// Fails as `put` does.
     pub(crate) fn export_into(
         &mut self,
         usage: Usage,
@@ -120,7 +120,7 @@ impl LockedBuffer {
     /// The pending tops of all puts, as `Resv::table` gives them, where the puts say the same above the reach as the
     /// entries that are expected.
     ///
-    /// Refuses as `put` does, and as `Torn`, which changes nothing, where they don't.
+    /// Fails as `put` does, and with `Torn`, which changes nothing, where they don't.
     pub fn settle(&mut self, expected: &[Entry], reach: &Reach) -> Result<Vec<TopRow>, Refusal>
         ensures torn { (result ≡ Err refusal.Torn) ↔
             (¬ (IsAtLeast reach.now self.old.floor × AgreesAbove reach.now self.old.journal expected.now)) }

@@ -133,7 +133,7 @@ struct Locked {
 impl Locked {
     /// Nothing was put.
     ///
-    /// Refuses as `Memory` alone.
+    /// Fails with `Memory` alone.
     fn new(alloc: Global) -> Result<Locked, Refusal>
         ensures memory { IfErr result (λ e. e ≡ refusal.Memory) }
     {

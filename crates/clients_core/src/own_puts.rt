@@ -83,7 +83,7 @@ pub(crate) struct OwnPuts {
 impl OwnPuts {
     /// Nothing was put.
     ///
-    /// Refuses as `Memory` alone.
+    /// Fails with `Memory` alone.
     pub(crate) fn none(alloc: Global, contexts: usize) -> Result<OwnPuts, Refusal>
         ensures puts { IfOk result (λ own. AreOwnPuts contexts own []) }
         ensures memory { IfErr result (λ e. e ≡ refusal.Memory) }
@@ -156,7 +156,7 @@ fn is_as_late(point: &Point, listed: &Point) -> bool
 
 /// For each buffer that nothing was put.
 ///
-/// Refuses as `Memory` alone.
+/// Fails with `Memory` alone.
 pub(crate) fn no_puts(
     alloc: Global,
     buffers: usize,

@@ -77,7 +77,7 @@ fn work<R: Wait, T: SharedTable, G: Gate>(
 
 /// Starts a worker in a thread of its own.
 ///
-/// Refuses as `Memory` where that thread cannot be started. Both seats are lost then.
+/// Fails with `Memory` if that thread cannot be started. Both seats are lost then.
 fn start<'s, E, R: Wait + Sync, T: SharedTable, G: Gate>(
     scope: &Scope<'s, E>,
     shared: &Shared<'s, R, T, G>,
@@ -135,7 +135,7 @@ fn start<'s, E, R: Wait + Sync, T: SharedTable, G: Gate>(
 
 /// Starts a worker for each plan, in order, with two seats of one part.
 ///
-/// Refuses as `Memory` at the first that cannot be started. Those before it run, and are among the workers.
+/// Fails with `Memory` at the first that cannot be started. Those before it run, and are among the workers.
 fn start_all<'s, E, R: Wait + Sync, T: SharedTable, G: Gate>(
     scope: &Scope<'s, E>,
     shared: &Shared<'s, R, T, G>,
@@ -227,7 +227,7 @@ fn work_in<'s, E, R: Threads + Wait + Sync, T: SharedTable, G: Gate>(
 /// A worker in a thread of its own for each plan, all of which have ended when it returns. The seat comes back with
 /// all of its parts.
 ///
-/// Refuses as the client with the least number that was refused: as `Exists`, `TimedOut` and `Torn`, and as `Memory`.
+/// Fails as the client with the least number that was refused: with `Exists`, `TimedOut` and `Torn`, and with `Memory`.
 pub(crate) fn work_all<R: Threads + Wait + Sync, T: SharedTable, G: Gate>(
     rt: &R,
     alloc: Global,

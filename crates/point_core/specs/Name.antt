@@ -14,7 +14,7 @@ is_name_byte b = between 65 90 b || between 97 122 b || between 48 57 b || (b ==
 abbrev pub IsName : List ℕ → Type 0
 IsName bytes = (1 ≤ length bytes) × (length bytes ≤ NAME_BYTES) × (list_all is_name_byte bytes ≡ true)
 
--- the bytes of a name, and zeros behind them
+-- the bytes of a name, and zeros after them
 abbrev pub padded : List ℕ → List ℕ
 padded bytes = bytes ++ replicate (NAME_BYTES - length bytes) 0
 

@@ -28,7 +28,7 @@ without_named name_of xs name = filter (λ x. not (is_named name_of name x)) xs
 abbrev pub HasDistinctNames : {X : Type 0} → (X → List ℕ) → List X → Type 0
 HasDistinctNames name_of xs = IsDistinct same_name (map name_of xs)
 
--- the things behind a map's entries, in their order
+-- the things that a map's entries hold, in their order
 abbrev pub things_in : {K X R : Type 0} → (X → R) → List (K × X) → List R
 things_in thing es = map thing (values_of es)
 

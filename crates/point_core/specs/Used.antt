@@ -6,7 +6,7 @@ use Rattle.point_core.specs.declared.context_values.ContextValues.TheInside.{Ins
 
 -- with one value more in front
 unfoldable pub used_with : ℕ → ℕ → ℕ
-used_with value (suc behind) = suc (suc behind)
+used_with value (suc later) = suc (suc later)
 used_with zero zero = 0
 used_with (suc value) zero = 1
 

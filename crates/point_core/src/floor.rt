@@ -42,7 +42,7 @@ impl Floor {
 
     /// The values of a reach.
     ///
-    /// Refuses as `Memory` alone.
+    /// Fails with `Memory` alone.
     pub fn of(alloc: Global, reach: &Reach) -> Result<Floor, Refusal>
         ensures floor { IfOk result (λ f. f ≡ reach.now) }
         ensures memory { IfErr result (λ e. e ≡ Refusal.Memory) }

@@ -98,7 +98,7 @@ impl LatestPoints {
 
     /// The latest points that are above the reach, by rising context, in memory for these alone.
     ///
-    /// Refuses as `Memory` alone.
+    /// Fails with `Memory` alone.
     pub fn points(&self, alloc: Global, reach: &Reach) -> Result<Vec<Point>, Refusal>
         ensures points { IfOk result (λ ps. ps.items ≡ points_above self.now reach.now) }
         ensures memory { IfErr result (λ e. e ≡ Refusal.Memory) }
@@ -123,7 +123,7 @@ impl LatestPoints {
 
     /// The same, into a list that is kept, whose points go. It takes memory where they need more than the list has.
     ///
-    /// Refuses as `Memory` alone.
+    /// Fails with `Memory` alone.
     pub fn list(&self, reach: &Reach, points: &mut Vec<Point>) -> Result<(), Refusal>
         ensures points { OnOk result (points.new.items ≡ points_above self.now reach.now) }
         ensures memory { IfErr result (λ e. e ≡ Refusal.Memory) }

@@ -44,7 +44,7 @@ pub struct TopRow {
 /// The pending points by rising context: the greatest of each context, where it is above the reach. Linux's
 /// `sync_file_merge` drops the same points, and keeps the latest of each context.
 ///
-/// Refuses as `Memory` alone.
+/// Fails with `Memory` alone.
 pub fn canon(alloc: Global, points: &[Point], reach: &Reach) -> Result<Vec<Point>, Refusal>
     ensures listing { IfOk result (λ ps. ps.items ≡ listing (as_entries points.now) 0 reach.now) }
     ensures memory { IfErr result (λ e. e ≡ Refusal.Memory) }

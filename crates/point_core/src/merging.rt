@@ -12,7 +12,7 @@ use std::alloc::Global;
 /// The pending points of two lists by rising context, as `canon` gives them of both together: the cost is that of the
 /// points, however many contexts there can be.
 ///
-/// Refuses as `Memory` alone.
+/// Fails with `Memory` alone.
 pub fn merged(
     alloc: Global,
     left: &[Point],

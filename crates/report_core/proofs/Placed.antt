@@ -46,7 +46,7 @@ regroup k s a o b d l =
     append_assoc front (b ++ d) l ∙ ap (λ x. front ++ x) (append_assoc b d l) ∙ append_assoc k ((s ++ a) ++ o) (b ++ rest) in
     ap (λ x. k ++ (s ++ x)) gap ∙ sym (whole ∙ ap (λ x. k ++ x) middle)
 
--- the number is put first, then the subject, then the subject of the row
+-- the number is put first, then the subject, then the kind
 pub row-columns : (kind subject digits blank numbered named row : List ℕ) (start last : ℕ) → length kind ≡ KIND_BYTES → length subject ≤ SUBJECT_WIDTH → length digits ≤ NUMBER_WIDTH → length numbered ≡ ROW_BYTES → start + length digits ≡ 61 → blank ≡ spaces 61 ++ last ∷ [] → drop start numbered ≡ digits ++ drop 61 blank → take start numbered ≡ take start blank → named ≡ take KIND_BYTES numbered ++ subject ++ drop (KIND_BYTES + length subject) numbered → row ≡ take 0 named ++ kind ++ drop (0 + length kind) named → row ≡ kind ++ column SUBJECT_WIDTH subject ++ right NUMBER_WIDTH digits ++ last ∷ []
 row-columns kind subject digits blank numbered named row start last word fits few size end none written before put is =
     let from = KIND_BYTES + length subject in

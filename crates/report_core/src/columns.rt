@@ -98,8 +98,8 @@ pub(crate) fn put_number(line: &mut TextLine, number: u64, width: usize)
     ensures text { line.new ≡ right width (decimal number) ++ line.old }
     ensures len { length line.new ≤ length line.old + NUMBER_WIDTH }
 {
-    let behind = line.len();
+    let before = line.len();
     line.put_number(number);
-    let digits = line.len() - behind;
+    let digits = line.len() - before;
     line.put_spaces(width.saturating_sub(digits));
 }

@@ -67,7 +67,7 @@ impl Resv {
     /// table is trimmed; the kernel makes a larger table, and doesn't carry signalled fences over. Here all places are
     /// taken by the first call that needs one, and they always suffice.
     ///
-    /// Refuses as `Memory` alone, where there were no places yet, and leaves the table as it was.
+    /// Fails with `Memory` alone, if there were no places yet, and leaves the table as it was.
     pub fn reserve(&mut self, n: usize, reach: &Reach) -> Result<(), Refusal>
         requires few { n ≤ CONTEXTS }
         ensures table { IsTable self.new }
@@ -196,7 +196,7 @@ impl Resv {
     /// The pending points at the usage or a stronger one: the latest of each context, by rising context. Linux's
     /// `dma_resv_get_fences` gives each pending fence of these usages.
     ///
-    /// Refuses as `Memory` alone.
+    /// Fails with `Memory` alone.
     pub fn collect(&self, usage: Usage, reach: &Reach) -> Result<Vec<Point>, Refusal>
         ensures points { IfOk result (λ ps. ps.items ≡ listing self.now.entries (usage_number usage) reach.now) }
         ensures memory { IfErr result (λ e. e ≡ Refusal.Memory) }
@@ -209,7 +209,7 @@ impl Resv {
     /// The points that `collect` gives, into a list that is kept, by a table that is kept: what both had goes. It takes memory
     /// where there are more points than the list has room for.
     ///
-    /// Refuses as `Memory` alone.
+    /// Fails with `Memory` alone.
     pub fn collect_into(
         &self,
         usage: Usage,
@@ -227,7 +227,7 @@ impl Resv {
 
     /// The pending top of each context at each usage: from the strongest usage to the weakest, and by rising context.
     ///
-    /// Refuses as `Memory` alone.
+    /// Fails with `Memory` alone.
     pub fn table(&self, reach: &Reach) -> Result<Vec<TopRow>, Refusal>
         ensures rows { IfOk result (λ rows. rows.items ≡ rows_of self.now.entries reach.now) }
         ensures memory { IfErr result (λ e. e ≡ Refusal.Memory) }

@@ -35,14 +35,14 @@ pub trait SharedTable: Sync + Sized + Drop {
 
     /// The table of as many buffers as the words have. Nothing was put.
     ///
-    /// Refuses as `Memory` alone.
+    /// Fails with `Memory` alone.
     fn empty(alloc: Global, words: &Words) -> Result<Self, Refusal>
         ensures words { IfOk result (λ table. made_for table ≡ words.now) }
         ensures memory { IfErr result (λ e. e ≡ refusal.Memory) };
 
     /// Puts a fence into a buffer.
     ///
-    /// Refuses as `Torn`, where table and words don't belong together, and as `Memory`, alone.
+    /// Fails with `Torn`, if table and words don't belong together, and with `Memory`, alone.
     fn put<R: Wait>(
         &self,
         rt: &R,
@@ -62,7 +62,7 @@ pub trait SharedTable: Sync + Sized + Drop {
     /// The pending points of a buffer at the usage or a stronger one, by rising context, above values that are loaded
     /// in this call, which are the listing's floor.
     ///
-    /// Refuses as `put` does.
+    /// Fails as `put` does.
     fn export<R: Wait>(
         &self,
         rt: &R,
@@ -84,7 +84,7 @@ pub trait SharedTable: Sync + Sized + Drop {
     /// A look as `export` makes it, into a listing that its caller keeps for many looks: what it had goes. It takes memory only
     /// where its list has too little room.
     ///
-    /// Refuses as `put` does. Nothing is said of the listing then.
+    /// Fails as `put` does. Nothing is said of the listing then.
     fn export_into<R: Wait>(
         &self,
         rt: &R,
@@ -107,7 +107,7 @@ pub trait SharedTable: Sync + Sized + Drop {
 
     /// The values that the gathered seat knows, and the tables of the plans above them.
     ///
-    /// Refuses as `Torn` where a context is closed, since a floor that was loaded then is the greatest value, above the
+    /// Fails with `Torn` if a context is closed, since a floor that was loaded then is the greatest value, above the
     /// gathered one; as `Torn` where what was put is not what the plans put, and as `Memory`, alone.
     fn settle<R: Wait>(
         &self,

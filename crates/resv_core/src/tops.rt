@@ -99,7 +99,7 @@ impl Tops {
     /// The points that are above the reach that the tables began as, from the strongest usage to the weakest and by rising
     /// context.
     ///
-    /// Refuses as `Memory` alone.
+    /// Fails with `Memory` alone.
     pub fn rows(&self, alloc: Global, reach: &Reach) -> Result<Vec<TopRow>, Refusal>
         ensures rows { (es : List Entry) → AreTops self.now reach.now es →
             IfOk result (λ rows. rows.items ≡ rows_of es reach.now) }

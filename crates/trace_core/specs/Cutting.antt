@@ -1,4 +1,4 @@
--- The first piece of a text of which only the front may be there.
+-- The first piece of a text of which only a prefix may be there.
 use Rattle.std.specs.Prelude.{◌≡◌, ℕ, suc, ◌+◌, ◌-◌, ◌≤◌, ◌⊎◌, Bool, true, false, List, [], ◌∷◌, ◌++◌, length, take, drop, Option, None, Some}
 use Rattle.std.specs.List.{position_or_len}
 use Rattle.trace_core.specs.declared.item.TheConstants.{PIECE_BYTES}

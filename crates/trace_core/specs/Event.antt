@@ -9,7 +9,7 @@ use Rattle.trace_core.specs.declared.runs.Class.TheVariants.{Word}
 use Rattle.trace_core.specs.Runs.{is_of}
 use Rattle.trace_core.specs.Steps.{after, after_blanks, without_blanks}
 
--- what stands behind `dma_fence_` in the name of each event
+-- what follows `dma_fence_` in the name of each event
 abbrev pub kinds : List (List ℕ × Event)
 kinds =
     (codes "init", Init)

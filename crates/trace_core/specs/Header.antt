@@ -20,7 +20,7 @@ pub record Head : Type 0 where
 abbrev pub header_from : Header → Head
 header_from h = record { task = h.task.now; pid = h.pid; cpu = h.cpu; time = h.time; text = h.text.now }
 
--- without the blanks before and behind it
+-- without the blanks around it
 unfoldable pub trimmed : List ℕ → List ℕ
 trimmed name =
     take (length (without_blanks name) - suffix_len is_blank (without_blanks name)) (without_blanks name)

@@ -99,7 +99,7 @@ fn after_flags(bytes: &[u8]) -> Option<&[u8]>
     }
 }
 
-/// The name without the blanks before and behind it.
+/// The name without the blanks around it.
 #[tactic(auto, unfolding(crate::specs::Header::trimmed))]
 fn trimmed(name: &[u8]) -> &[u8]
     ensures name { result.now ≡ trimmed name.now }

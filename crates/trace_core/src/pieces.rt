@@ -10,7 +10,7 @@ use std::marker::Model;
 /// The most bytes of one read.
 const BLOCK_BYTES: usize = 65536;
 
-/// The bytes that are held: those of a block, and before them the front of a piece.
+/// The bytes that are held: those of a block, and before them the beginning of a piece.
 const HELD_BYTES: usize = PIECE_BYTES + BLOCK_BYTES;
 
 /// What a read gave.
@@ -24,9 +24,9 @@ pub enum Progress {
     Failed,
 }
 
-/// The pieces of a text, one after another. It holds one block of the text and the front of a piece that began before it.
+/// The pieces of a text, one after another. It holds one block of the text and the beginning of a piece that began before it.
 ///
-/// `next` gives the next piece and `pass` goes on behind it; where `next` gives none, `read` reads more, or the text is at
+/// `next` gives the next piece and `pass` goes on after it; when `next` gives none, `read` reads more, or the text is at
 /// its end if it `is_whole`.
 ///
 /// Takes no memory.
@@ -38,7 +38,7 @@ pub struct Pieces {
     end: usize,
     // whether the reader was at its end
     whole: bool,
-    // whether the front of the line was let go, since the line is too long
+    // whether the beginning of the line was let go, since the line is too long
     long: bool,
 }
 
@@ -90,7 +90,7 @@ impl Pieces {
         }
     }
 
-    /// Goes on behind the piece that takes so many bytes.
+    /// Goes on after the piece that takes so many bytes.
     pub fn pass(&mut self, count: usize)
         requires within { count ≤ length self.old.bytes }
         ensures passed { self.new ≡ passed self.old count }

@@ -10,7 +10,7 @@ use crate::header::{Header, header_of};
 /// One `dma_fence` event, as the kernel printed it. Names are raw bytes: any but NUL may stand in them, a line feed too.
 #[derive(Clone, Copy, Debug)]
 pub struct Record<'a> {
-    /// The task's name, without the blanks before and behind it. `<...>` stands for a name that the kernel forgot.
+    /// The task's name, without the blanks around it. `<...>` stands for a name that the kernel forgot.
     pub task: &'a [u8],
     pub pid: u32,
     pub cpu: u32,

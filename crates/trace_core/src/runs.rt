@@ -29,7 +29,7 @@ fn is_of(class: Class, byte: u8) -> bool
     }
 }
 
-/// How many bytes of the class stand at the front.
+/// How many bytes of the class come first.
 #[inline(always)]
 pub(crate) fn run(bytes: &[u8], class: Class) -> usize
     ensures count { result ≡ prefix_len (is_of class) bytes.now }
@@ -55,7 +55,7 @@ pub(crate) fn before_run(bytes: &[u8], class: Class) -> usize
     count
 }
 
-/// The bytes behind those of the class at the front.
+/// The bytes after those of the class that come first.
 #[inline(always)]
 pub(crate) fn without_run(bytes: &[u8], class: Class) -> &[u8]
     ensures rest { result.now ≡ drop (prefix_len (is_of class) bytes.now) bytes.now }
@@ -63,7 +63,7 @@ pub(crate) fn without_run(bytes: &[u8], class: Class) -> &[u8]
     &bytes[run(bytes, class)..]
 }
 
-/// The bytes of the class at the front, and the rest.
+/// The bytes of the class that come first, and the rest.
 #[inline(always)]
 pub(crate) fn split_run(bytes: &[u8], class: Class) -> (&[u8], &[u8])
     ensures front { result.0.now ≡ take (prefix_len (is_of class) bytes.now) bytes.now }

@@ -76,7 +76,7 @@ impl Page {
 
     /// Writes what is held.
     ///
-    /// Refuses as `Memory` where memory was refused for a part, and as `Write` where the writer fails.
+    /// Fails with `Memory` if memory was refused for a part, and with `Write` where the writer fails.
     pub(crate) fn write<W: Write>(&mut self, writer: &mut W) -> Result<(), Refusal> {
         if self.is_short {
             return Err(Refusal::Memory);

@@ -6,7 +6,7 @@ use track_core::Tracker;
 
 /// Takes in a text to its end.
 ///
-/// Refuses as `Read` where the reader fails, and as `Memory`.
+/// Fails with `Read` if the reader fails, and with `Memory`.
 pub(crate) fn read_trace<R: Read>(tracker: &mut Tracker, reader: &mut R) -> Result<(), Refusal> {
     let mut pieces = Pieces::new();
     for _ in 0..u64::MAX {

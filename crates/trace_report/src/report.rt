@@ -31,7 +31,7 @@ pub enum Outcome {
 
 /// Reads a trace to its end, and writes the report.
 ///
-/// Refuses as `Read` or `Write` where the reader or the writer fails, and as `Memory`. Then a front of the report may have been
+/// Fails with `Read` or `Write` if the reader or the writer fails, and with `Memory`. Then a prefix of the report may have been
 /// written.
 pub fn report_trace<R: Read, W: Write>(
     alloc: Global,

@@ -14,7 +14,7 @@ pub(crate) struct Timelines {
 impl Timelines {
     /// Of the timelines of what was found.
     ///
-    /// Refuses as `Memory` alone.
+    /// Fails with `Memory` alone.
     pub(crate) fn new(alloc: Global, found: &Found) -> Result<Timelines, Refusal> {
         let mut timelines = Timelines {
             pending: IndexMap::new(alloc),

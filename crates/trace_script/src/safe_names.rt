@@ -42,7 +42,7 @@ impl SafeNames {
 
     /// The timeline's place, which gets one with a name if it has none.
     ///
-    /// Refuses as `Memory` alone.
+    /// Fails with `Memory` alone.
     pub(crate) fn place(
         &mut self,
         alloc: Global,

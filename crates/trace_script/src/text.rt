@@ -34,7 +34,7 @@ pub enum Scripted {
 /// pending where the window begins are made first. So each line is accepted, and the files that are pending at the end are those
 /// of the fences that are.
 ///
-/// Refuses as `Read` where the reader fails, and as `Memory`.
+/// Fails with `Read` if the reader fails, and with `Memory`.
 pub fn script_of_trace<R: Read>(
     alloc: Global,
     span: Span,

@@ -56,7 +56,7 @@ impl Delays {
 
     /// Counts a time.
     ///
-    /// Refuses as `Memory` alone.
+    /// Fails with `Memory` alone.
     pub fn add(&mut self, timeline: TimelineKey, time: u64) -> Result<(), Refusal> {
         let key = StepKey {
             timeline,

@@ -45,7 +45,7 @@ impl Ledger {
 
     /// Takes in an event. Gives what was known of its key.
     ///
-    /// Refuses as `Memory` alone; then it is not to be used further.
+    /// Fails with `Memory` alone; then it is not to be used further.
     pub fn see(&mut self, sighting: &Sighting) -> Result<Life, Refusal>
         ensures known { IfOk result (λ life. (steps : List Step) →
             IsLedgerOf self.old steps → life ≡ life_in steps sighting.now.key) }

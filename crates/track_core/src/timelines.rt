@@ -48,7 +48,7 @@ impl Timelines {
 
     /// Counts an event of the timeline of which that was found.
     ///
-    /// Refuses as `Memory` alone, and then nothing has changed.
+    /// Fails with `Memory` alone, and then nothing has changed.
     pub fn count(&mut self, key: TimelineKey, found: &Finding) -> Result<(), Refusal>
         ensures counted { OnOk result ((k : TimelineKey) → tally_at self.new k ≡
             (if same_timeline key k then tally_after found.now (tally_at self.old key) else tally_at self.old k)) }

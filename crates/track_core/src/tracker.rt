@@ -45,7 +45,7 @@ impl Tracker {
 
     /// Takes in the next piece of the text.
     ///
-    /// Refuses as `Memory` alone; then it is not to be used further.
+    /// Fails with `Memory` alone; then it is not to be used further.
     pub fn take(&mut self, piece: &Piece<'_>) -> Result<(), Refusal>
         ensures more { OnOk result ((items : List Meaning) →
             Tracks self.old items → Tracks self.new (meaning_of piece.now.item ∷ items)) }
@@ -79,7 +79,7 @@ impl Tracker {
 
     /// The event, with its names by number.
     ///
-    /// Refuses as `Memory` alone.
+    /// Fails with `Memory` alone.
     pub fn sighting(&mut self, event: &Record<'_>) -> Result<Sighting, Refusal>
         ensures says { IfOk result (λ e. Says self.new.drivers self.new.timelines e (printed event.now)) }
         ensures drivers { Keeps self.old.drivers self.new.drivers }

@@ -109,7 +109,7 @@ impl Waits {
 
     /// A wait begins.
     ///
-    /// Refuses as `Memory` alone.
+    /// Fails with `Memory` alone.
     pub fn start(&mut self, sighting: &Sighting, task: TaskName) -> Result<(), Refusal> {
         let wait = Wait {
             pid: sighting.pid,
@@ -127,7 +127,7 @@ impl Waits {
 
     /// A wait ends, of a fence that is pending or not.
     ///
-    /// Refuses as `Memory` alone.
+    /// Fails with `Memory` alone.
     pub fn end(&mut self, sighting: &Sighting, is_pending: bool) -> Result<(), Refusal> {
         let next = self.next_key(sighting);
         let last = WaitKey {
