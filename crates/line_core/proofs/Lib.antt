@@ -6,5 +6,6 @@ pub mod Fronts
 pub mod GivenLines
 pub mod Inputs
 pub mod LineLemmas
+pub mod Looking
 pub mod Numbers
 pub mod Runs
