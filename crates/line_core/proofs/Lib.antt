@@ -2,10 +2,10 @@ pub mod Blocks
 pub mod Cutting
 pub mod EndedLines
 pub mod FirstByte
+pub mod Fitting
 pub mod Fronts
 pub mod GivenLines
 pub mod Inputs
 pub mod LineLemmas
-pub mod Looking
 pub mod Numbers
 pub mod Runs

@@ -46,7 +46,7 @@ pub(crate) fn command(word: &[u8], rest: &[u8]) -> Option<Command>
 fn command_word(word: &[u8]) -> Option<CommandWord>
     ensures word { result ≡ option_map (λ form. form.asks) (form_at forms word.now) }
 {
-    command_form(word).map(|form| form.asks)
+    Some(command_form(word)?.asks)
 }
 
 // A function pays at its start for the locals of all that is inlined into it. So each command has a function of its own.

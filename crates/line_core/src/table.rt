@@ -1,8 +1,11 @@
 // The table of commands: the word of each, and the words that follow it in a line.
 ghost use Rattle.std.specs.Prelude.{◌≡◌, map, option_map};
-ghost use Rattle.line_core.specs.Table.{form_at, forms, row_of};
+ghost use Rattle.line_core.specs.Table.{form_at, forms, matches, row_of};
 
+use crate::number::is_number;
+use crate::usages::{is_flags, is_usage};
 use crate::words::is;
+use point_core::Name;
 
 /// A row of the table: a command's word, and the words that follow it, in order.
 #[derive(Debug)]
@@ -45,7 +48,7 @@ pub(crate) enum CommandWord {
     Report,
 }
 
-static COMMANDS: [CommandForm; 19] = [
+static COMMANDS: &[CommandForm] = &[
     CommandForm {
         word: "timeline",
         asks: CommandWord::Timeline,
@@ -99,7 +102,12 @@ static COMMANDS: [CommandForm; 19] = [
     CommandForm {
         word: "add",
         asks: CommandWord::Add,
-        operands: &[Operand::Name, Operand::Name, Operand::Number, Operand::Usage],
+        operands: &[
+            Operand::Name,
+            Operand::Name,
+            Operand::Number,
+            Operand::Usage,
+        ],
     },
     CommandForm {
         word: "import",
@@ -147,7 +155,7 @@ static COMMANDS: [CommandForm; 19] = [
 pub fn commands() -> &'static [CommandForm]
     ensures forms { map row_of result.now ≡ forms }
 {
-    &COMMANDS
+    COMMANDS
 }
 
 /// The row of a command's word, or none if the word is no command's.
@@ -160,4 +168,18 @@ pub fn command_form(word: &[u8]) -> Option<&'static CommandForm>
         }
     }
     None
+}
+
+impl Operand {
+    /// Whether a word may stand for it.
+    pub fn matches(self, word: &[u8]) -> bool
+        ensures matches { result ≡ matches self word.now }
+    {
+        match self {
+            Operand::Name => Name::read(word).is_some(),
+            Operand::Number => is_number(word),
+            Operand::Usage => is_usage(word),
+            Operand::Flags => is_flags(word),
+        }
+    }
 }
