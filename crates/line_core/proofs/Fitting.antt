@@ -3,9 +3,11 @@ use Rattle.std.proofs.Common.{◌≡◌, ℕ, Bool, true, false, ◌&&◌, cond,
 use Rattle.std.specs.Option.{option_and_then}
 use Rattle.std.proofs.lemmas.Bool.Decides.{nat_tests}
 use Rattle.std.specs.Str.{bytes_eq}
+use Rattle.point_core.specs.declared.entry.Usage.{Usage as UsageOf}
 use Rattle.line_core.specs.declared.table.CommandWord.TheVariants.{Report}
 use Rattle.line_core.specs.declared.table.Operand.{Operand}
 use Rattle.line_core.specs.declared.table.Operand.TheVariants.{Name, Number, Usage, Flags}
+use Rattle.command_core.specs.declared.command.Command.{Command}
 use Rattle.command_core.specs.declared.command.Command.TheVariants as command
 use Rattle.line_core.specs.Following.{is_name, name_of, both, all_three, all_four, one_name, one_number, name_and_number, two_names_and_number, three_names, two_names_number_and_usage, two_names_and_flags, name_and_usage}
 use Rattle.line_core.specs.Number.{is_number, number_of}
@@ -117,89 +119,56 @@ fit-at : (fs : List Form) (word : List ℕ) (form : Form) → AllFit fs → form
 fit-at [] word form all e = absurd (cc)
 fit-at (f ∷ fs) word form all e = step (bytes_eq word f.word) f form (form_at fs word) e all.0 (fit-at fs word form all.1)
 
-by-one_name : (words : List (List ℕ)) → is_some (one_name words) ≡ fit (Name ∷ []) words
-by-one_name = fit-one Name name_of named
+by-one_name : (make : List ℕ → Command) (words : List (List ℕ)) → is_some (option_map make (one_name words)) ≡ fit (Name ∷ []) words
+by-one_name make words = is_some-map make (one_name words) ∙ fit-one Name name_of named words
 
-by-one_number : (words : List (List ℕ)) → is_some (one_number words) ≡ fit (Number ∷ []) words
-by-one_number = fit-one Number number_of numbered
+by-one_number : (make : ℕ → Command) (words : List (List ℕ)) → is_some (option_map make (one_number words)) ≡ fit (Number ∷ []) words
+by-one_number make words = is_some-map make (one_number words) ∙ fit-one Number number_of numbered words
 
-by-name_and_number : (words : List (List ℕ)) → is_some (name_and_number words) ≡ fit (Name ∷ Number ∷ []) words
-by-name_and_number = fit-two Name Number name_of number_of named numbered
+by-name_and_number : (make : List ℕ × ℕ → Command) (words : List (List ℕ)) → is_some (option_map make (name_and_number words)) ≡ fit (Name ∷ Number ∷ []) words
+by-name_and_number make words = is_some-map make (name_and_number words) ∙ fit-two Name Number name_of number_of named numbered words
 
-by-two_names_and_number : (words : List (List ℕ)) → is_some (two_names_and_number words) ≡ fit (Name ∷ Name ∷ Number ∷ []) words
-by-two_names_and_number = fit-three Name Name Number name_of name_of number_of named named numbered
+by-two_names_and_number : (make : List ℕ × List ℕ × ℕ → Command) (words : List (List ℕ)) → is_some (option_map make (two_names_and_number words)) ≡ fit (Name ∷ Name ∷ Number ∷ []) words
+by-two_names_and_number make words = is_some-map make (two_names_and_number words) ∙ fit-three Name Name Number name_of name_of number_of named named numbered words
 
-by-three_names : (words : List (List ℕ)) → is_some (three_names words) ≡ fit (Name ∷ Name ∷ Name ∷ []) words
-by-three_names = fit-three Name Name Name name_of name_of name_of named named named
+by-three_names : (make : List ℕ × List ℕ × List ℕ → Command) (words : List (List ℕ)) → is_some (option_map make (three_names words)) ≡ fit (Name ∷ Name ∷ Name ∷ []) words
+by-three_names make words = is_some-map make (three_names words) ∙ fit-three Name Name Name name_of name_of name_of named named named words
 
-by-two_names_number_and_usage : (words : List (List ℕ)) → is_some (two_names_number_and_usage words) ≡ fit (Name ∷ Name ∷ Number ∷ Usage ∷ []) words
-by-two_names_number_and_usage = fit-four Name Name Number Usage name_of name_of number_of usage_of named named numbered used
+by-two_names_number_and_usage : (make : List ℕ × List ℕ × ℕ × UsageOf → Command) (words : List (List ℕ)) → is_some (option_map make (two_names_number_and_usage words)) ≡ fit (Name ∷ Name ∷ Number ∷ Usage ∷ []) words
+by-two_names_number_and_usage make words = is_some-map make (two_names_number_and_usage words) ∙ fit-four Name Name Number Usage name_of name_of number_of usage_of named named numbered used words
 
-by-two_names_and_flags : (words : List (List ℕ)) → is_some (two_names_and_flags words) ≡ fit (Name ∷ Name ∷ Flags ∷ []) words
-by-two_names_and_flags = fit-three Name Name Flags name_of name_of flags_of named named flagged
+by-two_names_and_flags : (make : List ℕ × List ℕ × ℕ → Command) (words : List (List ℕ)) → is_some (option_map make (two_names_and_flags words)) ≡ fit (Name ∷ Name ∷ Flags ∷ []) words
+by-two_names_and_flags make words = is_some-map make (two_names_and_flags words) ∙ fit-three Name Name Flags name_of name_of flags_of named named flagged words
 
-by-name_and_usage : (words : List (List ℕ)) → is_some (name_and_usage words) ≡ fit (Name ∷ Usage ∷ []) words
-by-name_and_usage = fit-two Name Usage name_of usage_of named used
+by-name_and_usage : (make : List ℕ × UsageOf → Command) (words : List (List ℕ)) → is_some (option_map make (name_and_usage words)) ≡ fit (Name ∷ Usage ∷ []) words
+by-name_and_usage make words = is_some-map make (name_and_usage words) ∙ fit-two Name Usage name_of usage_of named used words
+
+infixr 30 ◌also◌
+◌also◌ : {A B : Type 0} → A → B → A × B
+a also b = (a, b)
 
 all_fit : AllFit forms
-all_fit = (
-  λ words. is_some-map _ (one_name words) ∙ by-one_name words,
-  (
-    λ words. is_some-map _ (name_and_number words) ∙ by-name_and_number words,
-    (
-      λ words. is_some-map _ (one_name words) ∙ by-one_name words,
-      (
-        λ words. is_some-map _ (one_name words) ∙ by-one_name words,
-        (
-          λ words. is_some-map _ (two_names_and_number words) ∙ by-two_names_and_number words,
-          (
-            λ words. is_some-map _ (three_names words) ∙ by-three_names words,
-            (
-              λ words. is_some-map _ (one_name words) ∙ by-one_name words,
-              (
-                λ words. is_some-map _ (one_name words) ∙ by-one_name words,
-                (
-                  λ words. is_some-map _ (one_name words) ∙ by-one_name words,
-                  (
-                    λ words. is_some-map _ (one_name words) ∙ by-one_name words,
-                    (
-                      λ words. is_some-map _ (two_names_number_and_usage words) ∙ by-two_names_number_and_usage words,
-                      (
-                        λ words. is_some-map _ (two_names_and_flags words) ∙ by-two_names_and_flags words,
-                        (
-                          λ words. is_some-map _ (two_names_and_flags words) ∙ by-two_names_and_flags words,
-                          (
-                            λ words. is_some-map _ (name_and_usage words) ∙ by-name_and_usage words,
-                            (
-                              λ words. is_some-map _ (one_name words) ∙ by-one_name words,
-                              (
-                                λ words. is_some-map _ (name_and_number words) ∙ by-name_and_number words,
-                                (
-                                  λ words. is_some-map _ (one_number words) ∙ by-one_number words,
-                                  (
-                                    λ words. is_some-map _ (one_name words) ∙ by-one_name words,
-                                    (
-                                      fit-none,
-                                      tt,
-                                    ),
-                                  ),
-                                ),
-                              ),
-                            ),
-                          ),
-                        ),
-                      ),
-                    ),
-                  ),
-                ),
-              ),
-            ),
-          ),
-        ),
-      ),
-    ),
-  ),
-)
+all_fit =
+    by-one_name command.Timeline
+    also by-name_and_number (λ w. command.Inc w.0 w.1)
+    also by-one_name command.Value
+    also by-one_name command.Shut
+    also by-two_names_and_number (λ w. command.Fence w.0 w.1 w.2)
+    also by-three_names (λ w. command.Merge w.0 w.1 w.2)
+    also by-one_name command.Close
+    also by-one_name command.Wait
+    also by-one_name command.Info
+    also by-one_name command.Buffer
+    also by-two_names_number_and_usage (λ w. command.Add w.0 w.1 w.2 w.3)
+    also by-two_names_and_flags (λ w. command.Import w.0 w.1 w.2)
+    also by-two_names_and_flags (λ w. command.Export w.0 w.1 w.2)
+    also by-name_and_usage (λ w. command.Test w.0 w.1)
+    also by-one_name command.Trim
+    also by-name_and_number (λ w. command.Watch w.0 w.1)
+    also by-one_number command.Unwatch
+    also by-one_name command.Show
+    also fit-none
+    also tt
 
 pub fit-row : (word : List ℕ) (form : Form) → form_at forms word ≡ Some form → (words : List (List ℕ)) → is_some (command_by (Some form.asks) words) ≡ fit form.operands words
 fit-row word form e = fit-at forms word form all_fit e
