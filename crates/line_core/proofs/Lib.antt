@@ -2,6 +2,7 @@ pub mod Blocks
 pub mod Cutting
 pub mod EndedLines
 pub mod FirstByte
+pub mod Fitting
 pub mod Fronts
 pub mod GivenLines
 pub mod Inputs

@@ -3,6 +3,7 @@
 //! Lines, words, names and numbers are given as functions of the bytes (`specs/`).
 #![tactic(auto)]
 
+mod command;
 mod cutter;
 pub mod laws;
 mod line;
@@ -18,4 +19,5 @@ pub use line::{Body, LINE_BYTES, Line, body_of};
 pub use number::{DIGITS, is_number};
 pub use script::{Ending, SCRIPT_BYTES, first_line, last_body, read_script};
 pub use script_lines::{RawLine, ScriptLines};
+pub use table::{CommandForm, Operand, command_form, commands};
 pub use usages::{is_flags, is_usage};

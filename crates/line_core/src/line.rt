@@ -2,7 +2,7 @@
 ghost use Rattle.std.specs.Prelude.{◌≡◌};
 ghost use Rattle.line_core.specs.Line.{body_of};
 
-use crate::table::command;
+use crate::command::command;
 use crate::words::{from_word, part_word};
 use command_core::Command;
 use point_core::Refusal;

@@ -1,49 +1,32 @@
-// The table of commands.
-ghost use Rattle.std.specs.Prelude.{◌≡◌, None, Some, drop, if◌then◌else◌, option_map};
-ghost use Rattle.line_core.specs.Words.{words_of};
-ghost use Rattle.line_core.specs.Following.{one_name, one_number, name_and_number, two_names_and_number};
-ghost use Rattle.line_core.specs.Following.{three_names, two_names_number_and_usage, two_names_and_flags, name_and_usage};
-ghost use Rattle.line_core.specs.Table.{command_from, kind_at, kinds};
-ghost use Rattle.line_core.specs.Words.{are_none};
+// The table of commands: the word of each, and the words that follow it in a line.
+ghost use Rattle.std.specs.Prelude.{◌≡◌, map, option_map};
+ghost use Rattle.line_core.specs.Table.{form_at, forms, matches, row_of};
 
-use crate::number::number;
-use crate::usages::{flags, usage};
-use crate::words::{first_word, four, is, one, three, two};
-use command_core::Command;
-use point_core::{Name, Usage};
+use crate::number::is_number;
+use crate::usages::{is_flags, is_usage};
+use crate::words::is;
+use point_core::Name;
 
-/// The command of a line, by its first word and the bytes after it, or none if they fit no row.
-#[inline(never)]
-pub(crate) fn command(word: &[u8], rest: &[u8]) -> Option<Command>
-    ensures command { result ≡ command_from word.now (words_of rest.now) }
-{
-    match kind_of(word) {
-        Some(Kind::Timeline) => timeline(rest),
-        Some(Kind::Inc) => inc(rest),
-        Some(Kind::Value) => value(rest),
-        Some(Kind::Shut) => shut(rest),
-        Some(Kind::Fence) => fence(rest),
-        Some(Kind::Merge) => merge(rest),
-        Some(Kind::Close) => close(rest),
-        Some(Kind::Wait) => wait(rest),
-        Some(Kind::Info) => info(rest),
-        Some(Kind::Buffer) => buffer(rest),
-        Some(Kind::Add) => add(rest),
-        Some(Kind::Import) => import(rest),
-        Some(Kind::Export) => export(rest),
-        Some(Kind::Test) => test(rest),
-        Some(Kind::Trim) => trim(rest),
-        Some(Kind::Watch) => watch(rest),
-        Some(Kind::Unwatch) => unwatch(rest),
-        Some(Kind::Show) => show(rest),
-        Some(Kind::Report) => report(rest),
-        None => None,
-    }
+/// A row of the table: a command's word, and the words that follow it, in order.
+#[derive(Debug)]
+pub struct CommandForm {
+    pub word: &'static str,
+    pub operands: &'static [Operand],
+    pub(crate) asks: CommandWord,
 }
 
-/// What a line's first word says.
-#[derive(Clone, Copy)]
-enum Kind {
+/// What a word after a command's has to be.
+#[derive(Clone, Copy, Debug, PartialEq, Eq)]
+pub enum Operand {
+    Name,
+    Number,
+    Usage,
+    Flags,
+}
+
+/// What a command's word asks for.
+#[derive(Clone, Copy, Debug)]
+pub(crate) enum CommandWord {
     Timeline,
     Inc,
     Value,
@@ -65,291 +48,138 @@ enum Kind {
     Report,
 }
 
-fn kind_of(word: &[u8]) -> Option<Kind>
-    ensures kind { result ≡ kind_at kinds word.now }
+static COMMANDS: &[CommandForm] = &[
+    CommandForm {
+        word: "timeline",
+        asks: CommandWord::Timeline,
+        operands: &[Operand::Name],
+    },
+    CommandForm {
+        word: "inc",
+        asks: CommandWord::Inc,
+        operands: &[Operand::Name, Operand::Number],
+    },
+    CommandForm {
+        word: "value",
+        asks: CommandWord::Value,
+        operands: &[Operand::Name],
+    },
+    CommandForm {
+        word: "shut",
+        asks: CommandWord::Shut,
+        operands: &[Operand::Name],
+    },
+    CommandForm {
+        word: "fence",
+        asks: CommandWord::Fence,
+        operands: &[Operand::Name, Operand::Name, Operand::Number],
+    },
+    CommandForm {
+        word: "merge",
+        asks: CommandWord::Merge,
+        operands: &[Operand::Name, Operand::Name, Operand::Name],
+    },
+    CommandForm {
+        word: "close",
+        asks: CommandWord::Close,
+        operands: &[Operand::Name],
+    },
+    CommandForm {
+        word: "wait",
+        asks: CommandWord::Wait,
+        operands: &[Operand::Name],
+    },
+    CommandForm {
+        word: "info",
+        asks: CommandWord::Info,
+        operands: &[Operand::Name],
+    },
+    CommandForm {
+        word: "buffer",
+        asks: CommandWord::Buffer,
+        operands: &[Operand::Name],
+    },
+    CommandForm {
+        word: "add",
+        asks: CommandWord::Add,
+        operands: &[
+            Operand::Name,
+            Operand::Name,
+            Operand::Number,
+            Operand::Usage,
+        ],
+    },
+    CommandForm {
+        word: "import",
+        asks: CommandWord::Import,
+        operands: &[Operand::Name, Operand::Name, Operand::Flags],
+    },
+    CommandForm {
+        word: "export",
+        asks: CommandWord::Export,
+        operands: &[Operand::Name, Operand::Name, Operand::Flags],
+    },
+    CommandForm {
+        word: "test",
+        asks: CommandWord::Test,
+        operands: &[Operand::Name, Operand::Usage],
+    },
+    CommandForm {
+        word: "trim",
+        asks: CommandWord::Trim,
+        operands: &[Operand::Name],
+    },
+    CommandForm {
+        word: "watch",
+        asks: CommandWord::Watch,
+        operands: &[Operand::Name, Operand::Number],
+    },
+    CommandForm {
+        word: "unwatch",
+        asks: CommandWord::Unwatch,
+        operands: &[Operand::Number],
+    },
+    CommandForm {
+        word: "show",
+        asks: CommandWord::Show,
+        operands: &[Operand::Name],
+    },
+    CommandForm {
+        word: "report",
+        asks: CommandWord::Report,
+        operands: &[],
+    },
+];
+
+/// The table, a row for each command.
+pub fn commands() -> &'static [CommandForm]
+    ensures forms { map row_of result.now ≡ forms }
 {
-    if is(word, "timeline") {
-        Some(Kind::Timeline)
-    } else if is(word, "inc") {
-        Some(Kind::Inc)
-    } else if is(word, "value") {
-        Some(Kind::Value)
-    } else if is(word, "shut") {
-        Some(Kind::Shut)
-    } else {
-        file_kind_of(word)
+    COMMANDS
+}
+
+/// The row of a command's word, or none if the word is no command's.
+pub fn command_form(word: &[u8]) -> Option<&'static CommandForm>
+    ensures form { option_map (λ form. row_of form.now) result ≡ form_at forms word.now }
+{
+    for form in commands() {
+        if is(word, form.word) {
+            return Some(form);
+        }
     }
+    None
 }
 
-fn file_kind_of(word: &[u8]) -> Option<Kind>
-    ensures kind { result ≡ kind_at (drop 4 kinds) word.now }
-{
-    if is(word, "fence") {
-        Some(Kind::Fence)
-    } else if is(word, "merge") {
-        Some(Kind::Merge)
-    } else if is(word, "close") {
-        Some(Kind::Close)
-    } else if is(word, "wait") {
-        Some(Kind::Wait)
-    } else if is(word, "info") {
-        Some(Kind::Info)
-    } else {
-        buffer_kind_of(word)
+impl Operand {
+    /// Whether a word may stand for it.
+    pub fn matches(self, word: &[u8]) -> bool
+        ensures matches { result ≡ matches self word.now }
+    {
+        match self {
+            Operand::Name => Name::read(word).is_some(),
+            Operand::Number => is_number(word),
+            Operand::Usage => is_usage(word),
+            Operand::Flags => is_flags(word),
+        }
     }
-}
-
-fn buffer_kind_of(word: &[u8]) -> Option<Kind>
-    ensures kind { result ≡ kind_at (drop 9 kinds) word.now }
-{
-    if is(word, "buffer") {
-        Some(Kind::Buffer)
-    } else if is(word, "add") {
-        Some(Kind::Add)
-    } else if is(word, "import") {
-        Some(Kind::Import)
-    } else if is(word, "export") {
-        Some(Kind::Export)
-    } else if is(word, "test") {
-        Some(Kind::Test)
-    } else if is(word, "trim") {
-        Some(Kind::Trim)
-    } else {
-        watch_kind_of(word)
-    }
-}
-
-fn watch_kind_of(word: &[u8]) -> Option<Kind>
-    ensures kind { result ≡ kind_at (drop 15 kinds) word.now }
-{
-    if is(word, "watch") {
-        Some(Kind::Watch)
-    } else if is(word, "unwatch") {
-        Some(Kind::Unwatch)
-    } else {
-        table_kind_of(word)
-    }
-}
-
-fn table_kind_of(word: &[u8]) -> Option<Kind>
-    ensures kind { result ≡ kind_at (drop 17 kinds) word.now }
-{
-    if is(word, "show") {
-        Some(Kind::Show)
-    } else if is(word, "report") {
-        Some(Kind::Report)
-    } else {
-        None
-    }
-}
-
-// A function pays at its start for the locals of all that is inlined into it. So each command has a function of its own.
-
-#[inline(never)]
-fn timeline(rest: &[u8]) -> Option<Command>
-    ensures command { result ≡ option_map Command.Timeline (one_name (words_of rest.now)) }
-{
-    Some(Command::Timeline(one_name(rest)?))
-}
-
-#[inline(never)]
-fn inc(rest: &[u8]) -> Option<Command>
-    ensures command { result ≡ option_map (λ w. Command.Inc w.0 w.1) (name_and_number (words_of rest.now)) }
-{
-    let (timeline, count) = name_and_number(rest)?;
-    Some(Command::Inc(timeline, count))
-}
-
-#[inline(never)]
-fn value(rest: &[u8]) -> Option<Command>
-    ensures command { result ≡ option_map Command.Value (one_name (words_of rest.now)) }
-{
-    Some(Command::Value(one_name(rest)?))
-}
-
-#[inline(never)]
-fn shut(rest: &[u8]) -> Option<Command>
-    ensures command { result ≡ option_map Command.Shut (one_name (words_of rest.now)) }
-{
-    Some(Command::Shut(one_name(rest)?))
-}
-
-#[inline(never)]
-fn fence(rest: &[u8]) -> Option<Command>
-    ensures command { result ≡ option_map (λ w. Command.Fence w.0 w.1 w.2) (two_names_and_number (words_of rest.now)) }
-{
-    let (file, timeline, point) = two_names_and_number(rest)?;
-    Some(Command::Fence(file, timeline, point))
-}
-
-#[inline(never)]
-fn merge(rest: &[u8]) -> Option<Command>
-    ensures command { result ≡ option_map (λ w. Command.Merge w.0 w.1 w.2) (three_names (words_of rest.now)) }
-{
-    let (file, first, second) = three_names(rest)?;
-    Some(Command::Merge(file, first, second))
-}
-
-#[inline(never)]
-fn close(rest: &[u8]) -> Option<Command>
-    ensures command { result ≡ option_map Command.Close (one_name (words_of rest.now)) }
-{
-    Some(Command::Close(one_name(rest)?))
-}
-
-#[inline(never)]
-fn wait(rest: &[u8]) -> Option<Command>
-    ensures command { result ≡ option_map Command.Wait (one_name (words_of rest.now)) }
-{
-    Some(Command::Wait(one_name(rest)?))
-}
-
-#[inline(never)]
-fn info(rest: &[u8]) -> Option<Command>
-    ensures command { result ≡ option_map Command.Info (one_name (words_of rest.now)) }
-{
-    Some(Command::Info(one_name(rest)?))
-}
-
-#[inline(never)]
-fn buffer(rest: &[u8]) -> Option<Command>
-    ensures command { result ≡ option_map Command.Buffer (one_name (words_of rest.now)) }
-{
-    Some(Command::Buffer(one_name(rest)?))
-}
-
-#[inline(never)]
-fn add(rest: &[u8]) -> Option<Command>
-    ensures command { result ≡ option_map (λ w. Command.Add w.0 w.1 w.2 w.3) (two_names_number_and_usage (words_of rest.now)) }
-{
-    let (buffer, timeline, point, usage) = two_names_number_and_usage(rest)?;
-    Some(Command::Add(buffer, timeline, point, usage))
-}
-
-#[inline(never)]
-fn import(rest: &[u8]) -> Option<Command>
-    ensures command { result ≡ option_map (λ w. Command.Import w.0 w.1 w.2) (two_names_and_flags (words_of rest.now)) }
-{
-    let (buffer, file, flags) = two_names_and_flags(rest)?;
-    Some(Command::Import(buffer, file, flags))
-}
-
-#[inline(never)]
-fn export(rest: &[u8]) -> Option<Command>
-    ensures command { result ≡ option_map (λ w. Command.Export w.0 w.1 w.2) (two_names_and_flags (words_of rest.now)) }
-{
-    let (file, buffer, flags) = two_names_and_flags(rest)?;
-    Some(Command::Export(file, buffer, flags))
-}
-
-#[inline(never)]
-fn test(rest: &[u8]) -> Option<Command>
-    ensures command { result ≡ option_map (λ w. Command.Test w.0 w.1) (name_and_usage (words_of rest.now)) }
-{
-    let (buffer, usage) = name_and_usage(rest)?;
-    Some(Command::Test(buffer, usage))
-}
-
-#[inline(never)]
-fn trim(rest: &[u8]) -> Option<Command>
-    ensures command { result ≡ option_map Command.Trim (one_name (words_of rest.now)) }
-{
-    Some(Command::Trim(one_name(rest)?))
-}
-
-#[inline(never)]
-fn watch(rest: &[u8]) -> Option<Command>
-    ensures command { result ≡ option_map (λ w. Command.Watch w.0 w.1) (name_and_number (words_of rest.now)) }
-{
-    let (file, cookie) = name_and_number(rest)?;
-    Some(Command::Watch(file, cookie))
-}
-
-#[inline(never)]
-fn unwatch(rest: &[u8]) -> Option<Command>
-    ensures command { result ≡ option_map Command.Unwatch (one_number (words_of rest.now)) }
-{
-    Some(Command::Unwatch(one_number(rest)?))
-}
-
-#[inline(never)]
-fn show(rest: &[u8]) -> Option<Command>
-    ensures command { result ≡ option_map Command.Show (one_name (words_of rest.now)) }
-{
-    Some(Command::Show(one_name(rest)?))
-}
-
-fn report(rest: &[u8]) -> Option<Command>
-    ensures command { result ≡ (if are_none (words_of rest.now) then Some Command.Report else None) }
-{
-    if has_no_word(rest) {
-        Some(Command::Report)
-    } else {
-        None
-    }
-}
-
-fn has_no_word(rest: &[u8]) -> bool
-    ensures words { result ≡ are_none (words_of rest.now) }
-{
-    first_word(rest).is_none()
-}
-
-fn one_name(rest: &[u8]) -> Option<Name>
-    ensures words { result ≡ one_name (words_of rest.now) }
-{
-    Name::read(one(rest)?)
-}
-
-fn one_number(rest: &[u8]) -> Option<u64>
-    ensures words { result ≡ one_number (words_of rest.now) }
-{
-    number(one(rest)?)
-}
-
-fn name_and_number(rest: &[u8]) -> Option<(Name, u64)>
-    ensures words { result ≡ name_and_number (words_of rest.now) }
-{
-    let (first, second) = two(rest)?;
-    Some((Name::read(first)?, number(second)?))
-}
-
-fn two_names_and_number(rest: &[u8]) -> Option<(Name, Name, u64)>
-    ensures words { result ≡ two_names_and_number (words_of rest.now) }
-{
-    let (first, second, third) = three(rest)?;
-    Some((Name::read(first)?, Name::read(second)?, number(third)?))
-}
-
-fn three_names(rest: &[u8]) -> Option<(Name, Name, Name)>
-    ensures words { result ≡ three_names (words_of rest.now) }
-{
-    let (first, second, third) = three(rest)?;
-    Some((Name::read(first)?, Name::read(second)?, Name::read(third)?))
-}
-
-fn two_names_number_and_usage(rest: &[u8]) -> Option<(Name, Name, u64, Usage)>
-    ensures words { result ≡ two_names_number_and_usage (words_of rest.now) }
-{
-    let (first, second, third, fourth) = four(rest)?;
-    Some((
-        Name::read(first)?,
-        Name::read(second)?,
-        number(third)?,
-        usage(fourth)?,
-    ))
-}
-
-fn two_names_and_flags(rest: &[u8]) -> Option<(Name, Name, u32)>
-    ensures words { result ≡ two_names_and_flags (words_of rest.now) }
-{
-    let (first, second, third) = three(rest)?;
-    Some((Name::read(first)?, Name::read(second)?, flags(third)?))
-}
-
-fn name_and_usage(rest: &[u8]) -> Option<(Name, Usage)>
-    ensures words { result ≡ name_and_usage (words_of rest.now) }
-{
-    let (first, second) = two(rest)?;
-    Some((Name::read(first)?, usage(second)?))
 }

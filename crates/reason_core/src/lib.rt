@@ -3,9 +3,9 @@
 #![tactic(auto)]
 
 mod book;
-mod grammar;
 mod look;
 mod names;
+mod operands;
 mod refused;
 mod syntax;
 

@@ -2,9 +2,9 @@
 ghost use Rattle.std.specs.Prelude.{◌≡◌, ◌⊎◌, IfErr};
 ghost use Rattle.point_core.specs.declared.refusal.Refusal.TheVariants.{Write as WriteFault, Memory};
 
-use crate::grammar::{Operand, commands, operands_of};
 use crate::look::{Part, Place, note, note_word};
-use line_core::{LINE_BYTES, RawLine, SCRIPT_BYTES};
+use crate::operands::{absence, mismatch};
+use line_core::{LINE_BYTES, Operand, RawLine, SCRIPT_BYTES, command_form, commands};
 use point_core::{LimitKind, Refusal};
 use std::alloc::Global;
 use std::io::Write;
@@ -71,8 +71,8 @@ fn explain_syntax<N: Write>(
         }
     }
     let (word, rest) = first_word(line);
-    match operands_of(word) {
-        Some(operands) => explain_words(place, word, operands, rest, notes),
+    match command_form(word) {
+        Some(form) => explain_words(place, word, form.operands, rest, notes),
         None => explain_no_command(alloc, place, word, notes),
     }
 }
@@ -159,11 +159,11 @@ fn nearest(alloc: Global, word: &[u8]) -> Result<Option<&'static str>, Refusal>
     };
     let mut least = word.len() / LETTERS + 1;
     let mut found = None;
-    for (command, _) in commands() {
-        let letters = osa_distance(alloc, text, command)?;
+    for form in commands() {
+        let letters = osa_distance(alloc, text, form.word)?;
         if letters < least {
             least = letters;
-            found = Some(*command);
+            found = Some(form.word);
         }
     }
     Ok(found)
@@ -193,7 +193,7 @@ fn explain_words<N: Write>(
 /// What is missing at the end of a line.
 fn missing(operand: Option<&Operand>) -> &'static str {
     match operand {
-        Some(operand) => operand.absence(),
+        Some(operand) => absence(*operand),
         None => "a word is missing",
     }
 }
@@ -202,7 +202,7 @@ fn missing(operand: Option<&Operand>) -> &'static str {
 fn wrong_for(word: &[u8], operand: Option<&Operand>) -> Option<&'static str> {
     match operand {
         Some(operand) if operand.matches(word) => None,
-        Some(operand) => Some(operand.mismatch()),
+        Some(operand) => Some(mismatch(*operand)),
         None => Some("unexpected extra word"),
     }
 }
