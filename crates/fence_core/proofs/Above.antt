@@ -123,8 +123,8 @@ other-not_due ks kept reach p is low contexts h k there apart =
     ap (λ v. is_due k.ctx v k) (ap (λ f. value_at f k.ctx) is ∙ value_at-with_value_other kept p.ctx k.ctx (max (value_at kept p.ctx) p.value) low (contexts.contexts k there).0 apart)
     ∙ h k there
 
-pub due-alone : (ks : List WaitingPoint) (kept reach : List ℕ) (p : Point) → reach ≡ reaching kept p → 1 ≤ p.ctx → AreWaiting ks → AreAbove ks kept → (k : WaitingPoint) → is_due k.ctx (value_at reach k.ctx) k ≡ true → holds ks k ≡ true → is_due p.ctx (value_at reach p.ctx) k ≡ true
-due-alone ks kept reach p is low contexts h k due there = elim (cases_Bool (nat_eq k.ctx p.ctx)) [
+pub due-one_context : (ks : List WaitingPoint) (kept reach : List ℕ) (p : Point) → reach ≡ reaching kept p → 1 ≤ p.ctx → AreWaiting ks → AreAbove ks kept → (k : WaitingPoint) → is_due k.ctx (value_at reach k.ctx) k ≡ true → holds ks k ≡ true → is_due p.ctx (value_at reach p.ctx) k ≡ true
+due-one_context ks kept reach p is low contexts h k due there = elim (cases_Bool (nat_eq k.ctx p.ctx)) [
   | inl same ↦ ap (λ c. is_due c (value_at reach c) k) (sym (eqb-true k.ctx p.ctx same)) ∙ due
   | inr other ↦ absurd (false≢true (sym (other-not_due ks kept reach p is low contexts h k there (λ e. false≢true (sym other ∙ eq-eqb k.ctx p.ctx e))) ∙ due))
 ]
@@ -137,9 +137,9 @@ not_due-at reach ctx k none = elim (cases_Bool (nat_eq k.ctx ctx)) [
 ]
 
 -- the points of that context that are due, taken out
-pub AreAbove-alone : (ks fewer : List WaitingPoint) (kept reach : List ℕ) (p : Point) → reach ≡ reaching kept p → 1 ≤ p.ctx → AreWaiting ks → AreAbove ks kept → ((k : WaitingPoint) → holds fewer k ≡ true → holds ks k ≡ true)
+pub AreAbove-one_context : (ks fewer : List WaitingPoint) (kept reach : List ℕ) (p : Point) → reach ≡ reaching kept p → 1 ≤ p.ctx → AreWaiting ks → AreAbove ks kept → ((k : WaitingPoint) → holds fewer k ≡ true → holds ks k ≡ true)
     → ((k : WaitingPoint) → is_due p.ctx (value_at reach p.ctx) k ≡ true → holds fewer k ≡ false) → AreAbove fewer reach
-AreAbove-alone ks fewer kept reach p is low contexts h less none = λ k there. elim (cases_Bool (is_due k.ctx (value_at reach k.ctx) k)) [
-  | inl due ↦ absurd (false≢true (sym (none k (due-alone ks kept reach p is low contexts h k due (less k there))) ∙ there))
+AreAbove-one_context ks fewer kept reach p is low contexts h less none = λ k there. elim (cases_Bool (is_due k.ctx (value_at reach k.ctx) k)) [
+  | inl due ↦ absurd (false≢true (sym (none k (due-one_context ks kept reach p is low contexts h k due (less k there))) ∙ there))
   | inr other ↦ other
 ]

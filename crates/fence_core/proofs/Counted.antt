@@ -12,7 +12,7 @@ use Rattle.point_core.specs.Reach.{IsAtLeast, value_at}
 use Rattle.fence_core.specs.declared.watches.point_index.WaitingPoint.{WaitingPoint}
 use Rattle.fence_core.specs.Watch.{Watch}
 use Rattle.fence_core.specs.Watches.{fires}
-use Rattle.fence_core.specs.Told.{at}
+use Rattle.fence_core.specs.Reported.{at}
 use Rattle.fence_core.specs.Counts.{FireByCount}
 use Rattle.fence_core.specs.Registered.{IsIndexed}
 use Rattle.fence_core.specs.PointIndex.{is_same, holds, is_of, is_due, number, number_of, number_due, number_reached, AreWaiting}
@@ -258,7 +258,7 @@ fires-by_count es index later reach h high r w is = (
   λ fired. number-same _ _ index (λ k there. elim (cases_Bool (nat_eq k.registration r)) [
     | inl its ↦
         let same = eqb-true k.registration r its in
-        let old = h.alone k there in
+        let old = h.owned k there in
         let it : old.0 ≡ w = same_Some old.0 w (sym old.1 ∙ ap (at es) same ∙ is) in
         let due = reached-due later w.points k.registration k fired (ap (λ (v : Watch). is_of v.points k.registration k) (sym it) ∙ old.2) in
         ap (λ b. nat_eq k.registration r && b) due ∙ and-true (nat_eq k.registration r)

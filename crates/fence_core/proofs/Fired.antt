@@ -20,9 +20,9 @@ use Rattle.fence_core.proofs.InOrder.{same_lists}
 use Rattle.fence_core.proofs.Indexed.{fires-due}
 use Rattle.fence_core.specs.Watch.{Watch, is_for, cookies_of}
 use Rattle.fence_core.specs.Watches.{fires}
-use Rattle.fence_core.specs.Told.{at, cookie_if_fires, with_cookie, IsTold, AreSomeTold, Fires, told_of}
-use Rattle.fence_core.specs.declared.watches.point_index.alone.Fired.{Fired}
-use Rattle.fence_core.specs.declared.watches.point_index.alone.Fired.TheVariants.{Nothing, One, Several}
+use Rattle.fence_core.specs.Reported.{at, cookie_if_fires, with_cookie, IsReported, AreOnlyFiring, Fires, reported_of}
+use Rattle.fence_core.specs.declared.watches.point_index.single_rise.Fired.{Fired}
+use Rattle.fence_core.specs.declared.watches.point_index.single_rise.Fired.TheVariants.{Nothing, One, Several}
 
 -- the cookies of the watches that fire, by registration
 told : List ℕ → List (ℕ × Watch) → List (ℕ × ℕ)
@@ -84,21 +84,21 @@ values-told reach (e ∷ es) = by (fires reach e.1) (values-told reach es)
     by true rest = ap (λ cs. e.1.cookie ∷ cs) rest
     by false rest = rest
 
--- where each registration was told, the cookies stand by registration
-values-IsTold : (reach : List ℕ) (es : List (ℕ × Watch)) (fired : List (ℕ × ℕ)) → IsStrictlySortedBy nat_cmp (keys_of es) → IsStrictlySortedBy nat_cmp (keys_of fired) → ((r : ℕ) → IsTold es reach fired r) → values_of fired ≡ cookies_of (filter (fires reach) (values_of es))
-values-IsTold reach es fired ordered rising all =
+-- where each registration was reported, the cookies stand by registration
+values-IsReported : (reach : List ℕ) (es : List (ℕ × Watch)) (fired : List (ℕ × ℕ)) → IsStrictlySortedBy nat_cmp (keys_of es) → IsStrictlySortedBy nat_cmp (keys_of fired) → ((r : ℕ) → IsReported es reach fired r) → values_of fired ≡ cookies_of (filter (fires reach) (values_of es))
+values-IsReported reach es fired ordered rising all =
     ap values_of (same_lists fired (told reach es) rising (ordered-told reach es ordered) (λ r. all r ∙ sym (at-told reach es r ordered)))
     ∙ values-told reach es
 
--- where no watch was told that doesn't fire, and each that fires was, each was told
-pub IsTold-all : (reach : List ℕ) (es : List (ℕ × Watch)) (fired : List (ℕ × ℕ)) (r : ℕ) → AreSomeTold es reach fired → ((w : Watch) → at es r ≡ Some w → fires reach w ≡ true → IsTold es reach fired r) → IsTold es reach fired r
-IsTold-all reach es fired r some all = by (at fired r) refl
+-- where no watch was reported that doesn't fire, and each that fires was, each was reported
+pub IsReported-all : (reach : List ℕ) (es : List (ℕ × Watch)) (fired : List (ℕ × ℕ)) (r : ℕ) → AreOnlyFiring es reach fired → ((w : Watch) → at es r ≡ Some w → fires reach w ≡ true → IsReported es reach fired r) → IsReported es reach fired r
+IsReported-all reach es fired r some all = by (at fired r) refl
   where
-    by : (o : Option ℕ) → at fired r ≡ o → IsTold es reach fired r
+    by : (o : Option ℕ) → at fired r ≡ o → IsReported es reach fired r
     by (Some c) is = is ∙ sym (some r c is)
     by None is = from (at es r) refl
       where
-        from : (p : Option Watch) → at es r ≡ p → IsTold es reach fired r
+        from : (p : Option Watch) → at es r ≡ p → IsReported es reach fired r
         from None none = is ∙ sym (ap (cookie_if_fires reach) none)
         from (Some w) there = elim (cases_Bool (fires reach w)) [
           | inl fired_it ↦ all w there fired_it
@@ -106,21 +106,21 @@ IsTold-all reach es fired r some all = by (at fired r) refl
         ]
 
 -- what is told of the points that are due is the cookies of the watches that fire
-pub values-fired : (reach kept : List ℕ) (es : List (ℕ × Watch)) (index : List WaitingPoint) (fired : List (ℕ × ℕ)) → IsStrictlySortedBy nat_cmp (keys_of es) → IsIndexed es index kept → IsStrictlySortedBy nat_cmp (keys_of fired) → AreSomeTold es reach fired → ((k : WaitingPoint) → is_due k.ctx (value_at reach k.ctx) k ≡ true → holds index k ≡ true → IsTold es reach fired k.registration) → values_of fired ≡ cookies_of (filter (fires reach) (values_of es))
+pub values-fired : (reach kept : List ℕ) (es : List (ℕ × Watch)) (index : List WaitingPoint) (fired : List (ℕ × ℕ)) → IsStrictlySortedBy nat_cmp (keys_of es) → IsIndexed es index kept → IsStrictlySortedBy nat_cmp (keys_of fired) → AreOnlyFiring es reach fired → ((k : WaitingPoint) → is_due k.ctx (value_at reach k.ctx) k ≡ true → holds index k ≡ true → IsReported es reach fired k.registration) → values_of fired ≡ cookies_of (filter (fires reach) (values_of es))
 values-fired reach kept es index fired ordered h rising some all =
-    values-IsTold reach es fired ordered rising (λ r. IsTold-all reach es fired r some (λ w found fired_it.
+    values-IsReported reach es fired ordered rising (λ r. IsReported-all reach es fired r some (λ w found fired_it.
     let k = fires-due es index reach kept r w h found fired_it in
-    subst (IsTold es reach fired) k.1 (all k.0 k.3 k.2)))
+    subst (IsReported es reach fired) k.1 (all k.0 k.3 k.2)))
 
-ordered-told_of : (f : Fired) → IsStrictlySortedBy nat_cmp (keys_of (told_of f))
+ordered-reported_of : (f : Fired) → IsStrictlySortedBy nat_cmp (keys_of (reported_of f))
 unfolding IsStrictlySortedBy
-ordered-told_of Nothing = tt
-ordered-told_of (One registration cookie) = (tt, tt)
-ordered-told_of Several = tt
+ordered-reported_of Nothing = tt
+ordered-reported_of (One registration cookie) = (tt, tt)
+ordered-reported_of Several = tt
 
 -- the same where one watch is told at most
-pub values-told_of : (reach kept : List ℕ) (es : List (ℕ × Watch)) (index : List WaitingPoint) (f : Fired) → IsStrictlySortedBy nat_cmp (keys_of es) → IsIndexed es index kept → AreSomeTold es reach (told_of f) → ((k : WaitingPoint) → is_due k.ctx (value_at reach k.ctx) k ≡ true → holds index k ≡ true → IsTold es reach (told_of f) k.registration) → values_of (told_of f) ≡ cookies_of (filter (fires reach) (values_of es))
-values-told_of reach kept es index f ordered h some all = values-fired reach kept es index (told_of f) ordered h (ordered-told_of f) some all
+pub values-reported_of : (reach kept : List ℕ) (es : List (ℕ × Watch)) (index : List WaitingPoint) (f : Fired) → IsStrictlySortedBy nat_cmp (keys_of es) → IsIndexed es index kept → AreOnlyFiring es reach (reported_of f) → ((k : WaitingPoint) → is_due k.ctx (value_at reach k.ctx) k ≡ true → holds index k ≡ true → IsReported es reach (reported_of f) k.registration) → values_of (reported_of f) ≡ cookies_of (filter (fires reach) (values_of es))
+values-reported_of reach kept es index f ordered h some all = values-fired reach kept es index (reported_of f) ordered h (ordered-reported_of f) some all
 
 -- where no point is due, no watch fires
 pub none-due : (reach kept : List ℕ) (es : List (ℕ × Watch)) (index : List WaitingPoint) → IsStrictlySortedBy nat_cmp (keys_of es) → IsIndexed es index kept → ((k : WaitingPoint) → holds index k ≡ true → is_due k.ctx (value_at reach k.ctx) k ≡ false) → cookies_of (filter (fires reach) (values_of es)) ≡ []
@@ -240,37 +240,37 @@ none-left reach (w ∷ ws) = by (fires reach w) refl (none-left reach ws)
     by false is rest = ap (λ b. b || list_any (fires reach) (filter (λ w. not (fires reach w)) ws)) is ∙ rest
 
 -- a rise came to one more point of a watch: what is told then
-module _ (es : List (ℕ × Watch)) (reach : List ℕ) (old new : List (ℕ × ℕ)) (r left : ℕ) (some : AreSomeTold es reach old) (others : (q : ℕ) → nat_eq r q ≡ false → at new q ≡ at old q) (last : left ≡ 0 → at new r ≡ with_cookie (at es r) (at old r)) (fired : left ≡ 0 → (w : Watch) → at es r ≡ Some w → fires reach w ≡ true) where
-  pub passed-last : left ≡ 0 → IsTold es reach new r
+module _ (es : List (ℕ × Watch)) (reach : List ℕ) (old new : List (ℕ × ℕ)) (r left : ℕ) (some : AreOnlyFiring es reach old) (others : (q : ℕ) → nat_eq r q ≡ false → at new q ≡ at old q) (last : left ≡ 0 → at new r ≡ with_cookie (at es r) (at old r)) (fired : left ≡ 0 → (w : Watch) → at es r ≡ Some w → fires reach w ≡ true) where
+  pub passed-last : left ≡ 0 → IsReported es reach new r
   passed-last none = by (at es r) refl
     where
       before : (o : Option ℕ) → at old r ≡ o → at es r ≡ None → o ≡ None
       before None was is = refl
       before (Some c) was is = absurd (none-some c (sym (ap (cookie_if_fires reach) is) ∙ some r c was))
 
-      by : (o : Option Watch) → at es r ≡ o → IsTold es reach new r
+      by : (o : Option Watch) → at es r ≡ o → IsReported es reach new r
       by None is = last none ∙ ap (λ o. with_cookie o (at old r)) is ∙ before (at old r) refl is ∙ sym (ap (cookie_if_fires reach) is)
       by (Some w) is = last none ∙ ap (λ o. with_cookie o (at old r)) is ∙ sym (ap (cookie_if_fires reach) is ∙ ap (λ b. cond b (Some w.cookie) None) (fired none w is))
 
   module _ (not_last : nat_eq left 0 ≡ false → at new r ≡ at old r) where
-    pub passed-still : (q : ℕ) → IsTold es reach old q → IsTold es reach new q
+    pub passed-still : (q : ℕ) → IsReported es reach old q → IsReported es reach new q
     passed-still q told = elim (cases_Bool (nat_eq r q)) [
       | inr other ↦ others q other ∙ told
       | inl same ↦
           let is = eqb-true r q same in
           elim (cases_Bool (nat_eq left 0)) [
-            | inl none ↦ subst (IsTold es reach new) is (passed-last (eqb-true left 0 none))
-            | inr more ↦ subst (IsTold es reach new) is (not_last more ∙ subst (IsTold es reach old) (sym is) told)
+            | inl none ↦ subst (IsReported es reach new) is (passed-last (eqb-true left 0 none))
+            | inr more ↦ subst (IsReported es reach new) is (not_last more ∙ subst (IsReported es reach old) (sym is) told)
           ]
     ]
 
-    pub passed-some : AreSomeTold es reach new
+    pub passed-some : AreOnlyFiring es reach new
     passed-some q c is = elim (cases_Bool (nat_eq r q)) [
       | inr other ↦ some q c (sym (others q other) ∙ is)
       | inl same ↦
           let it = eqb-true r q same in
           elim (cases_Bool (nat_eq left 0)) [
-            | inl none ↦ sym (subst (IsTold es reach new) it (passed-last (eqb-true left 0 none))) ∙ is
+            | inl none ↦ sym (subst (IsReported es reach new) it (passed-last (eqb-true left 0 none))) ∙ is
             | inr more ↦ ap (λ n. cookie_if_fires reach (at es n)) (sym it) ∙ some r c (sym (not_last more) ∙ ap (at new) it ∙ is)
           ]
     ]

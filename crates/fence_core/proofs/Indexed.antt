@@ -11,7 +11,7 @@ use Rattle.point_core.specs.Reach.{IsAtLeast, is_reached, value_at}
 use Rattle.fence_core.specs.Fence.{are_reached}
 use Rattle.fence_core.specs.Watch.{Watch}
 use Rattle.fence_core.specs.Watches.{fires}
-use Rattle.fence_core.specs.Told.{at}
+use Rattle.fence_core.specs.Reported.{at}
 use Rattle.fence_core.specs.PointIndex.{waiting, is_same, holds, is_of, above, is_due}
 use Rattle.fence_core.specs.Registered.{IsIndexed}
 use Rattle.fence_core.specs.declared.watches.point_index.WaitingPoint.{WaitingPoint}
@@ -129,7 +129,7 @@ same_or_other r q = elim (cases_Bool (nat_eq r q)) [
 -- an index that holds the same
 pub IsIndexed-same : (es : List (ℕ × Watch)) (index other : List WaitingPoint) (reach : List ℕ) → IsIndexed es index reach → ((k : WaitingPoint) → holds other k ≡ holds index k) → IsIndexed es other reach
 IsIndexed-same es index other reach h same = record {
-  alone = λ k there. h.alone k (sym (same k) ∙ there);
+  owned = λ k there. h.owned k (sym (same k) ∙ there);
   some = λ r w is. let k = h.some r w is in (k.0, k.1, same k.0 ∙ k.2);
   above = λ r w k is there. same k ∙ h.above r w k is there;
 }
@@ -137,9 +137,9 @@ IsIndexed-same es index other reach h same = record {
 -- a watch taken out
 pub IsIndexed-remove : (es left : List (ℕ × Watch)) (index fewer : List WaitingPoint) (reach : List ℕ) (r : ℕ) (w : Watch) → IsIndexed es index reach → at es r ≡ Some w → ((q : ℕ) → at left q ≡ cond (is_at (nat_cmp r) q) None (at es q)) → ((k : WaitingPoint) → holds fewer k ≡ (not (is_of w.points r k) && holds index k)) → IsIndexed left fewer reach
 IsIndexed-remove es left index fewer reach r w h found out taken = record {
-  alone = λ k there.
+  owned = λ k there.
       let parts = and_parts (not (is_of w.points r k)) (holds index k) (sym (taken k) ∙ there) in
-      let old = h.alone k parts.1 in
+      let old = h.owned k parts.1 in
       elim (same_or_other r k.registration) [
         | inl same ↦
             let is : w ≡ old.0 = same_Some w old.0 (sym found ∙ ap (at es) same ∙ old.1) in
@@ -165,19 +165,19 @@ IsIndexed-remove es left index fewer reach r w h found out taken = record {
 -- no point of a registration that was not given is held
 pub not_held : (es : List (ℕ × Watch)) (index : List WaitingPoint) (reach : List ℕ) (made : ℕ) (k : WaitingPoint) → IsIndexed es index reach → AllByRecursion (λ r. r < made) (keys_of es) → made ≡ k.registration → holds index k ≡ false
 not_held es index reach made k h before is = elim (cases_Bool (holds index k)) [
-  | inl there ↦ let old = h.alone k there in let low = at-All (λ r. r < made) es k.registration old.0 before old.1 in absurd (omega arith)
+  | inl there ↦ let old = h.owned k there in let low = at-All (λ r. r < made) es k.registration old.0 before old.1 in absurd (omega arith)
   | inr none ↦ none
 ]
 
 -- one more watch
 pub IsIndexed-push : (es more : List (ℕ × Watch)) (index grown : List WaitingPoint) (later reach : List ℕ) (made : ℕ) (w : Watch) → IsIndexed es index reach → AllByRecursion (λ r. r < made) (keys_of es) → IsAtLeast later reach → are_reached later w.points ≡ false → ((q : ℕ) → at more q ≡ cond (is_at (nat_cmp made) q) (Some w) (at es q)) → ((k : WaitingPoint) → holds grown k ≡ (is_of (above later w.points) made k || holds index k)) → IsIndexed more grown later
 IsIndexed-push es more index grown later reach made w h before high pending put held = record {
-  alone = λ k there. elim (or_cases (is_of (above later w.points) made k) (holds index k) (sym (held k) ∙ there)) [
+  owned = λ k there. elim (or_cases (is_of (above later w.points) made k) (holds index k) (sym (held k) ∙ there)) [
     | inl new ↦
         let its = is_of-registration (above later w.points) made k new in
         (w, at-here es more made k.registration (Some w) (put k.registration) its, ap (λ n. is_of w.points n k) (sym its) ∙ is_of-above later w.points made k new)
     | inr old ↦
-        let was = h.alone k old in
+        let was = h.owned k old in
         let low = at-All (λ r. r < made) es k.registration was.0 before was.1 in
         (was.0, at-other es more made k.registration (Some w) w (put k.registration) (λ e. omega arith) ∙ was.1, was.2)
   ];
@@ -201,7 +201,7 @@ IsIndexed-push es more index grown later reach made w h before high pending put 
 -- a rise by which no watch fires: what is above the new reach stays
 pub IsIndexed-rise : (es : List (ℕ × Watch)) (index fewer : List WaitingPoint) (later reach : List ℕ) → IsIndexed es index reach → IsAtLeast later reach → ((r : ℕ) (w : Watch) → at es r ≡ Some w → fires later w ≡ false) → ((k : WaitingPoint) → holds fewer k ≡ true → holds index k ≡ true) → ((k : WaitingPoint) → is_due k.ctx (value_at later k.ctx) k ≡ false → holds fewer k ≡ holds index k) → IsIndexed es fewer later
 IsIndexed-rise es index fewer later reach h high none less same = record {
-  alone = λ k there. h.alone k (less k there);
+  owned = λ k there. h.owned k (less k there);
   some = λ r w is.
       let new = some-above later w.points r (none r w is) in
       (new.0, new.1, same new.0 (above-not_due later w.points r new.0 new.2) ∙ h.above r w new.0 is (above-later later reach w.points r new.0 high new.2));
@@ -212,13 +212,13 @@ IsIndexed-rise es index fewer later reach h high none less same = record {
 pub fires-due : (es : List (ℕ × Watch)) (index : List WaitingPoint) (later reach : List ℕ) (r : ℕ) (w : Watch) → IsIndexed es index reach → at es r ≡ Some w → fires later w ≡ true → (k : WaitingPoint) × (k.registration ≡ r) × (holds index k ≡ true) × (is_due k.ctx (value_at later k.ctx) k ≡ true)
 fires-due es index later reach r w h is fired =
     let k = h.some r w is in
-    let its = h.alone k.0 k.2 in
+    let its = h.owned k.0 k.2 in
     let same : its.0 ≡ w = same_Some its.0 w (sym its.1 ∙ ap (at es) k.1 ∙ is) in
     (k.0, k.1, k.2, reached-due later w.points k.0.registration k.0 fired (ap (λ (v : Watch). is_of v.points k.0.registration k.0) (sym same) ∙ its.2))
 
 pub IsIndexed-none : (es : List (ℕ × Watch)) (index : List WaitingPoint) (reach : List ℕ) → es ≡ [] → index ≡ [] → IsIndexed es index reach
 IsIndexed-none es index reach is also = record {
-  alone = λ k there. absurd (false≢true (sym (ap (λ ks. holds ks k) also) ∙ there));
+  owned = λ k there. absurd (false≢true (sym (ap (λ ks. holds ks k) also) ∙ there));
   some = λ r w found. absurd (none-some w (sym (ap (λ xs. at xs r) is) ∙ found));
   above = λ r w k found there. absurd (none-some w (sym (ap (λ xs. at xs r) is) ∙ found));
 }

@@ -14,7 +14,7 @@ use Rattle.fence_core.specs.declared.watches.TheConstants.{WATCHES}
 use Rattle.fence_core.specs.Watch.{Watch, is_for, cookies_of, ArePending}
 use Rattle.point_core.specs.declared.entry.Point.{Point}
 use Rattle.fence_core.specs.Fence.{members_of, fence_of}
-use Rattle.fence_core.specs.Told.{at}
+use Rattle.fence_core.specs.Reported.{at}
 use Rattle.fence_core.specs.Registered.{registration_of, registered, AreRegistered}
 use Rattle.fence_core.proofs.Pending.{ArePending-none, ArePending-filter, ArePending-push, filter-other, apart-any}
 use Rattle.fence_core.proofs.PointIndex.{is_eq-nat_cmp, less-nat}

@@ -2,7 +2,7 @@
 use Rattle.std.specs.Prelude.{◌≡◌, ℕ, nat_eq, true, ◌↔◌, Option, None, Some, List}
 use Rattle.std.specs.Map.{lookup}
 use Rattle.fence_core.specs.PointIndex.{number_of, number_reached}
-use Rattle.fence_core.specs.Told.{at}
+use Rattle.fence_core.specs.Reported.{at}
 use Rattle.fence_core.specs.Watch.{Watch}
 use Rattle.fence_core.specs.Watches.{fires}
 use Rattle.fence_core.specs.declared.watches.counts.Count.{Count}

@@ -5,7 +5,7 @@ use Rattle.std.specs.List.Sorted.{IsStrictlySortedBy}
 use Rattle.std.specs.Map.{keys_of, values_of, lookup}
 use Rattle.std.specs.Ordering.{nat_cmp}
 use Rattle.fence_core.specs.Watch.{Watch, is_for, ArePending}
-use Rattle.fence_core.specs.Told.{at}
+use Rattle.fence_core.specs.Reported.{at}
 use Rattle.fence_core.specs.PointIndex.{holds, is_of, above, AreAbove}
 use Rattle.fence_core.specs.declared.watches.point_index.WaitingPoint.{WaitingPoint}
 
@@ -20,7 +20,7 @@ registered registrations cookie = lookup (nat_eq cookie) registrations
 
 -- the index holds points of pending watches alone, at least one of each, and every one that is above the reach
 pub record IsIndexed (es : List (ℕ × Watch)) (index : List WaitingPoint) (reach : List ℕ) : Type 0 where
-  pub alone : (k : WaitingPoint) → holds index k ≡ true →
+  pub owned : (k : WaitingPoint) → holds index k ≡ true →
       (w : Watch) × (at es k.registration ≡ Some w) × (is_of w.points k.registration k ≡ true)
   pub some : (r : ℕ) (w : Watch) → at es r ≡ Some w → (k : WaitingPoint) × (k.registration ≡ r) × (holds index k ≡ true)
   pub above : (r : ℕ) (w : Watch) (k : WaitingPoint) → at es r ≡ Some w →

@@ -11,7 +11,7 @@ ghost use Rattle.fence_core.specs.Watch.{registry_of, ArePending};
 ghost use Rattle.fence_core.specs.Watches.{no_watches, has_watch, cause_to_refuse, cause_to_refuse_watch, with_watch, without_watch, without_watches, fires, fired_by, after_rise_to};
 
 mod counts;
-mod floor;
+mod due_floor;
 mod pending;
 mod point_index;
 
@@ -211,9 +211,9 @@ impl Watches {
         let Point { ctx, value } = *point;
         let mut reach = self.reach;
         reach.raise_to(Point { ctx, value });
-        let cookies = self.fired_alone(point, &reach)?;
+        let cookies = self.fired_by_one_context(point, &reach)?;
         self.remove_all(cookies.as_slice());
-        self.rise_alone(point, &reach);
+        self.rise_in_one_context(point, &reach);
         Ok(cookies)
     }
 
@@ -231,8 +231,8 @@ impl Watches {
     }
 
     /// The same, when the reach is the last one with the point reached.
-    fn fired_alone(&mut self, point: &Point, reach: &Reach) -> Result<Vec<u64>, Refusal>
-        requires alone { reach.now ≡ reaching self.old.reach point.now }
+    fn fired_by_one_context(&mut self, point: &Point, reach: &Reach) -> Result<Vec<u64>, Refusal>
+        requires one_context { reach.now ≡ reaching self.old.reach point.now }
         requires context { 1 ≤ point.now.ctx }
         ensures same { self.new ≡ self.old }
         ensures fired { IfOk result (λ cookies. cookies.items ≡ fired_by self.old reach.now) }
@@ -243,9 +243,15 @@ impl Watches {
         if !self.is_settled {
             return self.fired(reach);
         }
-        match self.index.fired_alone(&self.pending, point.ctx, reach) {
+        match self
+            .index
+            .fired_by_one_context(&self.pending, point.ctx, reach)
+        {
             Fired::Nothing => Ok(Vec::new(self.alloc)),
-            Fired::One(_, cookie) => one_listed(self.alloc, cookie),
+            Fired::One {
+                registration: _,
+                cookie,
+            } => one_listed(self.alloc, cookie),
             Fired::Several => self.fired(reach),
         }
     }
@@ -271,8 +277,8 @@ impl Watches {
     }
 
     /// The same, when the reach is the last one with the point reached.
-    fn rise_alone(&mut self, point: &Point, reach: &Reach)
-        requires alone { reach.now ≡ reaching self.old.reach point.now }
+    fn rise_in_one_context(&mut self, point: &Point, reach: &Reach)
+        requires one_context { reach.now ≡ reaching self.old.reach point.now }
         requires context { 1 ≤ point.now.ctx }
         requires none_fires { list_any (fires reach.now) self.old.pending ≡ false }
         ensures { self.new ≡ registry_of self.old.pending self.old.made reach.now }

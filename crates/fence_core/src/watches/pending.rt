@@ -5,7 +5,7 @@ ghost use Rattle.std.specs.BTreeMap.{is_at, insert_entry};
 ghost use Rattle.std.specs.Ordering.{nat_cmp};
 ghost use Rattle.std.specs.List.Sorted.{IsStrictlySortedBy};
 ghost use Rattle.point_core.specs.declared.refusal.Refusal.TheVariants.{Memory};
-ghost use Rattle.fence_core.specs.Told.{at};
+ghost use Rattle.fence_core.specs.Reported.{at};
 
 use crate::fence::Fence;
 use point_core::Refusal;

@@ -7,19 +7,19 @@ ghost use Rattle.std.specs.List.Sorted.{IsStrictlySortedBy};
 ghost use Rattle.point_core.specs.declared.refusal.Refusal.TheVariants.{Memory};
 ghost use Rattle.fence_core.specs.declared.watches.point_index.WaitingPoint.{WaitingPoint as Waiting};
 ghost use Rattle.fence_core.specs.PointIndex.{waiting, is_same, holds, is_of, above, is_due, AreWaiting};
-ghost use Rattle.fence_core.specs.Told.{IsTold, AreSomeTold, Fires, told_of, is_one_at_most};
+ghost use Rattle.fence_core.specs.Reported.{IsReported, AreOnlyFiring, Fires, reported_of, is_one_at_most};
 ghost use Rattle.fence_core.specs.Counts.{AreCounted, FireByCount};
 ghost use Rattle.point_core.specs.Reach.{value_at};
 ghost use Rattle.point_core.specs.declared.context.TheConstants.{CONTEXTS};
 
-mod alone;
 mod firing;
+mod single_rise;
 
-pub(super) use self::alone::Fired;
-use self::alone::fired_alone;
-use self::firing::{start_reached, tell_reached};
+use self::firing::{report_reached, start_reached};
+pub(super) use self::single_rise::Fired;
+use self::single_rise::fired_by_one_context;
 use super::counts::Counts;
-use super::floor::Floor;
+use super::due_floor::DueFloor;
 use super::pending::PendingWatches;
 use point_core::{Context, Point, Reach, Refusal, is_signalled};
 use std::alloc::Global;
@@ -85,7 +85,7 @@ impl WaitingPoint {
 pub(super) struct PointIndex {
     points: BTreeSet<WaitingPoint>,
     counts: Counts,
-    floor: Floor,
+    floor: DueFloor,
 }
 
 impl Model for PointIndex {
@@ -114,7 +114,7 @@ impl PointIndex {
         PointIndex {
             points: BTreeSet::new(alloc),
             counts: Counts::new(alloc),
-            floor: Floor::highest(),
+            floor: DueFloor::highest(),
         }
     }
 
@@ -261,9 +261,9 @@ impl PointIndex {
     ) -> Result<BTreeMap<u64, u64>, Refusal>
         requires by_count { FireByCount pending.now.entries self.old reach.now }
         ensures same { self.new ≡ self.old }
-        ensures some_fired { IfOk result (λ fired. AreSomeTold pending.now.entries reach.now fired.entries) }
+        ensures some_fired { IfOk result (λ fired. AreOnlyFiring pending.now.entries reach.now fired.entries) }
         ensures all { IfOk result (λ fired. (k : Waiting) → is_due k.ctx (value_at reach.now k.ctx) k ≡ true →
-            holds self.old k ≡ true → IsTold pending.now.entries reach.now fired.entries k.registration) }
+            holds self.old k ≡ true → IsReported pending.now.entries reach.now fired.entries k.registration) }
         ensures ordered { IfOk result (λ fired. IsStrictlySortedBy nat_cmp (keys_of fired.entries)) }
         ensures memory { IfErr result (λ e. e ≡ Memory) }
         ensures some_fires { OnErr result (Fires pending.now.entries reach.now) }
@@ -273,20 +273,25 @@ impl PointIndex {
         if !start_reached(points, &mut self.counts, floor, reach) {
             return Ok(fired);
         }
-        tell_reached(points, &mut self.counts, pending, floor, reach, &mut fired)?;
+        report_reached(points, &mut self.counts, pending, floor, reach, &mut fired)?;
         // Opens the map's invariant.
         let _count = fired.len();
         Ok(fired)
     }
 
     /// Of the watches that have a point of the context at or below its value, those that fire at the reach.
-    pub(super) fn fired_alone(&self, pending: &PendingWatches, ctx: Context, reach: &Reach) -> Fired
+    pub(super) fn fired_by_one_context(
+        &self,
+        pending: &PendingWatches,
+        ctx: Context,
+        reach: &Reach,
+    ) -> Fired
         ensures waiting { AreWaiting self.now }
-        ensures some_fired { AreSomeTold pending.now.entries reach.now (told_of result) }
+        ensures some_fired { AreOnlyFiring pending.now.entries reach.now (reported_of result) }
         ensures told { is_one_at_most result ≡ true → (k : Waiting) → is_due ctx (value_at reach.now ctx) k ≡ true →
-            holds self.now k ≡ true → IsTold pending.now.entries reach.now (told_of result) k.registration }
+            holds self.now k ≡ true → IsReported pending.now.entries reach.now (reported_of result) k.registration }
     {
-        fired_alone(&self.points, pending, ctx, reach)
+        fired_by_one_context(&self.points, pending, ctx, reach)
     }
 }
 

@@ -6,13 +6,13 @@ ghost use Rattle.point_core.specs.Reach.{value_at};
 ghost use Rattle.fence_core.specs.declared.watches.point_index.WaitingPoint.{WaitingPoint as Waiting};
 ghost use Rattle.fence_core.specs.PointIndex.{holds, is_due, number_of, number_due, AreWaiting};
 ghost use Rattle.fence_core.specs.Counts.{held, left, FireByCount};
-ghost use Rattle.fence_core.specs.Told.{at, with_cookie, IsTold, AreSomeTold, Fires};
+ghost use Rattle.fence_core.specs.Reported.{at, with_cookie, IsReported, AreOnlyFiring, Fires};
 ghost use Rattle.fence_core.specs.Watch.{Watch};
 ghost use Rattle.fence_core.specs.Watches.{fires};
 
 use super::WaitingPoint;
 use crate::watches::counts::Counts;
-use crate::watches::floor::Floor;
+use crate::watches::due_floor::DueFloor;
 use crate::watches::pending::PendingWatches;
 use point_core::{Context, Reach, Refusal};
 use std::collections::{BTreeMap, BTreeSet};
@@ -21,7 +21,7 @@ use std::collections::{BTreeMap, BTreeSet};
 pub(super) fn start_reached(
     points: &BTreeSet<WaitingPoint>,
     counts: &mut Counts,
-    floor: &Floor,
+    floor: &DueFloor,
     reach: &Reach,
 ) -> bool
     requires waiting { AreWaiting points.now.keys }
@@ -64,11 +64,11 @@ fn start_due(points: &BTreeSet<WaitingPoint>, counts: &mut Counts, ctx: Context,
 
 /// Comes to the points at or below the reach, and adds the watches to whose last point it came to the fired ones, by
 /// registration.
-pub(super) fn tell_reached(
+pub(super) fn report_reached(
     points: &BTreeSet<WaitingPoint>,
     counts: &mut Counts,
     pending: &PendingWatches,
-    floor: &Floor,
+    floor: &DueFloor,
     reach: &Reach,
     fired: &mut BTreeMap<u64, u64>,
 ) -> Result<(), Refusal>
@@ -80,26 +80,26 @@ pub(super) fn tell_reached(
         holds points.now.keys k ≡ true → left counts.old k.registration ≡ number_of k.registration points.now.keys }
     requires none_fired { fired.old.entries ≡ [] }
     ensures same { (r : ℕ) → held counts.new r ≡ held counts.old r }
-    ensures some_fired { AreSomeTold pending.now.entries reach.now fired.new.entries }
+    ensures some_fired { AreOnlyFiring pending.now.entries reach.now fired.new.entries }
     ensures all { OnOk result ((k : Waiting) → is_due k.ctx (value_at reach.now k.ctx) k ≡ true →
-        holds points.now.keys k ≡ true → IsTold pending.now.entries reach.now fired.new.entries k.registration) }
+        holds points.now.keys k ≡ true → IsReported pending.now.entries reach.now fired.new.entries k.registration) }
     ensures memory { IfErr result (λ e. e ≡ Memory) }
     ensures some_fires { OnErr result (Fires pending.now.entries reach.now) }
 {
     for index in 0..reach.used() {
         let ctx = Context::at(index);
-        tell_due(points, counts, ctx, pending, floor, reach, fired)?;
+        report_due(points, counts, ctx, pending, floor, reach, fired)?;
     }
     Ok(())
 }
 
 /// The same for the points of a context.
-fn tell_due(
+fn report_due(
     points: &BTreeSet<WaitingPoint>,
     counts: &mut Counts,
     ctx: Context,
     pending: &PendingWatches,
-    floor: &Floor,
+    floor: &DueFloor,
     reach: &Reach,
     fired: &mut BTreeMap<u64, u64>,
 ) -> Result<(), Refusal>
@@ -110,27 +110,27 @@ fn tell_due(
     requires fires { (r : ℕ) (w : Watch) → at pending.now.entries r ≡ Some w →
         1 ≤ number_due ctx (value_at reach.now ctx) r points.now.keys →
         left counts.old r ≤ number_due ctx (value_at reach.now ctx) r points.now.keys → fires reach.now w ≡ true }
-    requires some_fired { AreSomeTold pending.now.entries reach.now fired.old.entries }
+    requires some_fired { AreOnlyFiring pending.now.entries reach.now fired.old.entries }
     ensures same { (r : ℕ) → held counts.new r ≡ held counts.old r }
     ensures passed { OnOk result ((r : ℕ) →
         left counts.new r + number_due ctx (value_at reach.now ctx) r points.now.keys ≡ left counts.old r) }
-    ensures some_fired { AreSomeTold pending.now.entries reach.now fired.new.entries }
-    ensures still { (r : ℕ) → IsTold pending.now.entries reach.now fired.old.entries r →
-        IsTold pending.now.entries reach.now fired.new.entries r }
+    ensures some_fired { AreOnlyFiring pending.now.entries reach.now fired.new.entries }
+    ensures still { (r : ℕ) → IsReported pending.now.entries reach.now fired.old.entries r →
+        IsReported pending.now.entries reach.now fired.new.entries r }
     ensures told { OnOk result ((r : ℕ) → 1 ≤ number_due ctx (value_at reach.now ctx) r points.now.keys →
-        left counts.new r ≡ 0 → IsTold pending.now.entries reach.now fired.new.entries r) }
+        left counts.new r ≡ 0 → IsReported pending.now.entries reach.now fired.new.entries r) }
     ensures memory { IfErr result (λ e. e ≡ Memory) }
     ensures some_fires { OnErr result (Fires pending.now.entries reach.now) }
 {
     if !floor.is_below(reach, ctx.index()) {
         return Ok(());
     }
-    tell_points(points, counts, ctx, pending, reach, fired)
+    report_points(points, counts, ctx, pending, reach, fired)
 }
 
 /// The same for the points of a context whose value has risen.
 #[inline(never)]
-fn tell_points(
+fn report_points(
     points: &BTreeSet<WaitingPoint>,
     counts: &mut Counts,
     ctx: Context,
@@ -143,15 +143,15 @@ fn tell_points(
     requires fires { (r : ℕ) (w : Watch) → at pending.now.entries r ≡ Some w →
         1 ≤ number_due ctx (value_at reach.now ctx) r points.now.keys →
         left counts.old r ≤ number_due ctx (value_at reach.now ctx) r points.now.keys → fires reach.now w ≡ true }
-    requires some_fired { AreSomeTold pending.now.entries reach.now fired.old.entries }
+    requires some_fired { AreOnlyFiring pending.now.entries reach.now fired.old.entries }
     ensures same { (r : ℕ) → held counts.new r ≡ held counts.old r }
     ensures passed { OnOk result ((r : ℕ) →
         left counts.new r + number_due ctx (value_at reach.now ctx) r points.now.keys ≡ left counts.old r) }
-    ensures some_fired { AreSomeTold pending.now.entries reach.now fired.new.entries }
-    ensures still { (r : ℕ) → IsTold pending.now.entries reach.now fired.old.entries r →
-        IsTold pending.now.entries reach.now fired.new.entries r }
+    ensures some_fired { AreOnlyFiring pending.now.entries reach.now fired.new.entries }
+    ensures still { (r : ℕ) → IsReported pending.now.entries reach.now fired.old.entries r →
+        IsReported pending.now.entries reach.now fired.new.entries r }
     ensures told { OnOk result ((r : ℕ) → 1 ≤ number_due ctx (value_at reach.now ctx) r points.now.keys →
-        left counts.new r ≡ 0 → IsTold pending.now.entries reach.now fired.new.entries r) }
+        left counts.new r ≡ 0 → IsReported pending.now.entries reach.now fired.new.entries r) }
     ensures memory { IfErr result (λ e. e ≡ Memory) }
     ensures some_fires { OnErr result (Fires pending.now.entries reach.now) }
 {

@@ -5,8 +5,8 @@ use Rattle.std.specs.BTreeMap.{is_at}
 use Rattle.std.specs.Ordering.{nat_cmp}
 use Rattle.fence_core.specs.Watch.{Watch}
 use Rattle.fence_core.specs.Watches.{fires}
-use Rattle.fence_core.specs.declared.watches.point_index.alone.Fired.{Fired}
-use Rattle.fence_core.specs.declared.watches.point_index.alone.Fired.TheVariants.{Nothing, One, Several}
+use Rattle.fence_core.specs.declared.watches.point_index.single_rise.Fired.{Fired}
+use Rattle.fence_core.specs.declared.watches.point_index.single_rise.Fired.TheVariants.{Nothing, One, Several}
 
 -- what stands at the number
 abbrev pub at : {X : Type 0} → List (ℕ × X) → ℕ → Option X
@@ -23,12 +23,12 @@ with_cookie None old = old
 with_cookie (Some w) old = Some w.cookie
 
 -- the watch of that registration was reported if it fires, and else not
-abbrev pub IsTold : List (ℕ × Watch) → List ℕ → List (ℕ × ℕ) → ℕ → Type 0
-IsTold es reach fired r = at fired r ≡ cookie_if_fires reach (at es r)
+abbrev pub IsReported : List (ℕ × Watch) → List ℕ → List (ℕ × ℕ) → ℕ → Type 0
+IsReported es reach fired r = at fired r ≡ cookie_if_fires reach (at es r)
 
 -- no watch was reported that does not fire
-abbrev pub AreSomeTold : List (ℕ × Watch) → List ℕ → List (ℕ × ℕ) → Type 0
-AreSomeTold es reach fired = (r : ℕ) (cookie : ℕ) → at fired r ≡ Some cookie → cookie_if_fires reach (at es r) ≡ Some cookie
+abbrev pub AreOnlyFiring : List (ℕ × Watch) → List ℕ → List (ℕ × ℕ) → Type 0
+AreOnlyFiring es reach fired = (r : ℕ) (cookie : ℕ) → at fired r ≡ Some cookie → cookie_if_fires reach (at es r) ≡ Some cookie
 
 -- some watch fires
 pub record Fires (es : List (ℕ × Watch)) (reach : List ℕ) : Type 0 where
@@ -38,10 +38,10 @@ pub record Fires (es : List (ℕ × Watch)) (reach : List ℕ) : Type 0 where
   pub fires : fires reach watch ≡ true
 
 -- the watch that is reported if there is at most one, with its cookie
-abbrev pub told_of : Fired → List (ℕ × ℕ)
-told_of Nothing = []
-told_of (One registration cookie) = (registration, cookie) ∷ []
-told_of Several = []
+abbrev pub reported_of : Fired → List (ℕ × ℕ)
+reported_of Nothing = []
+reported_of (One registration cookie) = (registration, cookie) ∷ []
+reported_of Several = []
 
 abbrev pub is_one_at_most : Fired → Bool
 is_one_at_most Nothing = true

@@ -9,11 +9,11 @@ use std::marker::Model;
 /// For each context a value that each point of it that is waited for is above. A rise that stays at or below these values
 /// comes to no such point.
 #[derive(Drop)]
-pub(super) struct Floor {
+pub(super) struct DueFloor {
     values: [u64; CONTEXTS],
 }
 
-impl Model for Floor {
+impl Model for DueFloor {
     ghost use Rattle.std.specs.Prelude.{List, ℕ};
 
     ghost Value = { List ℕ };
@@ -21,12 +21,12 @@ impl Model for Floor {
     ghost view = { λ f. f.values };
 }
 
-impl Floor {
+impl DueFloor {
     /// The floor if no point is waited for.
-    pub(super) fn highest() -> Floor
+    pub(super) fn highest() -> DueFloor
         ensures { result ≡ replicate CONTEXTS (2 ^ 64 - 1) }
     {
-        Floor {
+        DueFloor {
             values: [u64::MAX; CONTEXTS],
         }
     }

@@ -3,12 +3,12 @@ use Rattle.std.proofs.lemmas.Bool.{cases_Bool, eqb-true, eq-eqb}
 use Rattle.point_core.specs.Reach.{value_at}
 use Rattle.fence_core.specs.PointIndex.{number_of, number_due}
 use Rattle.fence_core.specs.Counts.{left}
-use Rattle.fence_core.specs.Told.{at, IsTold, AreSomeTold}
+use Rattle.fence_core.specs.Reported.{at, IsReported, AreOnlyFiring}
 use Rattle.fence_core.specs.Watch.{Watch}
 use Rattle.fence_core.specs.Watches.{fires}
 use Rattle.fence_core.proofs.Counted.{number-range, number-next}
 use Rattle.fence_core.proofs.Fired.{passed-last, passed-still, passed-some}
-use Rattle.fence_core.proofs.watches.point_index.firing.tell_points.Goals as goal
+use Rattle.fence_core.proofs.watches.point_index.firing.report_points.Goals as goal
 
 pub loop-due-init : goal.loop-due-init
 loop-due-init c =
@@ -53,7 +53,7 @@ loop-due-preserved c =
       λ r low none. elim (cases_Bool (nat_eq k.registration r)) [
         | inl same ↦
             let is = eqb-true k.registration r same in
-            subst (IsTold es c.args.reach.now c.pass.new.fired.entries) is (passed-last es c.args.reach.now c.loop-due.fired.entries c.pass.new.fired.entries k.registration (left c.pass.new.counts k.registration) inv.5 step.others step.last fired (ap (left c.pass.new.counts) is ∙ none))
+            subst (IsReported es c.args.reach.now c.pass.new.fired.entries) is (passed-last es c.args.reach.now c.loop-due.fired.entries c.pass.new.fired.entries k.registration (left c.pass.new.counts k.registration) inv.5 step.others step.last fired (ap (left c.pass.new.counts) is ∙ none))
         | inr other ↦
             let more : number_of r c.loop-due.due-iterator ≡ 0 + number_of r c.next.new.self = split r ∙ ap (λ b. cond b 1 0 + number_of r c.next.new.self) other in
             let passed : left c.loop-due.counts r ≡ left c.pass.new.counts r + 0 = sym (step.passed r) ∙ ap (λ b. left c.pass.new.counts r + cond b 1 0) other in
@@ -62,7 +62,7 @@ loop-due-preserved c =
     )
 
 pub returns-in_err-pass-clause-some_fired : goal.returns-in_err-pass-clause-some_fired
-returns-in_err-pass-clause-some_fired c = subst (AreSomeTold c.args.pending.now.entries c.args.reach.now) (sym c.in_err-pass.ensures.unchanged) c.loop-due.invariant.5
+returns-in_err-pass-clause-some_fired c = subst (AreOnlyFiring c.args.pending.now.entries c.args.reach.now) (sym c.in_err-pass.ensures.unchanged) c.loop-due.invariant.5
 
 pub pass-requires : goal.pass-requires
 pass-requires c =

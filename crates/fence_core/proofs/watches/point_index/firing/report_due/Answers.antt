@@ -2,7 +2,7 @@ use Rattle.std.proofs.Common.{ap, arith}
 use Rattle.point_core.specs.Reach.{value_at}
 use Rattle.fence_core.proofs.Counted.{due-none}
 use Rattle.fence_core.proofs.Above.{not-below, not_due-lower}
-use Rattle.fence_core.proofs.watches.point_index.firing.tell_due.Goals as goal
+use Rattle.fence_core.proofs.watches.point_index.firing.report_due.Goals as goal
 
 pub returns-then-not-is_below-clause-passed : goal.returns-then-not-is_below-clause-passed
 returns-then-not-is_below-clause-passed c = λ r.

@@ -1,10 +1,10 @@
 use Rattle.std.proofs.Common.{◌∙◌, sym, ap, subst, inl, inr, arith}
 use Rattle.std.proofs.lemmas.Option.{none-some}
 use Rattle.fence_core.specs.PointIndex.{is_due, is_same, holds}
-use Rattle.fence_core.specs.Told.{IsTold, told_of}
+use Rattle.fence_core.specs.Reported.{IsReported, reported_of}
 use Rattle.fence_core.proofs.PointIndex.{holds-range, is_same-is}
 use Rattle.fence_core.proofs.Indexed.{or_cases}
-use Rattle.fence_core.proofs.watches.point_index.alone.fired_alone.Goals as goal
+use Rattle.fence_core.proofs.watches.point_index.single_rise.fired_by_one_context.Goals as goal
 
 pub loop-due-init : goal.loop-due-init
 loop-due-init c = (
@@ -28,7 +28,7 @@ loop-due-preserved c =
       step.some_fired,
       λ few k due there. elim (inv.3 (step.before few) k due there) [
         | inl ahead ↦ elim (or_cases (is_same k first) (holds c.next.new.self k) (sym (ap (λ ks. holds ks k) c.in-Some.ensures.steps) ∙ ahead)) [
-          | inl here ↦ inr (subst (IsTold c.args.pending.now.entries c.args.reach.now (told_of c.with_watch-fired.result)) (sym ((is_same-is k first here).2)) (step.told few))
+          | inl here ↦ inr (subst (IsReported c.args.pending.now.entries c.args.reach.now (reported_of c.with_watch-fired.result)) (sym ((is_same-is k first here).2)) (step.told few))
           | inr later ↦ inl later
         ]
         | inr told ↦ inr (step.still few k.registration told)

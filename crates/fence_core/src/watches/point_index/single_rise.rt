@@ -3,7 +3,7 @@ ghost use Rattle.std.specs.Prelude.{◌≡◌, ℕ, true};
 ghost use Rattle.point_core.specs.Reach.{value_at};
 ghost use Rattle.fence_core.specs.declared.watches.point_index.WaitingPoint.{WaitingPoint as Waiting};
 ghost use Rattle.fence_core.specs.PointIndex.{holds, is_due, AreWaiting};
-ghost use Rattle.fence_core.specs.Told.{IsTold, AreSomeTold, told_of, is_one_at_most};
+ghost use Rattle.fence_core.specs.Reported.{IsReported, AreOnlyFiring, reported_of, is_one_at_most};
 
 use super::WaitingPoint;
 use crate::watches::pending::PendingWatches;
@@ -14,22 +14,22 @@ use std::collections::BTreeSet;
 #[derive(Clone, Copy, Debug)]
 pub(in crate::watches) enum Fired {
     Nothing,
-    One(u64, u64),
+    One { registration: u64, cookie: u64 },
     Several,
 }
 
 /// Of the watches that have a point of the context at or below its value, those that fire.
 #[inline(never)]
-pub(super) fn fired_alone(
+pub(super) fn fired_by_one_context(
     points: &BTreeSet<WaitingPoint>,
     pending: &PendingWatches,
     ctx: Context,
     reach: &Reach,
 ) -> Fired
     requires waiting { AreWaiting points.now.keys }
-    ensures some_fired { AreSomeTold pending.now.entries reach.now (told_of result) }
+    ensures some_fired { AreOnlyFiring pending.now.entries reach.now (reported_of result) }
     ensures told { is_one_at_most result ≡ true → (k : Waiting) → is_due ctx (value_at reach.now ctx) k ≡ true →
-        holds points.now.keys k ≡ true → IsTold pending.now.entries reach.now (told_of result) k.registration }
+        holds points.now.keys k ≡ true → IsReported pending.now.entries reach.now (reported_of result) k.registration }
 {
     let value = reach.get(ctx);
     let (first, last) = (WaitingPoint::first(ctx), WaitingPoint::last(ctx, value));
@@ -42,12 +42,12 @@ pub(super) fn fired_alone(
 
 /// The same with one more watch, if it fires.
 fn with_watch(fired: Fired, registration: u64, pending: &PendingWatches, reach: &Reach) -> Fired
-    requires some_fired { AreSomeTold pending.now.entries reach.now (told_of fired) }
-    ensures some_fired { AreSomeTold pending.now.entries reach.now (told_of result) }
+    requires some_fired { AreOnlyFiring pending.now.entries reach.now (reported_of fired) }
+    ensures some_fired { AreOnlyFiring pending.now.entries reach.now (reported_of result) }
     ensures before { is_one_at_most result ≡ true → is_one_at_most fired ≡ true }
-    ensures still { is_one_at_most result ≡ true → (r : ℕ) → IsTold pending.now.entries reach.now (told_of fired) r →
-        IsTold pending.now.entries reach.now (told_of result) r }
-    ensures told { is_one_at_most result ≡ true → IsTold pending.now.entries reach.now (told_of result) registration }
+    ensures still { is_one_at_most result ≡ true → (r : ℕ) → IsReported pending.now.entries reach.now (reported_of fired) r →
+        IsReported pending.now.entries reach.now (reported_of result) r }
+    ensures told { is_one_at_most result ≡ true → IsReported pending.now.entries reach.now (reported_of result) registration }
 {
     if let Fired::Several = fired {
         return fired;
@@ -59,7 +59,10 @@ fn with_watch(fired: Fired, registration: u64, pending: &PendingWatches, reach: 
         return fired;
     }
     match fired {
-        Fired::Nothing => Fired::One(registration, watch.cookie),
-        Fired::One(_, _) | Fired::Several => Fired::Several,
+        Fired::Nothing => Fired::One {
+            registration,
+            cookie: watch.cookie,
+        },
+        Fired::One { .. } | Fired::Several => Fired::Several,
     }
 }
