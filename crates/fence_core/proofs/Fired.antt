@@ -16,11 +16,13 @@ use Rattle.point_core.specs.Reach.{value_at}
 use Rattle.fence_core.specs.declared.watches.point_index.WaitingPoint.{WaitingPoint}
 use Rattle.fence_core.specs.PointIndex.{holds, is_due}
 use Rattle.fence_core.specs.Registered.{IsIndexed}
+use Rattle.fence_core.specs.declared.watches.places.Places.{Places}
 use Rattle.fence_core.proofs.InOrder.{same_lists}
+use Rattle.fence_core.proofs.Registered.{is_at-true, is_at-is}
 use Rattle.fence_core.proofs.Indexed.{fires-due}
 use Rattle.fence_core.specs.Watch.{Watch, is_for, cookies_of}
 use Rattle.fence_core.specs.Watches.{fires}
-use Rattle.fence_core.specs.Reported.{at, cookie_if_fires, with_cookie, IsReported, AreOnlyFiring, Fires, reported_of}
+use Rattle.fence_core.specs.Reported.{at, cookie_if_fires, IsReported, AreOnlyFiring, Fires, reported_of}
 use Rattle.fence_core.specs.declared.watches.point_index.single_rise.Fired.{Fired}
 use Rattle.fence_core.specs.declared.watches.point_index.single_rise.Fired.TheVariants.{Nothing, One, Several}
 
@@ -106,10 +108,10 @@ IsReported-all reach es fired r some all = by (at fired r) refl
         ]
 
 -- what is told of the points that are due is the cookies of the watches that fire
-pub values-fired : (reach kept : List ℕ) (es : List (ℕ × Watch)) (index : List WaitingPoint) (fired : List (ℕ × ℕ)) → IsStrictlySortedBy nat_cmp (keys_of es) → IsIndexed es index kept → IsStrictlySortedBy nat_cmp (keys_of fired) → AreOnlyFiring es reach fired → ((k : WaitingPoint) → is_due k.ctx (value_at reach k.ctx) k ≡ true → holds index k ≡ true → IsReported es reach fired k.registration) → values_of fired ≡ cookies_of (filter (fires reach) (values_of es))
-values-fired reach kept es index fired ordered h rising some all =
+pub values-fired : (reach : List ℕ) (es : List (ℕ × Watch)) (places : Places) (index : List WaitingPoint) (fired : List (ℕ × ℕ)) → IsStrictlySortedBy nat_cmp (keys_of es) → IsIndexed es places index → IsStrictlySortedBy nat_cmp (keys_of fired) → AreOnlyFiring es reach fired → ((k : WaitingPoint) → is_due k.ctx (value_at reach k.ctx) k ≡ true → holds index k ≡ true → IsReported es reach fired k.registration) → values_of fired ≡ cookies_of (filter (fires reach) (values_of es))
+values-fired reach es places index fired ordered h rising some all =
     values-IsReported reach es fired ordered rising (λ r. IsReported-all reach es fired r some (λ w found fired_it.
-    let k = fires-due es index reach kept r w h found fired_it in
+    let k = fires-due es places index reach r w h found fired_it in
     subst (IsReported es reach fired) k.1 (all k.0 k.3 k.2)))
 
 ordered-reported_of : (f : Fired) → IsStrictlySortedBy nat_cmp (keys_of (reported_of f))
@@ -119,14 +121,14 @@ ordered-reported_of (One registration cookie) = (tt, tt)
 ordered-reported_of Several = tt
 
 -- the same where one watch is told at most
-pub values-reported_of : (reach kept : List ℕ) (es : List (ℕ × Watch)) (index : List WaitingPoint) (f : Fired) → IsStrictlySortedBy nat_cmp (keys_of es) → IsIndexed es index kept → AreOnlyFiring es reach (reported_of f) → ((k : WaitingPoint) → is_due k.ctx (value_at reach k.ctx) k ≡ true → holds index k ≡ true → IsReported es reach (reported_of f) k.registration) → values_of (reported_of f) ≡ cookies_of (filter (fires reach) (values_of es))
-values-reported_of reach kept es index f ordered h some all = values-fired reach kept es index (reported_of f) ordered h (ordered-reported_of f) some all
+pub values-reported_of : (reach : List ℕ) (es : List (ℕ × Watch)) (places : Places) (index : List WaitingPoint) (f : Fired) → IsStrictlySortedBy nat_cmp (keys_of es) → IsIndexed es places index → AreOnlyFiring es reach (reported_of f) → ((k : WaitingPoint) → is_due k.ctx (value_at reach k.ctx) k ≡ true → holds index k ≡ true → IsReported es reach (reported_of f) k.registration) → values_of (reported_of f) ≡ cookies_of (filter (fires reach) (values_of es))
+values-reported_of reach es places index f ordered h some all = values-fired reach es places index (reported_of f) ordered h (ordered-reported_of f) some all
 
 -- where no point is due, no watch fires
-pub none-due : (reach kept : List ℕ) (es : List (ℕ × Watch)) (index : List WaitingPoint) → IsStrictlySortedBy nat_cmp (keys_of es) → IsIndexed es index kept → ((k : WaitingPoint) → holds index k ≡ true → is_due k.ctx (value_at reach k.ctx) k ≡ false) → cookies_of (filter (fires reach) (values_of es)) ≡ []
+pub none-due : (reach : List ℕ) (es : List (ℕ × Watch)) (places : Places) (index : List WaitingPoint) → IsStrictlySortedBy nat_cmp (keys_of es) → IsIndexed es places index → ((k : WaitingPoint) → holds index k ≡ true → is_due k.ctx (value_at reach k.ctx) k ≡ false) → cookies_of (filter (fires reach) (values_of es)) ≡ []
 unfolding IsStrictlySortedBy
-none-due reach kept es index ordered h none =
-    sym (values-fired reach kept es index [] ordered h tt (λ r cookie is. absurd (none-some cookie is)) (λ k due there. absurd (false≢true (sym (none k there) ∙ due))))
+none-due reach es places index ordered h none =
+    sym (values-fired reach es places index [] ordered h tt (λ r cookie is. absurd (none-some cookie is)) (λ k due there. absurd (false≢true (sym (none k there) ∙ due))))
 
 none-of : (reach : List ℕ) (w : Watch) (ws : List Watch) → cookies_of (filter (fires reach) (w ∷ ws)) ≡ [] → (fires reach w ≡ false) × (cookies_of (filter (fires reach) ws) ≡ [])
 none-of reach w ws none = by (fires reach w) refl
@@ -239,38 +241,30 @@ none-left reach (w ∷ ws) = by (fires reach w) refl (none-left reach ws)
     by true is rest = rest
     by false is rest = ap (λ b. b || list_any (fires reach) (filter (λ w. not (fires reach w)) ws)) is ∙ rest
 
--- a rise came to one more point of a watch: what is told then
-module _ (es : List (ℕ × Watch)) (reach : List ℕ) (old new : List (ℕ × ℕ)) (r left : ℕ) (some : AreOnlyFiring es reach old) (others : (q : ℕ) → nat_eq r q ≡ false → at new q ≡ at old q) (last : left ≡ 0 → at new r ≡ with_cookie (at es r) (at old r)) (fired : left ≡ 0 → (w : Watch) → at es r ≡ Some w → fires reach w ≡ true) where
-  pub passed-last : left ≡ 0 → IsReported es reach new r
-  passed-last none = by (at es r) refl
-    where
-      before : (o : Option ℕ) → at old r ≡ o → at es r ≡ None → o ≡ None
-      before None was is = refl
-      before (Some c) was is = absurd (none-some c (sym (ap (cookie_if_fires reach) is) ∙ some r c was))
+-- a watch that does not fire was reported rightly
+pub reported-none : (es : List (ℕ × Watch)) (reach : List ℕ) (fired : List (ℕ × ℕ)) (r : ℕ) → AreOnlyFiring es reach fired → cookie_if_fires reach (at es r) ≡ None → IsReported es reach fired r
+reported-none es reach fired r only none = by (at fired r) refl
+  where
+    by : (o : Option ℕ) → at fired r ≡ o → IsReported es reach fired r
+    by None is = is ∙ sym none
+    by (Some c) is = absurd (none-some c (sym none ∙ only r c is))
 
-      by : (o : Option Watch) → at es r ≡ o → IsReported es reach new r
-      by None is = last none ∙ ap (λ o. with_cookie o (at old r)) is ∙ before (at old r) refl is ∙ sym (ap (cookie_if_fires reach) is)
-      by (Some w) is = last none ∙ ap (λ o. with_cookie o (at old r)) is ∙ sym (ap (cookie_if_fires reach) is ∙ ap (λ b. cond b (Some w.cookie) None) (fired none w is))
+-- one more watch that fires
+module _ (es : List (ℕ × Watch)) (reach : List ℕ) (old new : List (ℕ × ℕ)) (r : ℕ) (w : Watch) (only : AreOnlyFiring es reach old) (found : at es r ≡ Some w) (fired : fires reach w ≡ true) (put : (q : ℕ) → at new q ≡ cond (is_at (nat_cmp r) q) (Some w.cookie) (at old q)) where
+  its : cookie_if_fires reach (at es r) ≡ Some w.cookie
+  its = ap (cookie_if_fires reach) found ∙ ap (λ b. cond b (Some w.cookie) None) fired
 
-  module _ (not_last : nat_eq left 0 ≡ false → at new r ≡ at old r) where
-    pub passed-still : (q : ℕ) → IsReported es reach old q → IsReported es reach new q
-    passed-still q told = elim (cases_Bool (nat_eq r q)) [
-      | inr other ↦ others q other ∙ told
-      | inl same ↦
-          let is = eqb-true r q same in
-          elim (cases_Bool (nat_eq left 0)) [
-            | inl none ↦ subst (IsReported es reach new) is (passed-last (eqb-true left 0 none))
-            | inr more ↦ subst (IsReported es reach new) is (not_last more ∙ subst (IsReported es reach old) (sym is) told)
-          ]
-    ]
+  pub reported-put : IsReported es reach new r
+  reported-put = put r ∙ ap (λ b. cond b (Some w.cookie) (at old r)) (is_at-true r r refl) ∙ sym its
 
-    pub passed-some : AreOnlyFiring es reach new
-    passed-some q c is = elim (cases_Bool (nat_eq r q)) [
-      | inr other ↦ some q c (sym (others q other) ∙ is)
-      | inl same ↦
-          let it = eqb-true r q same in
-          elim (cases_Bool (nat_eq left 0)) [
-            | inl none ↦ sym (subst (IsReported es reach new) it (passed-last (eqb-true left 0 none))) ∙ is
-            | inr more ↦ ap (λ n. cookie_if_fires reach (at es n)) (sym it) ∙ some r c (sym (not_last more) ∙ ap (at new) it ∙ is)
-          ]
-    ]
+  pub reported-still : (q : ℕ) → IsReported es reach old q → IsReported es reach new q
+  reported-still q was = elim (cases_Bool (is_at (nat_cmp r) q)) [
+    | inl here ↦ subst (IsReported es reach new) (is_at-is r q here) reported-put
+    | inr past ↦ put q ∙ ap (λ b. cond b (Some w.cookie) (at old q)) past ∙ was
+  ]
+
+  pub only-put : AreOnlyFiring es reach new
+  only-put q c is = elim (cases_Bool (is_at (nat_cmp r) q)) [
+    | inl here ↦ sym (subst (IsReported es reach new) (is_at-is r q here) reported-put) ∙ is
+    | inr past ↦ only q c (sym (put q ∙ ap (λ b. cond b (Some w.cookie) (at old q)) past) ∙ is)
+  ]

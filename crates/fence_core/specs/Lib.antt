@@ -1,5 +1,4 @@
 pub mod Callbacks
-pub mod Counts
 pub mod Fence
 pub mod Pending
 pub mod PointIndex

@@ -17,11 +17,6 @@ abbrev pub cookie_if_fires : List ℕ → Option Watch → Option ℕ
 cookie_if_fires reach None = None
 cookie_if_fires reach (Some w) = if fires reach w then Some w.cookie else None
 
--- its cookie if there is a watch, and else what was there
-abbrev pub with_cookie : Option Watch → Option ℕ → Option ℕ
-with_cookie None old = old
-with_cookie (Some w) old = Some w.cookie
-
 -- the watch of that registration was reported if it fires, and else not
 abbrev pub IsReported : List (ℕ × Watch) → List ℕ → List (ℕ × ℕ) → ℕ → Type 0
 IsReported es reach fired r = at fired r ≡ cookie_if_fires reach (at es r)

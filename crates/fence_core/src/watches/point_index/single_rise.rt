@@ -1,4 +1,4 @@
-// Which watch fires when only one context has risen.
+// Which watch fires when one context rises.
 ghost use Rattle.std.specs.Prelude.{◌≡◌, ℕ, true};
 ghost use Rattle.point_core.specs.Reach.{value_at};
 ghost use Rattle.fence_core.specs.declared.watches.point_index.WaitingPoint.{WaitingPoint as Waiting};
@@ -18,7 +18,7 @@ pub(in crate::watches) enum Fired {
     Several,
 }
 
-/// Of the watches that have a point of the context at or below its value, those that fire.
+/// Of the watches that stand in the context at or below its value, those that fire.
 #[inline(never)]
 pub(super) fn fired_by_one_context(
     points: &BTreeSet<WaitingPoint>,
@@ -27,8 +27,8 @@ pub(super) fn fired_by_one_context(
     reach: &Reach,
 ) -> Fired
     requires waiting { AreWaiting points.now.keys }
-    ensures some_fired { AreOnlyFiring pending.now.entries reach.now (reported_of result) }
-    ensures told { is_one_at_most result ≡ true → (k : Waiting) → is_due ctx (value_at reach.now ctx) k ≡ true →
+    ensures only_firing { AreOnlyFiring pending.now.entries reach.now (reported_of result) }
+    ensures reported { is_one_at_most result ≡ true → (k : Waiting) → is_due ctx (value_at reach.now ctx) k ≡ true →
         holds points.now.keys k ≡ true → IsReported pending.now.entries reach.now (reported_of result) k.registration }
 {
     let value = reach.get(ctx);
@@ -42,12 +42,12 @@ pub(super) fn fired_by_one_context(
 
 /// The same with one more watch, if it fires.
 fn with_watch(fired: Fired, registration: u64, pending: &PendingWatches, reach: &Reach) -> Fired
-    requires some_fired { AreOnlyFiring pending.now.entries reach.now (reported_of fired) }
-    ensures some_fired { AreOnlyFiring pending.now.entries reach.now (reported_of result) }
+    requires only_firing { AreOnlyFiring pending.now.entries reach.now (reported_of fired) }
+    ensures only_firing { AreOnlyFiring pending.now.entries reach.now (reported_of result) }
     ensures before { is_one_at_most result ≡ true → is_one_at_most fired ≡ true }
     ensures still { is_one_at_most result ≡ true → (r : ℕ) → IsReported pending.now.entries reach.now (reported_of fired) r →
         IsReported pending.now.entries reach.now (reported_of result) r }
-    ensures told { is_one_at_most result ≡ true → IsReported pending.now.entries reach.now (reported_of result) registration }
+    ensures reported { is_one_at_most result ≡ true → IsReported pending.now.entries reach.now (reported_of result) registration }
 {
     if let Fired::Several = fired {
         return fired;

@@ -17,11 +17,11 @@ returns-in-Nothing-clause-fired c =
     let risen : reach ≡ reaching c.self.inside.reach p = subst (λ (r : Registry). reach ≡ reaching r.reach p) (sym c.self.view_is) c.requires.one_context in
     let above = c.self.invariant.2 c.if-not-self.false in
     let is = c.in-Nothing.is in
-    let told = c.fired_by_one_context.ensures in
+    let found = c.fired_by_one_context.ensures in
     c.new.ensures.items
     ∙ sym (ap (λ f. values_of (reported_of f)) is)
-    ∙ values-reported_of reach c.self.inside.reach c.self.inside.pending.entries index c.fired_by_one_context.result c.self.invariant.0.ordered c.self.invariant.1 told.some_fired
-    (λ k due there. told.told (ap is_one_at_most is) k (due-one_context index c.self.inside.reach reach p risen c.requires.context told.waiting above k due there) there)
+    ∙ values-reported_of reach c.self.inside.pending.entries c.self.inside.places index c.fired_by_one_context.result c.self.invariant.0.ordered c.self.invariant.1 found.only_firing
+    (λ k due there. found.reported (ap is_one_at_most is) k (due-one_context index c.self.inside.reach reach p risen c.requires.context found.waiting above k due there) there)
     ∙ ap (λ r. fired_by r reach) c.self.view_is
 
 pub returns-in-One-clause-fired : goal.returns-in-One-clause-fired
@@ -32,11 +32,11 @@ returns-in-One-clause-fired c =
     let risen : reach ≡ reaching c.self.inside.reach p = subst (λ (r : Registry). reach ≡ reaching r.reach p) (sym c.self.view_is) c.requires.one_context in
     let above = c.self.invariant.2 c.if-not-self.false in
     let is = c.in-One.is in
-    let told = c.fired_by_one_context.ensures in
+    let found = c.fired_by_one_context.ensures in
     subst (λ vs. IfOk c.one_listed.result (λ cookies. cookies.items ≡ vs))
     (sym (ap (λ f. values_of (reported_of f)) is)
-    ∙ values-reported_of reach c.self.inside.reach c.self.inside.pending.entries index c.fired_by_one_context.result c.self.invariant.0.ordered c.self.invariant.1 told.some_fired
-    (λ k due there. told.told (ap is_one_at_most is) k (due-one_context index c.self.inside.reach reach p risen c.requires.context told.waiting above k due there) there)
+    ∙ values-reported_of reach c.self.inside.pending.entries c.self.inside.places index c.fired_by_one_context.result c.self.invariant.0.ordered c.self.invariant.1 found.only_firing
+    (λ k due there. found.reported (ap is_one_at_most is) k (due-one_context index c.self.inside.reach reach p risen c.requires.context found.waiting above k due there) there)
     ∙ ap (λ r. fired_by r reach) c.self.view_is)
     c.one_listed.ensures.listed
 
@@ -48,10 +48,10 @@ returns-in-One-clause-none_fires c = λ none.
     let risen : reach ≡ reaching c.self.inside.reach p = subst (λ (r : Registry). reach ≡ reaching r.reach p) (sym c.self.view_is) c.requires.one_context in
     let above = c.self.invariant.2 c.if-not-self.false in
     let is = c.in-One.is in
-    let told = c.fired_by_one_context.ensures in
+    let found = c.fired_by_one_context.ensures in
     let some : c.in-One.cookie ∷ [] ≡ [] =
     sym (ap (λ f. values_of (reported_of f)) is)
-    ∙ values-reported_of reach c.self.inside.reach c.self.inside.pending.entries index c.fired_by_one_context.result c.self.invariant.0.ordered c.self.invariant.1 told.some_fired
-    (λ k due there. told.told (ap is_one_at_most is) k (due-one_context index c.self.inside.reach reach p risen c.requires.context told.waiting above k due there) there)
+    ∙ values-reported_of reach c.self.inside.pending.entries c.self.inside.places index c.fired_by_one_context.result c.self.invariant.0.ordered c.self.invariant.1 found.only_firing
+    (λ k due there. found.reported (ap is_one_at_most is) k (due-one_context index c.self.inside.reach reach p risen c.requires.context found.waiting above k due there) there)
     ∙ ap (λ r. fired_by r reach) c.self.view_is ∙ none in
     absurd (cc)

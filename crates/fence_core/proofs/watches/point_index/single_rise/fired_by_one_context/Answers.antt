@@ -25,10 +25,10 @@ loop-due-preserved c =
     let inv = c.loop-due.invariant in (
       tt,
       tt,
-      step.some_fired,
+      step.only_firing,
       λ few k due there. elim (inv.3 (step.before few) k due there) [
         | inl ahead ↦ elim (or_cases (is_same k first) (holds c.next.new.self k) (sym (ap (λ ks. holds ks k) c.in-Some.ensures.steps) ∙ ahead)) [
-          | inl here ↦ inr (subst (IsReported c.args.pending.now.entries c.args.reach.now (reported_of c.with_watch-fired.result)) (sym ((is_same-is k first here).2)) (step.told few))
+          | inl here ↦ inr (subst (IsReported c.args.pending.now.entries c.args.reach.now (reported_of c.with_watch-fired.result)) (sym ((is_same-is k first here).2)) (step.reported few))
           | inr later ↦ inl later
         ]
         | inr told ↦ inr (step.still few k.registration told)
