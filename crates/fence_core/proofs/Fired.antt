@@ -1,4 +1,4 @@
--- The watches that a rise fires, told by registration.
+-- The watches that a rise fires, reported by registration.
 use Rattle.std.proofs.Common.{◌≡◌, ℕ, Bool, true, false, not, cond, ◌||◌, nat_eq, refl, sym, ap, ◌∙◌, subst, List, [], ◌∷◌, ◌++◌, map, filter, Option, None, Some, inl, inr}
 use Rattle.std.specs.List.{list_any, IsDistinct, AllByRecursion}
 use Rattle.std.specs.List.Sorted.{IsStrictlySortedBy}
@@ -27,8 +27,8 @@ use Rattle.fence_core.specs.declared.watches.point_index.single_rise.Fired.{Fire
 use Rattle.fence_core.specs.declared.watches.point_index.single_rise.Fired.TheVariants.{Nothing, One, Several}
 
 -- the cookies of the watches that fire, by registration
-told : List ℕ → List (ℕ × Watch) → List (ℕ × ℕ)
-told reach es = map (λ (e : ℕ × Watch). (e.0, e.1.cookie)) (filter (λ e. fires reach e.1) es)
+reported : List ℕ → List (ℕ × Watch) → List (ℕ × ℕ)
+reported reach es = map (λ (e : ℕ × Watch). (e.0, e.1.cookie)) (filter (λ e. fires reach e.1) es)
 
 cookie : Option Watch → Option ℕ
 cookie None = None
@@ -52,45 +52,45 @@ cookie-filter reach (Some w) = by (fires reach w)
     by true = refl
     by false = refl
 
-at-told : (reach : List ℕ) (es : List (ℕ × Watch)) (r : ℕ) → IsStrictlySortedBy nat_cmp (keys_of es) → at (told reach es) r ≡ cookie_if_fires reach (at es r)
-unfolding told
-at-told reach es r ordered =
+at-reported : (reach : List ℕ) (es : List (ℕ × Watch)) (r : ℕ) → IsStrictlySortedBy nat_cmp (keys_of es) → at (reported reach es) r ≡ cookie_if_fires reach (at es r)
+unfolding reported
+at-reported reach es r ordered =
     at-map (filter (λ e. fires reach e.1) es) r
     ∙ ap cookie (lookup-filter-values (eq_by_cmp_equiv nat_cmp_total) (fires reach) r es (IsDistinct-from_sorted nat_cmp (keys_of es) ordered))
     ∙ cookie-filter reach (at es r)
 
-AllByRecursion-told : (P : ℕ → Type 0) (reach : List ℕ) (es : List (ℕ × Watch)) → AllByRecursion P (keys_of es) → AllByRecursion P (keys_of (told reach es))
-unfolding told
-AllByRecursion-told P reach [] all = all
-AllByRecursion-told P reach (e ∷ es) all = by (fires reach e.1) (AllByRecursion-told P reach es all.1)
+AllByRecursion-reported : (P : ℕ → Type 0) (reach : List ℕ) (es : List (ℕ × Watch)) → AllByRecursion P (keys_of es) → AllByRecursion P (keys_of (reported reach es))
+unfolding reported
+AllByRecursion-reported P reach [] all = all
+AllByRecursion-reported P reach (e ∷ es) all = by (fires reach e.1) (AllByRecursion-reported P reach es all.1)
   where
-    by : (b : Bool) → AllByRecursion P (keys_of (told reach es)) → AllByRecursion P (keys_of (map (λ (e : ℕ × Watch). (e.0, e.1.cookie)) (cond b (e ∷ filter (λ e. fires reach e.1) es) (filter (λ e. fires reach e.1) es))))
+    by : (b : Bool) → AllByRecursion P (keys_of (reported reach es)) → AllByRecursion P (keys_of (map (λ (e : ℕ × Watch). (e.0, e.1.cookie)) (cond b (e ∷ filter (λ e. fires reach e.1) es) (filter (λ e. fires reach e.1) es))))
     by true rest = (all.0, rest)
     by false rest = rest
 
-ordered-told : (reach : List ℕ) (es : List (ℕ × Watch)) → IsStrictlySortedBy nat_cmp (keys_of es) → IsStrictlySortedBy nat_cmp (keys_of (told reach es))
-unfolding told IsStrictlySortedBy
-ordered-told reach [] h = h
-ordered-told reach (e ∷ es) h = by (fires reach e.1) (AllByRecursion-told (λ y. nat_cmp e.0 y ≡ Less) reach es h.0) (ordered-told reach es h.1)
+ordered-reported : (reach : List ℕ) (es : List (ℕ × Watch)) → IsStrictlySortedBy nat_cmp (keys_of es) → IsStrictlySortedBy nat_cmp (keys_of (reported reach es))
+unfolding reported IsStrictlySortedBy
+ordered-reported reach [] h = h
+ordered-reported reach (e ∷ es) h = by (fires reach e.1) (AllByRecursion-reported (λ y. nat_cmp e.0 y ≡ Less) reach es h.0) (ordered-reported reach es h.1)
   where
-    by : (b : Bool) → AllByRecursion (λ y. nat_cmp e.0 y ≡ Less) (keys_of (told reach es)) → IsStrictlySortedBy nat_cmp (keys_of (told reach es)) → IsStrictlySortedBy nat_cmp (keys_of (map (λ (e : ℕ × Watch). (e.0, e.1.cookie)) (cond b (e ∷ filter (λ e. fires reach e.1) es) (filter (λ e. fires reach e.1) es))))
+    by : (b : Bool) → AllByRecursion (λ y. nat_cmp e.0 y ≡ Less) (keys_of (reported reach es)) → IsStrictlySortedBy nat_cmp (keys_of (reported reach es)) → IsStrictlySortedBy nat_cmp (keys_of (map (λ (e : ℕ × Watch). (e.0, e.1.cookie)) (cond b (e ∷ filter (λ e. fires reach e.1) es) (filter (λ e. fires reach e.1) es))))
     by true first rest = (first, rest)
     by false first rest = rest
 
-values-told : (reach : List ℕ) (es : List (ℕ × Watch)) → values_of (told reach es) ≡ cookies_of (filter (fires reach) (values_of es))
-unfolding told
-values-told reach [] = refl
-values-told reach (e ∷ es) = by (fires reach e.1) (values-told reach es)
+values-reported : (reach : List ℕ) (es : List (ℕ × Watch)) → values_of (reported reach es) ≡ cookies_of (filter (fires reach) (values_of es))
+unfolding reported
+values-reported reach [] = refl
+values-reported reach (e ∷ es) = by (fires reach e.1) (values-reported reach es)
   where
-    by : (b : Bool) → values_of (told reach es) ≡ cookies_of (filter (fires reach) (values_of es)) → values_of (map (λ (e : ℕ × Watch). (e.0, e.1.cookie)) (cond b (e ∷ filter (λ e. fires reach e.1) es) (filter (λ e. fires reach e.1) es))) ≡ cookies_of (cond b (e.1 ∷ filter (fires reach) (values_of es)) (filter (fires reach) (values_of es)))
+    by : (b : Bool) → values_of (reported reach es) ≡ cookies_of (filter (fires reach) (values_of es)) → values_of (map (λ (e : ℕ × Watch). (e.0, e.1.cookie)) (cond b (e ∷ filter (λ e. fires reach e.1) es) (filter (λ e. fires reach e.1) es))) ≡ cookies_of (cond b (e.1 ∷ filter (fires reach) (values_of es)) (filter (fires reach) (values_of es)))
     by true rest = ap (λ cs. e.1.cookie ∷ cs) rest
     by false rest = rest
 
 -- where each registration was reported, the cookies stand by registration
 values-IsReported : (reach : List ℕ) (es : List (ℕ × Watch)) (fired : List (ℕ × ℕ)) → IsStrictlySortedBy nat_cmp (keys_of es) → IsStrictlySortedBy nat_cmp (keys_of fired) → ((r : ℕ) → IsReported es reach fired r) → values_of fired ≡ cookies_of (filter (fires reach) (values_of es))
 values-IsReported reach es fired ordered rising all =
-    ap values_of (same_lists fired (told reach es) rising (ordered-told reach es ordered) (λ r. all r ∙ sym (at-told reach es r ordered)))
-    ∙ values-told reach es
+    ap values_of (same_lists fired (reported reach es) rising (ordered-reported reach es ordered) (λ r. all r ∙ sym (at-reported reach es r ordered)))
+    ∙ values-reported reach es
 
 -- where no watch was reported that doesn't fire, and each that fires was, each was reported
 pub IsReported-all : (reach : List ℕ) (es : List (ℕ × Watch)) (fired : List (ℕ × ℕ)) (r : ℕ) → AreOnlyFiring es reach fired → ((w : Watch) → at es r ≡ Some w → fires reach w ≡ true → IsReported es reach fired r) → IsReported es reach fired r
@@ -107,7 +107,7 @@ IsReported-all reach es fired r some all = by (at fired r) refl
           | inr not_it ↦ is ∙ sym (ap (cookie_if_fires reach) there ∙ ap (λ b. cond b (Some w.cookie) None) not_it)
         ]
 
--- what is told of the points that are due is the cookies of the watches that fire
+-- what is reported of the points that are due is the cookies of the watches that fire
 pub values-fired : (reach : List ℕ) (es : List (ℕ × Watch)) (places : Places) (index : List WaitingPoint) (fired : List (ℕ × ℕ)) → IsStrictlySortedBy nat_cmp (keys_of es) → IsIndexed es places index → IsStrictlySortedBy nat_cmp (keys_of fired) → AreOnlyFiring es reach fired → ((k : WaitingPoint) → is_due k.ctx (value_at reach k.ctx) k ≡ true → holds index k ≡ true → IsReported es reach fired k.registration) → values_of fired ≡ cookies_of (filter (fires reach) (values_of es))
 values-fired reach es places index fired ordered h rising some all =
     values-IsReported reach es fired ordered rising (λ r. IsReported-all reach es fired r some (λ w found fired_it.
@@ -120,7 +120,7 @@ ordered-reported_of Nothing = tt
 ordered-reported_of (One registration cookie) = (tt, tt)
 ordered-reported_of Several = tt
 
--- the same where one watch is told at most
+-- the same where one watch is reported at most
 pub values-reported_of : (reach : List ℕ) (es : List (ℕ × Watch)) (places : Places) (index : List WaitingPoint) (f : Fired) → IsStrictlySortedBy nat_cmp (keys_of es) → IsIndexed es places index → AreOnlyFiring es reach (reported_of f) → ((k : WaitingPoint) → is_due k.ctx (value_at reach k.ctx) k ≡ true → holds index k ≡ true → IsReported es reach (reported_of f) k.registration) → values_of (reported_of f) ≡ cookies_of (filter (fires reach) (values_of es))
 values-reported_of reach es places index f ordered h some all = values-fired reach es places index (reported_of f) ordered h (ordered-reported_of f) some all
 
@@ -150,7 +150,7 @@ none-fires reach (w ∷ ws) none =
     let parts = none-of reach w ws none in
     ap (λ b. b || list_any (fires reach) ws) parts.0 ∙ none-fires reach ws parts.1
 
--- a watch that fires is among those whose cookies are told
+-- a watch that fires is among those whose cookies are reported
 pub Fires-some : (reach : List ℕ) (es : List (ℕ × Watch)) → Fires es reach → cookies_of (filter (fires reach) (values_of es)) ≡ [] → ⊥
 Fires-some reach es f none = by es f.pending none
   where
@@ -160,7 +160,7 @@ Fires-some reach es f none = by es f.pending none
       | inl here ↦
           let same = same_Some e.1 f.watch (sym (ap (λ b. cond b (Some e.1) (at fs f.registration)) here) ∙ is) in
           let fired = ap (fires reach) same ∙ f.fires in
-          let told = sym (ap (λ b. cookies_of (cond b (e.1 ∷ filter (fires reach) (values_of fs)) (filter (fires reach) (values_of fs)))) fired) ∙ none in
+          let reported = sym (ap (λ b. cookies_of (cond b (e.1 ∷ filter (fires reach) (values_of fs)) (filter (fires reach) (values_of fs)))) fired) ∙ none in
           absurd (cc)
       | inr past ↦ on (fires reach e.1) none (by fs (sym (ap (λ b. cond b (Some e.1) (at fs f.registration)) past) ∙ is))
     ]

@@ -31,7 +31,8 @@ registered places cookie = registration_at (place_at places cookie)
 -- the index holds one point of each pending watch, the place of its cookie, and no other points
 pub record IsIndexed (es : List (ℕ × Watch)) (places : Places) (index : List WaitingPoint) : Type 0 where
   pub owned : (k : WaitingPoint) → holds index k ≡ true →
-      (w : Watch) × (at es k.registration ≡ Some w) × (is_of w.points k.registration k ≡ true) × (place_at places w.cookie ≡ Some k)
+      (w : Watch) × (at es k.registration ≡ Some w)
+      × (is_of w.points k.registration k ≡ true) × (place_at places w.cookie ≡ Some k)
   pub some : (r : ℕ) (w : Watch) → at es r ≡ Some w →
       (k : WaitingPoint) × (k.registration ≡ r) × (holds index k ≡ true) × (place_at places w.cookie ≡ Some k)
 

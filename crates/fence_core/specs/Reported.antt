@@ -23,7 +23,8 @@ IsReported es reach fired r = at fired r ≡ cookie_if_fires reach (at es r)
 
 -- no watch was reported that does not fire
 abbrev pub AreOnlyFiring : List (ℕ × Watch) → List ℕ → List (ℕ × ℕ) → Type 0
-AreOnlyFiring es reach fired = (r : ℕ) (cookie : ℕ) → at fired r ≡ Some cookie → cookie_if_fires reach (at es r) ≡ Some cookie
+AreOnlyFiring es reach fired =
+    (r : ℕ) (cookie : ℕ) → at fired r ≡ Some cookie → cookie_if_fires reach (at es r) ≡ Some cookie
 
 -- some watch fires
 pub record Fires (es : List (ℕ × Watch)) (reach : List ℕ) : Type 0 where

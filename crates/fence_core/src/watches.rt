@@ -115,7 +115,7 @@ impl Watches {
             return Err(Refusal::Memory);
         };
         self.is_settled = stays_settled(self.is_settled, &self.reach, reach);
-        self.reach = *reach;
+        self.reach.copy_from(reach);
         self.made += 1;
         Ok(())
     }
@@ -169,7 +169,7 @@ impl Watches {
         ensures pending { ArePending self.old.pending }
     {
         if self.index.is_above(reach) {
-            self.reach = *reach;
+            self.reach.copy_from(reach);
             self.is_settled = true;
             return Ok(Vec::new(self.alloc));
         }
@@ -179,8 +179,8 @@ impl Watches {
         Ok(cookies)
     }
 
-    /// As `after_rise` to the last reach that was handed in, with the point reached. If no watch waits for a point of its
-    /// context at or below it, nothing else is looked at.
+    /// As `after_rise` to the last reach that was handed in, with the point reached. If no watch stands at a
+    /// point of its context at or below it, nothing else is looked at.
     ///
     /// Fails with `Memory` alone, and only when a watch fires; then none has fired, and nothing has changed.
     pub fn after_inc(&mut self, point: Point) -> Result<Vec<u64>, Refusal>
@@ -198,7 +198,7 @@ impl Watches {
         self.after_rise_of(&point)
     }
 
-    /// As `after_inc`, when a watch may wait for a point of its context at or below it.
+    /// As `after_inc`, when a watch may stand at a point of its context at or below it.
     fn after_rise_of(&mut self, point: &Point) -> Result<Vec<u64>, Refusal>
         ensures fired { IfOk result (λ cookies. cookies.items ≡ fired_by self.old (reaching self.old.reach point.now)) }
         ensures left { OnOk result (self.new ≡ after_rise_to self.old (reaching self.old.reach point.now)) }
@@ -269,7 +269,7 @@ impl Watches {
     {
         let settled = self.index.settle(&mut self.places, &self.pending, reach);
         self.is_settled = settled.is_ok();
-        self.reach = *reach;
+        self.reach.copy_from(reach);
     }
 
     /// The same, when the reach is the last one with the point reached.
@@ -283,11 +283,12 @@ impl Watches {
             self.rise_to(reach);
             return;
         }
+        let Point { ctx, value } = *point;
         let settled = self
             .index
-            .settle_context(&mut self.places, &self.pending, point.ctx, reach);
+            .settle_context(&mut self.places, &self.pending, ctx, reach);
         self.is_settled = settled.is_ok();
-        self.reach = *reach;
+        self.reach.raise_to(Point { ctx, value });
     }
 }
 

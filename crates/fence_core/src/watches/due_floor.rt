@@ -1,4 +1,4 @@
-// What waiting points are above.
+// What the points at which watches stand are above.
 ghost use Rattle.std.specs.Prelude.{◌≡◌, ◌^◌, ◌+◌, ◌-◌, ◌<◌, ◌≤◌, ◌↔◌, IsTrue, min, replicate};
 ghost use Rattle.point_core.specs.declared.context.TheConstants.{CONTEXTS};
 ghost use Rattle.point_core.specs.Reach.{value_at, with_value, IsAtLeast};
@@ -6,8 +6,8 @@ ghost use Rattle.point_core.specs.Reach.{value_at, with_value, IsAtLeast};
 use point_core::{CONTEXTS, Context, Point, Reach};
 use std::marker::Model;
 
-/// For each context a value that each point of it that is waited for is above. A rise that stays at or below these values
-/// comes to no such point.
+/// For each context a value that each point of it at which a watch stands is above. A rise that stays at or below these
+/// values comes to no such point.
 #[derive(Drop)]
 pub(super) struct DueFloor {
     values: [u64; CONTEXTS],

@@ -45,9 +45,11 @@ fn with_watch(fired: Fired, registration: u64, pending: &PendingWatches, reach: 
     requires only_firing { AreOnlyFiring pending.now.entries reach.now (reported_of fired) }
     ensures only_firing { AreOnlyFiring pending.now.entries reach.now (reported_of result) }
     ensures before { is_one_at_most result ≡ true → is_one_at_most fired ≡ true }
-    ensures still { is_one_at_most result ≡ true → (r : ℕ) → IsReported pending.now.entries reach.now (reported_of fired) r →
+    ensures still { is_one_at_most result ≡ true → (r : ℕ) →
+        IsReported pending.now.entries reach.now (reported_of fired) r →
         IsReported pending.now.entries reach.now (reported_of result) r }
-    ensures reported { is_one_at_most result ≡ true → IsReported pending.now.entries reach.now (reported_of result) registration }
+    ensures reported { is_one_at_most result ≡ true →
+        IsReported pending.now.entries reach.now (reported_of result) registration }
 {
     if let Fired::Several = fired {
         return fired;

@@ -7,7 +7,7 @@ use Rattle.fence_core.specs.declared.watches.TheConstants.{WATCHES}
 use Rattle.fence_core.specs.Fence.{members_of}
 use Rattle.fence_core.specs.Watch.{Watch, Registry, is_for, watch_of, registry_of}
 use Rattle.fence_core.specs.Watches.{with_watch}
-use Rattle.fence_core.specs.PointIndex.{is_of, waiting}
+use Rattle.fence_core.specs.PointIndex.{is_of, waiting, AreAbove}
 use Rattle.fence_core.specs.Registered.{registration_at, place_at, AreRegistered, IsIndexed}
 use Rattle.fence_core.proofs.Above.{AreAbove-less, AreAbove-put_above}
 use Rattle.fence_core.proofs.Causes.{cause-by_Ok, new-by_cause, room-by_cause}
@@ -62,7 +62,7 @@ invariant_of-self-2 c =
       IsIndexed-push es c.insert-2.new.self.entries places c.insert.new.self index c.put.new.self made w first c.self.invariant.1 c.self.invariant.0.before new member c.in-Ok-insert.ensures.updates stands c.in_ok-put.ensures.put,
       λ settled.
           let both = c.stays_settled-self-inside.ensures.0 settled in
-          AreAbove-put_above index c.put.new.self first made c.self.inside.reach c.args.reach.now (c.self.invariant.2 both.0) both.1 one.above c.in_ok-put.ensures.put,
+          subst (AreAbove c.put.new.self) (sym c.copy_from.ensures.values) (AreAbove-put_above index c.put.new.self first made c.self.inside.reach c.args.reach.now (c.self.invariant.2 both.0) both.1 one.above c.in_ok-put.ensures.put),
     )
 
 pub returns-clause-last : goal.returns-clause-last
@@ -70,7 +70,8 @@ returns-clause-last c =
     let w : Watch = watch_of c.args.cookie (members_of c.in_ok-fence.fence) in
     let its = ap members_of c.in_ok-fence.ensures.fence ∙ members_of-fence_of c.members-members.result.now ∙ c.members-members.ensures.value in
     let es = c.self.inside.pending.entries in
-    ap (λ ws. registry_of ws (c.self.inside.made + 1) c.args.reach.now)
+    ap (registry_of (values_of c.insert-2.new.self.entries) (c.self.inside.made + 1)) c.copy_from.ensures.values
+    ∙ ap (λ ws. registry_of ws (c.self.inside.made + 1) c.args.reach.now)
     (ap values_of (c.in-Ok-insert.ensures.entries ∙ insert_entry-last es c.self.inside.made w c.self.invariant.0.before) ∙ map-append (λ (e : ℕ × Watch). e.1) es ((c.self.inside.made, w) ∷ []))
     ∙ ap (λ ps. registry_of (values_of es ++ watch_of c.args.cookie ps ∷ []) (c.self.inside.made + 1) c.args.reach.now) its
     ∙ ap (λ r. with_watch r c.args.cookie (members_of c.args.fence.now) c.args.reach.now) c.self.view_is

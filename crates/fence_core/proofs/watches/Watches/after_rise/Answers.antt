@@ -1,9 +1,10 @@
-use Rattle.std.proofs.Common.{◌∙◌, ap, sym}
+use Rattle.std.proofs.Common.{◌∙◌, ap, sym, subst}
 use Rattle.std.specs.List.{list_any}
 use Rattle.fence_core.specs.Watch.{Registry, registry_of}
 use Rattle.fence_core.specs.Watches.{fires, without_watches}
 use Rattle.fence_core.specs.Watches.{fired_by, after_rise_to}
 use Rattle.std.specs.Map.{values_of}
+use Rattle.fence_core.specs.PointIndex.{AreAbove}
 use Rattle.fence_core.proofs.Fired.{without_fired, none-left, none-due, all-stay}
 use Rattle.fence_core.proofs.watches.Watches.after_rise.Goals as goal
 
@@ -24,7 +25,7 @@ returns-clause-left c =
 -- where no point is due
 
 pub invariant_of-self : goal.invariant_of-self
-invariant_of-self c = (c.self.invariant.0, c.self.invariant.1, λ settled. c.is_above.ensures c.if-is_above.true)
+invariant_of-self c = (c.self.invariant.0, c.self.invariant.1, λ settled. subst (AreAbove c.self.inside.index) (sym c.copy_from.ensures.values) (c.is_above.ensures c.if-is_above.true))
 
 pub returns-then-is_above-clause-fired : goal.returns-then-is_above-clause-fired
 returns-then-is_above-clause-fired c =
@@ -36,5 +37,6 @@ pub returns-then-is_above-clause-left : goal.returns-then-is_above-clause-left
 returns-then-is_above-clause-left c =
     let es = c.self.inside.pending.entries in
     let none = none-due c.args.reach.now es c.self.inside.places c.self.inside.index c.self.invariant.0.ordered c.self.invariant.1 (c.is_above.ensures c.if-is_above.true) in
-    ap (λ ws. registry_of ws c.self.inside.made c.args.reach.now) (sym (all-stay c.args.reach.now (values_of es) none))
+    ap (registry_of (values_of es) c.self.inside.made) c.copy_from.ensures.values
+    ∙ ap (λ ws. registry_of ws c.self.inside.made c.args.reach.now) (sym (all-stay c.args.reach.now (values_of es) none))
     ∙ ap (λ r. after_rise_to r c.args.reach.now) c.self.view_is

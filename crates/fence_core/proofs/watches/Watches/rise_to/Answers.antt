@@ -1,7 +1,8 @@
-use Rattle.std.proofs.Common.{◌∙◌, ap, sym}
+use Rattle.std.proofs.Common.{◌∙◌, ap, sym, subst}
 use Rattle.std.specs.List.{list_any}
 use Rattle.fence_core.specs.Watch.{Registry}
 use Rattle.fence_core.specs.Watches.{fires}
+use Rattle.fence_core.specs.PointIndex.{AreAbove}
 use Rattle.fence_core.proofs.Above.{AreAbove-none_due, on_ok}
 use Rattle.fence_core.proofs.Registered.{AreRegistered-same, at-none}
 use Rattle.fence_core.proofs.watches.Watches.rise_to.Goals as goal
@@ -13,5 +14,6 @@ pub invariant_of-self : goal.invariant_of-self
 invariant_of-self c = (
   AreRegistered-same c.self.inside.pending.entries c.self.inside.places c.settle-settled.new.places c.self.inside.made c.self.invariant.0 c.settle-settled.ensures.registered,
   c.settle-settled.ensures.indexed,
-  λ settled. AreAbove-none_due c.settle-settled.new.self c.args.reach.now (on_ok c.settle-settled.result c.settle-settled.ensures.none_left (sym c.is_ok-self-inside.ensures.value ∙ settled)),
+  λ settled. subst (AreAbove c.settle-settled.new.self) (sym c.copy_from.ensures.values)
+      (AreAbove-none_due c.settle-settled.new.self c.args.reach.now (on_ok c.settle-settled.result c.settle-settled.ensures.none_left (sym c.is_ok-self-inside.ensures.value ∙ settled))),
 )
