@@ -1,15 +1,15 @@
 -- Points that are waited for are above the floor.
-use Rattle.std.proofs.Common.{◌≡◌, ◌≢◌, ◌↔◌, ℕ, ◌-◌, ◌<◌, ◌≤◌, ◌||◌, ◌&&◌, Bool, true, false, nat_eq, nat_le, min, max, refl, sym, ap, ◌∙◌, subst, List, [], length, arith, inl, inr}
+use Rattle.std.proofs.Common.{◌≡◌, ◌≢◌, ◌↔◌, ℕ, ◌-◌, ◌<◌, ◌≤◌, ◌||◌, ◌&&◌, Bool, true, false, nat_eq, nat_le, min, max, refl, sym, ap, ◌∙◌, subst, List, [], length, Result, Ok, Err, OnOk, is_ok, arith, inl, inr}
 use Rattle.std.specs.Prelude.{IsTrue}
 use Rattle.std.proofs.lemmas.Bool.{and_parts, cases_Bool, eqb-true, eq-eqb, false≢true, le-leb, leb-true, leb-false}
 use Rattle.point_core.specs.declared.context.TheConstants.{CONTEXTS}
 use Rattle.point_core.specs.declared.entry.Point.{Point}
-use Rattle.point_core.specs.Reach.{value_at, with_value, reaching, IsAtLeast}
+use Rattle.point_core.specs.Reach.{value_at, with_value, reaching, is_reached, IsAtLeast}
 use Rattle.point_core.proofs.Values.{value_at-with_value_same, value_at-with_value_other, IsAtLeast-with_value}
 use Rattle.fence_core.specs.declared.watches.point_index.WaitingPoint.{WaitingPoint}
-use Rattle.fence_core.specs.PointIndex.{waiting, is_same, holds, is_of, above, is_due, AreWaiting, AreAbove}
-use Rattle.fence_core.proofs.PointIndex.{is_same-is}
-use Rattle.fence_core.proofs.Indexed.{or_cases, above-not_due}
+use Rattle.fence_core.specs.PointIndex.{waiting, is_same, holds, is_due, AreWaiting, AreAbove}
+use Rattle.fence_core.proofs.PointIndex.{is_same-is, one_point}
+use Rattle.fence_core.proofs.Indexed.{or_cases}
 
 -- a context where the reach is not above the floor
 pub not-below : (floor reach : ℕ) (b : Bool) → (IsTrue b ↔ (floor < reach)) → b ≡ false → reach ≤ floor
@@ -99,13 +99,26 @@ AreAbove-empty ks floor higher ctx most is full low high contexts h none =
 pub IsAtLeast-reaching : (reach higher : List ℕ) (p : Point) → higher ≡ reaching reach p → IsAtLeast higher reach
 IsAtLeast-reaching reach higher p is = subst (λ r. IsAtLeast r reach) (sym is) (IsAtLeast-with_value reach p.ctx (max (value_at reach p.ctx) p.value) (omega arith))
 
--- points put in above a reach, beside those that were above an earlier one that is as high
-pub AreAbove-put_above : (old new : List WaitingPoint) (ps : List Point) (registration : ℕ) (before after : List ℕ) → AreAbove old before → IsAtLeast before after
-    → ((k : WaitingPoint) → holds new k ≡ (is_of (above after ps) registration k || holds old k)) → AreAbove new after
-AreAbove-put_above old new ps registration before after h high put = λ k there. elim (or_cases (is_of (above after ps) registration k) (holds old k) (sym (put k) ∙ there)) [
-  | inl added ↦ above-not_due after ps registration k added
+-- a point above a reach is not due there
+pub above-not_due : (reach : List ℕ) (p : Point) (registration : ℕ) → is_reached reach p ≡ false → is_due p.ctx (value_at reach p.ctx) (waiting p registration) ≡ false
+above-not_due reach p registration past = ap (λ b. nat_eq p.ctx p.ctx && b) past ∙ and-false (nat_eq p.ctx p.ctx)
+  where
+    and-false : (a : Bool) → (a && false) ≡ false
+    and-false true = refl
+    and-false false = refl
+
+-- a point put in above a reach, beside those that were above an earlier one that is as high
+pub AreAbove-put_above : (old new : List WaitingPoint) (p : Point) (registration : ℕ) (before after : List ℕ) → AreAbove old before → IsAtLeast before after → is_reached after p ≡ false
+    → ((k : WaitingPoint) → holds new k ≡ (is_same (waiting p registration) k || holds old k)) → AreAbove new after
+AreAbove-put_above old new p registration before after h high past put = λ k there. elim (or_cases (is_same (waiting p registration) k) (holds old k) (sym (put k) ∙ there)) [
+  | inl added ↦ subst (λ (x : WaitingPoint). is_due x.ctx (value_at after x.ctx) x ≡ false) (one_point (waiting p registration) k added) (above-not_due after p registration past)
   | inr kept ↦ not_due-lower (value_at after k.ctx) (value_at before k.ctx) k k.ctx (high.values k.ctx) (h k kept)
 ]
+
+-- what holds of a call that was not refused
+pub on_ok : {X E : Type 0} {P : Type 0} (r : Result X E) → OnOk r P → is_ok r ≡ true → P
+on_ok (Ok x) h is = h
+on_ok (Err e) h is = absurd (cc)
 
 -- none is left that is due
 pub AreAbove-none_due : (ks : List WaitingPoint) (reach : List ℕ) → ((k : WaitingPoint) → is_due k.ctx (value_at reach k.ctx) k ≡ true → holds ks k ≡ false) → AreAbove ks reach
@@ -123,8 +136,8 @@ other-not_due ks kept reach p is low contexts h k there apart =
     ap (λ v. is_due k.ctx v k) (ap (λ f. value_at f k.ctx) is ∙ value_at-with_value_other kept p.ctx k.ctx (max (value_at kept p.ctx) p.value) low (contexts.contexts k there).0 apart)
     ∙ h k there
 
-pub due-alone : (ks : List WaitingPoint) (kept reach : List ℕ) (p : Point) → reach ≡ reaching kept p → 1 ≤ p.ctx → AreWaiting ks → AreAbove ks kept → (k : WaitingPoint) → is_due k.ctx (value_at reach k.ctx) k ≡ true → holds ks k ≡ true → is_due p.ctx (value_at reach p.ctx) k ≡ true
-due-alone ks kept reach p is low contexts h k due there = elim (cases_Bool (nat_eq k.ctx p.ctx)) [
+pub due-one_context : (ks : List WaitingPoint) (kept reach : List ℕ) (p : Point) → reach ≡ reaching kept p → 1 ≤ p.ctx → AreWaiting ks → AreAbove ks kept → (k : WaitingPoint) → is_due k.ctx (value_at reach k.ctx) k ≡ true → holds ks k ≡ true → is_due p.ctx (value_at reach p.ctx) k ≡ true
+due-one_context ks kept reach p is low contexts h k due there = elim (cases_Bool (nat_eq k.ctx p.ctx)) [
   | inl same ↦ ap (λ c. is_due c (value_at reach c) k) (sym (eqb-true k.ctx p.ctx same)) ∙ due
   | inr other ↦ absurd (false≢true (sym (other-not_due ks kept reach p is low contexts h k there (λ e. false≢true (sym other ∙ eq-eqb k.ctx p.ctx e))) ∙ due))
 ]
@@ -136,10 +149,10 @@ not_due-at reach ctx k none = elim (cases_Bool (nat_eq k.ctx ctx)) [
   | inr other ↦ ap (λ b. b && nat_le k.value (value_at reach ctx)) other
 ]
 
--- the points of that context that are due, taken out
-pub AreAbove-alone : (ks fewer : List WaitingPoint) (kept reach : List ℕ) (p : Point) → reach ≡ reaching kept p → 1 ≤ p.ctx → AreWaiting ks → AreAbove ks kept → ((k : WaitingPoint) → holds fewer k ≡ true → holds ks k ≡ true)
+-- where none that is due is left in that context
+pub AreAbove-one_context : (ks fewer : List WaitingPoint) (kept reach : List ℕ) (p : Point) → reach ≡ reaching kept p → 1 ≤ p.ctx → AreWaiting ks → AreAbove ks kept → ((k : WaitingPoint) → is_due k.ctx (value_at reach k.ctx) k ≡ true → holds fewer k ≡ true → holds ks k ≡ true)
     → ((k : WaitingPoint) → is_due p.ctx (value_at reach p.ctx) k ≡ true → holds fewer k ≡ false) → AreAbove fewer reach
-AreAbove-alone ks fewer kept reach p is low contexts h less none = λ k there. elim (cases_Bool (is_due k.ctx (value_at reach k.ctx) k)) [
-  | inl due ↦ absurd (false≢true (sym (none k (due-alone ks kept reach p is low contexts h k due (less k there))) ∙ there))
+AreAbove-one_context ks fewer kept reach p is low contexts h less none = λ k there. elim (cases_Bool (is_due k.ctx (value_at reach k.ctx) k)) [
+  | inl due ↦ absurd (false≢true (sym (none k (due-one_context ks kept reach p is low contexts h k due (less k due there))) ∙ there))
   | inr other ↦ other
 ]

@@ -1,4 +1,4 @@
--- The watches that a rise fires, told by registration.
+-- The watches that a rise fires, reported by registration.
 use Rattle.std.proofs.Common.{◌≡◌, ℕ, Bool, true, false, not, cond, ◌||◌, nat_eq, refl, sym, ap, ◌∙◌, subst, List, [], ◌∷◌, ◌++◌, map, filter, Option, None, Some, inl, inr}
 use Rattle.std.specs.List.{list_any, IsDistinct, AllByRecursion}
 use Rattle.std.specs.List.Sorted.{IsStrictlySortedBy}
@@ -16,17 +16,19 @@ use Rattle.point_core.specs.Reach.{value_at}
 use Rattle.fence_core.specs.declared.watches.point_index.WaitingPoint.{WaitingPoint}
 use Rattle.fence_core.specs.PointIndex.{holds, is_due}
 use Rattle.fence_core.specs.Registered.{IsIndexed}
+use Rattle.fence_core.specs.declared.watches.places.Places.{Places}
 use Rattle.fence_core.proofs.InOrder.{same_lists}
+use Rattle.fence_core.proofs.Registered.{is_at-true, is_at-is}
 use Rattle.fence_core.proofs.Indexed.{fires-due}
 use Rattle.fence_core.specs.Watch.{Watch, is_for, cookies_of}
 use Rattle.fence_core.specs.Watches.{fires}
-use Rattle.fence_core.specs.Told.{at, cookie_if_fires, with_cookie, IsTold, AreSomeTold, Fires, told_of}
-use Rattle.fence_core.specs.declared.watches.point_index.alone.Fired.{Fired}
-use Rattle.fence_core.specs.declared.watches.point_index.alone.Fired.TheVariants.{Nothing, One, Several}
+use Rattle.fence_core.specs.Reported.{at, cookie_if_fires, IsReported, AreOnlyFiring, Fires, reported_of}
+use Rattle.fence_core.specs.declared.watches.point_index.single_rise.Fired.{Fired}
+use Rattle.fence_core.specs.declared.watches.point_index.single_rise.Fired.TheVariants.{Nothing, One, Several}
 
 -- the cookies of the watches that fire, by registration
-told : List ℕ → List (ℕ × Watch) → List (ℕ × ℕ)
-told reach es = map (λ (e : ℕ × Watch). (e.0, e.1.cookie)) (filter (λ e. fires reach e.1) es)
+reported : List ℕ → List (ℕ × Watch) → List (ℕ × ℕ)
+reported reach es = map (λ (e : ℕ × Watch). (e.0, e.1.cookie)) (filter (λ e. fires reach e.1) es)
 
 cookie : Option Watch → Option ℕ
 cookie None = None
@@ -50,83 +52,83 @@ cookie-filter reach (Some w) = by (fires reach w)
     by true = refl
     by false = refl
 
-at-told : (reach : List ℕ) (es : List (ℕ × Watch)) (r : ℕ) → IsStrictlySortedBy nat_cmp (keys_of es) → at (told reach es) r ≡ cookie_if_fires reach (at es r)
-unfolding told
-at-told reach es r ordered =
+at-reported : (reach : List ℕ) (es : List (ℕ × Watch)) (r : ℕ) → IsStrictlySortedBy nat_cmp (keys_of es) → at (reported reach es) r ≡ cookie_if_fires reach (at es r)
+unfolding reported
+at-reported reach es r ordered =
     at-map (filter (λ e. fires reach e.1) es) r
     ∙ ap cookie (lookup-filter-values (eq_by_cmp_equiv nat_cmp_total) (fires reach) r es (IsDistinct-from_sorted nat_cmp (keys_of es) ordered))
     ∙ cookie-filter reach (at es r)
 
-AllByRecursion-told : (P : ℕ → Type 0) (reach : List ℕ) (es : List (ℕ × Watch)) → AllByRecursion P (keys_of es) → AllByRecursion P (keys_of (told reach es))
-unfolding told
-AllByRecursion-told P reach [] all = all
-AllByRecursion-told P reach (e ∷ es) all = by (fires reach e.1) (AllByRecursion-told P reach es all.1)
+AllByRecursion-reported : (P : ℕ → Type 0) (reach : List ℕ) (es : List (ℕ × Watch)) → AllByRecursion P (keys_of es) → AllByRecursion P (keys_of (reported reach es))
+unfolding reported
+AllByRecursion-reported P reach [] all = all
+AllByRecursion-reported P reach (e ∷ es) all = by (fires reach e.1) (AllByRecursion-reported P reach es all.1)
   where
-    by : (b : Bool) → AllByRecursion P (keys_of (told reach es)) → AllByRecursion P (keys_of (map (λ (e : ℕ × Watch). (e.0, e.1.cookie)) (cond b (e ∷ filter (λ e. fires reach e.1) es) (filter (λ e. fires reach e.1) es))))
+    by : (b : Bool) → AllByRecursion P (keys_of (reported reach es)) → AllByRecursion P (keys_of (map (λ (e : ℕ × Watch). (e.0, e.1.cookie)) (cond b (e ∷ filter (λ e. fires reach e.1) es) (filter (λ e. fires reach e.1) es))))
     by true rest = (all.0, rest)
     by false rest = rest
 
-ordered-told : (reach : List ℕ) (es : List (ℕ × Watch)) → IsStrictlySortedBy nat_cmp (keys_of es) → IsStrictlySortedBy nat_cmp (keys_of (told reach es))
-unfolding told IsStrictlySortedBy
-ordered-told reach [] h = h
-ordered-told reach (e ∷ es) h = by (fires reach e.1) (AllByRecursion-told (λ y. nat_cmp e.0 y ≡ Less) reach es h.0) (ordered-told reach es h.1)
+ordered-reported : (reach : List ℕ) (es : List (ℕ × Watch)) → IsStrictlySortedBy nat_cmp (keys_of es) → IsStrictlySortedBy nat_cmp (keys_of (reported reach es))
+unfolding reported IsStrictlySortedBy
+ordered-reported reach [] h = h
+ordered-reported reach (e ∷ es) h = by (fires reach e.1) (AllByRecursion-reported (λ y. nat_cmp e.0 y ≡ Less) reach es h.0) (ordered-reported reach es h.1)
   where
-    by : (b : Bool) → AllByRecursion (λ y. nat_cmp e.0 y ≡ Less) (keys_of (told reach es)) → IsStrictlySortedBy nat_cmp (keys_of (told reach es)) → IsStrictlySortedBy nat_cmp (keys_of (map (λ (e : ℕ × Watch). (e.0, e.1.cookie)) (cond b (e ∷ filter (λ e. fires reach e.1) es) (filter (λ e. fires reach e.1) es))))
+    by : (b : Bool) → AllByRecursion (λ y. nat_cmp e.0 y ≡ Less) (keys_of (reported reach es)) → IsStrictlySortedBy nat_cmp (keys_of (reported reach es)) → IsStrictlySortedBy nat_cmp (keys_of (map (λ (e : ℕ × Watch). (e.0, e.1.cookie)) (cond b (e ∷ filter (λ e. fires reach e.1) es) (filter (λ e. fires reach e.1) es))))
     by true first rest = (first, rest)
     by false first rest = rest
 
-values-told : (reach : List ℕ) (es : List (ℕ × Watch)) → values_of (told reach es) ≡ cookies_of (filter (fires reach) (values_of es))
-unfolding told
-values-told reach [] = refl
-values-told reach (e ∷ es) = by (fires reach e.1) (values-told reach es)
+values-reported : (reach : List ℕ) (es : List (ℕ × Watch)) → values_of (reported reach es) ≡ cookies_of (filter (fires reach) (values_of es))
+unfolding reported
+values-reported reach [] = refl
+values-reported reach (e ∷ es) = by (fires reach e.1) (values-reported reach es)
   where
-    by : (b : Bool) → values_of (told reach es) ≡ cookies_of (filter (fires reach) (values_of es)) → values_of (map (λ (e : ℕ × Watch). (e.0, e.1.cookie)) (cond b (e ∷ filter (λ e. fires reach e.1) es) (filter (λ e. fires reach e.1) es))) ≡ cookies_of (cond b (e.1 ∷ filter (fires reach) (values_of es)) (filter (fires reach) (values_of es)))
+    by : (b : Bool) → values_of (reported reach es) ≡ cookies_of (filter (fires reach) (values_of es)) → values_of (map (λ (e : ℕ × Watch). (e.0, e.1.cookie)) (cond b (e ∷ filter (λ e. fires reach e.1) es) (filter (λ e. fires reach e.1) es))) ≡ cookies_of (cond b (e.1 ∷ filter (fires reach) (values_of es)) (filter (fires reach) (values_of es)))
     by true rest = ap (λ cs. e.1.cookie ∷ cs) rest
     by false rest = rest
 
--- where each registration was told, the cookies stand by registration
-values-IsTold : (reach : List ℕ) (es : List (ℕ × Watch)) (fired : List (ℕ × ℕ)) → IsStrictlySortedBy nat_cmp (keys_of es) → IsStrictlySortedBy nat_cmp (keys_of fired) → ((r : ℕ) → IsTold es reach fired r) → values_of fired ≡ cookies_of (filter (fires reach) (values_of es))
-values-IsTold reach es fired ordered rising all =
-    ap values_of (same_lists fired (told reach es) rising (ordered-told reach es ordered) (λ r. all r ∙ sym (at-told reach es r ordered)))
-    ∙ values-told reach es
+-- where each registration was reported, the cookies stand by registration
+values-IsReported : (reach : List ℕ) (es : List (ℕ × Watch)) (fired : List (ℕ × ℕ)) → IsStrictlySortedBy nat_cmp (keys_of es) → IsStrictlySortedBy nat_cmp (keys_of fired) → ((r : ℕ) → IsReported es reach fired r) → values_of fired ≡ cookies_of (filter (fires reach) (values_of es))
+values-IsReported reach es fired ordered rising all =
+    ap values_of (same_lists fired (reported reach es) rising (ordered-reported reach es ordered) (λ r. all r ∙ sym (at-reported reach es r ordered)))
+    ∙ values-reported reach es
 
--- where no watch was told that doesn't fire, and each that fires was, each was told
-pub IsTold-all : (reach : List ℕ) (es : List (ℕ × Watch)) (fired : List (ℕ × ℕ)) (r : ℕ) → AreSomeTold es reach fired → ((w : Watch) → at es r ≡ Some w → fires reach w ≡ true → IsTold es reach fired r) → IsTold es reach fired r
-IsTold-all reach es fired r some all = by (at fired r) refl
+-- where no watch was reported that doesn't fire, and each that fires was, each was reported
+pub IsReported-all : (reach : List ℕ) (es : List (ℕ × Watch)) (fired : List (ℕ × ℕ)) (r : ℕ) → AreOnlyFiring es reach fired → ((w : Watch) → at es r ≡ Some w → fires reach w ≡ true → IsReported es reach fired r) → IsReported es reach fired r
+IsReported-all reach es fired r some all = by (at fired r) refl
   where
-    by : (o : Option ℕ) → at fired r ≡ o → IsTold es reach fired r
+    by : (o : Option ℕ) → at fired r ≡ o → IsReported es reach fired r
     by (Some c) is = is ∙ sym (some r c is)
     by None is = from (at es r) refl
       where
-        from : (p : Option Watch) → at es r ≡ p → IsTold es reach fired r
+        from : (p : Option Watch) → at es r ≡ p → IsReported es reach fired r
         from None none = is ∙ sym (ap (cookie_if_fires reach) none)
         from (Some w) there = elim (cases_Bool (fires reach w)) [
           | inl fired_it ↦ all w there fired_it
           | inr not_it ↦ is ∙ sym (ap (cookie_if_fires reach) there ∙ ap (λ b. cond b (Some w.cookie) None) not_it)
         ]
 
--- what is told of the points that are due is the cookies of the watches that fire
-pub values-fired : (reach kept : List ℕ) (es : List (ℕ × Watch)) (index : List WaitingPoint) (fired : List (ℕ × ℕ)) → IsStrictlySortedBy nat_cmp (keys_of es) → IsIndexed es index kept → IsStrictlySortedBy nat_cmp (keys_of fired) → AreSomeTold es reach fired → ((k : WaitingPoint) → is_due k.ctx (value_at reach k.ctx) k ≡ true → holds index k ≡ true → IsTold es reach fired k.registration) → values_of fired ≡ cookies_of (filter (fires reach) (values_of es))
-values-fired reach kept es index fired ordered h rising some all =
-    values-IsTold reach es fired ordered rising (λ r. IsTold-all reach es fired r some (λ w found fired_it.
-    let k = fires-due es index reach kept r w h found fired_it in
-    subst (IsTold es reach fired) k.1 (all k.0 k.3 k.2)))
+-- what is reported of the points that are due is the cookies of the watches that fire
+pub values-fired : (reach : List ℕ) (es : List (ℕ × Watch)) (places : Places) (index : List WaitingPoint) (fired : List (ℕ × ℕ)) → IsStrictlySortedBy nat_cmp (keys_of es) → IsIndexed es places index → IsStrictlySortedBy nat_cmp (keys_of fired) → AreOnlyFiring es reach fired → ((k : WaitingPoint) → is_due k.ctx (value_at reach k.ctx) k ≡ true → holds index k ≡ true → IsReported es reach fired k.registration) → values_of fired ≡ cookies_of (filter (fires reach) (values_of es))
+values-fired reach es places index fired ordered h rising some all =
+    values-IsReported reach es fired ordered rising (λ r. IsReported-all reach es fired r some (λ w found fired_it.
+    let k = fires-due es places index reach r w h found fired_it in
+    subst (IsReported es reach fired) k.1 (all k.0 k.3 k.2)))
 
-ordered-told_of : (f : Fired) → IsStrictlySortedBy nat_cmp (keys_of (told_of f))
+ordered-reported_of : (f : Fired) → IsStrictlySortedBy nat_cmp (keys_of (reported_of f))
 unfolding IsStrictlySortedBy
-ordered-told_of Nothing = tt
-ordered-told_of (One registration cookie) = (tt, tt)
-ordered-told_of Several = tt
+ordered-reported_of Nothing = tt
+ordered-reported_of (One registration cookie) = (tt, tt)
+ordered-reported_of Several = tt
 
--- the same where one watch is told at most
-pub values-told_of : (reach kept : List ℕ) (es : List (ℕ × Watch)) (index : List WaitingPoint) (f : Fired) → IsStrictlySortedBy nat_cmp (keys_of es) → IsIndexed es index kept → AreSomeTold es reach (told_of f) → ((k : WaitingPoint) → is_due k.ctx (value_at reach k.ctx) k ≡ true → holds index k ≡ true → IsTold es reach (told_of f) k.registration) → values_of (told_of f) ≡ cookies_of (filter (fires reach) (values_of es))
-values-told_of reach kept es index f ordered h some all = values-fired reach kept es index (told_of f) ordered h (ordered-told_of f) some all
+-- the same where one watch is reported at most
+pub values-reported_of : (reach : List ℕ) (es : List (ℕ × Watch)) (places : Places) (index : List WaitingPoint) (f : Fired) → IsStrictlySortedBy nat_cmp (keys_of es) → IsIndexed es places index → AreOnlyFiring es reach (reported_of f) → ((k : WaitingPoint) → is_due k.ctx (value_at reach k.ctx) k ≡ true → holds index k ≡ true → IsReported es reach (reported_of f) k.registration) → values_of (reported_of f) ≡ cookies_of (filter (fires reach) (values_of es))
+values-reported_of reach es places index f ordered h some all = values-fired reach es places index (reported_of f) ordered h (ordered-reported_of f) some all
 
 -- where no point is due, no watch fires
-pub none-due : (reach kept : List ℕ) (es : List (ℕ × Watch)) (index : List WaitingPoint) → IsStrictlySortedBy nat_cmp (keys_of es) → IsIndexed es index kept → ((k : WaitingPoint) → holds index k ≡ true → is_due k.ctx (value_at reach k.ctx) k ≡ false) → cookies_of (filter (fires reach) (values_of es)) ≡ []
+pub none-due : (reach : List ℕ) (es : List (ℕ × Watch)) (places : Places) (index : List WaitingPoint) → IsStrictlySortedBy nat_cmp (keys_of es) → IsIndexed es places index → ((k : WaitingPoint) → holds index k ≡ true → is_due k.ctx (value_at reach k.ctx) k ≡ false) → cookies_of (filter (fires reach) (values_of es)) ≡ []
 unfolding IsStrictlySortedBy
-none-due reach kept es index ordered h none =
-    sym (values-fired reach kept es index [] ordered h tt (λ r cookie is. absurd (none-some cookie is)) (λ k due there. absurd (false≢true (sym (none k there) ∙ due))))
+none-due reach es places index ordered h none =
+    sym (values-fired reach es places index [] ordered h tt (λ r cookie is. absurd (none-some cookie is)) (λ k due there. absurd (false≢true (sym (none k there) ∙ due))))
 
 none-of : (reach : List ℕ) (w : Watch) (ws : List Watch) → cookies_of (filter (fires reach) (w ∷ ws)) ≡ [] → (fires reach w ≡ false) × (cookies_of (filter (fires reach) ws) ≡ [])
 none-of reach w ws none = by (fires reach w) refl
@@ -148,7 +150,7 @@ none-fires reach (w ∷ ws) none =
     let parts = none-of reach w ws none in
     ap (λ b. b || list_any (fires reach) ws) parts.0 ∙ none-fires reach ws parts.1
 
--- a watch that fires is among those whose cookies are told
+-- a watch that fires is among those whose cookies are reported
 pub Fires-some : (reach : List ℕ) (es : List (ℕ × Watch)) → Fires es reach → cookies_of (filter (fires reach) (values_of es)) ≡ [] → ⊥
 Fires-some reach es f none = by es f.pending none
   where
@@ -158,7 +160,7 @@ Fires-some reach es f none = by es f.pending none
       | inl here ↦
           let same = same_Some e.1 f.watch (sym (ap (λ b. cond b (Some e.1) (at fs f.registration)) here) ∙ is) in
           let fired = ap (fires reach) same ∙ f.fires in
-          let told = sym (ap (λ b. cookies_of (cond b (e.1 ∷ filter (fires reach) (values_of fs)) (filter (fires reach) (values_of fs)))) fired) ∙ none in
+          let reported = sym (ap (λ b. cookies_of (cond b (e.1 ∷ filter (fires reach) (values_of fs)) (filter (fires reach) (values_of fs)))) fired) ∙ none in
           absurd (cc)
       | inr past ↦ on (fires reach e.1) none (by fs (sym (ap (λ b. cond b (Some e.1) (at fs f.registration)) past) ∙ is))
     ]
@@ -239,38 +241,30 @@ none-left reach (w ∷ ws) = by (fires reach w) refl (none-left reach ws)
     by true is rest = rest
     by false is rest = ap (λ b. b || list_any (fires reach) (filter (λ w. not (fires reach w)) ws)) is ∙ rest
 
--- a rise came to one more point of a watch: what is told then
-module _ (es : List (ℕ × Watch)) (reach : List ℕ) (old new : List (ℕ × ℕ)) (r left : ℕ) (some : AreSomeTold es reach old) (others : (q : ℕ) → nat_eq r q ≡ false → at new q ≡ at old q) (last : left ≡ 0 → at new r ≡ with_cookie (at es r) (at old r)) (fired : left ≡ 0 → (w : Watch) → at es r ≡ Some w → fires reach w ≡ true) where
-  pub passed-last : left ≡ 0 → IsTold es reach new r
-  passed-last none = by (at es r) refl
-    where
-      before : (o : Option ℕ) → at old r ≡ o → at es r ≡ None → o ≡ None
-      before None was is = refl
-      before (Some c) was is = absurd (none-some c (sym (ap (cookie_if_fires reach) is) ∙ some r c was))
+-- a watch that does not fire was reported rightly
+pub reported-none : (es : List (ℕ × Watch)) (reach : List ℕ) (fired : List (ℕ × ℕ)) (r : ℕ) → AreOnlyFiring es reach fired → cookie_if_fires reach (at es r) ≡ None → IsReported es reach fired r
+reported-none es reach fired r only none = by (at fired r) refl
+  where
+    by : (o : Option ℕ) → at fired r ≡ o → IsReported es reach fired r
+    by None is = is ∙ sym none
+    by (Some c) is = absurd (none-some c (sym none ∙ only r c is))
 
-      by : (o : Option Watch) → at es r ≡ o → IsTold es reach new r
-      by None is = last none ∙ ap (λ o. with_cookie o (at old r)) is ∙ before (at old r) refl is ∙ sym (ap (cookie_if_fires reach) is)
-      by (Some w) is = last none ∙ ap (λ o. with_cookie o (at old r)) is ∙ sym (ap (cookie_if_fires reach) is ∙ ap (λ b. cond b (Some w.cookie) None) (fired none w is))
+-- one more watch that fires
+module _ (es : List (ℕ × Watch)) (reach : List ℕ) (old new : List (ℕ × ℕ)) (r : ℕ) (w : Watch) (only : AreOnlyFiring es reach old) (found : at es r ≡ Some w) (fired : fires reach w ≡ true) (put : (q : ℕ) → at new q ≡ cond (is_at (nat_cmp r) q) (Some w.cookie) (at old q)) where
+  its : cookie_if_fires reach (at es r) ≡ Some w.cookie
+  its = ap (cookie_if_fires reach) found ∙ ap (λ b. cond b (Some w.cookie) None) fired
 
-  module _ (not_last : nat_eq left 0 ≡ false → at new r ≡ at old r) where
-    pub passed-still : (q : ℕ) → IsTold es reach old q → IsTold es reach new q
-    passed-still q told = elim (cases_Bool (nat_eq r q)) [
-      | inr other ↦ others q other ∙ told
-      | inl same ↦
-          let is = eqb-true r q same in
-          elim (cases_Bool (nat_eq left 0)) [
-            | inl none ↦ subst (IsTold es reach new) is (passed-last (eqb-true left 0 none))
-            | inr more ↦ subst (IsTold es reach new) is (not_last more ∙ subst (IsTold es reach old) (sym is) told)
-          ]
-    ]
+  pub reported-put : IsReported es reach new r
+  reported-put = put r ∙ ap (λ b. cond b (Some w.cookie) (at old r)) (is_at-true r r refl) ∙ sym its
 
-    pub passed-some : AreSomeTold es reach new
-    passed-some q c is = elim (cases_Bool (nat_eq r q)) [
-      | inr other ↦ some q c (sym (others q other) ∙ is)
-      | inl same ↦
-          let it = eqb-true r q same in
-          elim (cases_Bool (nat_eq left 0)) [
-            | inl none ↦ sym (subst (IsTold es reach new) it (passed-last (eqb-true left 0 none))) ∙ is
-            | inr more ↦ ap (λ n. cookie_if_fires reach (at es n)) (sym it) ∙ some r c (sym (not_last more) ∙ ap (at new) it ∙ is)
-          ]
-    ]
+  pub reported-still : (q : ℕ) → IsReported es reach old q → IsReported es reach new q
+  reported-still q was = elim (cases_Bool (is_at (nat_cmp r) q)) [
+    | inl here ↦ subst (IsReported es reach new) (is_at-is r q here) reported-put
+    | inr past ↦ put q ∙ ap (λ b. cond b (Some w.cookie) (at old q)) past ∙ was
+  ]
+
+  pub only-put : AreOnlyFiring es reach new
+  only-put q c is = elim (cases_Bool (is_at (nat_cmp r) q)) [
+    | inl here ↦ sym (subst (IsReported es reach new) (is_at-is r q here) reported-put) ∙ is
+    | inr past ↦ only q c (sym (put q ∙ ap (λ b. cond b (Some w.cookie) (at old q)) past) ∙ is)
+  ]

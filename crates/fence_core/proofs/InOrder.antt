@@ -13,7 +13,7 @@ use Rattle.std.proofs.lemmas.Cmp.{nat_cmp_total, eq_by_cmp_equiv}
 use Rattle.std.proofs.lemmas.Option.{same_Some, none-some}
 use Rattle.std.proofs.lemmas.Map.{lookup-remove_entry}
 use Rattle.std.proofs.lemmas.Map.Keys.{IsDistinct-from_sorted}
-use Rattle.fence_core.specs.Told.{at}
+use Rattle.fence_core.specs.Reported.{at}
 use Rattle.fence_core.specs.Pending.{in_order}
 use Rattle.fence_core.proofs.PointIndex.{equal-nat, is_eq-nat_cmp}
 use Rattle.fence_core.proofs.Registered.{is_at-true, is_at-is}

@@ -9,5 +9,4 @@ pub mod Indexed
 pub mod InOrder
 pub mod Fired
 pub mod Signalling
-pub mod Counted
 pub mod Above

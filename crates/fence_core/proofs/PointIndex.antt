@@ -1,5 +1,5 @@
 -- The order of waiting points, and which of them are held.
-use Rattle.std.proofs.Common.{◌≡◌, ℕ, ◌+◌, if◌then◌else◌, ◌^◌, length, filter, All, zero, suc, take, ◌<◌, ◌≤◌, nat_eq, nat_le, ◌⊎◌, inl, inr, Bool, true, false, not, cond, ◌&&◌, ◌||◌, refl, sym, ap, ◌∙◌, subst, List, [], ◌∷◌, ◌++◌, arith}
+use Rattle.std.proofs.Common.{◌≡◌, ◌≢◌, ℕ, ◌+◌, if◌then◌else◌, ◌^◌, length, filter, All, zero, suc, get_or, ◌<◌, ◌≤◌, nat_eq, nat_le, ◌⊎◌, inl, inr, Bool, true, false, not, cond, ◌&&◌, ◌||◌, refl, sym, ap, ◌∙◌, subst, List, [], ◌∷◌, ◌++◌, arith}
 use Rattle.std.specs.declared.cmp.Ordering.{Ordering}
 use Rattle.std.specs.declared.cmp.Ordering.TheVariants.{Less, Equal, Greater}
 use Rattle.std.specs.Ordering.{is_eq, is_lt, is_gt, is_le, nat_cmp, ordering_then, match_ordering}
@@ -16,7 +16,8 @@ use Rattle.std.proofs.lemmas.Map.Views.{any-filter_same}
 use Rattle.point_core.specs.declared.entry.Point.{Point}
 use Rattle.std.specs.BTreeSet.{insert_key}
 use Rattle.std.specs.Set.{remove_key}
-use Rattle.fence_core.specs.PointIndex.{waiting, is_same, holds, is_of, above, is_due, number, number_of, AreWaiting}
+use Rattle.fence_core.specs.Fence.{are_reached}
+use Rattle.fence_core.specs.PointIndex.{waiting, is_same, holds, is_of, is_due, number, number_due, AreWaiting}
 use Rattle.point_core.specs.declared.context.TheConstants.{CONTEXTS}
 use Rattle.fence_core.specs.declared.watches.point_index.WaitingPoint.{WaitingPoint}
 
@@ -122,83 +123,6 @@ between-due ctx value most k due low =
       not_gt-then _ _ (not_gt-nat k.ctx ctx (omega arith)) (not_gt-then _ _ (not_gt-nat k.value value below) (not_gt-nat k.registration most low)),
     )
 
-or-assoc : (a b c : Bool) → (a || (b || c)) ≡ ((a || b) || c)
-or-assoc true b c = refl
-or-assoc false b c = refl
-
-or-false : (a : Bool) → (a || false) ≡ a
-or-false true = refl
-or-false false = refl
-
--- one more point of a registration
-is_of-push : (ps : List Point) (p : Point) (registration : ℕ) (k : WaitingPoint) → is_of (ps ++ p ∷ []) registration k ≡ (is_of ps registration k || is_same (waiting p registration) k)
-is_of-push [] p registration k = or-false (is_same (waiting p registration) k)
-is_of-push (q ∷ ps) p registration k = ap (λ b. is_same (waiting q registration) k || b) (is_of-push ps p registration k) ∙ or-assoc (is_same (waiting q registration) k) (is_of ps registration k) (is_same (waiting p registration) k)
-
-taken-by : (s i h : Bool) → (not s && (not i && h)) ≡ (not (i || s) && h)
-taken-by true true h = refl
-taken-by true false h = refl
-taken-by false true h = refl
-taken-by false false h = refl
-
-put-by : (s i h : Bool) → (s || (i || h)) ≡ ((i || s) || h)
-put-by true true h = refl
-put-by true false h = refl
-put-by false true h = refl
-put-by false false h = refl
-
--- a loop that takes out one point after another
-pub holds-take_more : (old mid new : List WaitingPoint) (ps : List Point) (p : Point) (registration : ℕ) (k : WaitingPoint) → holds mid k ≡ (not (is_of ps registration k) && holds old k) → holds new k ≡ (not (is_same (waiting p registration) k) && holds mid k) → holds new k ≡ (not (is_of (ps ++ p ∷ []) registration k) && holds old k)
-holds-take_more old mid new ps p registration k before step =
-    step
-    ∙ ap (λ b. not (is_same (waiting p registration) k) && b) before
-    ∙ taken-by (is_same (waiting p registration) k) (is_of ps registration k) (holds old k)
-    ∙ ap (λ b. not b && holds old k) (sym (is_of-push ps p registration k))
-
-above-push : (reach : List ℕ) (ps : List Point) (p : Point) → above reach (ps ++ p ∷ []) ≡ cond (is_reached reach p) (above reach ps) (above reach ps ++ p ∷ [])
-above-push reach [] p = by (is_reached reach p)
-  where
-    by : (b : Bool) → cond (not b) (p ∷ []) [] ≡ cond b [] (p ∷ [])
-    by true = refl
-    by false = refl
-above-push reach (q ∷ ps) p = ap (λ qs. cond (not (is_reached reach q)) (q ∷ qs) qs) (above-push reach ps p) ∙ by (is_reached reach q) (is_reached reach p)
-  where
-    by : (b c : Bool) → cond (not b) (q ∷ cond c (above reach ps) (above reach ps ++ p ∷ [])) (cond c (above reach ps) (above reach ps ++ p ∷ [])) ≡ cond c (cond (not b) (q ∷ above reach ps) (above reach ps)) (cond (not b) (q ∷ above reach ps) (above reach ps) ++ p ∷ [])
-    by true true = refl
-    by true false = refl
-    by false true = refl
-    by false false = refl
-
--- a loop that puts in one point after another
-pub holds-put_more : (old mid new : List WaitingPoint) (reach : List ℕ) (ps : List Point) (p : Point) (registration : ℕ) (k : WaitingPoint) → is_reached reach p ≡ false → holds mid k ≡ (is_of (above reach ps) registration k || holds old k) → holds new k ≡ (is_same (waiting p registration) k || holds mid k) → holds new k ≡ (is_of (above reach (ps ++ p ∷ [])) registration k || holds old k)
-holds-put_more old mid new reach ps p registration k is before step =
-    step
-    ∙ ap (λ b. is_same (waiting p registration) k || b) before
-    ∙ put-by (is_same (waiting p registration) k) (is_of (above reach ps) registration k) (holds old k)
-    ∙ ap (λ b. b || holds old k) (sym (is_of-push (above reach ps) p registration k))
-    ∙ ap (λ qs. is_of qs registration k || holds old k) (sym (above-push reach ps p ∙ ap (λ b. cond b (above reach ps) (above reach ps ++ p ∷ [])) is))
-
-pub holds-put_reached : (old mid : List WaitingPoint) (reach : List ℕ) (ps : List Point) (p : Point) (registration : ℕ) (k : WaitingPoint) → is_reached reach p ≡ true → holds mid k ≡ (is_of (above reach ps) registration k || holds old k) → holds mid k ≡ (is_of (above reach (ps ++ p ∷ [])) registration k || holds old k)
-holds-put_reached old mid reach ps p registration k is before =
-    before ∙ ap (λ qs. is_of qs registration k || holds old k) (sym (above-push reach ps p ∙ ap (λ b. cond b (above reach ps) (above reach ps ++ p ∷ [])) is))
-
-or_parts : (a b : Bool) → (a || b) ≡ false → (a ≡ false) × (b ≡ false)
-or_parts true b h = absurd (cc)
-or_parts false b h = (refl, h)
-
--- points that are not there are not there above a reach
-pub is_of-above_take : (reach : List ℕ) (ps : List Point) (i registration : ℕ) (k : WaitingPoint) → is_of ps registration k ≡ false → is_of (above reach (take i ps)) registration k ≡ false
-is_of-above_take reach [] zero registration k none = refl
-is_of-above_take reach [] (suc i) registration k none = refl
-is_of-above_take reach (p ∷ ps) zero registration k none = refl
-is_of-above_take reach (p ∷ ps) (suc i) registration k none =
-    let parts = or_parts (is_same (waiting p registration) k) (is_of ps registration k) none in
-    by (is_reached reach p) parts.0 (is_of-above_take reach ps i registration k parts.1)
-  where
-    by : (b : Bool) → is_same (waiting p registration) k ≡ false → is_of (above reach (take i ps)) registration k ≡ false → is_of (cond (not b) (p ∷ above reach (take i ps)) (above reach (take i ps))) registration k ≡ false
-    by true head rest = rest
-    by false head rest = ap (λ b. b || is_of (above reach (take i ps)) registration k) head ∙ rest
-
 order-ctx : (a b : WaitingPoint) → is_gt (order a b) ≡ false → a.ctx ≤ b.ctx
 order-ctx a b first = elim (gt-then _ _ first) [
   | inl less ↦ let below = less-nat a.ctx b.ctx less in omega arith
@@ -267,10 +191,6 @@ is_same-is a b h =
 is_due-same : (ctx value : ℕ) (a b : WaitingPoint) → is_same a b ≡ true → is_due ctx value a ≡ is_due ctx value b
 is_due-same ctx value a b h = let is = is_same-is a b h in ap (λ n. nat_eq n ctx && nat_le a.value value) is.0 ∙ ap (λ n. nat_eq b.ctx ctx && nat_le n value) is.1
 
-pub shorter : (n m : ℕ) (b : Bool) → n + (if b then 1 else 0) ≡ m → b ≡ true → n < m
-shorter n m true len is = omega arith
-shorter n m false len is = absurd (cc)
-
 -- what is due is in the range
 not_lt-then : (o p : Ordering) → is_lt o ≡ false → is_lt p ≡ false → is_lt (ordering_then o p) ≡ false
 not_lt-then Less p h g = h
@@ -320,31 +240,19 @@ AreWaiting-put old new key h within low put = record {
 pub and-right : (a b c : Bool) → c ≡ (a && b) → c ≡ true → b ≡ true
 and-right a b c is there = (and_parts a b (sym is ∙ there)).1
 
-pub none-held : (ks : List WaitingPoint) (k : WaitingPoint) → length ks ≡ 0 → holds ks k ≡ false
-none-held [] k is = refl
-none-held (x ∷ ks) k is = absurd (omega arith)
-
--- how many there are, with one more and with one less
-number-insert : (test : WaitingPoint → Bool) (key : WaitingPoint) (ks : List WaitingPoint) → list_any (λ x. is_eq (order key x)) ks ≡ false → number test (insert_key order ks key) ≡ number test ks + cond (test key) 1 0
-number-insert test key [] none = by (test key)
+-- one more that fails the test, and one less
+number-insert : (test : WaitingPoint → Bool) (key : WaitingPoint) (ks : List WaitingPoint) → test key ≡ false → number test (insert_key order ks key) ≡ number test ks
+number-insert test key [] none = ap (λ b. length (cond b (key ∷ []) [])) none
+number-insert test key (x ∷ ks) none = on (order key x) (number-insert test key ks none)
   where
-    by : (b : Bool) → length (cond b (key ∷ []) []) ≡ 0 + cond b 1 0
-    by true = refl
-    by false = refl
-number-insert test key (x ∷ ks) none = on (order key x) none (number-insert test key ks)
-  where
-    more : (b c : Bool) → number test (insert_key order ks key) ≡ number test ks + cond b 1 0 → length (cond c (x ∷ filter test (insert_key order ks key)) (filter test (insert_key order ks key))) ≡ length (cond c (x ∷ filter test ks) (filter test ks)) + cond b 1 0
-    more b true is = omega arith
-    more b false is = is
+    more : (b : Bool) (xs ys : List WaitingPoint) → length xs ≡ length ys → length (cond b (x ∷ xs) xs) ≡ length (cond b (x ∷ ys) ys)
+    more true xs ys is = omega arith
+    more false xs ys is = is
 
-    first : (b : Bool) (xs : List WaitingPoint) → length (cond b (key ∷ xs) xs) ≡ length xs + cond b 1 0
-    first true xs = omega arith
-    first false xs = omega arith
-
-    on : (o : Ordering) → (is_eq o || list_any (λ x. is_eq (order key x)) ks) ≡ false → (list_any (λ x. is_eq (order key x)) ks ≡ false → number test (insert_key order ks key) ≡ number test ks + cond (test key) 1 0) → number test (match_ordering o (key ∷ x ∷ ks) (x ∷ ks) (x ∷ insert_key order ks key)) ≡ number test (x ∷ ks) + cond (test key) 1 0
-    on Less none rest = first (test key) (filter test (x ∷ ks))
-    on Equal none rest = absurd (cc)
-    on Greater none rest = more (test key) (test x) (rest none)
+    on : (o : Ordering) → number test (insert_key order ks key) ≡ number test ks → number test (match_ordering o (key ∷ x ∷ ks) (x ∷ ks) (x ∷ insert_key order ks key)) ≡ number test (x ∷ ks)
+    on Less rest = ap (λ b. length (cond b (key ∷ filter test (x ∷ ks)) (filter test (x ∷ ks)))) none
+    on Equal rest = refl
+    on Greater rest = more (test x) (filter test (insert_key order ks key)) (filter test ks) rest
 
 number-remove : (test : WaitingPoint → Bool) (key : WaitingPoint) (ks : List WaitingPoint) → ((x : WaitingPoint) → is_eq (order key x) ≡ true → test x ≡ test key) → number test (remove_key (λ x. is_eq (order key x)) ks) + cond (list_any (λ x. is_eq (order key x)) ks) (cond (test key) 1 0) 0 ≡ number test ks
 number-remove test key [] same = refl
@@ -364,38 +272,57 @@ number-remove test key (x ∷ ks) same = on (is_eq (order key x)) refl (number-r
     on true is rest = first (test x) (test key) (filter test ks) (same x is)
     on false is rest = more (test x) (filter test (remove_key (λ x. is_eq (order key x)) ks)) (filter test ks) _ rest
 
-pub number-le : (test : WaitingPoint → Bool) (ks : List WaitingPoint) → number test ks ≤ length ks
-number-le test [] = omega arith
-number-le test (x ∷ ks) = by (test x) (number-le test ks)
+-- a point put in that is not due, and one taken out that is
+pub put-due : (ctx value : ℕ) (key other : WaitingPoint) (old new : List WaitingPoint) → key ≡ other → new ≡ insert_key order old key → is_due ctx value other ≡ false → number_due ctx value new ≡ number_due ctx value old
+put-due ctx value key other old new same is none = ap (number_due ctx value) is ∙ number-insert (is_due ctx value) key old (ap (is_due ctx value) same ∙ none)
+
+pub taken-due : (ctx value : ℕ) (key : WaitingPoint) (old new : List WaitingPoint) → new ≡ remove_key (λ x. is_eq (order key x)) old → is_due ctx value key ≡ true → holds old key ≡ true → number_due ctx value new < number_due ctx value old
+taken-due ctx value key old new is due held =
+    let left = number_due ctx value (remove_key (λ x. is_eq (order key x)) old) in
+    let count : left + cond (list_any (λ x. is_eq (order key x)) old) (cond (is_due ctx value key) 1 0) 0 ≡ number_due ctx value old = number-remove (is_due ctx value) key old (λ x same. sym (is_due-same ctx value key x (sym (is_eq-order key x) ∙ same))) in
+    let one : left + cond (list_any (λ x. is_eq (order key x)) old) (cond (is_due ctx value key) 1 0) 0 ≡ left + 1 = ap (λ b. left + cond b (cond (is_due ctx value key) 1 0) 0) (found-holds key old ∙ held) ∙ ap (λ b. left + cond b 1 0) due in
+    let now : number_due ctx value new ≡ left = ap (number_due ctx value) is in
+    omega arith
+
+-- two that are the same are one, and each is the same as itself
+pub same_itself : (k : WaitingPoint) → is_same k k ≡ true
+same_itself k = and_from (nat_eq k.ctx k.ctx) (nat_eq k.value k.value && nat_eq k.registration k.registration) (eq-eqb k.ctx k.ctx refl) (and_from (nat_eq k.value k.value) (nat_eq k.registration k.registration) (eq-eqb k.value k.value refl) (eq-eqb k.registration k.registration refl))
+
+pub one_point : (a b : WaitingPoint) → is_same a b ≡ true → a ≡ b
+one_point a b same = let is = is_same-is a b same in λ i. record { ctx = is.0 i; value = is.1 i; registration = is.2 i }
+
+pub not_same : (a b : WaitingPoint) → a ≢ b → is_same a b ≡ false
+not_same a b apart = elim (cases_Bool (is_same a b)) [
+  | inl same ↦ absurd (apart (one_point a b same))
+  | inr other ↦ other
+]
+
+pub same-one : (a b : WaitingPoint) → a ≡ b → is_same a b ≡ true
+same-one a b is = sym (ap (is_same a) is) ∙ same_itself a
+
+-- the point at a place is one of the points
+pub is_of-at : (ps : List Point) (i : ℕ) (d : Point) (r : ℕ) → i < length ps → is_of ps r (waiting (get_or ps i d) r) ≡ true
+is_of-at [] i d r low = absurd (omega arith)
+is_of-at (p ∷ ps) zero d r low = ap (λ b. b || is_of ps r (waiting p r)) (same_itself (waiting p r))
+is_of-at (p ∷ ps) (suc i) d r low = by (is_same (waiting p r) (waiting (get_or ps i d) r)) (is_of-at ps i d r (omega arith))
   where
-    by : (b : Bool) → number test ks ≤ length ks → length (cond b (x ∷ filter test ks) (filter test ks)) ≤ length (x ∷ ks)
-    by true low = omega arith
-    by false low = omega arith
+    by : (b : Bool) → is_of ps r (waiting (get_or ps i d) r) ≡ true → (b || is_of ps r (waiting (get_or ps i d) r)) ≡ true
+    by true there = refl
+    by false there = there
 
-pub number-take : (r : ℕ) (key : WaitingPoint) (ks : List WaitingPoint) → number_of r (remove_key (λ x. is_eq (order key x)) ks) + cond (list_any (λ x. is_eq (order key x)) ks) (cond (nat_eq key.registration r) 1 0) 0 ≡ number_of r ks
-number-take r key ks = number-remove (λ k. nat_eq k.registration r) key ks (λ x is. ap (λ n. nat_eq n r) (sym ((is_same-is key x (sym (is_eq-order key x) ∙ is)).2)))
+-- where it is not reached, they are not all reached
+pub unreached-at : (reach : List ℕ) (ps : List Point) (i : ℕ) (d : Point) → i < length ps → is_reached reach (get_or ps i d) ≡ false → are_reached reach ps ≡ false
+unreached-at reach [] i d low past = absurd (omega arith)
+unreached-at reach (p ∷ ps) zero d low past = ap (λ b. b && are_reached reach ps) past
+unreached-at reach (p ∷ ps) (suc i) d low past = by (is_reached reach p) (unreached-at reach ps i d (omega arith) past)
+  where
+    by : (b : Bool) → are_reached reach ps ≡ false → (b && are_reached reach ps) ≡ false
+    by true rest = rest
+    by false rest = refl
 
-pub number-put : (r : ℕ) (key : WaitingPoint) (ks : List WaitingPoint) → list_any (λ x. is_eq (order key x)) ks ≡ false → number_of r (insert_key order ks key) ≡ number_of r ks + cond (nat_eq key.registration r) 1 0
-number-put r key ks none = number-insert (λ k. nat_eq k.registration r) key ks none
-
--- where the key was taken out, one of its registration was counted
-pub taken-counted : (key : WaitingPoint) (old new : List WaitingPoint) → new ≡ remove_key (λ x. is_eq (order key x)) old → list_any (λ x. is_eq (order key x)) old ≡ true → (r : ℕ) → number_of r new + cond (nat_eq key.registration r) 1 0 ≡ number_of r old
-taken-counted key old new is there r =
-    ap (λ ks. number_of r ks + cond (nat_eq key.registration r) 1 0) is
-    ∙ ap (λ b. number_of r (remove_key (λ x. is_eq (order key x)) old) + cond b (cond (nat_eq key.registration r) 1 0) 0) (sym there)
-    ∙ number-take r key old
-
-pub taken-some : (key : WaitingPoint) (old new : List WaitingPoint) (held : ℕ) → new ≡ remove_key (λ x. is_eq (order key x)) old → list_any (λ x. is_eq (order key x)) old ≡ true → held ≡ number_of key.registration old → 1 ≤ held
-taken-some key old new held is there count =
-    let more = taken-counted key old new is there key.registration in
-    let one = ap (λ b. number_of key.registration new + cond b 1 0) (eq-eqb key.registration key.registration refl) in
-    omega arith
-
-pub put-counted : (key other : WaitingPoint) (old new : List WaitingPoint) (was now r : ℕ) → key ≡ other → new ≡ insert_key order old key → list_any (λ x. is_eq (order key x)) old ≡ false → was ≡ number_of r old → now ≡ was + cond (nat_eq other.registration r) 1 0 → now ≡ number_of r new
-put-counted key other old new was now r same is none count raised =
-    let more = ap (number_of r) is ∙ number-put r key old none ∙ ap (λ (k : WaitingPoint). number_of r old + cond (nat_eq k.registration r) 1 0) same in
-    omega arith
-
-pub not-true : (b : Bool) → not b ≡ true → b ≡ false
-not-true true h = sym h
-not-true false h = refl
+-- one more point that is reached
+pub reached-more : (reach : List ℕ) (ps : List Point) (p : Point) → are_reached reach ps ≡ true → is_reached reach p ≡ true → are_reached reach (ps ++ p ∷ []) ≡ true
+reached-more reach [] p all last = ap (λ b. b && true) last
+reached-more reach (q ∷ ps) p all last =
+    let parts = and_parts (is_reached reach q) (are_reached reach ps) all in
+    and_from (is_reached reach q) (are_reached reach (ps ++ p ∷ [])) parts.0 (reached-more reach ps p parts.1 last)

@@ -1,5 +1,5 @@
 -- Pending watches by registration: found by their cookies, one taken out, and one more.
-use Rattle.std.proofs.Common.{◌≡◌, ◌≢◌, ℕ, ◌+◌, ◌<◌, nat_eq, Bool, true, false, not, cond, ◌||◌, refl, sym, ap, ◌∙◌, subst, List, [], ◌∷◌, ◌++◌, filter, length, is_some, None, Some, arith, inl, inr}
+use Rattle.std.proofs.Common.{◌≡◌, ◌≢◌, ℕ, ◌+◌, ◌<◌, nat_eq, Bool, true, false, not, cond, ◌||◌, refl, sym, ap, ◌∙◌, subst, List, [], ◌∷◌, ◌++◌, filter, length, is_some, Option, None, Some, arith, inl, inr}
 use Rattle.std.specs.List.{list_any, AllByRecursion, IsDistinct}
 use Rattle.std.specs.List.Sorted.{IsStrictlySortedBy}
 use Rattle.std.specs.Map.{keys_of, values_of, remove_entry}
@@ -14,8 +14,10 @@ use Rattle.fence_core.specs.declared.watches.TheConstants.{WATCHES}
 use Rattle.fence_core.specs.Watch.{Watch, is_for, cookies_of, ArePending}
 use Rattle.point_core.specs.declared.entry.Point.{Point}
 use Rattle.fence_core.specs.Fence.{members_of, fence_of}
-use Rattle.fence_core.specs.Told.{at}
-use Rattle.fence_core.specs.Registered.{registration_of, registered, AreRegistered}
+use Rattle.fence_core.specs.Reported.{at}
+use Rattle.fence_core.specs.Registered.{registration_of, registration_at, place_at, registered, AreRegistered}
+use Rattle.fence_core.specs.declared.watches.places.Places.{Places}
+use Rattle.fence_core.specs.declared.watches.point_index.WaitingPoint.{WaitingPoint}
 use Rattle.fence_core.proofs.Pending.{ArePending-none, ArePending-filter, ArePending-push, filter-other, apart-any}
 use Rattle.fence_core.proofs.PointIndex.{is_eq-nat_cmp, less-nat}
 
@@ -143,8 +145,8 @@ AllByRecursion-remove P test (e ∷ es) all = by (test e.0) (AllByRecursion-remo
     by true rest = all.1
     by false rest = (all.0, rest)
 
-pub AreRegistered-remove : (es left : List (ℕ × Watch)) (registrations fewer : List (ℕ × ℕ)) (made cookie r : ℕ) → AreRegistered es registrations made → registered registrations cookie ≡ Some r → left ≡ remove_entry (is_at (nat_cmp r)) es → IsStrictlySortedBy nat_cmp (keys_of left) → ((q : ℕ) → registered fewer q ≡ cond (nat_eq cookie q) None (registered registrations q)) → AreRegistered left fewer made
-AreRegistered-remove es left registrations fewer made cookie r h found is ordered out =
+pub AreRegistered-remove : (es left : List (ℕ × Watch)) (places fewer : Places) (made cookie r : ℕ) → AreRegistered es places made → registered places cookie ≡ Some r → left ≡ remove_entry (is_at (nat_cmp r)) es → IsStrictlySortedBy nat_cmp (keys_of left) → ((q : ℕ) → registered fewer q ≡ cond (nat_eq cookie q) None (registered places q)) → AreRegistered left fewer made
+AreRegistered-remove es left places fewer made cookie r h found is ordered out =
     let found_is = sym (h.by_cookie cookie) ∙ found in
     record {
       pending = subst ArePending (sym (ap values_of is ∙ values_of-remove cookie r es h.ordered h.pending.distinct found_is)) (ArePending-filter (λ w. not (is_for cookie w)) h.pending);
@@ -152,6 +154,18 @@ AreRegistered-remove es left registrations fewer made cookie r h found is ordere
       before = subst (λ xs. AllByRecursion (λ n. n < made) (keys_of xs)) (sym is) (AllByRecursion-remove (λ n. n < made) (is_at (nat_cmp r)) es h.before);
       by_cookie = λ q. out q ∙ ap (λ o. cond (nat_eq cookie q) None o) (h.by_cookie q) ∙ sym (registration_of-remove cookie r es q h.ordered h.pending.distinct found_is) ∙ ap (registration_of q) (sym is);
     }
+
+pub is_some-registration_at : (o : Option WaitingPoint) → is_some (registration_at o) ≡ is_some o
+is_some-registration_at None = refl
+is_some-registration_at (Some place) = refl
+
+-- a place put in or taken out, by its registration
+pub registered-changed : (cookie : ℕ) (o : Option WaitingPoint) (places other : Places) → ((q : ℕ) → place_at other q ≡ cond (nat_eq cookie q) o (place_at places q)) → (q : ℕ) → registered other q ≡ cond (nat_eq cookie q) (registration_at o) (registered places q)
+registered-changed cookie o places other changed q = ap registration_at (changed q) ∙ by (nat_eq cookie q) (place_at places q)
+  where
+    by : (b : Bool) (p : Option WaitingPoint) → registration_at (cond b o p) ≡ cond b (registration_at o) (registration_at p)
+    by true p = refl
+    by false p = refl
 
 -- one more, of the greatest registration
 greater : (made r : ℕ) → r < made → nat_cmp made r ≡ Greater
@@ -187,8 +201,8 @@ AllByRecursion-push : (es : List (ℕ × Watch)) (made : ℕ) (w : Watch) → Al
 AllByRecursion-push [] made w low = (omega arith, tt)
 AllByRecursion-push (e ∷ es) made w low = (let first = low.0 in omega arith, AllByRecursion-push es made w low.1)
 
-pub AreRegistered-push : (es more : List (ℕ × Watch)) (registrations grown : List (ℕ × ℕ)) (made : ℕ) (w : Watch) → AreRegistered es registrations made → list_any (is_for w.cookie) (values_of es) ≡ false → length (values_of es) < WATCHES → more ≡ insert_entry nat_cmp es made w → IsStrictlySortedBy nat_cmp (keys_of more) → ((q : ℕ) → registered grown q ≡ cond (nat_eq w.cookie q) (Some made) (registered registrations q)) → AreRegistered more grown (made + 1)
-AreRegistered-push es more registrations grown made w h new low is ordered put =
+pub AreRegistered-push : (es more : List (ℕ × Watch)) (places grown : Places) (made : ℕ) (w : Watch) → AreRegistered es places made → list_any (is_for w.cookie) (values_of es) ≡ false → length (values_of es) < WATCHES → more ≡ insert_entry nat_cmp es made w → IsStrictlySortedBy nat_cmp (keys_of more) → ((q : ℕ) → registered grown q ≡ cond (nat_eq w.cookie q) (Some made) (registered places q)) → AreRegistered more grown (made + 1)
+AreRegistered-push es more places grown made w h new low is ordered put =
     let last = is ∙ insert_entry-last es made w h.before in
     record {
       pending = subst ArePending (sym (ap values_of last ∙ map-append (λ (e : ℕ × Watch). e.1) es ((made, w) ∷ []))) (ArePending-push w.cookie w.points h.pending new low);
@@ -198,23 +212,31 @@ AreRegistered-push es more registrations grown made w h new low is ordered put =
     }
 
 -- none, and what comes to the same
-none_registered : (made : ℕ) → AreRegistered [] [] made
+none_registered : (places : Places) (made : ℕ) → ((q : ℕ) → place_at places q ≡ None) → AreRegistered [] places made
 unfolding IsStrictlySortedBy
-none_registered made = record { pending = ArePending-none; ordered = tt; before = tt; by_cookie = λ cookie. refl }
+none_registered places made none = record { pending = ArePending-none; ordered = tt; before = tt; by_cookie = λ q. ap registration_at (none q) }
 
-pub AreRegistered-none : (es : List (ℕ × Watch)) (registrations : List (ℕ × ℕ)) (made : ℕ) → es ≡ [] → registrations ≡ [] → AreRegistered es registrations made
-AreRegistered-none es registrations made is also = subst (λ xs. AreRegistered xs registrations made) (sym is) (subst (λ xs. AreRegistered [] xs made) (sym also) (none_registered made))
+pub AreRegistered-none : (es : List (ℕ × Watch)) (places : Places) (made : ℕ) → es ≡ [] → ((q : ℕ) → place_at places q ≡ None) → AreRegistered es places made
+AreRegistered-none es places made is none = subst (λ xs. AreRegistered xs places made) (sym is) (none_registered places made none)
 
-pub AreRegistered-same : (es : List (ℕ × Watch)) (registrations other : List (ℕ × ℕ)) (made : ℕ) → AreRegistered es registrations made → ((q : ℕ) → registered other q ≡ registered registrations q) → AreRegistered es other made
-AreRegistered-same es registrations other made h same = record { pending = h.pending; ordered = h.ordered; before = h.before; by_cookie = λ q. same q ∙ h.by_cookie q }
+pub AreRegistered-same : (es : List (ℕ × Watch)) (places other : Places) (made : ℕ) → AreRegistered es places made → ((q : ℕ) → registered other q ≡ registered places q) → AreRegistered es other made
+AreRegistered-same es places other made h same = record { pending = h.pending; ordered = h.ordered; before = h.before; by_cookie = λ q. same q ∙ h.by_cookie q }
 
--- a registration put in and taken out again
-pub registered-undo : (es : List (ℕ × Watch)) (registrations grown back : List (ℕ × ℕ)) (made cookie : ℕ) → AreRegistered es registrations made → list_any (is_for cookie) (values_of es) ≡ false → ((q : ℕ) → registered grown q ≡ cond (nat_eq cookie q) (Some made) (registered registrations q)) → ((q : ℕ) → registered back q ≡ cond (nat_eq cookie q) None (registered grown q)) → (q : ℕ) → registered back q ≡ registered registrations q
-registered-undo es registrations grown back made cookie h new put out q = elim (cases_Bool (nat_eq cookie q)) [
+-- a cookie that no watch has stands nowhere
+place-none : (es : List (ℕ × Watch)) (places : Places) (made cookie : ℕ) → AreRegistered es places made → list_any (is_for cookie) (values_of es) ≡ false → place_at places cookie ≡ None
+place-none es places made cookie h new = by (place_at places cookie) (h.by_cookie cookie ∙ registration_of-none cookie es new)
+  where
+    by : (o : Option WaitingPoint) → registration_at o ≡ None → o ≡ None
+    by None is = refl
+    by (Some place) is = absurd (none-some place.registration (sym is))
+
+-- a place put in and taken out again
+pub place-undo : (es : List (ℕ × Watch)) (places grown back : Places) (made cookie : ℕ) (place : WaitingPoint) → AreRegistered es places made → list_any (is_for cookie) (values_of es) ≡ false → ((q : ℕ) → place_at grown q ≡ cond (nat_eq cookie q) (Some place) (place_at places q)) → ((q : ℕ) → place_at back q ≡ cond (nat_eq cookie q) None (place_at grown q)) → (q : ℕ) → place_at back q ≡ place_at places q
+place-undo es places grown back made cookie place h new put out q = elim (cases_Bool (nat_eq cookie q)) [
   | inl here ↦
-      out q ∙ ap (λ b. cond b None (registered grown q)) here
-      ∙ sym (h.by_cookie q ∙ ap (λ c. registration_of c es) (sym (eqb-true cookie q here)) ∙ registration_of-none cookie es new)
-  | inr other ↦ out q ∙ ap (λ b. cond b None (registered grown q)) other ∙ put q ∙ ap (λ b. cond b (Some made) (registered registrations q)) other
+      out q ∙ ap (λ b. cond b None (place_at grown q)) here
+      ∙ sym (ap (place_at places) (sym (eqb-true cookie q here)) ∙ place-none es places made cookie h new)
+  | inr other ↦ out q ∙ ap (λ b. cond b None (place_at grown q)) other ∙ put q ∙ ap (λ b. cond b (Some place) (place_at places q)) other
 ]
 
 -- where no watch passes the test, none that is found does

@@ -1,12 +1,11 @@
 pub mod Callbacks
-pub mod Counts
 pub mod Fence
 pub mod Pending
 pub mod PointIndex
 pub mod Registered
+pub mod Reported
 pub mod Run
 pub mod SharedFence
 pub mod Signal
-pub mod Told
 pub mod Watch
 pub mod Watches

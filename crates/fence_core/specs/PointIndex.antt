@@ -1,5 +1,5 @@
 -- The points that pending watches wait for.
-use Rattle.std.specs.Prelude.{◌≡◌, ℕ, ◌<◌, ◌≤◌, ◌^◌, nat_eq, nat_le, Bool, true, false, not, ◌&&◌, List, filter, length}
+use Rattle.std.specs.Prelude.{◌≡◌, ℕ, ◌<◌, ◌≤◌, ◌^◌, nat_eq, nat_le, Bool, true, false, ◌&&◌, List, filter, length}
 use Rattle.std.specs.List.{list_any}
 use Rattle.point_core.specs.declared.context.TheConstants.{CONTEXTS}
 use Rattle.point_core.specs.declared.entry.Point.{Point}
@@ -21,9 +21,10 @@ holds ks k = list_any (is_same k) ks
 abbrev pub is_of : List Point → ℕ → WaitingPoint → Bool
 is_of points registration k = list_any (λ p. is_same (waiting p registration) k) points
 
--- the points that are above the reach
-abbrev pub above : List ℕ → List Point → List Point
-above reach points = filter (λ p. not (is_reached reach p)) points
+-- one of the points, which is above the reach
+pub record IsOneAbove (reach : List ℕ) (points : List Point) (p : Point) : Type 0 where
+  pub member : (r : ℕ) → is_of points r (waiting p r) ≡ true
+  pub above : is_reached reach p ≡ false
 
 -- whether it is of that context, at or below the value
 abbrev pub is_due : ℕ → ℕ → WaitingPoint → Bool
@@ -33,17 +34,9 @@ is_due ctx value k = nat_eq k.ctx ctx && nat_le k.value value
 abbrev pub number : (WaitingPoint → Bool) → List WaitingPoint → ℕ
 number test ks = length (filter test ks)
 
--- how many are of that registration
-abbrev pub number_of : ℕ → List WaitingPoint → ℕ
-number_of r ks = number (λ k. nat_eq k.registration r) ks
-
--- how many of that registration are due in a context
-abbrev pub number_due : ℕ → ℕ → ℕ → List WaitingPoint → ℕ
-number_due ctx value r ks = number (λ k. nat_eq k.registration r && is_due ctx value k) ks
-
--- how many of that registration are due at the reach
-abbrev pub number_reached : List ℕ → ℕ → List WaitingPoint → ℕ
-number_reached reach r ks = number (λ k. nat_eq k.registration r && is_due k.ctx (value_at reach k.ctx) k) ks
+-- how many are due in a context
+abbrev pub number_due : ℕ → ℕ → List WaitingPoint → ℕ
+number_due ctx value ks = number (is_due ctx value) ks
 
 -- each is of a context
 pub record AreWaiting (ks : List WaitingPoint) : Type 0 where

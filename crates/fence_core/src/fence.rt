@@ -1,8 +1,9 @@
 // A fence, and several fences as one.
-ghost use Rattle.std.specs.Prelude.{◌≡◌, ◌<◌, length, IfOk, IfErr, IsOk};
+ghost use Rattle.std.specs.Prelude.{◌≡◌, ◌<◌, true, false, length, IfOk, IfErr, IsOk, IfSome, IfNone};
 ghost use Rattle.point_core.specs.declared.refusal.Refusal.TheVariants.{Memory};
 ghost use Rattle.point_core.specs.Agreement.{HasRisingContexts};
 ghost use Rattle.fence_core.specs.Fence.{members_of, fence_of, are_reached};
+ghost use Rattle.fence_core.specs.PointIndex.{IsOneAbove};
 
 use point_core::{Point, Reach, Refusal, is_signalled};
 use std::alloc::Global;
@@ -82,4 +83,29 @@ impl Fence {
             .iter()
             .all(|point| is_signalled(*point, reach))
     }
+
+    /// The first of its points that is above the reach. There is none if it is signalled.
+    ///
+    /// Takes no memory.
+    pub(crate) fn first_above(&self, reach: &Reach) -> Option<Point>
+        ensures above { IfSome result (λ p. IsOneAbove reach.now (members_of self.now) p) }
+        ensures pending { IfSome result (λ _. are_reached reach.now (members_of self.now) ≡ false) }
+        ensures signalled { IfNone result (are_reached reach.now (members_of self.now) ≡ true) }
+    {
+        first_above(self.members(), reach)
+    }
+}
+
+/// The first of the points that is above the reach.
+fn first_above(points: &[Point], reach: &Reach) -> Option<Point>
+    ensures above { IfSome result (λ p. IsOneAbove reach.now points.now p) }
+    ensures pending { IfSome result (λ _. are_reached reach.now points.now ≡ false) }
+    ensures signalled { IfNone result (are_reached reach.now points.now ≡ true) }
+{
+    for point in points {
+        if !is_signalled(*point, reach) {
+            return Some(*point);
+        }
+    }
+    None
 }

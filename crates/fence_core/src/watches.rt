@@ -10,17 +10,18 @@ ghost use Rattle.fence_core.specs.Fence.{members_of};
 ghost use Rattle.fence_core.specs.Watch.{registry_of, ArePending};
 ghost use Rattle.fence_core.specs.Watches.{no_watches, has_watch, cause_to_refuse, cause_to_refuse_watch, with_watch, without_watch, without_watches, fires, fired_by, after_rise_to};
 
-mod counts;
-mod floor;
+mod due_floor;
 mod pending;
+mod places;
 mod point_index;
 
 use self::pending::{PendingWatch, PendingWatches};
-use self::point_index::{Fired, PointIndex};
+use self::places::Places;
+use self::point_index::{Fired, PointIndex, WaitingPoint};
 use crate::fence::Fence;
 use point_core::{LimitKind, Point, Reach, Refusal};
 use std::alloc::Global;
-use std::collections::{BTreeMap, HashMap};
+use std::collections::BTreeMap;
 use std::marker::Model;
 
 /// How many watches can be pending at a time.
@@ -39,7 +40,7 @@ const _: () = prove!(WATCHES_EVER == 18_446_744_073_709_551_615);
 pub struct Watches {
     alloc: Global,
     pending: PendingWatches,
-    registrations: HashMap<u64, u64>,
+    places: Places,
     index: PointIndex,
     made: u64,
     reach: Reach,
@@ -56,8 +57,8 @@ impl Model for Watches {
 
     ghost view = { λ ws. registry_of (values_of ws.pending.entries) ws.made ws.reach };
 
-    ghost invariant = { λ ws. AreRegistered ws.pending.entries ws.registrations.entries ws.made ×
-        IsIndexed ws.pending.entries ws.index ws.reach ×
+    ghost invariant = { λ ws. AreRegistered ws.pending.entries ws.places ws.made ×
+        IsIndexed ws.pending.entries ws.places ws.index ×
         IsSettled ws.is_settled ws.index ws.reach };
 }
 
@@ -76,7 +77,7 @@ impl Watches {
         Watches {
             alloc,
             pending: PendingWatches::new(alloc),
-            registrations: HashMap::new(alloc),
+            places: Places::new(alloc),
             index: PointIndex::new(alloc),
             made,
             reach: Reach::zero(),
@@ -96,27 +97,25 @@ impl Watches {
         ensures unchanged { OnErr result (self.new ≡ self.old) }
     {
         self.free(cookie)?;
-        if fence.is_signalled(reach) {
-            return Err(Refusal::Signalled);
-        }
         let (members, registration) = (fence.members(), self.made);
+        let Some(first) = fence.first_above(reach) else {
+            return Err(Refusal::Signalled);
+        };
         let fence = Fence::of(self.alloc, members)?;
-        if let Err(refusal) = self.index.put_above(members, registration, reach) {
-            self.index.take_all(members, registration);
-            return Err(refusal);
-        }
-        let Ok(_new) = self.registrations.insert(cookie, registration) else {
-            self.index.take_all(members, registration);
+        self.index.put(&first, registration)?;
+        let place = WaitingPoint::of(&first, registration);
+        let Ok(_new) = self.places.insert(cookie, &place) else {
+            self.index.take(&place);
             return Err(Refusal::Memory);
         };
         let watch = PendingWatch { cookie, fence };
         let Ok(_done) = self.pending.insert(registration, watch) else {
-            self.registrations.remove(&cookie);
-            self.index.take_all(members, registration);
+            self.places.remove(cookie);
+            self.index.take(&place);
             return Err(Refusal::Memory);
         };
         self.is_settled = stays_settled(self.is_settled, &self.reach, reach);
-        self.reach = *reach;
+        self.reach.copy_from(reach);
         self.made += 1;
         Ok(())
     }
@@ -128,7 +127,7 @@ impl Watches {
     pub fn free(&self, cookie: u64) -> Result<(), Refusal>
         ensures { MatchOption (cause_to_refuse self.now cookie) (IsOk result) (λ cause. result ≡ Err cause) }
     {
-        if self.registrations.contains_key(&cookie) {
+        if self.places.has(cookie) {
             return Err(Refusal::Exists);
         }
         if self.pending.len() >= WATCHES || self.made == WATCHES_EVER {
@@ -145,13 +144,13 @@ impl Watches {
         ensures told { result ≡ has_watch self.old cookie }
         ensures without { self.new ≡ without_watch self.old cookie }
     {
-        let Some(registration) = self.registrations.remove(&cookie) else {
+        let Some(place) = self.places.remove(cookie) else {
             return false;
         };
-        let Some(watch) = self.pending.remove(&registration) else {
+        let Some(_watch) = self.pending.remove(&place.registration) else {
             return false;
         };
-        self.index.take_all(watch.fence.members(), registration);
+        self.index.take(&place);
         true
     }
 
@@ -170,7 +169,7 @@ impl Watches {
         ensures pending { ArePending self.old.pending }
     {
         if self.index.is_above(reach) {
-            self.reach = *reach;
+            self.reach.copy_from(reach);
             self.is_settled = true;
             return Ok(Vec::new(self.alloc));
         }
@@ -180,8 +179,8 @@ impl Watches {
         Ok(cookies)
     }
 
-    /// As `after_rise` to the last reach that was handed in, with the point reached. If no watch waits for a point of its
-    /// context at or below it, nothing else is looked at.
+    /// As `after_rise` to the last reach that was handed in, with the point reached. If no watch stands at a
+    /// point of its context at or below it, nothing else is looked at.
     ///
     /// Fails with `Memory` alone, and only when a watch fires; then none has fired, and nothing has changed.
     pub fn after_inc(&mut self, point: Point) -> Result<Vec<u64>, Refusal>
@@ -199,7 +198,7 @@ impl Watches {
         self.after_rise_of(&point)
     }
 
-    /// As `after_inc`, when a watch may wait for a point of its context at or below it.
+    /// As `after_inc`, when a watch may stand at a point of its context at or below it.
     fn after_rise_of(&mut self, point: &Point) -> Result<Vec<u64>, Refusal>
         ensures fired { IfOk result (λ cookies. cookies.items ≡ fired_by self.old (reaching self.old.reach point.now)) }
         ensures left { OnOk result (self.new ≡ after_rise_to self.old (reaching self.old.reach point.now)) }
@@ -211,41 +210,44 @@ impl Watches {
         let Point { ctx, value } = *point;
         let mut reach = self.reach;
         reach.raise_to(Point { ctx, value });
-        let cookies = self.fired_alone(point, &reach)?;
+        let cookies = self.fired_by_one_context(point, &reach)?;
         self.remove_all(cookies.as_slice());
-        self.rise_alone(point, &reach);
+        self.rise_in_one_context(point, &reach);
         Ok(cookies)
     }
 
     /// The cookies of the watches all of whose points are signalled at this reach, by registration.
-    fn fired(&mut self, reach: &Reach) -> Result<Vec<u64>, Refusal>
-        requires rises { IsAtLeast reach.now self.old.reach }
-        ensures same { self.new ≡ self.old }
-        ensures fired { IfOk result (λ cookies. cookies.items ≡ fired_by self.old reach.now) }
+    fn fired(&self, reach: &Reach) -> Result<Vec<u64>, Refusal>
+        ensures fired { IfOk result (λ cookies. cookies.items ≡ fired_by self.now reach.now) }
         ensures memory { IfErr result (λ e. e ≡ Memory) }
-        ensures none_fires { fired_by self.old reach.now ≡ [] → IsOk result }
-        ensures pending { ArePending self.old.pending }
+        ensures none_fires { fired_by self.now reach.now ≡ [] → IsOk result }
+        ensures pending { ArePending self.now.pending }
     {
         let fired = self.index.fired(self.alloc, &self.pending, reach)?;
         listed(self.alloc, &fired)
     }
 
     /// The same, when the reach is the last one with the point reached.
-    fn fired_alone(&mut self, point: &Point, reach: &Reach) -> Result<Vec<u64>, Refusal>
-        requires alone { reach.now ≡ reaching self.old.reach point.now }
+    fn fired_by_one_context(&self, point: &Point, reach: &Reach) -> Result<Vec<u64>, Refusal>
+        requires one_context { reach.now ≡ reaching self.now.reach point.now }
         requires context { 1 ≤ point.now.ctx }
-        ensures same { self.new ≡ self.old }
-        ensures fired { IfOk result (λ cookies. cookies.items ≡ fired_by self.old reach.now) }
+        ensures fired { IfOk result (λ cookies. cookies.items ≡ fired_by self.now reach.now) }
         ensures memory { IfErr result (λ e. e ≡ Memory) }
-        ensures none_fires { fired_by self.old reach.now ≡ [] → IsOk result }
-        ensures pending { ArePending self.old.pending }
+        ensures none_fires { fired_by self.now reach.now ≡ [] → IsOk result }
+        ensures pending { ArePending self.now.pending }
     {
         if !self.is_settled {
             return self.fired(reach);
         }
-        match self.index.fired_alone(&self.pending, point.ctx, reach) {
+        match self
+            .index
+            .fired_by_one_context(&self.pending, point.ctx, reach)
+        {
             Fired::Nothing => Ok(Vec::new(self.alloc)),
-            Fired::One(_, cookie) => one_listed(self.alloc, cookie),
+            Fired::One {
+                registration: _,
+                cookie,
+            } => one_listed(self.alloc, cookie),
             Fired::Several => self.fired(reach),
         }
     }
@@ -259,20 +261,20 @@ impl Watches {
         }
     }
 
-    /// Keeps the reach, at which no watch fires, and takes out the points that it has reached.
+    /// Keeps the reach, at which no watch fires, and moves the watches that stand at or below it on.
     fn rise_to(&mut self, reach: &Reach)
         requires rises { IsAtLeast reach.now self.old.reach }
         requires none_fires { list_any (fires reach.now) self.old.pending ≡ false }
         ensures { self.new ≡ registry_of self.old.pending self.old.made reach.now }
     {
-        self.index.take_reached(reach);
-        self.reach = *reach;
-        self.is_settled = true;
+        let settled = self.index.settle(&mut self.places, &self.pending, reach);
+        self.is_settled = settled.is_ok();
+        self.reach.copy_from(reach);
     }
 
     /// The same, when the reach is the last one with the point reached.
-    fn rise_alone(&mut self, point: &Point, reach: &Reach)
-        requires alone { reach.now ≡ reaching self.old.reach point.now }
+    fn rise_in_one_context(&mut self, point: &Point, reach: &Reach)
+        requires one_context { reach.now ≡ reaching self.old.reach point.now }
         requires context { 1 ≤ point.now.ctx }
         requires none_fires { list_any (fires reach.now) self.old.pending ≡ false }
         ensures { self.new ≡ registry_of self.old.pending self.old.made reach.now }
@@ -281,8 +283,12 @@ impl Watches {
             self.rise_to(reach);
             return;
         }
-        self.index.take_due(point.ctx, reach.get(point.ctx));
-        self.reach = *reach;
+        let Point { ctx, value } = *point;
+        let settled = self
+            .index
+            .settle_context(&mut self.places, &self.pending, ctx, reach);
+        self.is_settled = settled.is_ok();
+        self.reach.raise_to(Point { ctx, value });
     }
 }
 

@@ -5,7 +5,7 @@ ghost use Rattle.std.specs.BTreeMap.{is_at, insert_entry};
 ghost use Rattle.std.specs.Ordering.{nat_cmp};
 ghost use Rattle.std.specs.List.Sorted.{IsStrictlySortedBy};
 ghost use Rattle.point_core.specs.declared.refusal.Refusal.TheVariants.{Memory};
-ghost use Rattle.fence_core.specs.Told.{at};
+ghost use Rattle.fence_core.specs.Reported.{at};
 
 use crate::fence::Fence;
 use point_core::Refusal;
@@ -29,7 +29,8 @@ impl Model for PendingWatch {
     ghost view = { λ w. watch_of w.cookie (members_of w.fence) };
 }
 
-/// The pending watches, by registration. They are only looked up, so they are kept in no order; contracts see them in it.
+/// The pending watches, by registration. They are only looked up, so they are kept in no order; contracts see them in
+/// it.
 #[derive(Drop)]
 pub(super) struct PendingWatches {
     by_registration: HashMap<u64, PendingWatch>,

@@ -1,4 +1,4 @@
-// The points that pending watches wait for, by context and value.
+// The points at which pending watches stand, by context and value.
 ghost use Rattle.std.specs.Prelude.{◌≡◌, ℕ, ◌<◌, ◌^◌, ◌-◌, ◌≤◌, true, false, not, ◌&&◌, ◌||◌, [], length};
 ghost use Rattle.std.specs.Prelude.{OnOk, OnErr, IfOk, IfErr, IfSome, IfNone};
 ghost use Rattle.std.specs.Ordering.{nat_cmp};
@@ -6,22 +6,22 @@ ghost use Rattle.std.specs.Map.{keys_of};
 ghost use Rattle.std.specs.List.Sorted.{IsStrictlySortedBy};
 ghost use Rattle.point_core.specs.declared.refusal.Refusal.TheVariants.{Memory};
 ghost use Rattle.fence_core.specs.declared.watches.point_index.WaitingPoint.{WaitingPoint as Waiting};
-ghost use Rattle.fence_core.specs.PointIndex.{waiting, is_same, holds, is_of, above, is_due, AreWaiting};
-ghost use Rattle.fence_core.specs.Told.{IsTold, AreSomeTold, Fires, told_of, is_one_at_most};
-ghost use Rattle.fence_core.specs.Counts.{AreCounted, FireByCount};
+ghost use Rattle.fence_core.specs.PointIndex.{waiting, is_same, holds, is_due, number_due, AreWaiting};
+ghost use Rattle.fence_core.specs.Registered.{registered, IsIndexed, NoneFires};
+ghost use Rattle.fence_core.specs.Reported.{IsReported, AreOnlyFiring, Fires, reported_of, is_one_at_most};
 ghost use Rattle.point_core.specs.Reach.{value_at};
 ghost use Rattle.point_core.specs.declared.context.TheConstants.{CONTEXTS};
 
-mod alone;
 mod firing;
+mod single_rise;
 
-pub(super) use self::alone::Fired;
-use self::alone::fired_alone;
-use self::firing::{start_reached, tell_reached};
-use super::counts::Counts;
-use super::floor::Floor;
+use self::firing::report_reached;
+pub(super) use self::single_rise::Fired;
+use self::single_rise::fired_by_one_context;
+use super::due_floor::DueFloor;
 use super::pending::PendingWatches;
-use point_core::{Context, Point, Reach, Refusal, is_signalled};
+use super::places::Places;
+use point_core::{Context, Point, Reach, Refusal};
 use std::alloc::Global;
 use std::collections::{BTreeMap, BTreeSet};
 use std::marker::Model;
@@ -31,14 +31,14 @@ use std::marker::Model;
 pub(super) struct WaitingPoint {
     ctx: Context,
     value: u64,
-    registration: u64,
+    pub(super) registration: u64,
 }
 
 impl WaitingPoint {
-    fn of(point: Point, registration: u64) -> WaitingPoint
-        ensures { result ≡ waiting point registration }
+    pub(super) fn of(point: &Point, registration: u64) -> WaitingPoint
+        ensures { result ≡ waiting point.now registration }
     {
-        let Point { ctx, value } = point;
+        let Point { ctx, value } = *point;
         WaitingPoint {
             ctx,
             value,
@@ -80,26 +80,23 @@ impl WaitingPoint {
     }
 }
 
-/// The points that pending watches wait for. Those of one context stand by value.
+/// The points at which pending watches stand, one for each watch. Those of one context stand by value.
 #[derive(Drop)]
 pub(super) struct PointIndex {
     points: BTreeSet<WaitingPoint>,
-    counts: Counts,
-    floor: Floor,
+    floor: DueFloor,
 }
 
 impl Model for PointIndex {
     ghost use Rattle.std.specs.Prelude.{List};
     ghost use Rattle.fence_core.specs.PointIndex.{AreWaiting, AreAbove};
-    ghost use Rattle.fence_core.specs.Counts.{AreCounted};
     ghost use Rattle.fence_core.specs.declared.watches.point_index.WaitingPoint.{WaitingPoint};
 
     ghost Value = { List WaitingPoint };
 
     ghost view = { λ p. p.points.keys };
 
-    ghost invariant = { λ p.
-        AreWaiting p.points.keys × AreCounted p.points.keys p.counts × AreAbove p.points.keys p.floor };
+    ghost invariant = { λ p. AreWaiting p.points.keys × AreAbove p.points.keys p.floor };
 }
 
 impl PointIndex {
@@ -113,37 +110,7 @@ impl PointIndex {
     {
         PointIndex {
             points: BTreeSet::new(alloc),
-            counts: Counts::new(alloc),
-            floor: Floor::highest(),
-        }
-    }
-
-    /// Puts in those of the points that are above the reach. Refused, some of them may be in.
-    pub(super) fn put_above(
-        &mut self,
-        points: &[Point],
-        registration: u64,
-        reach: &Reach,
-    ) -> Result<(), Refusal>
-        ensures put { OnOk result ((k : Waiting) →
-            holds self.new k ≡ (is_of (above reach.now points.now) registration k || holds self.old k)) }
-        ensures memory { IfErr result (λ e. e ≡ Memory) }
-        ensures others { (k : Waiting) → is_of points.now registration k ≡ false → holds self.new k ≡ holds self.old k }
-    {
-        for point in points {
-            if !is_signalled(*point, reach) {
-                self.put(*point, registration)?;
-            }
-        }
-        Ok(())
-    }
-
-    /// Takes out the points of a registration.
-    pub(super) fn take_all(&mut self, points: &[Point], registration: u64)
-        ensures { (k : Waiting) → holds self.new k ≡ (not (is_of points.now registration k) && holds self.old k) }
-    {
-        for point in points {
-            self.take(WaitingPoint::of(*point, registration));
+            floor: DueFloor::highest(),
         }
     }
 
@@ -155,8 +122,8 @@ impl PointIndex {
         self.floor.at_least(reach)
     }
 
-    /// Whether the floor shows that no point of the point's context is at or below it. What is above a reach is then above it with
-    /// the point reached too.
+    /// Whether the floor shows that no point of the point's context is at or below it. What is above a reach is then
+    /// above it with the point reached too.
     pub(super) fn is_above_point(&self, point: &Point) -> bool
         ensures { result ≡ true → (reach : List ℕ) → length reach ≡ CONTEXTS → AreAbove self.now reach →
             AreAbove self.now (reaching reach point.now) }
@@ -164,78 +131,153 @@ impl PointIndex {
         self.floor.reaches(point)
     }
 
-    /// Takes out the points that are at or below the reach. Only the contexts where it is above the floor are looked at.
-    pub(super) fn take_reached(&mut self, reach: &Reach)
-        ensures less { (k : Waiting) → holds self.new k ≡ true → holds self.old k ≡ true }
-        ensures above { (k : Waiting) → is_due k.ctx (value_at reach.now k.ctx) k ≡ false →
-            holds self.new k ≡ holds self.old k }
-        ensures none_left { (k : Waiting) → is_due k.ctx (value_at reach.now k.ctx) k ≡ true →
-            holds self.new k ≡ false }
-    {
-        if self.points.is_empty() {
-            return;
-        }
-        for index in 0..reach.used() {
-            if self.floor.is_below(reach, index) {
-                let ctx = Context::at(index);
-                self.take_due(ctx, reach.get(ctx));
-            }
-        }
-    }
-
-    /// Takes out the points of the context at or below the value.
-    #[inline(never)]
-    pub(super) fn take_due(&mut self, ctx: Context, value: u64)
-        ensures waiting { AreWaiting self.old }
-        ensures less { (k : Waiting) → holds self.new k ≡ true → holds self.old k ≡ true }
-        ensures others { (k : Waiting) → is_due ctx value k ≡ false → holds self.new k ≡ holds self.old k }
-        ensures none_left { (k : Waiting) → is_due ctx value k ≡ true → holds self.new k ≡ false }
-    {
-        // Opens the invariant.
-        let _points = &self.points;
-        while self.take_first(ctx, value) {}
-    }
-
-    /// Takes the first point of the context out if it is at or below the value, and else raises the floor to just below
-    /// it. Says whether it took one out.
-    fn take_first(&mut self, ctx: Context, value: u64) -> bool
-        ensures less { (k : Waiting) → holds self.new k ≡ true → holds self.old k ≡ true }
-        ensures others { (k : Waiting) → is_due ctx value k ≡ false → holds self.new k ≡ holds self.old k }
-        ensures fewer { result ≡ true → length self.new < length self.old }
-        ensures none_left { result ≡ false → (k : Waiting) → is_due ctx value k ≡ true → holds self.new k ≡ false }
-    {
-        let Some(first) = self.first_due(ctx, u64::MAX) else {
-            self.floor.set(ctx, u64::MAX);
-            return false;
-        };
-        if first.value > value {
-            self.floor.set(ctx, first.value - 1);
-            return false;
-        }
-        self.take(first);
-        true
-    }
-
-    /// Takes a point out, and counts it.
-    fn take(&mut self, point: WaitingPoint)
-        ensures taken { (k : Waiting) → holds self.new k ≡ (not (is_same point k) && holds self.old k) }
-        ensures fewer { holds self.old point ≡ true → length self.new < length self.old }
-    {
-        let registration = point.registration;
-        if self.points.remove(&point) {
-            self.counts.lower(registration);
-        }
-    }
-
-    fn put(&mut self, point: Point, registration: u64) -> Result<(), Refusal>
-        requires above { 1 ≤ point.value }
+    /// Puts a point in.
+    ///
+    /// Fails with `Memory` alone, and then leaves all as it was.
+    pub(super) fn put(&mut self, point: &Point, registration: u64) -> Result<(), Refusal>
+        requires above { 1 ≤ point.now.value }
         ensures put { OnOk result ((k : Waiting) →
-            holds self.new k ≡ (is_same (waiting point registration) k || holds self.old k)) }
+            holds self.new k ≡ (is_same (waiting point.now registration) k || holds self.old k)) }
+        ensures due { (ctx value : ℕ) → is_due ctx value (waiting point.now registration) ≡ false →
+            number_due ctx value self.new ≡ number_due ctx value self.old }
         ensures memory { IfErr result (λ e. e ≡ Memory) }
         ensures unchanged { OnErr result (self.new ≡ self.old) }
     {
-        self.floor.lower(&point);
-        insert(&mut self.points, &mut self.counts, point, registration)
+        self.floor.lower(point);
+        insert(&mut self.points, point, registration)
+    }
+
+    /// Takes a point out.
+    pub(super) fn take(&mut self, point: &WaitingPoint)
+        ensures taken { (k : Waiting) → holds self.new k ≡ (not (is_same point.now k) && holds self.old k) }
+        ensures fewer { (ctx value : ℕ) → is_due ctx value point.now ≡ true → holds self.old point.now ≡ true →
+            number_due ctx value self.new < number_due ctx value self.old }
+    {
+        self.points.remove(point);
+    }
+
+    /// Moves each watch that stands at or below the reach on to a point above it. Only the contexts where the reach is
+    /// above the floor are looked at.
+    ///
+    /// Fails with `Memory` alone; some watches may then stand where they stood.
+    pub(super) fn settle(
+        &mut self,
+        places: &mut Places,
+        pending: &PendingWatches,
+        reach: &Reach,
+    ) -> Result<(), Refusal>
+        requires indexed { IsIndexed pending.now.entries places.old self.old }
+        requires none_fires { NoneFires pending.now.entries reach.now }
+        ensures indexed { IsIndexed pending.now.entries places.new self.new }
+        ensures registered { (q : ℕ) → registered places.new q ≡ registered places.old q }
+        ensures none_left { OnOk result ((k : Waiting) → is_due k.ctx (value_at reach.now k.ctx) k ≡ true →
+            holds self.new k ≡ false) }
+    {
+        // Opens the invariant.
+        let _points = &self.points;
+        for index in 0..reach.used() {
+            if self.floor.is_below(reach, index) {
+                self.settle_context(places, pending, Context::at(index), reach)?;
+            }
+        }
+        Ok(())
+    }
+
+    /// The same for the watches that stand in the context.
+    #[inline(never)]
+    pub(super) fn settle_context(
+        &mut self,
+        places: &mut Places,
+        pending: &PendingWatches,
+        ctx: Context,
+        reach: &Reach,
+    ) -> Result<(), Refusal>
+        requires indexed { IsIndexed pending.now.entries places.old self.old }
+        requires none_fires { NoneFires pending.now.entries reach.now }
+        ensures indexed { IsIndexed pending.now.entries places.new self.new }
+        ensures registered { (q : ℕ) → registered places.new q ≡ registered places.old q }
+        ensures waiting { AreWaiting self.old }
+        ensures less { (k : Waiting) → is_due k.ctx (value_at reach.now k.ctx) k ≡ true →
+            holds self.new k ≡ true → holds self.old k ≡ true }
+        ensures none_left { OnOk result ((k : Waiting) → is_due ctx (value_at reach.now ctx) k ≡ true →
+            holds self.new k ≡ false) }
+    {
+        // Opens the invariant.
+        let _points = &self.points;
+        while self.move_first(places, pending, ctx, reach)? {}
+        Ok(())
+    }
+
+    /// Moves the first watch of the context on if it stands at or below the reach. Says whether it did.
+    fn move_first(
+        &mut self,
+        places: &mut Places,
+        pending: &PendingWatches,
+        ctx: Context,
+        reach: &Reach,
+    ) -> Result<bool, Refusal>
+        requires indexed { IsIndexed pending.now.entries places.old self.old }
+        requires none_fires { NoneFires pending.now.entries reach.now }
+        ensures indexed { IsIndexed pending.now.entries places.new self.new }
+        ensures registered { (q : ℕ) → registered places.new q ≡ registered places.old q }
+        ensures less { (k : Waiting) → is_due k.ctx (value_at reach.now k.ctx) k ≡ true →
+            holds self.new k ≡ true → holds self.old k ≡ true }
+        ensures fewer { IfOk result (λ moved. moved ≡ true →
+            number_due ctx (value_at reach.now ctx) self.new < number_due ctx (value_at reach.now ctx) self.old) }
+        ensures none_left { IfOk result (λ moved. moved ≡ false → (k : Waiting) →
+            is_due ctx (value_at reach.now ctx) k ≡ true → holds self.new k ≡ false) }
+    {
+        let Some(due) = self.next_due(ctx, reach.get(ctx)) else {
+            return Ok(false);
+        };
+        self.move_on(&due, places, pending, reach)?;
+        Ok(true)
+    }
+
+    /// Moves the watch that stands at the point on to its first point above the reach.
+    fn move_on(
+        &mut self,
+        due: &WaitingPoint,
+        places: &mut Places,
+        pending: &PendingWatches,
+        reach: &Reach,
+    ) -> Result<(), Refusal>
+        requires indexed { IsIndexed pending.now.entries places.old self.old }
+        requires none_fires { NoneFires pending.now.entries reach.now }
+        requires there { holds self.old due.now ≡ true }
+        requires due { is_due due.now.ctx (value_at reach.now due.now.ctx) due.now ≡ true }
+        ensures indexed { IsIndexed pending.now.entries places.new self.new }
+        ensures registered { (q : ℕ) → registered places.new q ≡ registered places.old q }
+        ensures less { (k : Waiting) → is_due k.ctx (value_at reach.now k.ctx) k ≡ true →
+            holds self.new k ≡ true → holds self.old k ≡ true }
+        ensures fewer { OnOk result (number_due due.now.ctx (value_at reach.now due.now.ctx) self.new <
+            number_due due.now.ctx (value_at reach.now due.now.ctx) self.old) }
+    {
+        let registration = due.registration;
+        let watch = pending.get(&registration).unwrap();
+        let next = watch.fence.first_above(reach).unwrap();
+        self.put(&next, registration)?;
+        self.take(due);
+        let (cookie, place) = (watch.cookie, WaitingPoint::of(&next, registration));
+        places.replace(cookie, &place);
+        Ok(())
+    }
+
+    /// The first point of the context if it is at or below the value. Else the floor rises to just below it.
+    fn next_due(&mut self, ctx: Context, value: u64) -> Option<WaitingPoint>
+        ensures same { self.new ≡ self.old }
+        ensures some { IfSome result (λ k. (is_due ctx value k ≡ true) × (holds self.new k ≡ true)) }
+        ensures none { IfNone result ((k : Waiting) → is_due ctx value k ≡ true → holds self.new k ≡ false) }
+    {
+        let Some(first) = self.first_due(ctx, u64::MAX) else {
+            self.floor.set(ctx, u64::MAX);
+            return None;
+        };
+        if first.value > value {
+            self.floor.set(ctx, first.value - 1);
+            return None;
+        }
+        Some(first)
     }
 
     /// The first point of the context at or below the value.
@@ -251,75 +293,63 @@ impl PointIndex {
         }
     }
 
-    /// The cookies of the watches all of whose points are signalled at the reach, by registration. Only the contexts where
-    /// it is above the floor are looked at.
+    /// The cookies of the watches all of whose points are signalled at the reach, by registration. Only the contexts
+    /// where it is above the floor are looked at.
     pub(super) fn fired(
-        &mut self,
+        &self,
         alloc: Global,
         pending: &PendingWatches,
         reach: &Reach,
     ) -> Result<BTreeMap<u64, u64>, Refusal>
-        requires by_count { FireByCount pending.now.entries self.old reach.now }
-        ensures same { self.new ≡ self.old }
-        ensures some_fired { IfOk result (λ fired. AreSomeTold pending.now.entries reach.now fired.entries) }
+        ensures only_firing { IfOk result (λ fired. AreOnlyFiring pending.now.entries reach.now fired.entries) }
         ensures all { IfOk result (λ fired. (k : Waiting) → is_due k.ctx (value_at reach.now k.ctx) k ≡ true →
-            holds self.old k ≡ true → IsTold pending.now.entries reach.now fired.entries k.registration) }
+            holds self.now k ≡ true → IsReported pending.now.entries reach.now fired.entries k.registration) }
         ensures ordered { IfOk result (λ fired. IsStrictlySortedBy nat_cmp (keys_of fired.entries)) }
         ensures memory { IfErr result (λ e. e ≡ Memory) }
         ensures some_fires { OnErr result (Fires pending.now.entries reach.now) }
     {
         let mut fired = BTreeMap::new(alloc);
-        let (points, floor) = (&self.points, &self.floor);
-        if !start_reached(points, &mut self.counts, floor, reach) {
-            return Ok(fired);
-        }
-        tell_reached(points, &mut self.counts, pending, floor, reach, &mut fired)?;
+        report_reached(&self.points, pending, &self.floor, reach, &mut fired)?;
         // Opens the map's invariant.
         let _count = fired.len();
         Ok(fired)
     }
 
-    /// Of the watches that have a point of the context at or below its value, those that fire at the reach.
-    pub(super) fn fired_alone(&self, pending: &PendingWatches, ctx: Context, reach: &Reach) -> Fired
+    /// Of the watches that stand in the context at or below its value, those that fire at the reach.
+    pub(super) fn fired_by_one_context(
+        &self,
+        pending: &PendingWatches,
+        ctx: Context,
+        reach: &Reach,
+    ) -> Fired
         ensures waiting { AreWaiting self.now }
-        ensures some_fired { AreSomeTold pending.now.entries reach.now (told_of result) }
-        ensures told { is_one_at_most result ≡ true → (k : Waiting) → is_due ctx (value_at reach.now ctx) k ≡ true →
-            holds self.now k ≡ true → IsTold pending.now.entries reach.now (told_of result) k.registration }
+        ensures only_firing { AreOnlyFiring pending.now.entries reach.now (reported_of result) }
+        ensures reported { is_one_at_most result ≡ true → (k : Waiting) → is_due ctx (value_at reach.now ctx) k ≡ true →
+            holds self.now k ≡ true → IsReported pending.now.entries reach.now (reported_of result) k.registration }
     {
-        fired_alone(&self.points, pending, ctx, reach)
+        fired_by_one_context(&self.points, pending, ctx, reach)
     }
 }
 
-/// Puts a point in, and counts it.
 fn insert(
     points: &mut BTreeSet<WaitingPoint>,
-    counts: &mut Counts,
-    point: Point,
+    point: &Point,
     registration: u64,
 ) -> Result<(), Refusal>
     requires waiting { AreWaiting points.old.keys }
-    requires counted { AreCounted points.old.keys counts.old }
     ensures waiting { AreWaiting points.new.keys }
-    ensures counted { AreCounted points.new.keys counts.new }
     ensures put { OnOk result ((k : Waiting) →
-        holds points.new.keys k ≡ (is_same (waiting point registration) k || holds points.old.keys k)) }
+        holds points.new.keys k ≡ (is_same (waiting point.now registration) k || holds points.old.keys k)) }
+    ensures due { (ctx value : ℕ) → is_due ctx value (waiting point.now registration) ≡ false →
+        number_due ctx value points.new.keys ≡ number_due ctx value points.old.keys }
     ensures memory { IfErr result (λ e. e ≡ Memory) }
     ensures unchanged { OnErr result (points.new.keys ≡ points.old.keys) }
 {
     let number = point.ctx.number();
-    // For the proof: what the types keep.
+    // For the proof: what a context keeps.
     prove!(number >= 1);
-    let _held = points.len();
-    counts.raise(registration)?;
-    match points.insert(WaitingPoint::of(point, registration)) {
-        Ok(true) => Ok(()),
-        Ok(false) => {
-            counts.lower(registration);
-            Ok(())
-        }
-        Err(_refused) => {
-            counts.lower(registration);
-            Err(Refusal::Memory)
-        }
-    }
+    let Ok(_added) = points.insert(WaitingPoint::of(point, registration)) else {
+        return Err(Refusal::Memory);
+    };
+    Ok(())
 }

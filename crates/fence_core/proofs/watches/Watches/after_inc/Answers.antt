@@ -1,26 +1,18 @@
-use Rattle.std.proofs.Common.{◌∙◌, ap, sym, subst, refl}
+use Rattle.std.proofs.Common.{◌∙◌, ap, sym, subst}
 use Rattle.std.specs.Map.{values_of}
 use Rattle.point_core.specs.Reach.{reaching}
 use Rattle.fence_core.specs.Watch.{Registry, registry_of}
-use Rattle.fence_core.specs.Watches.{fires, fired_by, after_rise_to}
+use Rattle.fence_core.specs.Watches.{fired_by, after_rise_to}
 use Rattle.fence_core.specs.PointIndex.{AreAbove}
-use Rattle.fence_core.proofs.Above.{IsAtLeast-reaching}
-use Rattle.fence_core.proofs.Registered.{at-none}
-use Rattle.fence_core.proofs.Indexed.{IsIndexed-rise}
-use Rattle.fence_core.proofs.Fired.{none-due, all-stay, none-fires}
+use Rattle.fence_core.proofs.Fired.{none-due, all-stay}
 use Rattle.fence_core.proofs.watches.Watches.after_inc.Goals as goal
 
 pub invariant_of-self : goal.invariant_of-self
 invariant_of-self c =
-    let es = c.self.inside.pending.entries in
     let risen = c.raise_to.ensures.value in
-    let above = subst (AreAbove c.self.inside.index) (sym risen) (c.is_above_point.ensures c.if-is_above_point.true c.self.inside.reach c.raise_to.ensures.full (c.self.invariant.2 c.if-self.true)) in
-    let none = none-due c.raise_to.new.self c.self.inside.reach es c.self.inside.index c.self.invariant.0.ordered c.self.invariant.1 above in (
+    let above = subst (AreAbove c.self.inside.index) (sym risen) (c.is_above_point.ensures c.if-is_above_point.true c.self.inside.reach c.raise_to.ensures.full (c.self.invariant.2 c.if-self.true)) in (
       c.self.invariant.0,
-      IsIndexed-rise es c.self.inside.index c.self.inside.index c.raise_to.new.self c.self.inside.reach c.self.invariant.1
-          (IsAtLeast-reaching c.self.inside.reach c.raise_to.new.self c.args.point risen)
-          (λ r w is. at-none (fires c.raise_to.new.self) es r w (none-fires c.raise_to.new.self (values_of es) none) is)
-          (λ k there. there) (λ k apart. refl),
+      c.self.invariant.1,
       λ settled. above,
     )
 
@@ -29,7 +21,7 @@ returns-then-is_above_point-clause-fired c =
     let es = c.self.inside.pending.entries in
     let risen = c.raise_to.ensures.value in
     let above = subst (AreAbove c.self.inside.index) (sym risen) (c.is_above_point.ensures c.if-is_above_point.true c.self.inside.reach c.raise_to.ensures.full (c.self.invariant.2 c.if-self.true)) in
-    let none = none-due c.raise_to.new.self c.self.inside.reach es c.self.inside.index c.self.invariant.0.ordered c.self.invariant.1 above in
+    let none = none-due c.raise_to.new.self es c.self.inside.places c.self.inside.index c.self.invariant.0.ordered c.self.invariant.1 above in
     c.new.ensures.items ∙ sym none
     ∙ ap (λ reach. fired_by (registry_of (values_of es) c.self.inside.made c.self.inside.reach) reach) risen
     ∙ ap (λ (r : Registry). fired_by r (reaching r.reach c.args.point)) c.self.view_is
@@ -39,7 +31,7 @@ returns-then-is_above_point-clause-left c =
     let es = c.self.inside.pending.entries in
     let risen = c.raise_to.ensures.value in
     let above = subst (AreAbove c.self.inside.index) (sym risen) (c.is_above_point.ensures c.if-is_above_point.true c.self.inside.reach c.raise_to.ensures.full (c.self.invariant.2 c.if-self.true)) in
-    let none = none-due c.raise_to.new.self c.self.inside.reach es c.self.inside.index c.self.invariant.0.ordered c.self.invariant.1 above in
+    let none = none-due c.raise_to.new.self es c.self.inside.places c.self.inside.index c.self.invariant.0.ordered c.self.invariant.1 above in
     ap (λ ws. registry_of ws c.self.inside.made c.raise_to.new.self) (sym (all-stay c.raise_to.new.self (values_of es) none))
     ∙ ap (λ reach. after_rise_to (registry_of (values_of es) c.self.inside.made c.self.inside.reach) reach) risen
     ∙ ap (λ (r : Registry). after_rise_to r (reaching r.reach c.args.point)) c.self.view_is

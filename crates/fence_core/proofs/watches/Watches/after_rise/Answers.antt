@@ -1,19 +1,17 @@
-use Rattle.std.proofs.Common.{◌∙◌, ap, sym, subst, refl}
+use Rattle.std.proofs.Common.{◌∙◌, ap, sym, subst}
 use Rattle.std.specs.List.{list_any}
 use Rattle.fence_core.specs.Watch.{Registry, registry_of}
 use Rattle.fence_core.specs.Watches.{fires, without_watches}
 use Rattle.fence_core.specs.Watches.{fired_by, after_rise_to}
-use Rattle.point_core.specs.Reach.{IsAtLeast}
 use Rattle.std.specs.Map.{values_of}
-use Rattle.fence_core.proofs.Registered.{at-none}
-use Rattle.fence_core.proofs.Indexed.{IsIndexed-rise}
-use Rattle.fence_core.proofs.Fired.{without_fired, none-left, none-due, all-stay, none-fires}
+use Rattle.fence_core.specs.PointIndex.{AreAbove}
+use Rattle.fence_core.proofs.Fired.{without_fired, none-left, none-due, all-stay}
 use Rattle.fence_core.proofs.watches.Watches.after_rise.Goals as goal
 
 pub rise_to-requires-clause-none_fires : goal.rise_to-requires-clause-none_fires
 rise_to-requires-clause-none_fires c =
     ap (λ (r : Registry). list_any (fires c.args.reach.now) r.pending)
-    (c.remove_all.ensures ∙ ap (λ r. without_watches r c.as_slice.result.now) c.fired.ensures.same ∙ ap (without_watches c.args.self.now) (c.as_slice.ensures.value ∙ c.in_ok-cookies.ensures.fired)
+    (c.remove_all.ensures ∙ ap (without_watches c.args.self.now) (c.as_slice.ensures.value ∙ c.in_ok-cookies.ensures.fired)
     ∙ ap (λ ws. registry_of ws c.args.self.now.made c.args.self.now.reach) (without_fired c.args.reach.now c.args.self.now.pending c.in_ok-cookies.ensures.pending.distinct))
     ∙ none-left c.args.reach.now c.args.self.now.pending
 
@@ -21,32 +19,24 @@ pub returns-clause-left : goal.returns-clause-left
 returns-clause-left c =
     c.rise_to.ensures
     ∙ ap (λ (r : Registry). registry_of r.pending r.made c.args.reach.now)
-    (c.remove_all.ensures ∙ ap (λ r. without_watches r c.as_slice.result.now) c.fired.ensures.same ∙ ap (without_watches c.args.self.now) (c.as_slice.ensures.value ∙ c.in_ok-cookies.ensures.fired)
+    (c.remove_all.ensures ∙ ap (without_watches c.args.self.now) (c.as_slice.ensures.value ∙ c.in_ok-cookies.ensures.fired)
     ∙ ap (λ ws. registry_of ws c.args.self.now.made c.args.self.now.reach) (without_fired c.args.reach.now c.args.self.now.pending c.in_ok-cookies.ensures.pending.distinct))
 
 -- where no point is due
 
 pub invariant_of-self : goal.invariant_of-self
-invariant_of-self c =
-    let es = c.self.inside.pending.entries in
-    let none = none-due c.args.reach.now c.self.inside.reach es c.self.inside.index c.self.invariant.0.ordered c.self.invariant.1 (c.is_above.ensures c.if-is_above.true) in (
-      c.self.invariant.0,
-      IsIndexed-rise es c.self.inside.index c.self.inside.index c.args.reach.now c.self.inside.reach c.self.invariant.1
-          (subst (λ (r : Registry). IsAtLeast c.args.reach.now r.reach) (sym c.self.view_is) c.requires.rises)
-          (λ r w is. at-none (fires c.args.reach.now) es r w (none-fires c.args.reach.now (values_of es) none) is)
-          (λ k there. there) (λ k apart. refl),
-      λ settled. c.is_above.ensures c.if-is_above.true,
-    )
+invariant_of-self c = (c.self.invariant.0, c.self.invariant.1, λ settled. subst (AreAbove c.self.inside.index) (sym c.copy_from.ensures.values) (c.is_above.ensures c.if-is_above.true))
 
 pub returns-then-is_above-clause-fired : goal.returns-then-is_above-clause-fired
 returns-then-is_above-clause-fired c =
     let es = c.self.inside.pending.entries in
-    let none = none-due c.args.reach.now c.self.inside.reach es c.self.inside.index c.self.invariant.0.ordered c.self.invariant.1 (c.is_above.ensures c.if-is_above.true) in
+    let none = none-due c.args.reach.now es c.self.inside.places c.self.inside.index c.self.invariant.0.ordered c.self.invariant.1 (c.is_above.ensures c.if-is_above.true) in
     c.new.ensures.items ∙ sym none ∙ ap (λ r. fired_by r c.args.reach.now) c.self.view_is
 
 pub returns-then-is_above-clause-left : goal.returns-then-is_above-clause-left
 returns-then-is_above-clause-left c =
     let es = c.self.inside.pending.entries in
-    let none = none-due c.args.reach.now c.self.inside.reach es c.self.inside.index c.self.invariant.0.ordered c.self.invariant.1 (c.is_above.ensures c.if-is_above.true) in
-    ap (λ ws. registry_of ws c.self.inside.made c.args.reach.now) (sym (all-stay c.args.reach.now (values_of es) none))
+    let none = none-due c.args.reach.now es c.self.inside.places c.self.inside.index c.self.invariant.0.ordered c.self.invariant.1 (c.is_above.ensures c.if-is_above.true) in
+    ap (registry_of (values_of es) c.self.inside.made) c.copy_from.ensures.values
+    ∙ ap (λ ws. registry_of ws c.self.inside.made c.args.reach.now) (sym (all-stay c.args.reach.now (values_of es) none))
     ∙ ap (λ r. after_rise_to r c.args.reach.now) c.self.view_is

@@ -1,7 +1,4 @@
 use Rattle.std.proofs.Common.{◌≡◌, ◌∙◌, ap, sym, subst}
-use Rattle.point_core.specs.Reach.{IsAtLeast}
-use Rattle.fence_core.specs.Watch.{Registry}
-use Rattle.fence_core.proofs.Counted.{fires-by_count}
 use Rattle.std.specs.Prelude.{IfOk}
 use Rattle.fence_core.specs.Watches.{fired_by}
 use Rattle.fence_core.proofs.Fired.{Fires-some, values-fired}
@@ -12,12 +9,9 @@ returns-in_err-fired-clause-none_fires c = λ none. absurd (Fires-some c.args.re
 
 pub returns-clause-fired : goal.returns-clause-fired
 returns-clause-fired c =
-    let is = values-fired c.args.reach.now c.self.inside.reach c.self.inside.pending.entries c.self.inside.index c.in_ok-fired.fired.entries c.self.invariant.0.ordered c.self.invariant.1 c.in_ok-fired.ensures.ordered c.in_ok-fired.ensures.some_fired c.in_ok-fired.ensures.all ∙ ap (λ r. fired_by r c.args.reach.now) c.self.view_is in
+    let is = values-fired c.args.reach.now c.self.inside.pending.entries c.self.inside.places c.self.inside.index c.in_ok-fired.fired.entries c.self.invariant.0.ordered c.self.invariant.1 c.in_ok-fired.ensures.ordered c.in_ok-fired.ensures.only_firing c.in_ok-fired.ensures.all ∙ ap (λ r. fired_by r c.args.reach.now) c.self.view_is in
     subst (λ vs. IfOk c.listed.result (λ cookies. cookies.items ≡ vs)) is c.listed.ensures.listed
 
 pub returns-clause-none_fires : goal.returns-clause-none_fires
 returns-clause-none_fires c = λ none.
-    c.listed.ensures.none (values-fired c.args.reach.now c.self.inside.reach c.self.inside.pending.entries c.self.inside.index c.in_ok-fired.fired.entries c.self.invariant.0.ordered c.self.invariant.1 c.in_ok-fired.ensures.ordered c.in_ok-fired.ensures.some_fired c.in_ok-fired.ensures.all ∙ ap (λ r. fired_by r c.args.reach.now) c.self.view_is ∙ none)
-
-pub fired-requires : goal.fired-requires
-fired-requires c = record { by_count = fires-by_count c.self.inside.pending.entries c.self.inside.index c.args.reach.now c.self.inside.reach c.self.invariant.1 (subst (λ (r : Registry). IsAtLeast c.args.reach.now r.reach) (sym c.self.view_is) c.requires.rises) }
+    c.listed.ensures.none (values-fired c.args.reach.now c.self.inside.pending.entries c.self.inside.places c.self.inside.index c.in_ok-fired.fired.entries c.self.invariant.0.ordered c.self.invariant.1 c.in_ok-fired.ensures.ordered c.in_ok-fired.ensures.only_firing c.in_ok-fired.ensures.all ∙ ap (λ r. fired_by r c.args.reach.now) c.self.view_is ∙ none)

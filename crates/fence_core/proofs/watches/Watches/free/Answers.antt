@@ -4,17 +4,19 @@ use Rattle.std.proofs.lemmas.Map.Entries.{length-values_of}
 use Rattle.fence_core.specs.declared.watches.TheConstants.{WATCHES, WATCHES_EVER}
 use Rattle.fence_core.specs.Watch.{Registry, is_for}
 use Rattle.fence_core.proofs.Causes.{cause_to_refuse-there, cause_to_refuse-full, cause_to_refuse-used_up, cause_to_refuse-none, MatchOption-Some, MatchOption-None}
-use Rattle.fence_core.proofs.Registered.{is_some-registration_of}
+use Rattle.fence_core.specs.Registered.{place_at}
+use Rattle.fence_core.proofs.Registered.{is_some-registration_of, is_some-registration_at}
 use Rattle.fence_core.proofs.watches.Watches.free.Goals as goal
 use Rattle.fence_core.proofs.watches.Watches.free.Goals.{then-len-ge-WATCHES-via-then-len-ge-WATCHES, then-len-ge-WATCHES-via-else-len-ge-WATCHES+then-self}
 
-pub returns-then-contains_key : goal.returns-then-contains_key
-returns-then-contains_key c =
+pub returns-then-has : goal.returns-then-has
+returns-then-has c =
     let there =
     sym (ap (λ (r : Registry). list_any (is_for c.args.cookie) r.pending) c.self.view_is)
     ∙ sym (is_some-registration_of c.args.cookie c.self.inside.pending.entries)
     ∙ ap is_some (sym (c.self.invariant.0.by_cookie c.args.cookie))
-    ∙ sym c.contains_key.ensures ∙ c.if-contains_key.true in
+    ∙ is_some-registration_at (place_at c.self.inside.places c.args.cookie)
+    ∙ sym c.has.ensures ∙ c.if-has.true in
     MatchOption-Some _ _ _ _ (cause_to_refuse-there c.args.self.now c.args.cookie there) refl
 
 pub returns-then-len-ge-WATCHES : goal.returns-then-len-ge-WATCHES
@@ -23,7 +25,8 @@ returns-then-len-ge-WATCHES c =
     sym (ap (λ (r : Registry). list_any (is_for c.args.cookie) r.pending) c.self.view_is)
     ∙ sym (is_some-registration_of c.args.cookie c.self.inside.pending.entries)
     ∙ ap is_some (sym (c.self.invariant.0.by_cookie c.args.cookie))
-    ∙ sym c.contains_key.ensures ∙ c.if-contains_key.false in
+    ∙ is_some-registration_at (place_at c.self.inside.places c.args.cookie)
+    ∙ sym c.has.ensures ∙ c.if-has.false in
     let len = ap (λ (r : Registry). length r.pending) c.self.view_is in
     let same = length-values_of c.self.inside.pending.entries in
     let told = c.len.ensures.len in
@@ -39,7 +42,8 @@ returns c =
     sym (ap (λ (r : Registry). list_any (is_for c.args.cookie) r.pending) c.self.view_is)
     ∙ sym (is_some-registration_of c.args.cookie c.self.inside.pending.entries)
     ∙ ap is_some (sym (c.self.invariant.0.by_cookie c.args.cookie))
-    ∙ sym c.contains_key.ensures ∙ c.if-contains_key.false in
+    ∙ is_some-registration_at (place_at c.self.inside.places c.args.cookie)
+    ∙ sym c.has.ensures ∙ c.if-has.false in
     let len = ap (λ (r : Registry). length r.pending) c.self.view_is in
     let same = length-values_of c.self.inside.pending.entries in
     let told = c.len.ensures.len in

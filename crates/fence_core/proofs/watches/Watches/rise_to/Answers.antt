@@ -1,19 +1,19 @@
 use Rattle.std.proofs.Common.{◌∙◌, ap, sym, subst}
 use Rattle.std.specs.List.{list_any}
-use Rattle.point_core.specs.Reach.{IsAtLeast}
 use Rattle.fence_core.specs.Watch.{Registry}
 use Rattle.fence_core.specs.Watches.{fires}
-use Rattle.fence_core.proofs.Above.{AreAbove-none_due}
-use Rattle.fence_core.proofs.Registered.{at-none}
-use Rattle.fence_core.proofs.Indexed.{IsIndexed-rise}
+use Rattle.fence_core.specs.PointIndex.{AreAbove}
+use Rattle.fence_core.proofs.Above.{AreAbove-none_due, on_ok}
+use Rattle.fence_core.proofs.Registered.{AreRegistered-same, at-none}
 use Rattle.fence_core.proofs.watches.Watches.rise_to.Goals as goal
+
+pub settle-settled-requires-clause-none_fires : goal.settle-settled-requires-clause-none_fires
+settle-settled-requires-clause-none_fires c = λ r w is. at-none (fires c.args.reach.now) c.self.inside.pending.entries r w (ap (λ (r : Registry). list_any (fires c.args.reach.now) r.pending) c.self.view_is ∙ c.requires.none_fires) is
 
 pub invariant_of-self : goal.invariant_of-self
 invariant_of-self c = (
-  c.self.invariant.0,
-  IsIndexed-rise c.self.inside.pending.entries c.self.inside.index c.take_reached.new.self c.args.reach.now c.self.inside.reach c.self.invariant.1
-      (subst (λ (r : Registry). IsAtLeast c.args.reach.now r.reach) (sym c.self.view_is) c.requires.rises)
-      (λ r w is. at-none (fires c.args.reach.now) c.self.inside.pending.entries r w (ap (λ (r : Registry). list_any (fires c.args.reach.now) r.pending) c.self.view_is ∙ c.requires.none_fires) is)
-      c.take_reached.ensures.less c.take_reached.ensures.above,
-  λ settled. AreAbove-none_due c.take_reached.new.self c.args.reach.now c.take_reached.ensures.none_left,
+  AreRegistered-same c.self.inside.pending.entries c.self.inside.places c.settle-settled.new.places c.self.inside.made c.self.invariant.0 c.settle-settled.ensures.registered,
+  c.settle-settled.ensures.indexed,
+  λ settled. subst (AreAbove c.settle-settled.new.self) (sym c.copy_from.ensures.values)
+      (AreAbove-none_due c.settle-settled.new.self c.args.reach.now (on_ok c.settle-settled.result c.settle-settled.ensures.none_left (sym c.is_ok-self-inside.ensures.value ∙ settled))),
 )

@@ -1,6 +1,6 @@
 use Rattle.std.proofs.Common.{◌∙◌, sym, ap}
 use Rattle.fence_core.specs.Pending.{Pending}
-use Rattle.fence_core.specs.Told.{at}
+use Rattle.fence_core.specs.Reported.{at}
 use Rattle.fence_core.proofs.InOrder.{at-in_order}
 use Rattle.fence_core.proofs.watches.pending.PendingWatches.get.Goals as goal
 

@@ -2,7 +2,7 @@ use Rattle.std.proofs.Common.{◌∙◌, ap, Some, if◌then◌else◌}
 use Rattle.std.specs.BTreeMap.{is_at, insert_entry}
 use Rattle.std.specs.Ordering.{nat_cmp}
 use Rattle.fence_core.specs.Pending.{Pending}
-use Rattle.fence_core.specs.Told.{at}
+use Rattle.fence_core.specs.Reported.{at}
 use Rattle.fence_core.proofs.InOrder.{at-put, in_order-put, ordered-in_order}
 use Rattle.fence_core.proofs.watches.pending.PendingWatches.insert.Goals as goal
 

@@ -3,7 +3,7 @@ use Rattle.std.specs.Map.{remove_entry}
 use Rattle.std.specs.BTreeMap.{is_at}
 use Rattle.std.specs.Ordering.{nat_cmp}
 use Rattle.fence_core.specs.Pending.{Pending}
-use Rattle.fence_core.specs.Told.{at}
+use Rattle.fence_core.specs.Reported.{at}
 use Rattle.fence_core.proofs.InOrder.{at-in_order, at-taken, in_order-taken, ordered-in_order}
 use Rattle.fence_core.proofs.watches.pending.PendingWatches.remove.Goals as goal
 

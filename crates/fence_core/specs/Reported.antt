@@ -1,0 +1,45 @@
+-- The watches that a rise fires, by registration.
+use Rattle.std.specs.Prelude.{◌≡◌, ℕ, Bool, true, false, if◌then◌else◌, List, [], ◌∷◌, Option, None, Some}
+use Rattle.std.specs.Map.{lookup}
+use Rattle.std.specs.BTreeMap.{is_at}
+use Rattle.std.specs.Ordering.{nat_cmp}
+use Rattle.fence_core.specs.Watch.{Watch}
+use Rattle.fence_core.specs.Watches.{fires}
+use Rattle.fence_core.specs.declared.watches.point_index.single_rise.Fired.{Fired}
+use Rattle.fence_core.specs.declared.watches.point_index.single_rise.Fired.TheVariants.{Nothing, One, Several}
+
+-- what stands at the number
+abbrev pub at : {X : Type 0} → List (ℕ × X) → ℕ → Option X
+at es r = lookup (is_at (nat_cmp r)) es
+
+-- the cookie of the watch, if it fires
+abbrev pub cookie_if_fires : List ℕ → Option Watch → Option ℕ
+cookie_if_fires reach None = None
+cookie_if_fires reach (Some w) = if fires reach w then Some w.cookie else None
+
+-- the watch of that registration was reported if it fires, and else not
+abbrev pub IsReported : List (ℕ × Watch) → List ℕ → List (ℕ × ℕ) → ℕ → Type 0
+IsReported es reach fired r = at fired r ≡ cookie_if_fires reach (at es r)
+
+-- no watch was reported that does not fire
+abbrev pub AreOnlyFiring : List (ℕ × Watch) → List ℕ → List (ℕ × ℕ) → Type 0
+AreOnlyFiring es reach fired =
+    (r : ℕ) (cookie : ℕ) → at fired r ≡ Some cookie → cookie_if_fires reach (at es r) ≡ Some cookie
+
+-- some watch fires
+pub record Fires (es : List (ℕ × Watch)) (reach : List ℕ) : Type 0 where
+  pub registration : ℕ
+  pub watch : Watch
+  pub pending : at es registration ≡ Some watch
+  pub fires : fires reach watch ≡ true
+
+-- the watch that is reported if there is at most one, with its cookie
+abbrev pub reported_of : Fired → List (ℕ × ℕ)
+reported_of Nothing = []
+reported_of (One registration cookie) = (registration, cookie) ∷ []
+reported_of Several = []
+
+abbrev pub is_one_at_most : Fired → Bool
+is_one_at_most Nothing = true
+is_one_at_most (One registration cookie) = true
+is_one_at_most Several = false
