@@ -70,7 +70,10 @@ impl ContextValues {
     {
         if self.values[index] < value {
             self.values[index] = value;
-            self.used = self.used.max(index + 1);
+            // A branch, since the greater of both would be written and read back at each value.
+            if self.used <= index {
+                self.used = index + 1;
+            }
         }
     }
 
@@ -119,11 +122,11 @@ impl ContextValues {
         requires in_use { AreInUse other.now }
         ensures { IsTrue result ↔ IsAtLeast self.now (padded other.now) }
     {
+        // Without a way out of the loop, so that several values are compared at once.
+        let mut all = true;
         for index in 0..other.len() {
-            if self.values[index] < other[index] {
-                return false;
-            }
+            all &= self.values[index] >= other[index];
         }
-        true
+        all
     }
 }
