@@ -17,8 +17,8 @@ pub struct Drawing {
 }
 
 impl Drawing {
-    /// Runs the lines of a script up to the window's last, and draws those in the window, a column for each that has an answer. Refused
-    /// lines are drawn too.
+    /// Runs the lines of a script up to the window's last, and draws those in the window, a column for each that has an
+    /// answer. Refused lines are drawn too.
     ///
     /// Fails with `Memory` alone.
     pub fn of(alloc: Global, script: &[u8], window: &Window) -> Result<Drawing, Refusal>

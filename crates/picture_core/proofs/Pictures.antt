@@ -1,5 +1,5 @@
 -- A picture that is drawn on a sheet shows its history.
-use Rattle.std.proofs.Common.{ℕ, ◌≡◌, ◌≢◌, inl, inr, ◌∙◌, ◌+◌, ◌-◌, ◌^◌, ◌<◌, ◌≤◌, ◌==◌, false, nat_le, min, List, [], ◌∷◌, ◌++◌, map, length, get_or, ap, refl, append-nil, arith}
+use Rattle.std.proofs.Common.{ℕ, ◌≡◌, ◌≢◌, inl, inr, ◌∙◌, ◌+◌, ◌<◌, ◌≤◌, ◌==◌, false, nat_le, List, [], ◌∷◌, ◌++◌, map, length, get_or, ap, refl, append-nil, arith}
 use Rattle.std.specs.Prelude.{IfOk, Result, Ok, Err}
 use Rattle.std.specs.List.{range_with_len}
 use Rattle.std.proofs.lemmas.Bool.{cases_lt}
@@ -8,12 +8,12 @@ use Rattle.std.proofs.lemmas.List.{get_or_default}
 use Rattle.std.proofs.lemmas.List.Elements.{All-get_or, All-map, filter_map-append}
 use Rattle.picture_core.specs.declared.bar.Bar.{Bar}
 use Rattle.picture_core.specs.declared.history.History.{History}
-use Rattle.picture_core.specs.declared.legend.TheConstants.{FIRST, HALF_SAMPLE}
 use Rattle.picture_core.specs.declared.lanes.TheConstants.{HALF_BAR}
 use Rattle.picture_core.specs.declared.shapes.ColumnArea.{ColumnArea}
 use Rattle.picture_core.specs.declared.shapes.Picture.{Picture}
 use Rattle.picture_core.specs.declared.sheet.Sheet.{Sheet}
 use Rattle.picture_core.specs.declared.sheet.TheConstants.{BAR}
+use Rattle.picture_core.specs.Legend.{top_of_samples}
 use Rattle.picture_core.specs.Picture.{IsMiddle, IsPictureOn, ShowsHistory, area_of_column}
 use Rattle.picture_core.specs.Shapes.{bar_shapes, fills_at, seen_of, shapes_of_all}
 use Rattle.picture_core.specs.Sheet.{IsSheetOf, height_of_bar, middle_of}
@@ -92,7 +92,7 @@ module _ (h : History) (s : Sheet) (p : Picture) (sheet : IsSheetOf h s) (on : I
       fills-bars x y p.shapes.items
       ∙ ap (fills_at x y) shapes-are
       ∙ filter_map-append _ (shapes_of_all (middle_of s) s.end height h.bars.items) on.shapes.legend.more
-      ∙ ap (λ fs. fills_at x y (shapes_of_all (middle_of s) s.end height h.bars.items) ++ fs) (fills-below x y (min (s.bottom + FIRST) (2 ^ 64 - 1) - HALF_SAMPLE) on.shapes.legend.more (omega arith) on.shapes.legend.low)
+      ∙ ap (λ fs. fills_at x y (shapes_of_all (middle_of s) s.end height h.bars.items) ++ fs) (fills-below x y (top_of_samples s.bottom) on.shapes.legend.more (omega arith) on.shapes.legend.low)
       ∙ append-nil (fills_at x y (shapes_of_all (middle_of s) s.end height h.bars.items))
       ∙ one-seen (middle_of s) s.end height x y h.bars.items 0 k k b k-low (omega arith) is (λ j low other b'. bar-beside (middle_of s) s.end x y (height j) b' (enough j (omega arith)) (beside j k (omega arith) k-low other))
       ∙ bar-seen (middle_of s) s.end column (λ d. under column d column-low) (middle-ends h s sheet.columns column column-low) b y (enough k k-low)

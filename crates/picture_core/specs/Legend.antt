@@ -1,5 +1,6 @@
 -- The samples of bars in a legend.
-use Rattle.std.specs.Prelude.{◌≡◌, ℕ, ◌≤◌, List, [], ◌∷◌, ◌++◌, All, filter_map, Option, None, Some, ⊤}
+use Rattle.std.specs.Prelude.{◌≡◌, ℕ, ◌+◌, ◌-◌, ◌^◌, ◌≤◌, min, List, [], ◌∷◌, ◌++◌, All, filter_map, Option, None, Some, ⊤}
+use Rattle.picture_core.specs.declared.legend.TheConstants.{FIRST, HALF_SAMPLE}
 use Rattle.picture_core.specs.declared.shapes.Fill.{Fill}
 use Rattle.picture_core.specs.declared.shapes.Fill.TheVariants as fill
 use Rattle.picture_core.specs.declared.shapes.Meaning.{Meaning}
@@ -24,6 +25,10 @@ sample_of meaning.Removed = []
 
 abbrev pub fills_of_legend : List Fill
 fills_of_legend = fill.Pending ∷ fill.Signalled ∷ fill.Cancelled ∷ []
+
+-- how far down the samples of a legend begin that lies below such a place
+abbrev pub top_of_samples : ℕ → ℕ
+top_of_samples top = min (top + FIRST) (2 ^ 64 - 1) - HALF_SAMPLE
 
 -- what an area is filled with
 abbrev pub fill_in : Shape → Option Fill

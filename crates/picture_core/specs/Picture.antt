@@ -1,16 +1,16 @@
 -- What a picture shows of a history.
-use Rattle.std.specs.Prelude.{◌≡◌, ℕ, ◌+◌, ◌-◌, ◌*◌, ◌/◌, ◌^◌, ◌<◌, ◌≤◌, min, List, [], ◌++◌, All, map, filter_map, length, get_or}
+use Rattle.std.specs.Prelude.{◌≡◌, ℕ, ◌+◌, ◌-◌, ◌*◌, ◌/◌, ◌^◌, ◌<◌, ◌≤◌, List, [], ◌++◌, All, map, filter_map, length, get_or}
 use Rattle.std.specs.List.{range_with_len}
 use Rattle.picture_core.specs.declared.bar.Bar.{Bar}
 use Rattle.picture_core.specs.declared.history.History.{History}
-use Rattle.picture_core.specs.declared.legend.TheConstants.{FIRST, HALF_SAMPLE, LEGEND_HEIGHT}
+use Rattle.picture_core.specs.declared.legend.TheConstants.{LEGEND_HEIGHT}
 use Rattle.picture_core.specs.declared.lanes.TheConstants.{HALF_BAR}
 use Rattle.picture_core.specs.declared.shapes.Canvas.{Canvas}
 use Rattle.picture_core.specs.declared.shapes.ColumnArea.{ColumnArea}
 use Rattle.picture_core.specs.declared.shapes.Picture.{Picture}
 use Rattle.picture_core.specs.declared.shapes.Shape.{Shape}
 use Rattle.picture_core.specs.declared.sheet.Sheet.{Sheet}
-use Rattle.picture_core.specs.Legend.{AddsSamples, fill_in, fills_of_legend}
+use Rattle.picture_core.specs.Legend.{AddsSamples, fill_in, fills_of_legend, top_of_samples}
 use Rattle.picture_core.specs.Shapes.{bar_shapes, bars_on, fills_at, seen_of, shapes_of_all, waitings, waits_on, waits_told}
 use Rattle.picture_core.specs.Sheet.{height_of_bar, left_of, middle_of}
 
@@ -26,7 +26,7 @@ areas_of_columns s count = map (area_of_column s) (range_with_len 0 count)
 pub record AddsBars (s : Sheet) (h : History) (old new : List Shape) : Type 0 where
   pub with_bars : List Shape
   pub bars : with_bars ≡ old ++ shapes_of_all (middle_of s) s.end (height_of_bar s) h.bars.items
-  pub legend : AddsSamples (min (s.bottom + FIRST) (2 ^ 64 - 1) - HALF_SAMPLE) fills_of_legend with_bars new
+  pub legend : AddsSamples (top_of_samples s.bottom) fills_of_legend with_bars new
 
 -- all that is drawn of a history
 pub record AddsAll (s : Sheet) (h : History) (old new : Canvas) : Type 0 where
@@ -44,8 +44,8 @@ pub record IsPictureOn (s : Sheet) (h : History) (p : Picture) : Type 0 where
 abbrev pub IsMiddle : (ℕ → ℕ) → ColumnArea → Type 0
 IsMiddle middle a = middle (a.column + 1) ≡ a.x + a.width / 2
 
--- A picture shows a history. Columns are numbered from 1, and 0 stands for what was there before the first. Where the middle of a
--- column crosses the middle of a bar, the shapes show exactly what has to be seen of that bar in that column.
+-- A picture shows a history. Columns are numbered from 1, and 0 stands for what was there before the first. Where the
+-- middle of a column crosses the middle of a bar, the shapes show exactly what has to be seen of that bar in that column.
 pub record ShowsHistory (h : History) (p : Picture) : Type 0 where
   -- how far from the left the middle of each column lies, and the right end of the columns
   pub middle : ℕ → ℕ
@@ -60,6 +60,7 @@ pub record ShowsHistory (h : History) (p : Picture) : Type 0 where
   pub apart : (j k : ℕ) → j < k → k < length h.bars.items → height j + HALF_BAR * 2 < height k
   pub shapes : bar_shapes p.shapes.items ≡ shapes_of_all middle right height h.bars.items ++ legend
   pub samples : filter_map fill_in legend ≡ fills_of_legend
-  pub seen : (column k : ℕ) (b : Bar) → column ≤ length h.columns.items → k < length h.bars.items → get_or h.bars.items k b ≡ b
+  pub seen : (column k : ℕ) (b : Bar) → column ≤ length h.columns.items
+      → k < length h.bars.items → get_or h.bars.items k b ≡ b
       → fills_at (middle column) (height k) p.shapes.items ≡ seen_of column b
   pub waits : waits_told p.texts.items ≡ waitings h.waits.items

@@ -10,7 +10,9 @@ left_of s column = get_or s.edges.items column s.end
 
 -- the middle between the edges of a column; what stood before the first one begins at the left edge
 abbrev pub middle_of : Sheet → ℕ → ℕ
-middle_of s column = if column == 0 then left_of s column else left_of s column + (left_of s (column + 1) - left_of s column) / 2
+middle_of s column =
+    if column == 0 then left_of s column
+    else left_of s column + (left_of s (column + 1) - left_of s column) / 2
 
 -- the height of the middle of a bar, from the top
 abbrev pub height_of_bar : Sheet → ℕ → ℕ

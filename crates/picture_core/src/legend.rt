@@ -1,7 +1,7 @@
 // What the signs of a picture mean.
-ghost use Rattle.std.specs.Prelude.{◌≡◌, ◌+◌, ◌-◌, ◌^◌, ◌∷◌, [], min, true, flat_map, IfErr, OnOk};
+ghost use Rattle.std.specs.Prelude.{◌≡◌, ◌-◌, ◌∷◌, [], true, flat_map, IfErr, OnOk};
 ghost use Rattle.point_core.specs.declared.refusal.Refusal.TheVariants.{Memory};
-ghost use Rattle.picture_core.specs.Legend.{AddsSamples, fills_of_legend, sample_of};
+ghost use Rattle.picture_core.specs.Legend.{AddsSamples, fills_of_legend, sample_of, top_of_samples};
 ghost use Rattle.picture_core.specs.Shapes.{bars_on, is_bar_fill, waits_on};
 
 use crate::history::Access;
@@ -33,7 +33,8 @@ const BESIDE: u64 = 22;
 ///
 /// Fails with `Memory` alone.
 pub(crate) fn push_legend(top: u64, canvas: &mut Canvas) -> Result<(), Refusal>
-    ensures bars { OnOk result (AddsSamples (min (top + FIRST) (2 ^ 64 - 1) - HALF_SAMPLE) fills_of_legend (bars_on canvas.old) (bars_on canvas.new)) }
+    ensures bars { OnOk result (AddsSamples (top_of_samples top) fills_of_legend
+        (bars_on canvas.old) (bars_on canvas.new)) }
     ensures waits { waits_on canvas.new ≡ waits_on canvas.old }
     ensures memory { IfErr result (λ e. e ≡ Memory) }
 {
@@ -58,7 +59,8 @@ pub(crate) fn push_legend(top: u64, canvas: &mut Canvas) -> Result<(), Refusal>
 }
 
 fn push_meanings(y: u64, meanings: &[Meaning], canvas: &mut Canvas) -> Result<(), Refusal>
-    ensures bars { OnOk result (AddsSamples (y - HALF_SAMPLE) (flat_map sample_of meanings.now) (bars_on canvas.old) (bars_on canvas.new)) }
+    ensures bars { OnOk result (AddsSamples (y - HALF_SAMPLE) (flat_map sample_of meanings.now)
+        (bars_on canvas.old) (bars_on canvas.new)) }
     ensures waits { waits_on canvas.new ≡ waits_on canvas.old }
     ensures memory { IfErr result (λ e. e ≡ Memory) }
 {
@@ -79,7 +81,8 @@ fn push_meanings(y: u64, meanings: &[Meaning], canvas: &mut Canvas) -> Result<()
 }
 
 fn push_sign(meaning: Meaning, x: u64, y: u64, canvas: &mut Canvas) -> Result<(), Refusal>
-    ensures bars { OnOk result (AddsSamples (y - HALF_SAMPLE) (sample_of meaning) (bars_on canvas.old) (bars_on canvas.new)) }
+    ensures bars { OnOk result (AddsSamples (y - HALF_SAMPLE) (sample_of meaning)
+        (bars_on canvas.old) (bars_on canvas.new)) }
     ensures waits { waits_on canvas.new ≡ waits_on canvas.old }
     ensures memory { IfErr result (λ e. e ≡ Memory) }
 {

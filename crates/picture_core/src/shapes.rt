@@ -184,7 +184,8 @@ impl Canvas {
         width: u64,
         height: u64,
     ) -> Result<(), Refusal>
-        ensures ok { OnOk result (self.new.shapes.items ≡ self.old.shapes.items ++ Shape.Area fill at.now width height ∷ []) }
+        ensures ok { OnOk result (self.new.shapes.items ≡ self.old.shapes.items
+            ++ Shape.Area fill at.now width height ∷ []) }
         ensures err { OnErr result (self.new.shapes.items ≡ self.old.shapes.items) }
         ensures texts { self.new.texts ≡ self.old.texts }
         ensures bar { is_bar_fill fill ≡ true →
@@ -211,7 +212,8 @@ impl Canvas {
         height: u64,
         is_open: bool,
     ) -> Result<(), Refusal>
-        ensures ok { OnOk result (self.new.shapes.items ≡ self.old.shapes.items ++ Shape.Edge at.now width height is_open ∷ []) }
+        ensures ok { OnOk result (self.new.shapes.items ≡ self.old.shapes.items
+            ++ Shape.Edge at.now width height is_open ∷ []) }
         ensures err { OnErr result (self.new.shapes.items ≡ self.old.shapes.items) }
         ensures texts { self.new.texts ≡ self.old.texts }
         ensures bar { OnOk result (bars_on self.new ≡ bars_on self.old ++ Shape.Edge at.now width height is_open ∷ []) }
@@ -230,7 +232,8 @@ impl Canvas {
     }
 
     pub(crate) fn line(&mut self, stroke: Stroke, from: &Spot, to: &Spot) -> Result<(), Refusal>
-        ensures ok { OnOk result (self.new.shapes.items ≡ self.old.shapes.items ++ Shape.Line stroke from.now to.now ∷ []) }
+        ensures ok { OnOk result (self.new.shapes.items ≡ self.old.shapes.items
+            ++ Shape.Line stroke from.now to.now ∷ []) }
         ensures err { OnErr result (self.new.shapes.items ≡ self.old.shapes.items) }
         ensures texts { self.new.texts ≡ self.old.texts }
         ensures bars { bars_on self.new ≡ bars_on self.old }
@@ -248,7 +251,8 @@ impl Canvas {
     }
 
     pub(crate) fn mark(&mut self, mark: Mark, x: u64, y: u64) -> Result<(), Refusal>
-        ensures ok { OnOk result (self.new.shapes.items ≡ self.old.shapes.items ++ Shape.Mark mark (record { x = x; y = y }) ∷ []) }
+        ensures ok { OnOk result (self.new.shapes.items ≡ self.old.shapes.items
+            ++ Shape.Mark mark (record { x = x; y = y }) ∷ []) }
         ensures err { OnErr result (self.new.shapes.items ≡ self.old.shapes.items) }
         ensures texts { self.new.texts ≡ self.old.texts }
         ensures bars { bars_on self.new ≡ bars_on self.old }

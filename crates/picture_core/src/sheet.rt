@@ -269,7 +269,8 @@ fn word_widths(alloc: Global, columns: &[Column]) -> Result<Vec<u64>, Refusal>
     Ok(widths)
 }
 
-/// Where things begin that lie one after another and are so long, with the place where the last ends, which stands beside them too.
+/// Where things begin that lie one after another and are so long, with the place where the last ends, which stands beside
+/// them too.
 ///
 /// Fails with `Memory` alone, also where a place is too great a number.
 fn places_of(alloc: Global, first: u64, lengths: &[u64]) -> Result<(Vec<u64>, u64), Refusal>

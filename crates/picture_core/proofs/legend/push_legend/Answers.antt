@@ -1,13 +1,13 @@
 use Rattle.std.proofs.Common.{◌+◌, ◌-◌, ◌^◌, [], min, arith}
-use Rattle.picture_core.specs.Legend.{fills_of_legend}
+use Rattle.picture_core.specs.Legend.{fills_of_legend, top_of_samples}
 use Rattle.picture_core.specs.Shapes.{bars_on}
-use Rattle.picture_core.specs.declared.legend.TheConstants.{FIRST, HALF_SAMPLE, SECOND}
+use Rattle.picture_core.specs.declared.legend.TheConstants.{HALF_SAMPLE, SECOND}
 use Rattle.picture_core.proofs.Samples.{AddsSamples-append, AddsSamples-weaker, on_ok}
 use Rattle.picture_core.proofs.legend.push_legend.Goals as goal
 
 pub returns-clause-bars : goal.returns-clause-bars
 returns-clause-bars c =
-    let y = min (c.args.top + FIRST) (2 ^ 64 - 1) - HALF_SAMPLE in
+    let y = top_of_samples c.args.top in
     let z = min (c.args.top + SECOND) (2 ^ 64 - 1) - HALF_SAMPLE in
     let old = bars_on c.args.canvas.now in
     let mid = bars_on c.push_meanings.new.canvas in
