@@ -5,7 +5,7 @@ use Rattle.std.specs.List.{range_with_len}
 use Rattle.std.proofs.lemmas.Bool.{cases_lt}
 use Rattle.std.proofs.lemmas.Bool.Decides.{nat_tests}
 use Rattle.std.proofs.lemmas.List.{get_or_default}
-use Rattle.std.proofs.lemmas.List.Elements.{All-get_or, All-map, filter_map-append}
+use Rattle.std.proofs.lemmas.List.Elements.{All-get_or, All-map, All-weaker, filter_map-append}
 use Rattle.picture_core.specs.declared.bar.Bar.{Bar}
 use Rattle.picture_core.specs.declared.history.History.{History}
 use Rattle.picture_core.specs.declared.lanes.TheConstants.{HALF_BAR}
@@ -13,11 +13,12 @@ use Rattle.picture_core.specs.declared.shapes.ColumnArea.{ColumnArea}
 use Rattle.picture_core.specs.declared.shapes.Picture.{Picture}
 use Rattle.picture_core.specs.declared.sheet.Sheet.{Sheet}
 use Rattle.picture_core.specs.declared.sheet.TheConstants.{BAR}
-use Rattle.picture_core.specs.Legend.{top_of_samples}
+use Rattle.picture_core.specs.Legend.{IsFrom, top_of_samples}
 use Rattle.picture_core.specs.Picture.{IsMiddle, IsPictureOn, ShowsHistory, area_of_column}
 use Rattle.picture_core.specs.Shapes.{bar_shapes, fills_at, seen_of, shapes_of_all}
 use Rattle.picture_core.specs.Sheet.{IsSheetOf, height_of_bar, middle_of}
 use Rattle.picture_core.proofs.Middles.{middle-ends, middle-rises}
+use Rattle.picture_core.proofs.Samples.{IsFrom-weaker}
 use Rattle.picture_core.proofs.Seeing.{IsBeside, bar-beside, bar-seen, fills-bars, fills-below, one-seen}
 
 -- where bars lie
@@ -117,6 +118,11 @@ module _ (h : History) (s : Sheet) (p : Picture) (sheet : IsSheetOf h s) (on : I
     apart = λ j k less low. let far = heights-apart j k less low in omega arith;
     shapes = shapes-are;
     samples = on.shapes.legend.filled;
+    low = λ k within.
+        let high = height-low k within in
+        let fits = on.fits in
+        All-weaker (IsFrom (top_of_samples s.bottom)) (IsFrom (height k + HALF_BAR))
+        (IsFrom-weaker (height k + HALF_BAR) (top_of_samples s.bottom) (omega arith)) on.shapes.legend.more on.shapes.legend.low;
     seen = seen;
     waits = on.waits;
   }

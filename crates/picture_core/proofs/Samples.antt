@@ -12,7 +12,7 @@ use Rattle.picture_core.specs.Legend.{AddsSamples, IsFrom, fill_in}
 pub AddsSamples-none : (y : ℕ) (old new : List Shape) → new ≡ old → AddsSamples y [] old new
 AddsSamples-none y old new same = record { more = []; added = same ∙ sym (append-nil old); filled = refl; low = λ k d low. absurd (omega arith) }
 
-IsFrom-weaker : (y z : ℕ) → y ≤ z → (s : Shape) → IsFrom z s → IsFrom y s
+pub IsFrom-weaker : (y z : ℕ) → y ≤ z → (s : Shape) → IsFrom z s → IsFrom y s
 IsFrom-weaker y z more (shape.Area f at width height) from = omega arith
 IsFrom-weaker y z more (shape.Edge at width height ends) from = tt
 IsFrom-weaker y z more (shape.Line stroke from' to) from = tt

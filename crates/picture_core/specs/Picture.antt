@@ -10,7 +10,7 @@ use Rattle.picture_core.specs.declared.shapes.ColumnArea.{ColumnArea}
 use Rattle.picture_core.specs.declared.shapes.Picture.{Picture}
 use Rattle.picture_core.specs.declared.shapes.Shape.{Shape}
 use Rattle.picture_core.specs.declared.sheet.Sheet.{Sheet}
-use Rattle.picture_core.specs.Legend.{AddsSamples, fill_in, fills_of_legend, top_of_samples}
+use Rattle.picture_core.specs.Legend.{AddsSamples, IsFrom, fill_in, fills_of_legend, top_of_samples}
 use Rattle.picture_core.specs.Shapes.{bar_shapes, bars_on, fills_at, seen_of, shapes_of_all, waitings, waits_on, waits_told}
 use Rattle.picture_core.specs.Sheet.{height_of_bar, left_of, middle_of}
 
@@ -60,6 +60,7 @@ pub record ShowsHistory (h : History) (p : Picture) : Type 0 where
   pub apart : (j k : ℕ) → j < k → k < length h.bars.items → height j + HALF_BAR * 2 < height k
   pub shapes : bar_shapes p.shapes.items ≡ shapes_of_all middle right height h.bars.items ++ legend
   pub samples : filter_map fill_in legend ≡ fills_of_legend
+  pub low : (k : ℕ) → k < length h.bars.items → All (IsFrom (height k + HALF_BAR)) legend
   pub seen : (column k : ℕ) (b : Bar) → column ≤ length h.columns.items
       → k < length h.bars.items → get_or h.bars.items k b ≡ b
       → fills_at (middle column) (height k) p.shapes.items ≡ seen_of column b
