@@ -32,9 +32,9 @@ use Rattle.desk_core.proofs.Keeping.{AgreesAbove-listed_points, sync_file_at-poi
 use Rattle.desk_core.proofs.Signalling.{common_status-told}
 use Rattle.picture_core.specs.declared.bar.Bar.{Bar}
 use Rattle.picture_core.specs.declared.bar.Settled.{Settled}
-use Rattle.picture_core.specs.Bars.{bar_of, bars_after, closed_if, is_open_of, with_closed}
-use Rattle.draw_core.specs.Drawn.{AreAsked, IsAsked, drawn_at, settled_at, file_status as desk_status}
-use Rattle.draw_core.specs.Shown.{IsShown, file_names, is_closed_by, is_there, names_there, status_in}
+use Rattle.picture_core.specs.Bars.{bar_of, bars_after, closed_if, drawn_at, is_closed_by, is_open_of, is_there, settled_at, with_closed}
+use Rattle.draw_core.specs.Drawn.{AreAsked, IsAsked, file_status as desk_status}
+use Rattle.draw_core.specs.Shown.{IsShown, file_names, names_there, status_in}
 use Rattle.draw_core.specs.Progress.{AreBarsOf, IsKept, IsPast}
 use Rattle.draw_core.proofs.Staying.{closes, file_named-after, file_status-after, find-new, has_file-free}
 

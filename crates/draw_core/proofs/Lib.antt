@@ -1,5 +1,6 @@
 mod Entering
 mod Lines
+mod Picturing
 mod Showing
 mod Staying
 mod Waits

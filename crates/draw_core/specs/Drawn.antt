@@ -1,5 +1,5 @@
 -- What is drawn of files, and what the desk says of them.
-use Rattle.std.specs.Prelude.{◌≡◌, ◌<◌, ◌≤◌, ◌-◌, ℕ, nat_le, if◌then◌else◌, List, Option, None, Some, option_map, IfSome, IsSome, true, length, slice_index_or}
+use Rattle.std.specs.Prelude.{◌≡◌, ◌<◌, ◌≤◌, ◌-◌, ℕ, List, Option, None, Some, option_map, IfSome, IsSome, true, length, slice_index_or}
 use Rattle.point_core.specs.Clocks.{common_status, status_at}
 use Rattle.point_core.specs.Status.{is_signalled}
 use Rattle.point_core.specs.declared.entry.Point.{Point}
@@ -9,21 +9,13 @@ use Rattle.desk_core.specs.Timeline.{clocks_of, name_at, value_of}
 use Rattle.desk_core.specs.SyncFile.{File}
 use Rattle.desk_core.specs.Files.{file_at}
 use Rattle.desk_core.specs.Desk.{DeskState}
+use Rattle.picture_core.specs.Bars.{drawn_at}
 use Rattle.picture_core.specs.declared.bar.Bar.{Bar}
-use Rattle.picture_core.specs.declared.bar.Settled.{Settled}
 use Rattle.picture_core.specs.declared.waiting.Waiting.{Waiting}
 
 -- the status of a file by the desk, as its information shows it; none where there is no file of that name
 abbrev pub file_status : DeskState → List ℕ → Option Status
 file_status desk name = option_map (λ (f : File). common_status (clocks_of desk.timelines) f.points) (file_at desk.files name)
-
--- a bar is drawn as pending up to the column from which on it is settled
-abbrev pub settled_at : Option Settled → ℕ → Status
-settled_at None column = Active
-settled_at (Some s) column = if nat_le s.column column then s.status else Active
-
-abbrev pub drawn_at : Bar → ℕ → Status
-drawn_at bar column = settled_at bar.settled column
 
 -- where it is settled, that is in this column or before, and as signalled or cancelled
 abbrev pub IsSettledBy : ℕ → Bar → Type 0

@@ -1,4 +1,5 @@
 pub mod Columns
 pub mod Drawn
+pub mod Pictured
 pub mod Progress
 pub mod Shown

@@ -13,14 +13,14 @@ use Rattle.script_core.specs.Output.{AreLineAnswers}
 use Rattle.script_core.specs.Answering.{history_along}
 use Rattle.point_core.specs.declared.entry.Point.{Point}
 use Rattle.std.specs.Prelude.{◌++◌, get_or, Contains, Some}
-use Rattle.picture_core.specs.Bars.{bars_after}
+use Rattle.picture_core.specs.Bars.{bars_after, is_there}
 use Rattle.picture_core.specs.declared.bar.Bar.{Bar}
 use Rattle.picture_core.specs.declared.history.BarWait.{BarWait}
 use Rattle.picture_core.specs.declared.history.Column.{Column}
 use Rattle.draw_core.specs.declared.window.Window.{Window}
 use Rattle.draw_core.specs.Columns.{drawn_lines, lines_drawn}
 use Rattle.draw_core.specs.Drawn.{AreAsked, IsSettledBy, IsWaitingFor}
-use Rattle.draw_core.specs.Shown.{ShowFiles, file_names, is_there, last_world, lines_run, names_there, world_shown}
+use Rattle.draw_core.specs.Shown.{ShowFiles, file_names, last_world, lines_run, names_there, world_shown}
 
 -- the bars after a line that was answered so
 abbrev pub bars_after_line : ℕ → Body → Answer → List Bar → List Bar

@@ -1,5 +1,5 @@
 -- What a picture shows of a run: in each column the files of the history so far, and at the end what they wait for.
-use Rattle.std.specs.Prelude.{◌≡◌, ◌<◌, ◌≤◌, ◌-◌, ◌+◌, ℕ, zero, suc, nat_le, nat_lt, Bool, ◌&&◌, not, true, false, if◌then◌else◌, List, [], ◌∷◌, All, Contains, filter, map, length, get_or, Option, None, Some, option_map, ⊤}
+use Rattle.std.specs.Prelude.{◌≡◌, ◌<◌, ◌≤◌, ◌-◌, ◌+◌, ℕ, zero, suc, nat_le, nat_lt, true, if◌then◌else◌, List, [], ◌∷◌, All, Contains, filter, map, length, get_or, Option, None, Some, option_map, ⊤}
 use Rattle.point_core.specs.declared.entry.Point.{Point}
 use Rattle.point_core.specs.declared.status.Status.{Status}
 use Rattle.point_core.specs.declared.status.Status.TheVariants.{Active}
@@ -14,12 +14,12 @@ use Rattle.desk_core.specs.History.{world_of}
 use Rattle.script_core.specs.Output.{AreLineAnswers, history_after_line}
 use Rattle.script_core.specs.Answering.{history_along}
 use Rattle.draw_core.specs.declared.window.Window.{Window}
+use Rattle.picture_core.specs.Bars.{drawn_at, is_there}
 use Rattle.picture_core.specs.declared.bar.Bar.{Bar}
 use Rattle.picture_core.specs.declared.history.BarWait.{BarWait}
 use Rattle.picture_core.specs.declared.history.Column.{Column}
 use Rattle.picture_core.specs.declared.waiting.Waiting.{Waiting}
 use Rattle.draw_core.specs.Columns.{lines_drawn}
-use Rattle.draw_core.specs.Drawn.{drawn_at}
 
 -- each line has a greater number than the one ahead of it, and the first has that number or a greater one
 abbrev pub AreRising : ℕ → List Line → Type 0
@@ -50,14 +50,6 @@ world_shown window lines given columns column =
 -- the world after the last line that is run
 abbrev pub last_world : Window → List Line → List Answer → World
 last_world window lines given = world_of (history_along [] (lines_run window lines) given)
-
-abbrev pub is_closed_by : ℕ → Option ℕ → Bool
-is_closed_by column None = false
-is_closed_by column (Some c) = nat_le c column
-
--- a bar is there from the column that made its file up to the one that closed it
-abbrev pub is_there : ℕ → Bar → Bool
-is_there column b = nat_le b.made column && not (is_closed_by column b.closed)
 
 abbrev pub names_there : ℕ → List Bar → List (List ℕ)
 names_there column bars = map (λ (b : Bar). b.name) (filter (is_there column) bars)

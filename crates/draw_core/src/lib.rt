@@ -4,6 +4,7 @@
 #![tactic(auto)]
 
 mod asking;
+mod drawing;
 mod graph;
 mod note;
 mod run;
@@ -12,6 +13,7 @@ mod waiting;
 mod window;
 
 pub use asking::{ask, ask_all};
+pub use drawing::Drawing;
 pub use run::{COLUMNS, Run, count_lines};
 pub use waiting::{waiting_for, waiting_on};
 pub use window::Window;

@@ -2,9 +2,9 @@
 
 use crate::status::{ACCEPTED, REFUSED};
 use command_line::{Draw, FAULT};
-use draw_core::{COLUMNS, Run, Window, count_lines};
+use draw_core::{COLUMNS, Drawing, Run, Window, count_lines};
 use line_core::SCRIPT_BYTES;
-use picture_core::{dot_text, picture_of, svg_text};
+use picture_core::{History, dot_text};
 use point_core::Refusal;
 use report_core::write_whole;
 use source_core::{Script, Source, put_file, reported};
@@ -35,21 +35,55 @@ fn draw_script(
     if is_too_long(rt, asked, script)? {
         return report_mistake(rt, TOO_LONG);
     }
-    let mut run = Run::of(rt.alloc(), script, window)?;
-    draw_run(rt, asked, &mut run)
-}
-
-fn draw_run(rt: &HostRuntime, asked: &Draw<'_>, run: &mut Run) -> Result<u8, Refusal> {
-    let document = document_of(rt, asked.graph, run)?;
-    write_document(rt, asked.output, document.as_slice(), status_of(run))
-}
-
-fn status_of(run: &Run) -> u8 {
-    if run.history().refused {
-        REFUSED
+    if asked.graph {
+        draw_graph(rt, asked.output, window, script)
     } else {
-        ACCEPTED
+        draw_picture(rt, asked.output, window, script)
     }
+}
+
+fn draw_graph(
+    rt: &HostRuntime,
+    output: Option<&str>,
+    window: &Window,
+    script: &[u8],
+) -> Result<u8, Refusal> {
+    let mut run = Run::of(rt.alloc(), script, window)?;
+    write_graph(rt, output, &mut run)
+}
+
+fn write_graph(rt: &HostRuntime, output: Option<&str>, run: &mut Run) -> Result<u8, Refusal> {
+    let document = graph_of(rt, run)?;
+    write_document(rt, output, document.as_slice(), status_of(run.history()))
+}
+
+fn graph_of(rt: &HostRuntime, run: &mut Run) -> Result<Vec<u8>, Refusal> {
+    let graph = run.graph()?;
+    dot_text(rt.alloc(), &graph)
+}
+
+fn draw_picture(
+    rt: &HostRuntime,
+    output: Option<&str>,
+    window: &Window,
+    script: &[u8],
+) -> Result<u8, Refusal> {
+    let drawing = Drawing::of(rt.alloc(), script, window)?;
+    write_picture(rt, output, &drawing, status_of(drawing.history()))
+}
+
+fn write_picture(
+    rt: &HostRuntime,
+    output: Option<&str>,
+    drawing: &Drawing,
+    status: u8,
+) -> Result<u8, Refusal> {
+    let document = drawing.svg(rt.alloc())?;
+    write_document(rt, output, document.as_slice(), status)
+}
+
+fn status_of(history: &History) -> u8 {
+    if history.refused { REFUSED } else { ACCEPTED }
 }
 
 /// Draws a script that what happened in a trace was written as, to standard output.
@@ -57,13 +91,8 @@ pub(crate) fn draw_trace(rt: &HostRuntime, script: &[u8]) -> Result<u8, Refusal>
     if count_lines(rt.alloc(), script)? > COLUMNS {
         return report_mistake(rt, TOO_LONG_A_WINDOW);
     }
-    let mut run = Run::of(rt.alloc(), script, &Window::whole())?;
-    draw_trace_run(rt, &mut run)
-}
-
-fn draw_trace_run(rt: &HostRuntime, run: &mut Run) -> Result<u8, Refusal> {
-    let document = document_of(rt, false, run)?;
-    write_output(rt, document.as_slice(), ACCEPTED)
+    let drawing = Drawing::of(rt.alloc(), script, &Window::whole())?;
+    write_picture(rt, None, &drawing, ACCEPTED)
 }
 
 const TOO_LONG_A_WINDOW: &str =
@@ -140,24 +169,6 @@ fn is_too_long(rt: &HostRuntime, asked: &Draw<'_>, script: &[u8]) -> Result<bool
         return Ok(false);
     }
     Ok(count_lines(rt.alloc(), script)? > COLUMNS)
-}
-
-fn document_of(rt: &HostRuntime, graph: bool, run: &mut Run) -> Result<Vec<u8>, Refusal> {
-    if graph {
-        graph_of(rt, run)
-    } else {
-        svg_of(rt, run)
-    }
-}
-
-fn graph_of(rt: &HostRuntime, run: &mut Run) -> Result<Vec<u8>, Refusal> {
-    let graph = run.graph()?;
-    dot_text(rt.alloc(), &graph)
-}
-
-fn svg_of(rt: &HostRuntime, run: &Run) -> Result<Vec<u8>, Refusal> {
-    let picture = picture_of(rt.alloc(), run.history())?;
-    svg_text(rt.alloc(), &picture, run.history())
 }
 
 /// Gives that status once the document is written.

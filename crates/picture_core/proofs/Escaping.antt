@@ -1,10 +1,10 @@
 -- An escaped text, byte by byte.
-use Rattle.std.proofs.Common.{ℕ, zero, suc, ◌≡◌, ◌∙◌, ◌+◌, ◌-◌, ◌*◌, ◌/◌, ◌%◌, ◌<◌, ◌≤◌, ◌==◌, Bool, true, false, ◌&&◌, List, [], ◌∷◌, ◌++◌, ap, sym, refl, length, arith, nat_lt}
-use Rattle.std.specs.List.{list_all, flat_map}
+use Rattle.std.proofs.Common.{ℕ, zero, suc, ◌≡◌, ◌∙◌, ◌+◌, ◌-◌, ◌*◌, ◌/◌, ◌%◌, ◌<◌, ◌≤◌, ◌==◌, Bool, true, false, ◌&&◌, List, [], ◌∷◌, ◌++◌, ap, refl, length, arith}
+use Rattle.std.specs.List.{list_all}
 use Rattle.std.proofs.lemmas.Bool.Decides.{nat_tests}
 use Rattle.std.proofs.lemmas.List.Folds.{list_all-append}
 use Rattle.std.proofs.lemmas.List.{length-append}
-use Rattle.picture_core.specs.Escape.{are_bytes, byte_text, escaped, escaped_byte, hex_digit, hex_text, hex_value, is_byte, is_inert, is_marked, is_plain, read, reference}
+use Rattle.picture_core.specs.Escape.{are_bytes, byte_text, escaped, escaped_byte, hex_digit, hex_value, is_byte, is_inert, is_marked, is_plain, read}
 
 inert_letter : (n : ℕ) → 97 ≤ n → n ≤ 122 → is_inert n ≡ true
 inert_letter n low high = grind (arith, nat_tests)

@@ -1,2 +1,10 @@
 pub mod Each
+mod Edging
 mod Escaping
+mod Growing
+mod Middles
+mod Numbered
+mod Pictures
+mod Placing
+mod Samples
+mod Seeing

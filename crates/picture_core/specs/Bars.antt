@@ -1,9 +1,12 @@
 -- The bars of files, as commands make and close them.
-use Rattle.std.specs.Prelude.{ℕ, zero, suc, Bool, ◌&&◌, not, if◌then◌else◌, List, [], ◌∷◌, ◌++◌, map, filter, None, Some, is_none}
+use Rattle.std.specs.Prelude.{ℕ, zero, suc, nat_le, Bool, false, ◌&&◌, not, if◌then◌else◌, List, [], ◌∷◌, ◌++◌, map, filter, Option, None, Some, is_none}
 use Rattle.point_core.specs.Named.{same_name}
+use Rattle.point_core.specs.declared.status.Status.{Status}
+use Rattle.point_core.specs.declared.status.Status.TheVariants.{Active}
 use Rattle.command_core.specs.declared.command.Command.{Command}
 use Rattle.command_core.specs.declared.command.Command.TheVariants as command
 use Rattle.picture_core.specs.declared.bar.Bar.{Bar}
+use Rattle.picture_core.specs.declared.bar.Settled.{Settled}
 
 -- the bar of a file that was made in that column
 abbrev pub bar_of : List ℕ → ℕ → Bar
@@ -43,3 +46,23 @@ bars_after column (command.Watch f cookie) bars = bars
 bars_after column (command.Unwatch cookie) bars = bars
 bars_after column (command.Show b) bars = bars
 bars_after column command.Report bars = bars
+
+-- a bar is drawn as pending up to the column from which on it is settled
+abbrev pub settled_at : Option Settled → ℕ → Status
+settled_at None column = Active
+settled_at (Some s) column = if nat_le s.column column then s.status else Active
+
+abbrev pub drawn_at : Bar → ℕ → Status
+drawn_at bar column = settled_at bar.settled column
+
+abbrev pub is_closed_by : ℕ → Option ℕ → Bool
+is_closed_by column None = false
+is_closed_by column (Some c) = nat_le c column
+
+-- a bar is there from the column that made its file up to the one that closed it
+abbrev pub is_there : ℕ → Bar → Bool
+is_there column b = nat_le b.made column && not (is_closed_by column b.closed)
+
+-- whether a bar is neither settled nor closed
+abbrev pub goes_on : Bar → Bool
+goes_on b = is_none b.settled && is_none b.closed

@@ -1,6 +1,6 @@
 // The bars of sync files.
 ghost use Rattle.std.specs.Prelude.{◌≡◌};
-ghost use Rattle.picture_core.specs.Bars.{bar_of, closed_if, is_open_of};
+ghost use Rattle.picture_core.specs.Bars.{bar_of, closed_if, goes_on, is_open_of};
 
 use point_core::{Name, Status};
 
@@ -42,6 +42,13 @@ impl Bar {
         ensures { result ≡ is_open_of name.now self.now }
     {
         self.closed.is_none() && self.name == *name
+    }
+
+    /// Whether it is neither settled nor closed.
+    pub(crate) fn goes_on(&self) -> bool
+        ensures { result ≡ goes_on self.now }
+    {
+        self.settled.is_none() && self.closed.is_none()
     }
 
     /// Closes it in that column, where it is the open bar of that name.

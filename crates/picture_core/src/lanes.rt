@@ -1,8 +1,13 @@
 // The lanes of timelines, files, buffers and watches.
+ghost use Rattle.std.specs.Prelude.{◌≡◌, ◌++◌, true, IfErr, OnOk, None};
+ghost use Rattle.point_core.specs.declared.refusal.Refusal.TheVariants.{Memory};
+ghost use Rattle.picture_core.specs.Shapes.{bars_on, end_of, fill_of, is_bar_fill, part_of, parts_of, shapes_of, shapes_of_all, waiting_in, waitings, waits_on};
+ghost use Rattle.picture_core.specs.Sheet.{height_of_bar, middle_of};
 
-use crate::bar::Bar;
+use crate::bar::{Bar, Settled};
 use crate::history::{
-    Access, BufferLane, BufferMark, History, Lane, TimelineLane, ValueStep, WatchEnd, WatchLane,
+    Access, BarWait, BufferLane, BufferMark, History, Lane, TimelineLane, ValueStep, WatchEnd,
+    WatchLane,
 };
 use crate::shapes::{Canvas, Face, Fill, Label, Mark, Spot, Stroke};
 use crate::sheet::{LINE, PAD, Sheet};
@@ -27,12 +32,20 @@ fn push_level(
     right: u64,
     y: u64,
     canvas: &mut Canvas,
-) -> Result<(), Refusal> {
+) -> Result<(), Refusal>
+    ensures bars { bars_on canvas.new ≡ bars_on canvas.old }
+    ensures waits { waits_on canvas.new ≡ waits_on canvas.old }
+    ensures memory { IfErr result (λ e. e ≡ Memory) }
+{
     canvas.line(stroke, &Spot { x: left, y }, &Spot { x: right, y })
 }
 
 /// The name of a lane, in its middle.
-fn push_name(sheet: &Sheet, lane: Lane, label: &Label, canvas: &mut Canvas) -> Result<(), Refusal> {
+fn push_name(sheet: &Sheet, lane: Lane, label: &Label, canvas: &mut Canvas) -> Result<(), Refusal>
+    ensures bars { bars_on canvas.new ≡ bars_on canvas.old }
+    ensures waits { waiting_in label.now ≡ None → waits_on canvas.new ≡ waits_on canvas.old }
+    ensures memory { IfErr result (λ e. e ≡ Memory) }
+{
     let y = sheet.middle_of(lane).saturating_add(FOOT);
     canvas.text(Face::Name, PAD, y, label)
 }
@@ -41,7 +54,11 @@ pub(crate) fn push_timelines(
     history: &History,
     sheet: &Sheet,
     canvas: &mut Canvas,
-) -> Result<(), Refusal> {
+) -> Result<(), Refusal>
+    ensures bars { bars_on canvas.new ≡ bars_on canvas.old }
+    ensures waits { waits_on canvas.new ≡ waits_on canvas.old }
+    ensures memory { IfErr result (λ e. e ≡ Memory) }
+{
     for (place, lane) in history.lanes.timelines.iter().enumerate() {
         let here = Lane::Timeline(place);
         push_name(sheet, here, &Label::Name(lane.name), canvas)?;
@@ -52,12 +69,11 @@ pub(crate) fn push_timelines(
 }
 
 /// What links begin at.
-fn push_axis(
-    sheet: &Sheet,
-    y: u64,
-    lane: &TimelineLane,
-    canvas: &mut Canvas,
-) -> Result<(), Refusal> {
+fn push_axis(sheet: &Sheet, y: u64, lane: &TimelineLane, canvas: &mut Canvas) -> Result<(), Refusal>
+    ensures bars { bars_on canvas.new ≡ bars_on canvas.old }
+    ensures waits { waits_on canvas.new ≡ waits_on canvas.old }
+    ensures memory { IfErr result (λ e. e ≡ Memory) }
+{
     match lane.steps.first() {
         Some(first) => push_level(
             Stroke::Lane,
@@ -76,7 +92,11 @@ fn push_values(
     top: u64,
     lane: &TimelineLane,
     canvas: &mut Canvas,
-) -> Result<(), Refusal> {
+) -> Result<(), Refusal>
+    ensures bars { bars_on canvas.new ≡ bars_on canvas.old }
+    ensures waits { waits_on canvas.new ≡ waits_on canvas.old }
+    ensures memory { IfErr result (λ e. e ≡ Memory) }
+{
     let greatest = lane.steps.last().map_or(0, |step| step.value);
     let mut last: Option<Spot> = None;
     for step in &lane.steps {
@@ -104,7 +124,11 @@ fn rise(value: u64, greatest: u64) -> u64 {
     u64::try_from(scaled).unwrap_or(RISE)
 }
 
-fn push_step(before: &Spot, next: &Spot, canvas: &mut Canvas) -> Result<(), Refusal> {
+fn push_step(before: &Spot, next: &Spot, canvas: &mut Canvas) -> Result<(), Refusal>
+    ensures bars { bars_on canvas.new ≡ bars_on canvas.old }
+    ensures waits { waits_on canvas.new ≡ waits_on canvas.old }
+    ensures memory { IfErr result (λ e. e ≡ Memory) }
+{
     push_level(Stroke::Value, before.x, next.x, before.y, canvas)?;
     let corner = Spot {
         x: next.x,
@@ -113,12 +137,11 @@ fn push_step(before: &Spot, next: &Spot, canvas: &mut Canvas) -> Result<(), Refu
     canvas.line(Stroke::Value, &corner, next)
 }
 
-fn push_value(
-    sheet: &Sheet,
-    top: u64,
-    step: &ValueStep,
-    canvas: &mut Canvas,
-) -> Result<(), Refusal> {
+fn push_value(sheet: &Sheet, top: u64, step: &ValueStep, canvas: &mut Canvas) -> Result<(), Refusal>
+    ensures bars { bars_on canvas.new ≡ bars_on canvas.old }
+    ensures waits { waits_on canvas.new ≡ waits_on canvas.old }
+    ensures memory { IfErr result (λ e. e ≡ Memory) }
+{
     let x = sheet.text_middle(step.column);
     let y = top.saturating_add(VALUES);
     canvas.text(Face::Number, x, y, &Label::Number(step.value))
@@ -130,7 +153,11 @@ fn push_end(
     lane: &TimelineLane,
     last: &Spot,
     canvas: &mut Canvas,
-) -> Result<(), Refusal> {
+) -> Result<(), Refusal>
+    ensures bars { bars_on canvas.new ≡ bars_on canvas.old }
+    ensures waits { waits_on canvas.new ≡ waits_on canvas.old }
+    ensures memory { IfErr result (λ e. e ≡ Memory) }
+{
     let Some(closed) = lane.closed else {
         return push_level(Stroke::Value, last.x, sheet.end, last.y, canvas);
     };
@@ -144,40 +171,92 @@ pub(crate) fn push_bars(
     history: &History,
     sheet: &Sheet,
     canvas: &mut Canvas,
-) -> Result<(), Refusal> {
-    for (place, bar) in history.bars.iter().enumerate() {
-        let lane = Lane::Bar(place);
-        push_name(sheet, lane, &Label::Name(bar.name), canvas)?;
-        push_bar(sheet, sheet.height_of(lane), bar, canvas)?;
-    }
-    push_waits(history, sheet, canvas)
+) -> Result<(), Refusal>
+    ensures bars { OnOk result (bars_on canvas.new ≡ bars_on canvas.old
+        ++ shapes_of_all (middle_of sheet.now) sheet.now.end (height_of_bar sheet.now) history.now.bars.items) }
+    ensures waits { OnOk result (waits_on canvas.new ≡ waits_on canvas.old ++ waitings history.now.waits.items) }
+    ensures memory { IfErr result (λ e. e ≡ Memory) }
+{
+    push_lanes(history.bars.as_slice(), sheet, canvas)?;
+    push_waits(history.waits.as_slice(), sheet, canvas)
 }
 
-fn push_bar(sheet: &Sheet, middle: u64, bar: &Bar, canvas: &mut Canvas) -> Result<(), Refusal> {
+fn push_lanes(bars: &[Bar], sheet: &Sheet, canvas: &mut Canvas) -> Result<(), Refusal>
+    ensures bars { OnOk result (bars_on canvas.new ≡ bars_on canvas.old
+        ++ shapes_of_all (middle_of sheet.now) sheet.now.end (height_of_bar sheet.now) bars.now) }
+    ensures waits { waits_on canvas.new ≡ waits_on canvas.old }
+    ensures memory { IfErr result (λ e. e ≡ Memory) }
+{
+    for (place, bar) in bars.iter().enumerate() {
+        push_lane(sheet, place, bar, canvas)?;
+    }
+    Ok(())
+}
+
+/// The name of a file, and its bar.
+fn push_lane(sheet: &Sheet, place: usize, bar: &Bar, canvas: &mut Canvas) -> Result<(), Refusal>
+    ensures bars { OnOk result (bars_on canvas.new ≡ bars_on canvas.old
+        ++ shapes_of (middle_of sheet.now) sheet.now.end (height_of_bar sheet.now place) bar.now) }
+    ensures waits { waits_on canvas.new ≡ waits_on canvas.old }
+    ensures memory { IfErr result (λ e. e ≡ Memory) }
+{
+    push_name(sheet, Lane::Bar(place), &Label::Name(bar.name), canvas)?;
+    push_bar(sheet, sheet.height_of_bar(place), bar, canvas)
+}
+
+fn push_bar(sheet: &Sheet, middle: u64, bar: &Bar, canvas: &mut Canvas) -> Result<(), Refusal>
+    ensures bars { OnOk result (bars_on canvas.new ≡ bars_on canvas.old
+        ++ shapes_of (middle_of sheet.now) sheet.now.end middle bar.now) }
+    ensures waits { waits_on canvas.new ≡ waits_on canvas.old }
+    ensures memory { IfErr result (λ e. e ≡ Memory) }
+{
     let left = sheet.middle(bar.made);
-    let right = bar.closed.map_or(sheet.end, |column| sheet.middle(column));
+    let right = end_of(sheet, bar.closed);
     let y = middle.saturating_sub(HALF_BAR);
-    let settled = match bar.settled {
-        Some(settled) => sheet.middle(settled.column),
-        None => right,
-    };
-    push_part(Fill::Pending, left, settled, y, canvas)?;
-    if let Some(settled_as) = bar.settled {
-        push_part(fill_of(settled_as.status), settled, right, y, canvas)?;
-    }
-    let open = bar.settled.is_none() && bar.closed.is_none();
+    push_parts(sheet, bar.settled, left, right, y, canvas)?;
     let width = right.saturating_sub(left);
-    canvas.edge(&Spot { x: left, y }, width, HALF_BAR * 2, open)?;
-    push_bar_end(bar, right, middle, open, canvas)
+    canvas.edge(&Spot { x: left, y }, width, HALF_BAR * 2, bar.goes_on())?;
+    push_bar_end(bar, right, middle, canvas)
 }
 
-fn push_part(
-    fill: Fill,
+/// Where a bar ends.
+fn end_of(sheet: &Sheet, closed: Option<usize>) -> u64
+    ensures { result ≡ end_of (middle_of sheet.now) sheet.now.end closed }
+{
+    match closed {
+        Some(column) => sheet.middle(column),
+        None => sheet.end,
+    }
+}
+
+/// Pending, and from the column on from which it is settled with the fill of its status.
+fn push_parts(
+    sheet: &Sheet,
+    settled: Option<Settled>,
     left: u64,
     right: u64,
     y: u64,
     canvas: &mut Canvas,
-) -> Result<(), Refusal> {
+) -> Result<(), Refusal>
+    ensures bars { OnOk result (bars_on canvas.new ≡ bars_on canvas.old
+        ++ parts_of (middle_of sheet.now) left right y settled) }
+    ensures waits { waits_on canvas.new ≡ waits_on canvas.old }
+    ensures memory { IfErr result (λ e. e ≡ Memory) }
+{
+    let Some(settled) = settled else {
+        return push_part(Fill::Pending, left, right, y, canvas);
+    };
+    let turn = sheet.middle(settled.column).max(left).min(right);
+    push_part(Fill::Pending, left, turn, y, canvas)?;
+    push_part(fill_of(settled.status), turn, right, y, canvas)
+}
+
+fn push_part(fill: Fill, left: u64, right: u64, y: u64, canvas: &mut Canvas) -> Result<(), Refusal>
+    ensures bars { is_bar_fill fill ≡ true →
+        OnOk result (bars_on canvas.new ≡ bars_on canvas.old ++ part_of fill left right y) }
+    ensures waits { waits_on canvas.new ≡ waits_on canvas.old }
+    ensures memory { IfErr result (λ e. e ≡ Memory) }
+{
     if left >= right {
         return Ok(());
     }
@@ -185,7 +264,10 @@ fn push_part(
     canvas.area(fill, &Spot { x: left, y }, width, HALF_BAR * 2)
 }
 
-fn fill_of(status: Status) -> Fill {
+fn fill_of(status: Status) -> Fill
+    ensures value { result ≡ fill_of status }
+    ensures of_bar { is_bar_fill result ≡ true }
+{
     match status {
         Status::Active => Fill::Pending,
         Status::Signalled => Fill::Signalled,
@@ -193,14 +275,12 @@ fn fill_of(status: Status) -> Fill {
     }
 }
 
-fn push_bar_end(
-    bar: &Bar,
-    right: u64,
-    middle: u64,
-    open: bool,
-    canvas: &mut Canvas,
-) -> Result<(), Refusal> {
-    if open {
+fn push_bar_end(bar: &Bar, right: u64, middle: u64, canvas: &mut Canvas) -> Result<(), Refusal>
+    ensures bars { bars_on canvas.new ≡ bars_on canvas.old }
+    ensures waits { waits_on canvas.new ≡ waits_on canvas.old }
+    ensures memory { IfErr result (λ e. e ≡ Memory) }
+{
+    if bar.goes_on() {
         return canvas.mark(Mark::GoesOn, right, middle);
     }
     if bar.closed.is_some() {
@@ -210,11 +290,15 @@ fn push_bar_end(
 }
 
 /// What bars wait for, a line of text each, right of the columns.
-fn push_waits(history: &History, sheet: &Sheet, canvas: &mut Canvas) -> Result<(), Refusal> {
+fn push_waits(waits: &[BarWait], sheet: &Sheet, canvas: &mut Canvas) -> Result<(), Refusal>
+    ensures bars { bars_on canvas.new ≡ bars_on canvas.old }
+    ensures waits { OnOk result (waits_on canvas.new ≡ waits_on canvas.old ++ waitings waits.now) }
+    ensures memory { IfErr result (λ e. e ≡ Memory) }
+{
     let x = sheet.end.saturating_add(PAD * 2);
     let mut bar = usize::MAX;
     let mut y: u64 = 0;
-    for wait in &history.waits {
+    for wait in waits {
         y = if wait.bar == bar {
             y.saturating_add(LINE)
         } else {
@@ -230,11 +314,36 @@ pub(crate) fn push_buffers(
     history: &History,
     sheet: &Sheet,
     canvas: &mut Canvas,
-) -> Result<(), Refusal> {
-    for (place, lane) in history.lanes.buffers.iter().enumerate() {
+) -> Result<(), Refusal>
+    ensures bars { bars_on canvas.new ≡ bars_on canvas.old }
+    ensures waits { waits_on canvas.new ≡ waits_on canvas.old }
+    ensures memory { IfErr result (λ e. e ≡ Memory) }
+{
+    push_buffer_lanes(history.lanes.buffers.as_slice(), sheet, canvas)?;
+    push_accesses(history.lanes.marks.as_slice(), sheet, canvas)
+}
+
+fn push_buffer_lanes(
+    lanes: &[BufferLane],
+    sheet: &Sheet,
+    canvas: &mut Canvas,
+) -> Result<(), Refusal>
+    ensures bars { bars_on canvas.new ≡ bars_on canvas.old }
+    ensures waits { waits_on canvas.new ≡ waits_on canvas.old }
+    ensures memory { IfErr result (λ e. e ≡ Memory) }
+{
+    for (place, lane) in lanes.iter().enumerate() {
         push_buffer(sheet, Lane::Buffer(place), lane, canvas)?;
     }
-    for mark in &history.lanes.marks {
+    Ok(())
+}
+
+fn push_accesses(marks: &[BufferMark], sheet: &Sheet, canvas: &mut Canvas) -> Result<(), Refusal>
+    ensures bars { bars_on canvas.new ≡ bars_on canvas.old }
+    ensures waits { waits_on canvas.new ≡ waits_on canvas.old }
+    ensures memory { IfErr result (λ e. e ≡ Memory) }
+{
+    for mark in marks {
         push_access(sheet, mark, canvas)?;
     }
     Ok(())
@@ -245,14 +354,22 @@ fn push_buffer(
     here: Lane,
     lane: &BufferLane,
     canvas: &mut Canvas,
-) -> Result<(), Refusal> {
+) -> Result<(), Refusal>
+    ensures bars { bars_on canvas.new ≡ bars_on canvas.old }
+    ensures waits { waits_on canvas.new ≡ waits_on canvas.old }
+    ensures memory { IfErr result (λ e. e ≡ Memory) }
+{
     push_name(sheet, here, &Label::Name(lane.name), canvas)?;
     let left = sheet.middle(lane.made);
     let y = sheet.height_of(here);
     push_level(Stroke::Lane, left, sheet.end, y, canvas)
 }
 
-fn push_access(sheet: &Sheet, access: &BufferMark, canvas: &mut Canvas) -> Result<(), Refusal> {
+fn push_access(sheet: &Sheet, access: &BufferMark, canvas: &mut Canvas) -> Result<(), Refusal>
+    ensures bars { bars_on canvas.new ≡ bars_on canvas.old }
+    ensures waits { waits_on canvas.new ≡ waits_on canvas.old }
+    ensures memory { IfErr result (λ e. e ≡ Memory) }
+{
     let x = sheet.middle(access.column);
     let y = sheet.height_of(Lane::Buffer(access.buffer));
     canvas.mark(mark_of(access.access), x, y)?;
@@ -273,7 +390,11 @@ pub(crate) fn push_watches(
     history: &History,
     sheet: &Sheet,
     canvas: &mut Canvas,
-) -> Result<(), Refusal> {
+) -> Result<(), Refusal>
+    ensures bars { bars_on canvas.new ≡ bars_on canvas.old }
+    ensures waits { waits_on canvas.new ≡ waits_on canvas.old }
+    ensures memory { IfErr result (λ e. e ≡ Memory) }
+{
     for (place, lane) in history.lanes.watches.iter().enumerate() {
         push_watch(sheet, Lane::Watch(place), lane, canvas)?;
     }
@@ -285,7 +406,11 @@ fn push_watch(
     here: Lane,
     lane: &WatchLane,
     canvas: &mut Canvas,
-) -> Result<(), Refusal> {
+) -> Result<(), Refusal>
+    ensures bars { bars_on canvas.new ≡ bars_on canvas.old }
+    ensures waits { waits_on canvas.new ≡ waits_on canvas.old }
+    ensures memory { IfErr result (λ e. e ≡ Memory) }
+{
     push_name(sheet, here, &Label::Watch(lane.cookie), canvas)?;
     let left = sheet.middle(lane.made);
     let y = sheet.height_of(here);

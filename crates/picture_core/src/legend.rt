@@ -1,4 +1,8 @@
 // What the signs of a picture mean.
+ghost use Rattle.std.specs.Prelude.{◌≡◌, ◌-◌, ◌∷◌, [], true, flat_map, IfErr, OnOk};
+ghost use Rattle.point_core.specs.declared.refusal.Refusal.TheVariants.{Memory};
+ghost use Rattle.picture_core.specs.Legend.{AddsSamples, fills_of_legend, sample_of, top_of_samples};
+ghost use Rattle.picture_core.specs.Shapes.{bars_on, is_bar_fill, waits_on};
 
 use crate::history::Access;
 use crate::measure::text_width;
@@ -16,6 +20,8 @@ pub(crate) const LEGEND_HEIGHT: u64 = 66;
 const FIRST: u64 = 20;
 
 const SECOND: u64 = 46;
+/// Half the height of a sample of a bar.
+const HALF_SAMPLE: u64 = 7;
 /// The width of a sign, and what stands between a text and the next sign.
 const SIGN: u64 = 30;
 
@@ -26,7 +32,12 @@ const BESIDE: u64 = 22;
 /// The legend, below what lies there.
 ///
 /// Fails with `Memory` alone.
-pub(crate) fn push_legend(top: u64, canvas: &mut Canvas) -> Result<(), Refusal> {
+pub(crate) fn push_legend(top: u64, canvas: &mut Canvas) -> Result<(), Refusal>
+    ensures bars { OnOk result (AddsSamples (top_of_samples top) fills_of_legend
+        (bars_on canvas.old) (bars_on canvas.new)) }
+    ensures waits { waits_on canvas.new ≡ waits_on canvas.old }
+    ensures memory { IfErr result (λ e. e ≡ Memory) }
+{
     let first = [
         Meaning::Pending,
         Meaning::Signalled,
@@ -47,7 +58,12 @@ pub(crate) fn push_legend(top: u64, canvas: &mut Canvas) -> Result<(), Refusal> 
     push_meanings(top.saturating_add(SECOND), &second, canvas)
 }
 
-fn push_meanings(y: u64, meanings: &[Meaning], canvas: &mut Canvas) -> Result<(), Refusal> {
+fn push_meanings(y: u64, meanings: &[Meaning], canvas: &mut Canvas) -> Result<(), Refusal>
+    ensures bars { OnOk result (AddsSamples (y - HALF_SAMPLE) (flat_map sample_of meanings.now)
+        (bars_on canvas.old) (bars_on canvas.new)) }
+    ensures waits { waits_on canvas.new ≡ waits_on canvas.old }
+    ensures memory { IfErr result (λ e. e ≡ Memory) }
+{
     let mut x = PAD;
     for meaning in meanings {
         push_sign(*meaning, x, y, canvas)?;
@@ -64,7 +80,12 @@ fn push_meanings(y: u64, meanings: &[Meaning], canvas: &mut Canvas) -> Result<()
     Ok(())
 }
 
-fn push_sign(meaning: Meaning, x: u64, y: u64, canvas: &mut Canvas) -> Result<(), Refusal> {
+fn push_sign(meaning: Meaning, x: u64, y: u64, canvas: &mut Canvas) -> Result<(), Refusal>
+    ensures bars { OnOk result (AddsSamples (y - HALF_SAMPLE) (sample_of meaning)
+        (bars_on canvas.old) (bars_on canvas.new)) }
+    ensures waits { waits_on canvas.new ≡ waits_on canvas.old }
+    ensures memory { IfErr result (λ e. e ≡ Memory) }
+{
     match meaning {
         Meaning::Pending => push_sample(Fill::Pending, x, y, canvas),
         Meaning::Signalled => push_sample(Fill::Signalled, x, y, canvas),
@@ -81,12 +102,20 @@ fn push_sign(meaning: Meaning, x: u64, y: u64, canvas: &mut Canvas) -> Result<()
     }
 }
 
-fn push_mark(mark: Mark, x: u64, y: u64, canvas: &mut Canvas) -> Result<(), Refusal> {
+fn push_mark(mark: Mark, x: u64, y: u64, canvas: &mut Canvas) -> Result<(), Refusal>
+    ensures bars { bars_on canvas.new ≡ bars_on canvas.old }
+    ensures waits { waits_on canvas.new ≡ waits_on canvas.old }
+    ensures memory { IfErr result (λ e. e ≡ Memory) }
+{
     canvas.mark(mark, x.saturating_add(MIDDLE), y)
 }
 
 /// A letter stands in a mark for the usage or the access.
-fn push_letters(x: u64, y: u64, canvas: &mut Canvas) -> Result<(), Refusal> {
+fn push_letters(x: u64, y: u64, canvas: &mut Canvas) -> Result<(), Refusal>
+    ensures bars { bars_on canvas.new ≡ bars_on canvas.old }
+    ensures waits { waits_on canvas.new ≡ waits_on canvas.old }
+    ensures memory { IfErr result (λ e. e ≡ Memory) }
+{
     push_mark(Mark::Add, x, y, canvas)?;
     let kernel = Label::Access(Access::Add(Usage::Kernel));
     canvas.text(
@@ -97,11 +126,16 @@ fn push_letters(x: u64, y: u64, canvas: &mut Canvas) -> Result<(), Refusal> {
     )
 }
 
-fn push_sample(fill: Fill, x: u64, y: u64, canvas: &mut Canvas) -> Result<(), Refusal> {
+fn push_sample(fill: Fill, x: u64, y: u64, canvas: &mut Canvas) -> Result<(), Refusal>
+    ensures bars { is_bar_fill fill ≡ true →
+        OnOk result (AddsSamples (y - HALF_SAMPLE) (fill ∷ []) (bars_on canvas.old) (bars_on canvas.new)) }
+    ensures waits { waits_on canvas.new ≡ waits_on canvas.old }
+    ensures memory { IfErr result (λ e. e ≡ Memory) }
+{
     let at = Spot {
         x,
-        y: y.saturating_sub(7),
+        y: y.saturating_sub(HALF_SAMPLE),
     };
-    canvas.area(fill, &at, SIGN - 8, 14)?;
-    canvas.edge(&at, SIGN - 8, 14, false)
+    canvas.area(fill, &at, SIGN - 8, HALF_SAMPLE * 2)?;
+    canvas.edge(&at, SIGN - 8, HALF_SAMPLE * 2, false)
 }

@@ -1,5 +1,5 @@
 // Lists that grow.
-ghost use Rattle.std.specs.Prelude.{◌≡◌, ◌∷◌, ◌++◌, [], OnOk, IfErr};
+ghost use Rattle.std.specs.Prelude.{◌≡◌, ◌∷◌, ◌++◌, [], OnOk, OnErr, IfErr};
 ghost use Rattle.point_core.specs.declared.refusal.Refusal.TheVariants.{Memory};
 
 use point_core::Refusal;
@@ -9,6 +9,7 @@ use point_core::Refusal;
 /// Fails with `Memory` alone.
 pub(crate) fn push<T: Drop>(items: &mut Vec<T>, item: T) -> Result<(), Refusal>
     ensures ok { OnOk result (items.new.items ≡ items.old.items ++ item ∷ []) }
+    ensures err { OnErr result (items.new.items ≡ items.old.items) }
     ensures memory { IfErr result (λ e. e ≡ Memory) }
 {
     match items.push(item) {

@@ -1,4 +1,10 @@
 // The picture of a history.
+ghost use Rattle.std.specs.Prelude.{◌≡◌, ◌+◌, ◌++◌, ◌<◌, ◌^◌, IfErr, IfOk, OnOk, length, map};
+ghost use Rattle.std.specs.List.{range_with_len};
+ghost use Rattle.point_core.specs.declared.refusal.Refusal.TheVariants.{Memory};
+ghost use Rattle.picture_core.specs.Picture.{AddsAll, IsPictureOn, ShowsHistory, area_of_column, areas_of_columns};
+ghost use Rattle.picture_core.specs.Shapes.{bars_on, waitings, waits_on};
+ghost use Rattle.picture_core.specs.Sheet.{IsSheetOf};
 
 use crate::history::{Column, History, Lane};
 use crate::lanes::{push_bars, push_buffers, push_timelines, push_watches};
@@ -20,14 +26,23 @@ const REFUSALS: u64 = 43;
 /// Draws a history: a column for each line, and a lane for each timeline, file, buffer and watch.
 ///
 /// Fails with `Memory` alone.
-pub fn picture_of(alloc: Global, history: &History) -> Result<Picture, Refusal> {
+pub fn picture_of(alloc: Global, history: &History) -> Result<Picture, Refusal>
+    ensures shows { IfOk result (λ picture. ShowsHistory history.now picture) }
+    ensures memory { IfErr result (λ e. e ≡ Memory) }
+{
     let sheet = Sheet::of(alloc, history)?;
     picture_on(alloc, history, &sheet)
 }
 
-fn picture_on(alloc: Global, history: &History, sheet: &Sheet) -> Result<Picture, Refusal> {
+fn picture_on(alloc: Global, history: &History, sheet: &Sheet) -> Result<Picture, Refusal>
+    ensures ok { IfOk result (λ picture. IsPictureOn sheet.now history.now picture) }
+    ensures memory { IfErr result (λ e. e ≡ Memory) }
+{
     let width = sheet.width.max(LEGEND_WIDTH);
-    let height = sheet.bottom.saturating_add(LEGEND_HEIGHT);
+    let height = sheet
+        .bottom
+        .checked_add(LEGEND_HEIGHT)
+        .ok_or(Refusal::Memory)?;
     let mut canvas = Canvas::new(alloc);
     canvas.area(Fill::Page, &Spot { x: 0, y: 0 }, width, height)?;
     push_all(history, sheet, width, &mut canvas)?;
@@ -46,7 +61,10 @@ fn push_all(
     sheet: &Sheet,
     width: u64,
     canvas: &mut Canvas,
-) -> Result<(), Refusal> {
+) -> Result<(), Refusal>
+    ensures ok { OnOk result (AddsAll sheet.now history.now canvas.old canvas.new) }
+    ensures memory { IfErr result (λ e. e ≡ Memory) }
+{
     push_stripes(history, sheet, width, canvas)?;
     push_headings(history, sheet, canvas)?;
     push_heads(history, sheet, canvas)?;
@@ -58,75 +76,101 @@ fn push_all(
     push_legend(sheet.bottom, canvas)
 }
 
+/// The kinds of lanes from top to bottom, and how many there are of each.
+fn kinds_of(history: &History) -> [(Heading, usize); 4] {
+    [
+        (Heading::Timelines, history.lanes.timelines.len()),
+        (Heading::Files, history.bars.len()),
+        (Heading::Buffers, history.lanes.buffers.len()),
+        (Heading::Watches, history.lanes.watches.len()),
+    ]
+}
+
+fn lane_of(kind: Heading, place: usize) -> Lane {
+    match kind {
+        Heading::Timelines => Lane::Timeline(place),
+        Heading::Files => Lane::Bar(place),
+        Heading::Buffers => Lane::Buffer(place),
+        Heading::Watches => Lane::Watch(place),
+    }
+}
+
 /// Every other lane, counted from the first of its kind.
 fn push_stripes(
     history: &History,
     sheet: &Sheet,
     width: u64,
     canvas: &mut Canvas,
-) -> Result<(), Refusal> {
-    for place in 0..history.lanes.timelines.len() {
-        push_stripe(sheet, width, place, Lane::Timeline(place), canvas)?;
-    }
-    for place in 0..history.bars.len() {
-        push_stripe(sheet, width, place, Lane::Bar(place), canvas)?;
-    }
-    for place in 0..history.lanes.buffers.len() {
-        push_stripe(sheet, width, place, Lane::Buffer(place), canvas)?;
-    }
-    for place in 0..history.lanes.watches.len() {
-        push_stripe(sheet, width, place, Lane::Watch(place), canvas)?;
+) -> Result<(), Refusal>
+    ensures bars { bars_on canvas.new ≡ bars_on canvas.old }
+    ensures waits { waits_on canvas.new ≡ waits_on canvas.old }
+    ensures memory { IfErr result (λ e. e ≡ Memory) }
+{
+    for (kind, count) in kinds_of(history) {
+        push_stripes_of(sheet, width, kind, count, canvas)?;
     }
     Ok(())
 }
 
-fn push_stripe(
+fn push_stripes_of(
     sheet: &Sheet,
     width: u64,
-    place: usize,
-    lane: Lane,
+    kind: Heading,
+    count: usize,
     canvas: &mut Canvas,
-) -> Result<(), Refusal> {
-    if place % 2 == 0 {
-        let at = Spot {
-            x: 0,
-            y: sheet.top(lane),
-        };
-        canvas.area(Fill::Stripe, &at, width, sheet.lane_height(lane))?;
-    }
-    Ok(())
-}
-
-fn push_headings(history: &History, sheet: &Sheet, canvas: &mut Canvas) -> Result<(), Refusal> {
-    let headings = [
-        (
-            Heading::Timelines,
-            history.lanes.timelines.len(),
-            Lane::Timeline(0),
-        ),
-        (Heading::Files, history.bars.len(), Lane::Bar(0)),
-        (
-            Heading::Buffers,
-            history.lanes.buffers.len(),
-            Lane::Buffer(0),
-        ),
-        (
-            Heading::Watches,
-            history.lanes.watches.len(),
-            Lane::Watch(0),
-        ),
-    ];
-    for (heading, count, first) in headings {
-        if count > 0 {
-            let y = sheet.top(first).saturating_sub(HEADING / 3);
-            canvas.text(Face::Heading, PAD, y, &Label::Heading(heading))?;
+) -> Result<(), Refusal>
+    ensures bars { bars_on canvas.new ≡ bars_on canvas.old }
+    ensures waits { waits_on canvas.new ≡ waits_on canvas.old }
+    ensures memory { IfErr result (λ e. e ≡ Memory) }
+{
+    for place in 0..count {
+        if place % 2 == 0 {
+            push_stripe(sheet, width, lane_of(kind, place), canvas)?;
         }
     }
     Ok(())
 }
 
+fn push_stripe(sheet: &Sheet, width: u64, lane: Lane, canvas: &mut Canvas) -> Result<(), Refusal>
+    ensures bars { bars_on canvas.new ≡ bars_on canvas.old }
+    ensures waits { waits_on canvas.new ≡ waits_on canvas.old }
+    ensures memory { IfErr result (λ e. e ≡ Memory) }
+{
+    let at = Spot {
+        x: 0,
+        y: sheet.top(lane),
+    };
+    canvas.area(Fill::Stripe, &at, width, sheet.lane_height(lane))
+}
+
+fn push_headings(history: &History, sheet: &Sheet, canvas: &mut Canvas) -> Result<(), Refusal>
+    ensures bars { bars_on canvas.new ≡ bars_on canvas.old }
+    ensures waits { waits_on canvas.new ≡ waits_on canvas.old }
+    ensures memory { IfErr result (λ e. e ≡ Memory) }
+{
+    for (kind, count) in kinds_of(history) {
+        if count > 0 {
+            push_heading(sheet, kind, canvas)?;
+        }
+    }
+    Ok(())
+}
+
+fn push_heading(sheet: &Sheet, kind: Heading, canvas: &mut Canvas) -> Result<(), Refusal>
+    ensures bars { bars_on canvas.new ≡ bars_on canvas.old }
+    ensures waits { waits_on canvas.new ≡ waits_on canvas.old }
+    ensures memory { IfErr result (λ e. e ≡ Memory) }
+{
+    let y = sheet.top(lane_of(kind, 0)).saturating_sub(HEADING / 3);
+    canvas.text(Face::Heading, PAD, y, &Label::Heading(kind))
+}
+
 /// The head of each column: its line's number and word, and whether that was refused.
-fn push_heads(history: &History, sheet: &Sheet, canvas: &mut Canvas) -> Result<(), Refusal> {
+fn push_heads(history: &History, sheet: &Sheet, canvas: &mut Canvas) -> Result<(), Refusal>
+    ensures bars { bars_on canvas.new ≡ bars_on canvas.old }
+    ensures waits { waits_on canvas.new ≡ waits_on canvas.old }
+    ensures memory { IfErr result (λ e. e ≡ Memory) }
+{
     for (place, column) in history.columns.iter().enumerate() {
         push_head(sheet, place, column, canvas)?;
     }
@@ -138,7 +182,11 @@ fn push_head(
     place: usize,
     column: &Column,
     canvas: &mut Canvas,
-) -> Result<(), Refusal> {
+) -> Result<(), Refusal>
+    ensures bars { bars_on canvas.new ≡ bars_on canvas.old }
+    ensures waits { waits_on canvas.new ≡ waits_on canvas.old }
+    ensures memory { IfErr result (λ e. e ≡ Memory) }
+{
     let number = place.saturating_add(1);
     let x = sheet.middle(number);
     if column.refused {
@@ -154,31 +202,37 @@ fn push_head(
     canvas.text(face, x, WORDS, &Label::Command(place))
 }
 
-fn push_refusal(sheet: &Sheet, number: usize, canvas: &mut Canvas) -> Result<(), Refusal> {
+fn push_refusal(sheet: &Sheet, number: usize, canvas: &mut Canvas) -> Result<(), Refusal>
+    ensures bars { bars_on canvas.new ≡ bars_on canvas.old }
+    ensures waits { waits_on canvas.new ≡ waits_on canvas.old }
+    ensures memory { IfErr result (λ e. e ≡ Memory) }
+{
     let left = sheet.left(number);
-    let right = sheet.left(number.saturating_add(1));
-    let at = Spot { x: left, y: 0 };
-    canvas.area(Fill::Refused, &at, right.saturating_sub(left), sheet.bottom)?;
+    let width = sheet.right(number).saturating_sub(left);
+    canvas.area(Fill::Refused, &Spot { x: left, y: 0 }, width, sheet.bottom)?;
     canvas.mark(Mark::Refused, sheet.middle(number), REFUSALS)
 }
 
-fn column_areas(
-    alloc: Global,
-    history: &History,
-    sheet: &Sheet,
-) -> Result<Vec<ColumnArea>, Refusal> {
+fn column_areas(alloc: Global, history: &History, sheet: &Sheet) -> Result<Vec<ColumnArea>, Refusal>
+    ensures ok { IfOk result (λ areas. areas.items ≡ areas_of_columns sheet.now (length history.now.columns.items)) }
+    ensures memory { IfErr result (λ e. e ≡ Memory) }
+{
     let mut areas = Vec::with_capacity(alloc, history.columns.len())?;
     for column in 0..history.columns.len() {
-        let x = sheet.left(column.saturating_add(1));
-        let right = sheet.left(column.saturating_add(2));
-        push(
-            &mut areas,
-            ColumnArea {
-                column,
-                x,
-                width: right.saturating_sub(x),
-            },
-        )?;
+        push(&mut areas, area_of_column(sheet, column))?;
     }
     Ok(areas)
+}
+
+fn area_of_column(sheet: &Sheet, column: usize) -> ColumnArea
+    requires { column + 1 < 2 ^ 64 }
+    ensures { result ≡ area_of_column sheet.now column }
+{
+    let number = column + 1;
+    let x = sheet.left(number);
+    ColumnArea {
+        column,
+        x,
+        width: sheet.right(number).saturating_sub(x),
+    }
 }

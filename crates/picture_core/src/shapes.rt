@@ -1,4 +1,7 @@
 // The shapes that a picture is made of.
+ghost use Rattle.std.specs.Prelude.{◌≡◌, ◌∷◌, ◌++◌, [], true, false, IfErr, OnOk, OnErr, None, option_to_list};
+ghost use Rattle.point_core.specs.declared.refusal.Refusal.TheVariants.{Memory};
+ghost use Rattle.picture_core.specs.Shapes.{bars_on, is_bar_fill, waiting_in, waits_on};
 
 use crate::history::Access;
 use crate::list::push;
@@ -164,7 +167,10 @@ pub(crate) struct Canvas {
 }
 
 impl Canvas {
-    pub(crate) fn new(alloc: Global) -> Canvas {
+    pub(crate) fn new(alloc: Global) -> Canvas
+        ensures shapes { result.shapes.items ≡ [] }
+        ensures texts { result.texts.items ≡ [] }
+    {
         Canvas {
             shapes: Vec::new(alloc),
             texts: Vec::new(alloc),
@@ -177,7 +183,17 @@ impl Canvas {
         at: &Spot,
         width: u64,
         height: u64,
-    ) -> Result<(), Refusal> {
+    ) -> Result<(), Refusal>
+        ensures ok { OnOk result (self.new.shapes.items ≡ self.old.shapes.items
+            ++ Shape.Area fill at.now width height ∷ []) }
+        ensures err { OnErr result (self.new.shapes.items ≡ self.old.shapes.items) }
+        ensures texts { self.new.texts ≡ self.old.texts }
+        ensures bar { is_bar_fill fill ≡ true →
+            OnOk result (bars_on self.new ≡ bars_on self.old ++ Shape.Area fill at.now width height ∷ []) }
+        ensures other { is_bar_fill fill ≡ false → bars_on self.new ≡ bars_on self.old }
+        ensures waits { waits_on self.new ≡ waits_on self.old }
+        ensures memory { IfErr result (λ e. e ≡ Memory) }
+    {
         push(
             &mut self.shapes,
             Shape::Area {
@@ -194,20 +210,36 @@ impl Canvas {
         at: &Spot,
         width: u64,
         height: u64,
-        open: bool,
-    ) -> Result<(), Refusal> {
+        is_open: bool,
+    ) -> Result<(), Refusal>
+        ensures ok { OnOk result (self.new.shapes.items ≡ self.old.shapes.items
+            ++ Shape.Edge at.now width height is_open ∷ []) }
+        ensures err { OnErr result (self.new.shapes.items ≡ self.old.shapes.items) }
+        ensures texts { self.new.texts ≡ self.old.texts }
+        ensures bar { OnOk result (bars_on self.new ≡ bars_on self.old ++ Shape.Edge at.now width height is_open ∷ []) }
+        ensures waits { waits_on self.new ≡ waits_on self.old }
+        ensures memory { IfErr result (λ e. e ≡ Memory) }
+    {
         push(
             &mut self.shapes,
             Shape::Edge {
                 at: *at,
                 width,
                 height,
-                open,
+                open: is_open,
             },
         )
     }
 
-    pub(crate) fn line(&mut self, stroke: Stroke, from: &Spot, to: &Spot) -> Result<(), Refusal> {
+    pub(crate) fn line(&mut self, stroke: Stroke, from: &Spot, to: &Spot) -> Result<(), Refusal>
+        ensures ok { OnOk result (self.new.shapes.items ≡ self.old.shapes.items
+            ++ Shape.Line stroke from.now to.now ∷ []) }
+        ensures err { OnErr result (self.new.shapes.items ≡ self.old.shapes.items) }
+        ensures texts { self.new.texts ≡ self.old.texts }
+        ensures bars { bars_on self.new ≡ bars_on self.old }
+        ensures waits { waits_on self.new ≡ waits_on self.old }
+        ensures memory { IfErr result (λ e. e ≡ Memory) }
+    {
         push(
             &mut self.shapes,
             Shape::Line {
@@ -218,7 +250,15 @@ impl Canvas {
         )
     }
 
-    pub(crate) fn mark(&mut self, mark: Mark, x: u64, y: u64) -> Result<(), Refusal> {
+    pub(crate) fn mark(&mut self, mark: Mark, x: u64, y: u64) -> Result<(), Refusal>
+        ensures ok { OnOk result (self.new.shapes.items ≡ self.old.shapes.items
+            ++ Shape.Mark mark (record { x = x; y = y }) ∷ []) }
+        ensures err { OnErr result (self.new.shapes.items ≡ self.old.shapes.items) }
+        ensures texts { self.new.texts ≡ self.old.texts }
+        ensures bars { bars_on self.new ≡ bars_on self.old }
+        ensures waits { waits_on self.new ≡ waits_on self.old }
+        ensures memory { IfErr result (λ e. e ≡ Memory) }
+    {
         push(
             &mut self.shapes,
             Shape::Mark {
@@ -228,13 +268,16 @@ impl Canvas {
         )
     }
 
-    pub(crate) fn text(
-        &mut self,
-        face: Face,
-        x: u64,
-        y: u64,
-        label: &Label,
-    ) -> Result<(), Refusal> {
+    pub(crate) fn text(&mut self, face: Face, x: u64, y: u64, label: &Label) -> Result<(), Refusal>
+        ensures ok { OnOk result (self.new.texts.items ≡ self.old.texts.items
+            ++ record { face = face; at = record { x = x; y = y }; label = label.now } ∷ []) }
+        ensures err { OnErr result (self.new.texts.items ≡ self.old.texts.items) }
+        ensures shapes { self.new.shapes ≡ self.old.shapes }
+        ensures wait { OnOk result (waits_on self.new ≡ waits_on self.old ++ option_to_list (waiting_in label.now)) }
+        ensures other { waiting_in label.now ≡ None → waits_on self.new ≡ waits_on self.old }
+        ensures bars { bars_on self.new ≡ bars_on self.old }
+        ensures memory { IfErr result (λ e. e ≡ Memory) }
+    {
         push(
             &mut self.texts,
             Text {

@@ -1,6 +1,9 @@
 // Where columns and lanes lie.
+ghost use Rattle.std.specs.Prelude.{◌≡◌, ℕ, ◌+◌, ◌≤◌, All, IfErr, IfOk, get_or, length};
+ghost use Rattle.point_core.specs.declared.refusal.Refusal.TheVariants.{Memory};
+ghost use Rattle.picture_core.specs.Sheet.{AreApart, AreLanes, AreEdges, IsSheetOf, height_of_bar, left_of, middle_of};
 
-use crate::history::{Column, History, Lane, TimelineLane, WatchLane};
+use crate::history::{BarWait, Column, History, Lane, ValueStep, WatchLane};
 use crate::list::push;
 use crate::measure::{digits, name_length, text_width, waiting_length};
 use point_core::Refusal;
@@ -31,13 +34,6 @@ const BESIDE: u64 = 14;
 /// What lies between two kinds of lanes.
 const APART: u64 = 10;
 
-/// The top and the height of a lane.
-#[derive(Clone, Copy)]
-struct Span {
-    top: u64,
-    height: u64,
-}
-
 /// Where columns and lanes lie, in pixels.
 #[derive(Drop)]
 pub(crate) struct Sheet {
@@ -48,8 +44,8 @@ pub(crate) struct Sheet {
     /// What the lanes and the texts beside them take.
     pub(crate) width: u64,
     pub(crate) timelines: u64,
-    /// The lanes of bars.
-    bars: Vec<Span>,
+    /// The top of each bar's lane, and what lies under the last.
+    bars: Vec<u64>,
     pub(crate) buffers: u64,
     pub(crate) watches: u64,
     pub(crate) bottom: u64,
@@ -57,9 +53,11 @@ pub(crate) struct Sheet {
 
 impl Sheet {
     /// Fails with `Memory` alone.
-    pub(crate) fn of(alloc: Global, history: &History) -> Result<Sheet, Refusal> {
-        let edges = edges_of(alloc, history)?;
-        let end = edges.last().copied().unwrap_or(0);
+    pub(crate) fn of(alloc: Global, history: &History) -> Result<Sheet, Refusal>
+        ensures ok { IfOk result (λ sheet. IsSheetOf history.now sheet) }
+        ensures memory { IfErr result (λ e. e ≡ Memory) }
+    {
+        let (edges, end) = edges_of(alloc, history)?;
         let (timelines, next) = lanes(HEAD, history.lanes.timelines.len(), TIMELINE);
         let (bars, next) = bars_of(alloc, history, next)?;
         let (buffers, next) = lanes(next, history.lanes.buffers.len(), BUFFER);
@@ -77,35 +75,41 @@ impl Sheet {
     }
 
     /// The left edge of a column.
-    pub(crate) fn left(&self, column: usize) -> u64 {
+    pub(crate) fn left(&self, column: usize) -> u64
+        ensures { result ≡ left_of self.now column }
+    {
         self.edges.get(column).copied().unwrap_or(self.end)
     }
 
+    /// The right edge of a column.
+    pub(crate) fn right(&self, column: usize) -> u64
+        ensures { result ≡ left_of self.now (column + 1) }
+    {
+        self.left(column.saturating_add(1))
+    }
+
     /// The middle of a column. What stood before the first column begins at the left edge.
-    pub(crate) fn middle(&self, column: usize) -> u64 {
+    pub(crate) fn middle(&self, column: usize) -> u64
+        ensures { result ≡ middle_of self.now column }
+    {
         let left = self.left(column);
         if column == 0 {
             return left;
         }
-        let right = self.left(column.saturating_add(1));
-        left.saturating_add(right.saturating_sub(left) / 2)
+        left.saturating_add(self.right(column).saturating_sub(left) / 2)
     }
 
     /// The middle of what stands in a column, where 0 has room for what stood before the first.
     pub(crate) fn text_middle(&self, column: usize) -> u64 {
         let left = self.left(column);
-        let right = self.left(column.saturating_add(1));
-        left.saturating_add(right.saturating_sub(left) / 2)
+        left.saturating_add(self.right(column).saturating_sub(left) / 2)
     }
 
     /// The top of a lane.
     pub(crate) fn top(&self, lane: Lane) -> u64 {
         match lane {
             Lane::Timeline(place) => below(self.timelines, place, TIMELINE),
-            Lane::Bar(place) => match self.bars.get(place) {
-                Some(span) => span.top,
-                None => self.bottom,
-            },
+            Lane::Bar(place) => self.top_of_bar(place),
             Lane::Buffer(place) => below(self.buffers, place, BUFFER),
             Lane::Watch(place) => below(self.watches, place, WATCH),
         }
@@ -115,10 +119,10 @@ impl Sheet {
     pub(crate) fn lane_height(&self, lane: Lane) -> u64 {
         match lane {
             Lane::Timeline(_) => TIMELINE,
-            Lane::Bar(place) => match self.bars.get(place) {
-                Some(span) => span.height,
-                None => BAR,
-            },
+            Lane::Bar(place) => {
+                let next = self.top_of_bar(place.saturating_add(1));
+                next.saturating_sub(self.top_of_bar(place))
+            }
             Lane::Buffer(_) => BUFFER,
             Lane::Watch(_) => WATCH,
         }
@@ -134,22 +138,38 @@ impl Sheet {
 
     /// The height where links meet a lane.
     pub(crate) fn height_of(&self, lane: Lane) -> u64 {
-        let down = match lane {
-            Lane::Timeline(_) => AXIS,
-            Lane::Bar(_) => BAR / 2,
-            Lane::Buffer(_) => BUFFER / 2,
-            Lane::Watch(_) => WATCH / 2,
-        };
-        self.top(lane).saturating_add(down)
+        match lane {
+            Lane::Timeline(_) => self.top(lane).saturating_add(AXIS),
+            Lane::Bar(place) => self.height_of_bar(place),
+            Lane::Buffer(_) => self.top(lane).saturating_add(BUFFER / 2),
+            Lane::Watch(_) => self.top(lane).saturating_add(WATCH / 2),
+        }
+    }
+
+    /// The height of the middle of a bar.
+    pub(crate) fn height_of_bar(&self, place: usize) -> u64
+        ensures { result ≡ height_of_bar self.now place }
+    {
+        self.top_of_bar(place).saturating_add(BAR / 2)
+    }
+
+    fn top_of_bar(&self, place: usize) -> u64
+        ensures { result ≡ get_or self.now.bars.items place self.now.bottom }
+    {
+        self.bars.get(place).copied().unwrap_or(self.bottom)
     }
 }
 
-fn below(top: u64, place: usize, height: u64) -> u64 {
+fn below(top: u64, place: usize, height: u64) -> u64
+    ensures { top ≤ result }
+{
     top.saturating_add((place as u64).saturating_mul(height))
 }
 
 /// The top of the first of so many lanes, and what lies under them all.
-fn lanes(top: u64, count: usize, height: u64) -> (u64, u64) {
+fn lanes(top: u64, count: usize, height: u64) -> (u64, u64)
+    ensures { top ≤ result.1 }
+{
     if count == 0 {
         return (top, top);
     }
@@ -158,78 +178,141 @@ fn lanes(top: u64, count: usize, height: u64) -> (u64, u64) {
 }
 
 /// The lane of each bar, which is as high as what it waits for, and what lies under them all.
-fn bars_of(alloc: Global, history: &History, top: u64) -> Result<(Vec<Span>, u64), Refusal> {
-    let heights = bar_heights(alloc, history)?;
-    let mut spans = Vec::with_capacity(alloc, heights.len())?;
+///
+/// Fails with `Memory` alone.
+fn bars_of(alloc: Global, history: &History, top: u64) -> Result<(Vec<u64>, u64), Refusal>
+    ensures ok { IfOk result (λ lanes. AreLanes history.now lanes.0.items lanes.1) }
+    ensures memory { IfErr result (λ e. e ≡ Memory) }
+{
+    let heights = heights_of(alloc, history)?;
     if heights.is_empty() {
-        return Ok((spans, top));
+        return Ok((Vec::new(alloc), top));
     }
-    let mut top = top.saturating_add(HEADING);
-    for height in &heights {
-        let height = *height;
-        push(&mut spans, Span { top, height })?;
-        top = top.saturating_add(height);
-    }
-    Ok((spans, top.saturating_add(APART)))
+    let (tops, end) = places_of(alloc, top.saturating_add(HEADING), heights.as_slice())?;
+    Ok((tops, end.saturating_add(APART)))
 }
 
-fn bar_heights(alloc: Global, history: &History) -> Result<Vec<u64>, Refusal> {
-    let mut heights = Vec::with_capacity(alloc, history.bars.len())?;
-    for _ in &history.bars {
+/// How high the lane of each bar is.
+fn heights_of(alloc: Global, history: &History) -> Result<Vec<u64>, Refusal>
+    ensures count { IfOk result (λ heights. length heights.items ≡ length history.now.bars.items) }
+    ensures least { IfOk result (λ heights. All (λ height. BAR ≤ height) heights.items) }
+    ensures memory { IfErr result (λ e. e ≡ Memory) }
+{
+    let mut heights = low_lanes(alloc, history.bars.len())?;
+    add_lines(heights.as_mut_slice(), history.waits.as_slice());
+    raise_all(heights.as_mut_slice());
+    Ok(heights)
+}
+
+fn low_lanes(alloc: Global, count: usize) -> Result<Vec<u64>, Refusal>
+    ensures count { IfOk result (λ heights. length heights.items ≡ count) }
+    ensures memory { IfErr result (λ e. e ≡ Memory) }
+{
+    let mut heights = Vec::with_capacity(alloc, count)?;
+    for _ in 0..count {
         push(&mut heights, BAR.saturating_sub(LINE))?;
-    }
-    for wait in &history.waits {
-        if let Some(height) = heights.get_mut(wait.bar) {
-            *height = height.saturating_add(LINE);
-        }
-    }
-    for height in heights.iter_mut() {
-        *height = (*height).max(BAR);
     }
     Ok(heights)
 }
 
-fn edges_of(alloc: Global, history: &History) -> Result<Vec<u64>, Refusal> {
+/// A line of text for each point that a bar waits for.
+fn add_lines(heights: &mut [u64], waits: &[BarWait]) {
+    for wait in waits {
+        if let Some(height) = heights.get_mut(wait.bar) {
+            *height = height.saturating_add(LINE);
+        }
+    }
+}
+
+fn raise_all(heights: &mut [u64])
+    ensures { All (λ height. BAR ≤ height) heights.new }
+{
+    for height in heights.iter_mut() {
+        *height = (*height).max(BAR);
+    }
+}
+
+/// The left edge of each column, from column 0 on, and the right edge of the last, which stands beside them too.
+///
+/// Fails with `Memory` alone.
+fn edges_of(alloc: Global, history: &History) -> Result<(Vec<u64>, u64), Refusal>
+    ensures ok { IfOk result (λ edges. AreEdges history.now edges.0.items edges.1) }
+    ensures memory { IfErr result (λ e. e ≡ Memory) }
+{
     let widths = widths_of(alloc, history)?;
-    edges_from(alloc, names_width(history), widths.as_slice())
+    places_of(alloc, names_width(history), widths.as_slice())
 }
 
 /// The width of each column, from column 0 on.
-fn widths_of(alloc: Global, history: &History) -> Result<Vec<u64>, Refusal> {
-    let mut widths = Vec::new(alloc);
-    push(&mut widths, PAD)?;
-    for column in &history.columns {
-        push(&mut widths, width_of(column))?;
-    }
+fn widths_of(alloc: Global, history: &History) -> Result<Vec<u64>, Refusal>
+    ensures count { IfOk result (λ widths. length widths.items ≡ length history.now.columns.items + 1) }
+    ensures least { IfOk result (λ widths. All (λ width. 1 ≤ width) widths.items) }
+    ensures memory { IfErr result (λ e. e ≡ Memory) }
+{
+    let mut widths = word_widths(alloc, history.columns.as_slice())?;
     for lane in &history.lanes.timelines {
-        widen(widths.as_mut_slice(), lane);
+        widen(widths.as_mut_slice(), lane.steps.as_slice());
     }
     Ok(widths)
 }
 
-fn edges_from(alloc: Global, first: u64, widths: &[u64]) -> Result<Vec<u64>, Refusal> {
-    let mut edges = Vec::new(alloc);
-    let mut left = first;
-    for width in widths {
-        push(&mut edges, left)?;
-        left = left.saturating_add(*width);
+fn word_widths(alloc: Global, columns: &[Column]) -> Result<Vec<u64>, Refusal>
+    ensures count { IfOk result (λ widths. length widths.items ≡ length columns.now + 1) }
+    ensures least { IfOk result (λ widths. All (λ width. 1 ≤ width) widths.items) }
+    ensures memory { IfErr result (λ e. e ≡ Memory) }
+{
+    let mut widths = Vec::new(alloc);
+    push(&mut widths, PAD)?;
+    for column in columns {
+        push(&mut widths, width_of(column))?;
     }
-    push(&mut edges, left)?;
-    Ok(edges)
+    Ok(widths)
+}
+
+/// Where things begin that lie one after another and are so long, with the place where the last ends, which stands beside
+/// them too.
+///
+/// Fails with `Memory` alone, also where a place is too great a number.
+fn places_of(alloc: Global, first: u64, lengths: &[u64]) -> Result<(Vec<u64>, u64), Refusal>
+    ensures count { IfOk result (λ places. length places.0.items ≡ length lengths.now + 1) }
+    ensures apart { IfOk result (λ places. (gap : ℕ) → All (λ l. gap ≤ l) lengths.now → AreApart gap places.0.items) }
+    ensures end { IfOk result (λ places. get_or places.0.items (length lengths.now) 0 ≡ places.1) }
+    ensures memory { IfErr result (λ e. e ≡ Memory) }
+{
+    let mut places = Vec::new(alloc);
+    let mut next = first;
+    for length in lengths {
+        push(&mut places, next)?;
+        next = next.checked_add(*length).ok_or(Refusal::Memory)?;
+    }
+    push(&mut places, next)?;
+    Ok((places, next))
 }
 
 /// The width of a column that has its line's number and word.
-fn width_of(column: &Column) -> u64 {
+fn width_of(column: &Column) -> u64
+    ensures { 1 ≤ result }
+{
     let length = digits(u64::from(column.line)).max(column.word.len() as u64);
     NARROW.max(text_width(length).saturating_add(BESIDE))
 }
 
-/// Makes the columns so wide that the timeline's values fit.
-fn widen(widths: &mut [u64], lane: &TimelineLane) {
-    for step in &lane.steps {
-        if let Some(width) = widths.get_mut(step.column) {
-            *width = (*width).max(text_width(digits(step.value)).saturating_add(BESIDE));
-        }
+/// Makes the columns so wide that the values of a timeline fit.
+fn widen(widths: &mut [u64], steps: &[ValueStep])
+    ensures { All (λ width. 1 ≤ width) widths.old → All (λ width. 1 ≤ width) widths.new }
+{
+    for step in steps {
+        let width = text_width(digits(step.value)).saturating_add(BESIDE);
+        widen_one(widths, step.column, width);
+    }
+}
+
+/// Makes a column at least so wide.
+fn widen_one(widths: &mut [u64], column: usize, width: u64)
+    ensures { All (λ w. 1 ≤ w) widths.old → All (λ w. 1 ≤ w) widths.new }
+{
+    if column < widths.len() {
+        widths[column] = widths[column].max(width);
     }
 }
 

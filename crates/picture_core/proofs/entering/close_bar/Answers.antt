@@ -1,4 +1,4 @@
-use Rattle.std.proofs.Common.{rules, ◌≡◌, ℕ, not, arith, sym, ◌∙◌}
+use Rattle.std.proofs.Common.{rules, ◌≡◌, not, arith}
 use Rattle.std.proofs.lemmas.Fn.{filter_same}
 use Rattle.picture_core.specs.declared.bar.Bar.{Bar}
 use Rattle.picture_core.specs.Bars.{is_open_of}

@@ -1,4 +1,4 @@
-use Rattle.std.proofs.Common.{◌≡◌, ℕ, arith, sym, ◌∙◌, ◌<◌, ◌≤◌, length, map}
+use Rattle.std.proofs.Common.{◌≡◌, arith, sym, ◌∙◌, ◌<◌, length, map}
 use Rattle.std.proofs.lemmas.List.{length-set, length-map, get_or-map, same_lists}
 use Rattle.picture_core.specs.declared.bar.Bar.{Bar}
 use Rattle.picture_core.specs.Bars.{closed_if}

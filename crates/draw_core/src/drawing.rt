@@ -1,0 +1,45 @@
+// A script's run, drawn.
+ghost use Rattle.std.specs.Prelude.{◌≡◌, IfOk};
+ghost use Rattle.line_core.specs.Script.{script_of};
+ghost use Rattle.draw_core.specs.Pictured.{ShowsScript};
+
+use crate::run::Run;
+use crate::window::Window;
+use picture_core::{History, Picture, picture_of, svg_text};
+use point_core::Refusal;
+use std::alloc::Global;
+
+/// A run of a script, and the picture of what it did.
+#[derive(Drop)]
+pub struct Drawing {
+    run: Run,
+    picture: Picture,
+}
+
+impl Drawing {
+    /// Runs the lines of a script up to the window's last, and draws those in the window, a column for each that has an
+    /// answer. Refused lines are drawn too.
+    ///
+    /// Fails with `Memory` alone.
+    pub fn of(alloc: Global, script: &[u8], window: &Window) -> Result<Drawing, Refusal>
+        ensures { IfOk result (λ drawing. ShowsScript window.now (script_of script.now) drawing.picture) }
+    {
+        let run = Run::of(alloc, script, window)?;
+        let picture = picture_of(alloc, run.history())?;
+        Ok(Drawing { run, picture })
+    }
+
+    /// What the run did.
+    pub fn history(&self) -> &History
+        ensures { result.now ≡ self.now.run.history }
+    {
+        self.run.history()
+    }
+
+    /// The picture as a document of SVG, which stands alone.
+    ///
+    /// Fails with `Memory` alone.
+    pub fn svg(&self, alloc: Global) -> Result<Vec<u8>, Refusal> {
+        svg_text(alloc, &self.picture, self.run.history())
+    }
+}

@@ -1,0 +1,18 @@
+use Rattle.std.proofs.Common.{◌∙◌, ◌-◌, get_or, refl}
+use Rattle.picture_core.specs.Legend.{sample_of}
+use Rattle.picture_core.specs.Shapes.{bars_on}
+use Rattle.picture_core.specs.declared.legend.TheConstants.{HALF_SAMPLE}
+use Rattle.picture_core.specs.declared.shapes.Meaning.TheVariants.{Pending}
+use Rattle.std.proofs.lemmas.List.{get_or_default}
+use Rattle.picture_core.proofs.Samples.{AddsSamples-next}
+use Rattle.picture_core.proofs.legend.push_meanings.Goals as goal
+
+pub loop-meaning-preserved : goal.loop-meaning-preserved
+loop-meaning-preserved c =
+    let i = c.loop-meaning.meaning-index in
+    let meanings = c.args.meanings.now in
+    let x = get_or meanings i Pending in
+    record {
+      bars = AddsSamples-next (c.args.y - HALF_SAMPLE) sample_of i meanings x (bars_on c.args.canvas.now) (bars_on c.loop-meaning.canvas) (bars_on c.push_sign.new.canvas) (bars_on c.text.new.self) c.loop-meaning-test.true (get_or_default meanings i Pending x c.loop-meaning-test.true) c.loop-meaning.invariant.bars c.in_ok-push_sign.ensures.bars c.text.ensures.bars;
+      waits = c.text.ensures.other refl ∙ c.push_sign.ensures.waits ∙ c.loop-meaning.invariant.waits;
+    }

@@ -1,0 +1,67 @@
+-- What a picture shows of a history.
+use Rattle.std.specs.Prelude.{◌≡◌, ℕ, ◌+◌, ◌-◌, ◌*◌, ◌/◌, ◌^◌, ◌<◌, ◌≤◌, List, [], ◌++◌, All, map, filter_map, length, get_or}
+use Rattle.std.specs.List.{range_with_len}
+use Rattle.picture_core.specs.declared.bar.Bar.{Bar}
+use Rattle.picture_core.specs.declared.history.History.{History}
+use Rattle.picture_core.specs.declared.legend.TheConstants.{LEGEND_HEIGHT}
+use Rattle.picture_core.specs.declared.lanes.TheConstants.{HALF_BAR}
+use Rattle.picture_core.specs.declared.shapes.Canvas.{Canvas}
+use Rattle.picture_core.specs.declared.shapes.ColumnArea.{ColumnArea}
+use Rattle.picture_core.specs.declared.shapes.Picture.{Picture}
+use Rattle.picture_core.specs.declared.shapes.Shape.{Shape}
+use Rattle.picture_core.specs.declared.sheet.Sheet.{Sheet}
+use Rattle.picture_core.specs.Legend.{AddsSamples, IsFrom, fill_in, fills_of_legend, top_of_samples}
+use Rattle.picture_core.specs.Shapes.{bar_shapes, bars_on, fills_at, seen_of, shapes_of_all, waitings, waits_on, waits_told}
+use Rattle.picture_core.specs.Sheet.{height_of_bar, left_of, middle_of}
+
+-- the area of the column at that place, from 0, which has the number above
+abbrev pub area_of_column : Sheet → ℕ → ColumnArea
+area_of_column s place =
+    record { column = place; x = left_of s (place + 1); width = left_of s (place + 1 + 1) - left_of s (place + 1) }
+
+abbrev pub areas_of_columns : Sheet → ℕ → List ColumnArea
+areas_of_columns s count = map (area_of_column s) (range_with_len 0 count)
+
+-- the shapes of bars, and with them those of a legend
+pub record AddsBars (s : Sheet) (h : History) (old new : List Shape) : Type 0 where
+  pub with_bars : List Shape
+  pub bars : with_bars ≡ old ++ shapes_of_all (middle_of s) s.end (height_of_bar s) h.bars.items
+  pub legend : AddsSamples (top_of_samples s.bottom) fills_of_legend with_bars new
+
+-- all that is drawn of a history
+pub record AddsAll (s : Sheet) (h : History) (old new : Canvas) : Type 0 where
+  pub shapes : AddsBars s h (bars_on old) (bars_on new)
+  pub waits : waits_on new ≡ waits_on old ++ waitings h.waits.items
+
+-- a picture of a history, drawn on a sheet
+pub record IsPictureOn (s : Sheet) (h : History) (p : Picture) : Type 0 where
+  pub shapes : AddsBars s h [] (bar_shapes p.shapes.items)
+  pub waits : waits_told p.texts.items ≡ waitings h.waits.items
+  pub columns : p.columns.items ≡ areas_of_columns s (length h.columns.items)
+  pub fits : s.bottom + LEGEND_HEIGHT < 2 ^ 64
+
+-- the middle of a column's area
+abbrev pub IsMiddle : (ℕ → ℕ) → ColumnArea → Type 0
+IsMiddle middle a = middle (a.column + 1) ≡ a.x + a.width / 2
+
+-- A picture shows a history. Columns are numbered from 1, and 0 stands for what was there before the first. Where the
+-- middle of a column crosses the middle of a bar, the shapes show exactly what has to be seen of that bar in that column.
+pub record ShowsHistory (h : History) (p : Picture) : Type 0 where
+  -- how far from the left the middle of each column lies, and the right end of the columns
+  pub middle : ℕ → ℕ
+  pub right : ℕ
+  -- how far from the top the middle of each bar lies
+  pub height : ℕ → ℕ
+  pub legend : List Shape
+  pub columns : map (λ (a : ColumnArea). a.column) p.columns.items ≡ range_with_len 0 (length h.columns.items)
+  pub middles : All (IsMiddle middle) p.columns.items
+  pub rising : (c d : ℕ) → c < d → c ≤ length h.columns.items → middle c < middle d
+  pub within : (c : ℕ) → c ≤ length h.columns.items → middle c < right
+  pub apart : (j k : ℕ) → j < k → k < length h.bars.items → height j + HALF_BAR * 2 < height k
+  pub shapes : bar_shapes p.shapes.items ≡ shapes_of_all middle right height h.bars.items ++ legend
+  pub samples : filter_map fill_in legend ≡ fills_of_legend
+  pub low : (k : ℕ) → k < length h.bars.items → All (IsFrom (height k + HALF_BAR)) legend
+  pub seen : (column k : ℕ) (b : Bar) → column ≤ length h.columns.items
+      → k < length h.bars.items → get_or h.bars.items k b ≡ b
+      → fills_at (middle column) (height k) p.shapes.items ≡ seen_of column b
+  pub waits : waits_told p.texts.items ≡ waitings h.waits.items
