@@ -59,6 +59,7 @@ module _ (old new : DeskHandle) (room out : List ℕ) (count : ℕ) (returned : 
           kept = ap (λ (h : DeskHandle). h.service.fired) unchanged ∙ sym (append-nil old.service.fired);
           number = t.number ∙ ap number_of_answer is;
           text = told-text given t (answer.Refused r) is;
+          few = λ none. t.few (ap has_rows is ∙ none);
           fits = inr stands;
         }
     | inr memory ↦ let none : has_rows (answer.Refused r) ≡ true = ap has_rows (sym refused.is) ∙ memory.1 in absurd (cc)
@@ -79,6 +80,7 @@ module _ (old new : DeskHandle) (room out : List ℕ) (count : ℕ) (returned : 
             kept = step.kept;
             number = told-number given t same;
             text = told-text given t given same;
+            few = λ none. t.few (ap has_rows same ∙ none);
             fits = fits-by given t (has_rows t.told) refl (λ rows. rows_same (ap has_rows (sym same) ∙ rows));
           }
         | inr memory ↦ record {
@@ -90,6 +92,7 @@ module _ (old new : DeskHandle) (room out : List ℕ) (count : ℕ) (returned : 
             kept = step.kept ∙ ap (λ (l : List ℕ). old.service.fired ++ l) (rows-no_cookies given memory.1);
             number = t.number ∙ ap number_of_answer memory.0;
             text = told-text given t (answer.Refused Memory) memory.0;
+            few = λ none. t.few (ap has_rows memory.0 ∙ none);
             fits = inr (rows_same memory.1);
           }
       ]

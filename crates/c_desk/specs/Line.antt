@@ -91,6 +91,7 @@ pub record IsLineCall (old new : DeskHandle) (body : Body) (room out : List ℕ)
   pub kept : new.service.fired ≡ old.service.fired ++ cookies_of given
   pub number : returned ≡ number_of_answer given
   pub text : StoresText (text_told given) room out count
+  pub few : has_rows given ≡ false → count < ANSWER_ROOM
   pub fits : (count < length room)
       ⊎ ((history : List Command) → HasHistory old.service.desk history → HasHistory new.service.desk history)
 
