@@ -7,7 +7,7 @@
 #include <time.h>
 #include <unistd.h>
 
-enum { CALLS = 10000000, TRIES = 3 };
+enum { CALLS = 10000000, TRIES = 3, NAMES = 64 };
 
 static void check(int refusal, const char *call)
 {
@@ -34,13 +34,6 @@ static void wait_once(void)
     bim_wait(&desk, "pending");
 }
 
-/* Two files of one point each, of two timelines; the merged one is closed, so that its name is free for the next. */
-static void merge(void)
-{
-    bim_merge(&desk, "merged", "pending", "other");
-    bim_close(&desk, "merged");
-}
-
 static void seat_load(void)
 {
     bim_seat_load(&seat, 1, &value);
@@ -64,20 +57,59 @@ static double seconds(void)
     return (double)now.tv_sec + (double)now.tv_nsec / 1e9;
 }
 
+/* The lesser of what a try took and the best so far, in nanoseconds a call. */
+static double better(double best, int attempt, double took)
+{
+    double each = took * 1e9 / CALLS;
+
+    return attempt == 0 || each < best ? each : best;
+}
+
 /* The best of some tries, in nanoseconds. */
 static double cost(void (*call)(void))
 {
     double best = 0;
 
     for (int attempt = 0; attempt < TRIES; attempt++) {
-        double begun = seconds(), took;
+        double begun = seconds();
         for (int i = 0; i < CALLS; i++)
             call();
-        took = (seconds() - begun) * 1e9 / CALLS;
-        if (attempt == 0 || took < best)
-            best = took;
+        best = better(best, attempt, seconds() - begun);
     }
     return best;
+}
+
+/* The same of merges of two files of one point each, of two timelines, into some names one after another, and of the
+ * closes that make these free again. */
+static void merge_costs(double *merges, double *closes)
+{
+    char names[NAMES][8];
+
+    for (int i = 0; i < NAMES; i++)
+        snprintf(names[i], sizeof names[i], "merge%d", i);
+    for (int attempt = 0; attempt < TRIES; attempt++) {
+        double merging = 0, closing = 0;
+        for (int round = 0; round < CALLS / NAMES; round++) {
+            double begun = seconds(), merged;
+            for (int i = 0; i < NAMES; i++)
+                bim_merge(&desk, names[i], "pending", "other");
+            merged = seconds();
+            for (int i = 0; i < NAMES; i++)
+                bim_close(&desk, names[i]);
+            merging += merged - begun;
+            closing += seconds() - merged;
+        }
+        *merges = better(*merges, attempt, merging);
+        *closes = better(*closes, attempt, closing);
+    }
+}
+
+static void write_row(const char *name, double took, int goal)
+{
+    printf("%-22s %8.1f ", name, took);
+    if (goal)
+        printf("%6d", goal);
+    putchar('\n');
 }
 
 int main(void)
@@ -89,11 +121,11 @@ int main(void)
     } rows[] = {
         { "bim_inc", inc, 60 },
         { "bim_wait", wait_once, 40 },
-        { "bim_merge, bim_close", merge, 150 },
         { "bim_seat_load", seat_load, 5 },
         { "bim_file_poll", poll_file, 20 },
         { "getppid", system_call, 0 },
     };
+    double merges = 0, closes = 0;
 
     CHECK(bim_desk_open(&desk));
     CHECK(bim_timeline(&desk, "gpu", &value));
@@ -104,12 +136,11 @@ int main(void)
     CHECK(bim_words_open(&seat, 4, 0, 0));
     CHECK(bim_file_plain(&file, 1, 5));
     printf("%-22s %8s %6s\n", "call", "ns", "goal");
-    for (size_t i = 0; i < sizeof rows / sizeof rows[0]; i++) {
-        printf("%-22s %8.1f ", rows[i].name, cost(rows[i].call));
-        if (rows[i].goal)
-            printf("%6d", rows[i].goal);
-        putchar('\n');
-    }
+    for (size_t i = 0; i < sizeof rows / sizeof rows[0]; i++)
+        write_row(rows[i].name, cost(rows[i].call), rows[i].goal);
+    merge_costs(&merges, &closes);
+    write_row("bim_merge", merges, 150);
+    write_row("bim_close", closes, 0);
     bim_file_close(&file);
     bim_seat_close(&seat);
     bim_desk_close(&desk);

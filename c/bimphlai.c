@@ -23,6 +23,7 @@ const char *bim_refusal_name(int refusal)
     case BIM_FOREIGN: return "Foreign";
     case BIM_TORN: return "Torn";
     case BIM_NOT_ALL: return "NotAll";
+    case BIM_LONG_LINE: return "LongLine";
     case BIM_CANCELLED: return "Cancelled";
     case BIM_MEMORY: return "Memory";
     default: return "?";

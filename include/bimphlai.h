@@ -9,8 +9,8 @@
  * What holds of every call:
  *
  * - A call that can be refused returns BIM_OK, or the number of its refusal. A refused call changes nothing: neither
- *   the service nor what its out-parameters point to. BIM_MEMORY comes only after every other refusal, and the call may
- *   be made again.
+ *   the service nor what its out-parameters point to (but bim_line gives the text of a refusal). BIM_MEMORY comes only
+ *   after every other refusal, and the call may be made again.
  * - A handle is a struct of the caller's. It starts closed, as its BIM_..._INIT says, and an open call opens it. A
  *   closed handle is refused with BIM_NO_ENTRY, and an open one with BIM_EXISTS where a call is to open it. Copying
  *   the struct moves the handle: only one of the copies may be used from then on.
@@ -36,7 +36,7 @@ const char *bim_version(void);
 /* Why a call was refused. The numbers are the service's own and no values of errno. */
 enum bim_refusal {
     BIM_OK = 0,         /* not refused */
-    BIM_SYNTAX = 1,     /* a name that is none: names have 1 to 31 letters, digits, '_', '.' and '-' */
+    BIM_SYNTAX = 1,     /* a name that is none: names have 1 to 31 letters, digits, '_', '.' and '-'; no command */
     BIM_NO_ENTRY = 2,   /* no such timeline, file, buffer, context or flag; a closed handle */
     BIM_EXISTS = 3,     /* the name, cookie or driver is there already; an open handle where one is to be opened */
     BIM_OVERFLOW = 4,   /* the value would pass UINT64_MAX: values don't wrap */
@@ -47,6 +47,7 @@ enum bim_refusal {
     BIM_FOREIGN = 9,    /* the file was not made by these words */
     BIM_TORN = 10,      /* not of a call here */
     BIM_NOT_ALL = 11,   /* the seat can't be parted any more */
+    BIM_LONG_LINE = 12, /* a line of more than BIM_LINE_BYTES */
     BIM_CANCELLED = 15, /* the timeline is closed */
     BIM_MEMORY = 16     /* malloc has no memory */
 };
@@ -85,6 +86,8 @@ enum {
     BIM_BUFFERS = 64,      /* buffers of a desk or of words */
     BIM_FILES = 1024,      /* files that a desk has at a time */
     BIM_WATCHES = 4096,    /* watches that a desk has at a time */
+    BIM_LINE_BYTES = 256,  /* bytes of a line of a script, without its line feed */
+    BIM_ANSWER_ROOM = 96,  /* the least room for the answer of a line */
     BIM_WORD_FLAGS = 65536 /* flags of words */
 };
 
@@ -232,6 +235,19 @@ typedef struct bim_counts {
  * BIM_NO_ENTRY and BIM_MEMORY. debugfs's sync/info and dma_buf/bufinfo. */
 int bim_report(bim_desk *desk, bim_timeline_row *timelines, size_t timelines_room, bim_file_row *files,
                size_t files_room, bim_buffer_row *buffers, size_t buffers_room, bim_counts *counts);
+
+/* Answers a line of a script, which may end with its line feed, and stores the text of the answer in the manner of
+ * snprintf: `length` is that of the whole text, and `out` gets its first room - 1 bytes and a NUL. The text is what
+ * `fencectl` writes for a script of this line, as "ok 5\n" or "err 2 NoEntry\n"; a note and a line without words have
+ * the empty text. Returns what the command's own call returns, and BIM_SYNTAX or BIM_LONG_LINE for a line that is no
+ * command and for more than one line.
+ *
+ * Cookies that the line fires are not in the text. They wait for bim_take_fired, as those of every other call do.
+ *
+ * Nothing is lost for want of room. Every text but those of `info`, `show` and `report` fits into BIM_ANSWER_ROOM, and
+ * a smaller room is refused with BIM_LIMIT. Where length >= room these three have changed nothing, and can be asked
+ * again with more. Where the room is too small or the desk closed (BIM_NO_ENTRY), nothing is done or stored. */
+int bim_line(bim_desk *desk, const char *line, size_t line_length, char *out, size_t room, size_t *length);
 
 /* The same calls with each name as a pointer and a length, for callers whose strings end with no NUL. The rows of
  * bim_info_n, bim_show_n and bim_report_n may not be NULL. */

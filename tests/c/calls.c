@@ -16,6 +16,7 @@ static void texts(void)
     HOLDS(strcmp(bim_version(), BIM_VERSION) == 0);
     HOLDS(strcmp(bim_refusal_name(BIM_OK), "Ok") == 0);
     HOLDS(strcmp(bim_refusal_name(BIM_NO_ENTRY), "NoEntry") == 0);
+    HOLDS(strcmp(bim_refusal_name(BIM_LONG_LINE), "LongLine") == 0);
     HOLDS(strcmp(bim_refusal_name(BIM_MEMORY), "Memory") == 0);
     HOLDS(strcmp(bim_refusal_name(-1), "?") == 0);
     HOLDS(strcmp(bim_refusal_name(BIM_MEMORY + 1), "?") == 0);
@@ -295,6 +296,87 @@ static void reports(void)
     bim_desk_close(&desk);
 }
 
+/* Answers a line, and expects a number and a text. */
+static void expect_line(bim_desk *desk, int at, const char *line, int wanted, const char *answer)
+{
+    char out[BIM_ANSWER_ROOM];
+    size_t length = KEPT;
+
+    memset(out, KEPT, sizeof out);
+    expect(__FILE__, at, line, bim_line(desk, line, strlen(line), out, sizeof out, &length), wanted);
+    expect(__FILE__, at, line, strcmp(out, answer), 0);
+    EXPECT(length, strlen(answer));
+    EXPECT(out[length + 1], KEPT);
+}
+#define LINE(line, wanted, answer) expect_line(&desk, __LINE__, line, wanted, answer)
+
+static void lines(void)
+{
+    bim_desk desk = BIM_DESK_INIT;
+    char longest[BIM_LINE_BYTES + 3], out[BIM_ANSWER_ROOM];
+    uint64_t cookies[2];
+    size_t length = KEPT;
+
+    EXPECT(bim_desk_open(&desk), BIM_OK);
+    LINE("timeline a", BIM_OK, "ok 1\n");
+    LINE("timeline a\n", BIM_EXISTS, "err 3 Exists\n");
+    LINE("", BIM_OK, "");
+    LINE("\n", BIM_OK, "");
+    LINE("   # a note\n", BIM_OK, "");
+    LINE("nonsense", BIM_SYNTAX, "err 1 Syntax line 1\n");
+    LINE("value a\nvalue a", BIM_SYNTAX, "err 1 Syntax line 1\n");
+    LINE("# a note\n\n", BIM_SYNTAX, "err 1 Syntax line 1\n");
+    EXPECT(bim_line(&desk, "value a\0", 8, out, sizeof out, &length), BIM_SYNTAX);
+    EXPECT(bim_line(&desk, "value a?", 7, out, sizeof out, &length), BIM_OK);
+    HOLDS(strcmp(out, "ok 0\n") == 0);
+    memset(longest, ' ', sizeof longest);
+    memcpy(longest, "value a", 7);
+    longest[BIM_LINE_BYTES] = '\n';
+    longest[BIM_LINE_BYTES + 1] = '\0';
+    LINE(longest, BIM_OK, "ok 0\n");
+    longest[BIM_LINE_BYTES] = ' ';
+    LINE(longest, BIM_LONG_LINE, "err 12 LongLine line 1\n");
+
+    /* What fires waits in the queue, and is told there alone. */
+    LINE("fence f a 3", BIM_OK, "ok\n");
+    LINE("watch f 7", BIM_OK, "ok\n");
+    LINE("watch f 8", BIM_OK, "ok\n");
+    LINE("wait f", BIM_TIMED_OUT, "err 8 TimedOut\n");
+    LINE("inc a 18446744073709551615", BIM_OK, "ok 18446744073709551615\n");
+    LINE("inc a 1", BIM_OVERFLOW, "err 4 Overflow\n");
+    EXPECT(bim_take_fired(&desk, cookies, 2), 2);
+    HOLDS(cookies[0] == 7 && cookies[1] == 8);
+    LINE("info f", BIM_OK, "ok f 1 1\nfence a sw_sync 3 1\n");
+    bim_desk_close(&desk);
+}
+
+/* Too little room for an answer changes nothing, and what there is room for is the beginning of the text. */
+static void rooms(void)
+{
+    bim_desk desk = BIM_DESK_INIT;
+    char out[BIM_ANSWER_ROOM], whole[4 * BIM_ANSWER_ROOM];
+    size_t length = KEPT, again;
+
+    EXPECT(bim_line(&desk, "timeline a", 10, out, sizeof out, &length), BIM_NO_ENTRY);
+    EXPECT(bim_desk_open(&desk), BIM_OK);
+    memset(out, KEPT, sizeof out);
+    EXPECT(bim_line(&desk, "timeline a", 10, out, sizeof out - 1, &length), BIM_LIMIT);
+    EXPECT(bim_line(&desk, "", 0, out, 0, &length), BIM_LIMIT);
+    HOLDS(out[0] == KEPT && length == KEPT);
+    LINE("timeline a", BIM_OK, "ok 1\n");
+    LINE("timeline b", BIM_OK, "ok 2\n");
+    EXPECT(bim_line(&desk, "report\n", 7, out, sizeof out, &length), BIM_OK);
+    HOLDS(length >= sizeof out && length < sizeof whole);
+    EXPECT(bim_line(&desk, "report", 6, whole, length + 1, &again), BIM_OK);
+    EXPECT(again, length);
+    EXPECT(strlen(whole), length);
+    EXPECT(strlen(out), sizeof out - 1);
+    HOLDS(memcmp(out, whole, sizeof out - 1) == 0);
+    EXPECT(bim_line(&desk, "report", 6, whole, length, &again), BIM_OK);
+    EXPECT(strlen(whole), length - 1);
+    bim_desk_close(&desk);
+}
+
 /* One more than each limit. */
 static void limits(void)
 {
@@ -307,6 +389,7 @@ static void limits(void)
         snprintf(name, sizeof name, "t%d", i);
         EXPECT(bim_timeline(&desk, name, &number), i < BIM_CONTEXTS ? BIM_OK : BIM_LIMIT);
     }
+    LINE("timeline more", BIM_LIMIT, "err 6 Limit timelines\n");
     for (int i = 0; i <= BIM_BUFFERS; i++) {
         snprintf(name, sizeof name, "b%d", i);
         EXPECT(bim_buffer(&desk, name), i < BIM_BUFFERS ? BIM_OK : BIM_LIMIT);
@@ -639,6 +722,8 @@ int main(void)
     closed_desk();
     desks();
     reports();
+    lines();
+    rooms();
     limits();
     closed_seat();
     words_limits();

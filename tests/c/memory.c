@@ -96,6 +96,8 @@ static struct {
     bim_file_row made;
     bim_buffer_row buffer;
     bim_counts counts;
+    char answer[2 * BIM_ANSWER_ROOM];
+    size_t length;
 } it;
 
 /* All that can be asked of the service. */
@@ -135,7 +137,7 @@ static void begin_call(void)
     it.number = it.info.point = it.row.point = KEPT;
     it.timeline.value = it.made.fences = it.buffer.rows = it.counts.files = KEPT;
     it.status = it.flag = KEPT;
-    it.count = KEPT;
+    it.count = it.length = KEPT;
     allocations_before = allocations;
     counting = true;
 }
@@ -157,6 +159,7 @@ static bool is_to_call_again(int came, int wanted, const char *call, int line)
     HOLDS(it.number == KEPT && it.status == KEPT && it.count == KEPT && it.flag == KEPT);
     HOLDS(it.info.point == KEPT && it.row.point == KEPT && it.counts.files == KEPT);
     HOLDS(it.timeline.value == KEPT && it.made.fences == KEPT && it.buffer.rows == KEPT);
+    HOLDS(it.length == KEPT || strcmp(it.answer, "err 16 Memory\n") == 0);
     return true;
 }
 
@@ -164,6 +167,13 @@ static bool is_to_call_again(int came, int wanted, const char *call, int line)
     do \
         begin_call(); \
     while (is_to_call_again((call), (wanted), #call, __LINE__))
+
+/* The same of a line, whose refusal has a text too. */
+#define LINE(line, text) \
+    do { \
+        CALL(bim_line(&it.desk, line, strlen(line), it.answer, sizeof it.answer, &it.length), BIM_OK); \
+        HOLDS(strcmp(it.answer, text) == 0 && it.length == strlen(text)); \
+    } while (0)
 
 /* Each command of a desk. */
 static void run_desk(void)
@@ -193,6 +203,17 @@ static void run_desk(void)
     CALL(bim_merge(&it.desk, "n", "m", "x"), BIM_OK);
     CALL(bim_close(&it.desk, "m"), BIM_OK);
     CALL(bim_report(&it.desk, &it.timeline, 1, &it.made, 1, &it.buffer, 1, &it.counts), BIM_OK);
+}
+
+/* Lines, of which some make something, and others have rows. */
+static void run_lines(void)
+{
+    LINE("timeline c", "ok 3\n");
+    LINE("fence later c 2", "ok\n");
+    LINE("watch later 9", "ok\n");
+    LINE("info later", "ok later 0 1\nfence c sw_sync 2 0\n");
+    LINE("add B c 7 read", "ok\n");
+    LINE("inc c 2", "ok 2\n");
 }
 
 static void run_words(void)
@@ -244,6 +265,7 @@ static void run(struct text *text, size_t which)
     refused = which;
     allocations = 0;
     run_desk();
+    run_lines();
     run_words();
     finish(text);
 }

@@ -1,5 +1,9 @@
+mod Answered
 mod AsBox
+mod Looking
+mod OneLine
 mod Opened
 mod Over
 mod Room
+mod Signed
 mod Stepped

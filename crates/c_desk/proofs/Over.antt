@@ -1,5 +1,5 @@
 -- Lists that are written over others.
-use Rattle.std.proofs.Common.{◌≡◌, ℕ, zero, suc, ◌+◌, ◌<◌, ◌≤◌, refl, ap, ◌∙◌, arith, List, [], ◌∷◌, length, map, min, take, drop, get_or, set}
+use Rattle.std.proofs.Common.{◌≡◌, ℕ, zero, suc, ◌+◌, ◌-◌, ◌<◌, ◌≤◌, refl, ap, ◌∙◌, arith, List, [], ◌∷◌, ◌++◌, length, map, min, take, drop, get_or, set, slice_set}
 use Rattle.c_desk.specs.Rows.{over}
 
 module _ {A : Type 0} where
@@ -46,3 +46,17 @@ module _ {A B : Type 0} (f : A → B) where
   map-more new old i d inside room =
       let next : suc i ≡ i + 1 = omega arith in
       map-suc new old i d inside room ∙ ap (λ k. over (take k (map f new)) old) next
+
+nul-at : (text old : List ℕ) (n room : ℕ) → length old ≡ suc room → n ≡ min (length text) room → slice_set (take n text ++ drop n old) n 0 ≡ over (take room text ++ 0 ∷ []) old
+nul-at text [] n room wide fits = absurd (omega (arith, wide))
+nul-at [] (y ∷ old) zero zero wide fits = refl
+nul-at [] (y ∷ old) zero (suc room) wide fits = refl
+nul-at [] (y ∷ old) (suc n) room wide fits = absurd (omega (arith, fits))
+nul-at (x ∷ text) (y ∷ old) zero zero wide fits = refl
+nul-at (x ∷ text) (y ∷ old) (suc n) zero wide fits = absurd (omega (arith, fits))
+nul-at (x ∷ text) (y ∷ old) zero (suc room) wide fits = absurd (omega (arith, fits))
+nul-at (x ∷ text) (y ∷ old) (suc n) (suc room) wide fits = ap (λ l. x ∷ l) (nul-at text old n room (omega (arith, wide)) (omega (arith, fits)))
+
+-- what of a text there is room for is written, and a NUL after it
+pub over-nul : (text old : List ℕ) (n : ℕ) → 1 ≤ length old → n ≡ min (length text) (length old - 1) → slice_set (take n text ++ drop n old) n 0 ≡ over (take (length old - 1) text ++ 0 ∷ []) old
+over-nul text old n wide fits = nul-at text old n (length old - 1) (omega (arith, wide)) fits

@@ -2,6 +2,7 @@ pub mod Asked
 pub mod Call
 pub mod Handle
 pub mod Lending
+pub mod Line
 pub mod Owning
 pub mod Rows
 pub mod Service

@@ -3,25 +3,28 @@
 //! `include/bimphlai.h` has the signatures. A name is a pointer and a length.
 #![tactic(auto)]
 
-ghost use Rattle.std.specs.Prelude.{◌≡◌, false, IfOk, IfErr, ⊤};
+ghost use Rattle.std.specs.Prelude.{◌≡◌, ◌<◌, ◌≤◌, pos, [], true, false, length, None, IfSome, IfOk, IfErr, ⊤};
 ghost use Rattle.c_desk.specs.Asked.{asked_timeline, asked_inc, asked_shut, asked_value, asked_fence, asked_merge, asked_close, asked_wait, asked_info, asked_buffer, asked_add, asked_import, asked_export, asked_test, asked_trim, asked_show, asked_watch, asked_unwatch, asked_report};
-ghost use Rattle.c_desk.specs.Call.{IsCall, told_or, yes_or, IsNew, IsOpening, IsTaking};
+ghost use Rattle.c_desk.specs.Call.{IsCall, told_or, yes_or, number_of, IsNew, IsOpening, IsTaking};
+ghost use Rattle.c_desk.specs.Line.{body_of_bytes, IsKept, IsLineCall, StoresText};
 ghost use Rattle.c_desk.specs.Told.{StoresInfo, StoresReport, StoresTable};
 ghost use Rattle.c_desk.specs.Handle.{is_open};
 
 mod answers;
 mod asked;
 mod handle;
+mod line;
 mod parts;
 mod rows;
 mod service;
 
 use crate::answers::{number, refused, store, store_if, store_info, store_report, store_table};
 use crate::handle::DeskHandle;
+use crate::line::{ANSWER_ROOM, answer_line, body_of_bytes, store_text};
 use crate::rows::{BufferInfo, BufferRow, Counts, FenceInfo, FileInfo, TimelineInfo};
 use crate::service::Service;
 use command_core::Command;
-use point_core::Refusal;
+use point_core::{LimitKind, Refusal};
 use std::alloc::Global;
 
 /// Opens a desk with nothing in it at a closed handle.
@@ -296,5 +299,43 @@ pub extern "C" fn bim_take_fired(desk: &mut DeskHandle, cookies: &mut [u64]) -> 
         desk.get_mut().take(cookies)
     } else {
         0
+    }
+}
+
+/// Answers a line of a script, which a line feed may end, as a script's first line: stores the length of its answer's text,
+/// and of the text what there is room for with a NUL after it. A line without an answer has the empty text. What the line
+/// fires waits in the queue, and is not in the text.
+///
+/// Fails with `NoEntry` where the handle is closed, and then with `Limit` where the room is less than `ANSWER_ROOM`; nothing
+/// is done or stored then. A refused line has a text, as any other.
+#[unsafe(no_mangle)]
+pub extern "C" fn bim_line(
+    alloc: Global,
+    desk: &mut DeskHandle,
+    line: &[u8],
+    out: &mut [u8],
+    count: &mut usize,
+) -> i32
+    ensures closed { is_open desk.old ≡ false →
+        (result ≡ number_of Refusal.NoEntry) × IsKept desk.old desk.new out.old out.new count.old count.new }
+    ensures narrow { is_open desk.old ≡ true → length out.old < ANSWER_ROOM →
+        (result ≡ pos 6) × IsKept desk.old desk.new out.old out.new count.old count.new }
+    ensures silent { is_open desk.old ≡ true → ANSWER_ROOM ≤ length out.old → body_of_bytes line.now ≡ None →
+        (result ≡ pos 0) × (desk.new ≡ desk.old) × StoresText [] out.old out.new count.new }
+    ensures answered { is_open desk.old ≡ true → ANSWER_ROOM ≤ length out.old → IfSome (body_of_bytes line.now) (λ body.
+        IsLineCall desk.old desk.new body out.old out.new count.new result) }
+{
+    if !desk.is_open() {
+        return refused(Refusal::NoEntry);
+    }
+    if out.len() < ANSWER_ROOM {
+        return refused(Refusal::Limit(LimitKind::Script));
+    }
+    match body_of_bytes(line) {
+        None => {
+            store_text(b"", out, count);
+            0
+        }
+        Some(body) => answer_line(alloc, desk, body, out, count),
     }
 }

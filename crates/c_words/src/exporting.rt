@@ -16,8 +16,9 @@ use crate::member::Member;
 use crate::numbers::{OK, refused, usage_of};
 use crate::seat_handle::SeatHandle;
 use crate::shared_file::{SharedFile, file_name};
-use point_core::{Floor, Listing, Refusal, Usage};
+use point_core::{Floor, Items, Listing, Refusal, Usage};
 use std::alloc::Global;
+use std::mem;
 use syncfile_core::SyncFile;
 
 /// Makes a file of what is pending in a buffer of the board at a usage or a stronger one, as `Board::export` by the
@@ -78,21 +79,24 @@ fn exported(
     ensures memory { IfErr result (λ e. HasBuffer member.old buffer →
         (e ≡ refusal.Memory) × HasOnlyLooked member.old member.new) }
 {
-    let listing = member.export(alloc, buffer, usage)?;
-    listed(alloc, listing)
+    let file = member.export(alloc, buffer, usage)?;
+    boxed(alloc, SharedFile::of(alloc, file)?)
 }
 
-// The file of a listing, on the heap.
-fn listed(alloc: Global, listing: Listing) -> Result<Box<SharedFile>, Refusal>
-    requires rising { HasRisingContexts listing.points }
-    ensures file { IfOk result (λ file. file.value ≡ listed_file listing) }
+/// The file of a listing, whose points go into it.
+///
+/// Fails with `Memory` alone.
+pub fn listed_file(alloc: Global, listing: &mut Listing) -> Result<SyncFile, Refusal>
+    requires rising { HasRisingContexts listing.old.points }
+    ensures file { IfOk result (λ file. file ≡ listed_file listing.old) }
     ensures memory { IfErr result (λ e. e ≡ refusal.Memory) }
 {
-    let Listing { points, floor } = listing;
-    let file = SyncFile {
-        name: file_name()?,
+    let name = file_name()?;
+    let floor = Floor::of(alloc, &listing.floor)?;
+    let points = mem::replace(&mut listing.points, Items::of(Vec::new(alloc)));
+    Ok(SyncFile {
+        name,
         points,
-        floor: Floor::of(alloc, &floor)?,
-    };
-    boxed(alloc, SharedFile::of(alloc, file)?)
+        floor,
+    })
 }

@@ -2,7 +2,6 @@
 ghost use Rattle.std.specs.Prelude.{◌≡◌, ◌↔◌, ◌+◌, ◌^◌, ◌<◌, ◌≤◌, ◌⊎◌, None, Err};
 ghost use Rattle.std.specs.Prelude.{IfOk, IfErr, IsOk, IsErr, OnErr, OnOk, IsTrue, IfSome, IsSome, MatchBool};
 ghost use Rattle.point_core.specs.declared.context.TheConstants.{CONTEXTS};
-ghost use Rattle.point_core.specs.Agreement.{HasRisingContexts};
 ghost use Rattle.point_core.specs.Reach.{GREATEST};
 ghost use Rattle.point_core.specs.Refusal.{refusal_number};
 ghost use Rattle.point_core.specs.Status.{status_number};
@@ -12,6 +11,7 @@ ghost use Rattle.words_core.specs.declared.seat.TheConstants.{PARTS};
 ghost use Rattle.c_words.specs.declared.limits.TheConstants.{LEAST_PARTS};
 ghost use Rattle.c_words.specs.Shares.{share_of};
 
+use crate::exporting::listed_file;
 use crate::limits::{LEAST_PARTS, SHARE};
 use clients_core::Board;
 use point_core::{Context, Listing, Refusal, Status, Usage};
@@ -28,6 +28,8 @@ pub struct Member {
     words: Arc<Words>,
     seat: Seat,
     driver: Option<Driver>,
+    // what the last export listed, which the next one fills again
+    listing: Listing,
 }
 
 impl Model for Member {
@@ -46,7 +48,7 @@ impl Member {
     ghost use Rattle.c_words.specs.Member.{HasAdded, HasShut, HasSet, HasFoundSet, HasBuffer, HasPut, after_loss};
     ghost use Rattle.c_words.specs.FileCalls.{HasLooked, TellsStatus, FindsForeign};
     ghost use Rattle.c_words.specs.FileCalls.{HasWaited, HasTimedOut, TurnsForeign, HasMerged};
-    ghost use Rattle.c_words.specs.Exports.{HasExported, HasOnlyLooked};
+    ghost use Rattle.c_words.specs.Exports.{HasExportedFile, HasOnlyLooked};
     ghost use Rattle.words_core.specs.Seat.{both_of};
 
     /// The first member of new words.
@@ -69,6 +71,7 @@ impl Member {
                 words,
                 seat,
                 driver: None,
+                listing: Listing::empty(alloc),
             }),
             Err(_) => Err(Refusal::Memory),
         }
@@ -77,7 +80,7 @@ impl Member {
     /// Another member of the same words, for another thread, with a share of the seat's parts.
     ///
     /// Fails with `NotAll` if the seat has no share to give, and then with `Memory`.
-    pub fn part(&mut self) -> Result<Member, Refusal>
+    pub fn part(&mut self, alloc: Global) -> Result<Member, Refusal>
         ensures parted { IfOk result (λ other. IsParted self.old self.new other) }
         ensures share { IfOk result (λ _. HasShare self.old) }
         ensures no_share { IfErr result (λ e. (¬ HasShare self.old) → e ≡ refusal.NotAll) }
@@ -94,6 +97,7 @@ impl Member {
             words,
             seat,
             driver: None,
+            listing: Listing::empty(alloc),
         })
     }
 
@@ -106,6 +110,7 @@ impl Member {
             words: _,
             seat,
             driver: _,
+            listing: _,
         } = other;
         self.words.join(&mut self.seat, seat);
     }
@@ -274,12 +279,16 @@ impl Member {
         SyncFile::merge_with(alloc, a.name, a, b, &self.words, &mut self.seat)
     }
 
-    /// What is pending in a buffer of the board at a usage or a stronger one, as `Board::export`.
+    /// What is pending in a buffer of the board at a usage or a stronger one, as `Board::export_into`.
     ///
     /// Fails with `NoEntry` if the words have no such buffer, and then with `Memory`.
-    pub fn export(&mut self, alloc: Global, buffer: usize, usage: Usage) -> Result<Listing, Refusal>
-        ensures exported { IfOk result (λ listing. HasExported self.old self.new buffer usage listing) }
-        ensures rising { IfOk result (λ listing. HasRisingContexts listing.points) }
+    pub fn export(
+        &mut self,
+        alloc: Global,
+        buffer: usize,
+        usage: Usage,
+    ) -> Result<SyncFile, Refusal>
+        ensures exported { IfOk result (λ file. HasExportedFile self.old self.new buffer usage file) }
         ensures known { OnOk result (HasBuffer self.old buffer) }
         ensures no_buffer { IfErr result (λ e. ¬ HasBuffer self.old buffer →
             (e ≡ refusal.NoEntry) × (self.new ≡ self.old)) }
@@ -290,8 +299,9 @@ impl Member {
             return Err(Refusal::NoEntry);
         }
         let board = Board::empty(alloc, &self.words)?;
-        let listing = board.export(alloc, &self.words, &mut self.seat, buffer, usage)?;
-        Ok(listing)
+        board.export_into(alloc, &self.words, &mut self.seat, buffer, usage, &mut self.listing)?;
+        let file = listed_file(alloc, &mut self.listing)?;
+        Ok(file)
     }
 
     /// The context of that number.

@@ -277,7 +277,7 @@ fn parted(alloc: Global, member: &mut Member) -> Result<Box<Member>, Refusal>
     ensures unchanged { IfErr result (λ e. (member.new ≡ member.old) ⊎ ((e ≡ refusal.Memory) ×
         (member.new ≡ record member.old { seat = come_back member.old.seat }))) }
 {
-    let other = member.part()?;
+    let other = member.part(alloc)?;
     match Box::new(alloc, other) {
         Ok(other) => Ok(other),
         Err(failed) => {

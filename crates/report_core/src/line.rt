@@ -90,6 +90,15 @@ impl TextLine {
         self.start = write_digits(number, &mut self.bytes, self.start);
     }
 
+    /// Its bytes.
+    #[inline(always)]
+    pub fn as_bytes(&self) -> &[u8]
+        ensures value { result.now ≡ self.now }
+        ensures few { length self.now ≤ TEXT_LINE_BYTES }
+    {
+        &self.bytes[self.start..]
+    }
+
     /// Appends the line to `out`.
     ///
     /// Fails only with Memory, and then leaves `out` as it was.

@@ -15,6 +15,6 @@ pub use answers::{Answers, answer_line};
 pub use line_core::{Body, DIGITS, LINE_BYTES, Line, LineCutter, SCRIPT_BYTES, read_script};
 pub use reading::engine;
 pub use report_core::write_whole;
-pub use text::print;
+pub use text::{done_line, print, refusal_line, value_line};
 pub use totals::Totals;
 pub use writing::{write_many, write_out};

@@ -33,6 +33,39 @@ pub fn print(line: u32, answer: &Answer, out: &mut Vec<u8>) -> Result<(), Refusa
     pushed
 }
 
+/// The text of the answer that is done and has no more to report.
+///
+/// Takes no memory.
+pub fn done_line() -> TextLine
+    ensures { result ≡ line_text (codes "ok" ∷ []) }
+{
+    let mut line = TextLine::new();
+    line.put_text(b"ok");
+    line
+}
+
+/// The text of an answer that is a number.
+///
+/// Takes no memory.
+pub fn value_line(value: u64) -> TextLine
+    ensures { result ≡ value_line value }
+{
+    let mut line = TextLine::new();
+    put_value(&mut line, value);
+    line
+}
+
+/// The text of the refusal of the line of that number.
+///
+/// Takes no memory.
+pub fn refusal_line(line: u32, refusal: Refusal) -> TextLine
+    ensures { result ≡ refusal_text line refusal }
+{
+    let mut text = TextLine::new();
+    put_refusal(&mut text, line, refusal);
+    text
+}
+
 fn push_answer(line: u32, answer: &Answer, out: &mut Vec<u8>) -> Result<(), Refusal>
     ensures ok { OnOk result (out.new.items ≡ out.old.items ++ text_of line answer.now) }
     ensures err { OnErr result ((result ≡ Err Memory) × StartsWith out.new.items out.old.items) }
@@ -81,9 +114,17 @@ fn push_value(value: u64, out: &mut Vec<u8>) -> Result<(), Refusal>
     ensures err { OnErr result ((result ≡ Err Memory) × StartsWith out.new.items out.old.items) }
 {
     let mut line = TextLine::new();
-    put_number(&mut line, value);
-    line.put_text(b"ok");
+    put_value(&mut line, value);
     line.push_to(out)
+}
+
+#[inline(always)]
+fn put_value(line: &mut TextLine, value: u64)
+    requires { line.old ≡ 10 ∷ [] }
+    ensures { line.new ≡ value_line value }
+{
+    put_number(line, value);
+    line.put_text(b"ok");
 }
 
 #[inline(never)]
@@ -213,11 +254,19 @@ fn push_refusal(line: u32, refusal: Refusal, out: &mut Vec<u8>) -> Result<(), Re
     ensures err { OnErr result ((result ≡ Err Memory) × StartsWith out.new.items out.old.items) }
 {
     let mut text = TextLine::new();
-    put_details(&mut text, line, refusal);
-    put_word(&mut text, refusal.name().as_bytes());
-    put_number(&mut text, u64::from(refusal.number()));
-    text.put_text(b"err");
+    put_refusal(&mut text, line, refusal);
     text.push_to(out)
+}
+
+#[inline(always)]
+fn put_refusal(text: &mut TextLine, line: u32, refusal: Refusal)
+    requires { text.old ≡ 10 ∷ [] }
+    ensures { text.new ≡ refusal_text line refusal }
+{
+    put_details(text, line, refusal);
+    put_word(text, refusal.name().as_bytes());
+    put_number(text, u64::from(refusal.number()));
+    text.put_text(b"err");
 }
 
 /// Puts what follows the name of a refusal before the line feed.

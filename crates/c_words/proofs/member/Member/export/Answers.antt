@@ -4,7 +4,7 @@ use Rattle.point_core.specs.Usage.{usage_number}
 use Rattle.point_core.proofs.Agreement.{listing-rising}
 use Rattle.c_words.proofs.member.Member.export.Goals as goal
 
-pub returns-clause-rising : goal.returns-clause-rising
-returns-clause-rising c =
-    let looked = c.in_ok-listing.ensures.looked in
-    subst HasRisingContexts (sym looked.points) (listing-rising looked.entries (usage_number c.args.usage) c.in_ok-listing.listing.floor)
+pub listed_file-requires : goal.listed_file-requires
+listed_file-requires c =
+    let looked = c.in_ok-export_into.ensures.looked in
+    record { rising = subst HasRisingContexts (sym looked.points) (listing-rising looked.entries (usage_number c.args.usage) c.export_into.new.listing.floor) }

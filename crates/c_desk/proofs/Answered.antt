@@ -1,0 +1,107 @@
+-- Lines that were answered and told.
+use Rattle.std.proofs.Common.{◌≡◌, ◌⊎◌, ◌<◌, ◌≤◌, ◌++◌, sym, ap, subst, ◌∙◌, refl, true, false, Bool, ℕ, List, inl, inr, arith, length, Ok, Err}
+use Rattle.std.specs.Prelude.{ℤ}
+use Rattle.std.proofs.lemmas.List.{append-nil}
+use Rattle.point_core.specs.declared.refusal.Refusal.{Refusal}
+use Rattle.point_core.specs.declared.refusal.Refusal.TheVariants.{Memory}
+use Rattle.command_core.specs.declared.command.Command.{Command}
+use Rattle.command_core.specs.declared.answer.Answer.{Answer}
+use Rattle.command_core.specs.declared.answer.Answer.TheVariants as answer
+use Rattle.desk_core.specs.Answer.{OnRefused}
+use Rattle.desk_core.specs.Desk.{HasHistory}
+use Rattle.desk_core.specs.History.{IsAnswer}
+use Rattle.line_core.specs.declared.line.Body.{Body}
+use Rattle.line_core.specs.declared.line.Body.TheVariants.{Cmd, Bad}
+use Rattle.c_desk.specs.declared.handle.DeskHandle.{DeskHandle}
+use Rattle.c_desk.specs.declared.line.TheConstants.{ANSWER_ROOM}
+use Rattle.c_desk.specs.Call.{number_of_answer, IsRefusal, IsStepOf, IsAskedOpen, IsAskedIf, IsAsked}
+use Rattle.c_desk.specs.Handle.{is_open}
+use Rattle.c_desk.specs.Line.{asked_by, has_rows, text_told, StoresText, IsTelling, IsLineCall}
+use Rattle.c_desk.specs.Service.{cookies_of}
+use Rattle.c_desk.proofs.Looking.{rows-no_cookies, memory-answer, same-history}
+
+on-refused : {A B : Type 0} (given : Answer) → (A → B) → OnRefused given A → OnRefused given B
+on-refused (answer.Refused r) then fact = then fact
+on-refused answer.Done then fact = tt
+on-refused (answer.Value n) then fact = tt
+on-refused (answer.Raised n fired) then fact = tt
+on-refused (answer.Info i) then fact = tt
+on-refused (answer.Show rows) then fact = tt
+on-refused (answer.Report report) then fact = tt
+
+module _ (old new : DeskHandle) (room out : List ℕ) (count : ℕ) (returned : ℤ) (wide : ANSWER_ROOM ≤ length room) where
+  abbrev Same : Type 0
+  Same = (history : List Command) → HasHistory old.service.desk history → HasHistory new.service.desk history
+
+  -- what is told as it was given
+  told-number : (given : Answer) (t : IsTelling given room out count returned) → t.told ≡ given → returned ≡ number_of_answer given
+  told-number given t same = t.number ∙ ap number_of_answer same
+
+  told-text : (given : Answer) (t : IsTelling given room out count returned) (a : Answer) → t.told ≡ a → StoresText (text_told a) room out count
+  told-text given t a same = subst (λ (x : Answer). StoresText (text_told x) room out count) same t.text
+
+  fits-by : (given : Answer) (t : IsTelling given room out count returned) (b : Bool) → has_rows t.told ≡ b → (has_rows t.told ≡ true → Same) → (count < length room) ⊎ Same
+  fits-by given t false is rows = let few = t.few is in inl (omega (arith, few, wide))
+  fits-by given t true is rows = inr (rows is)
+
+  of_refusal : (r : Refusal) (given : Answer) → is_open old ≡ true → IsRefusal r old new given → IsTelling given room out count returned → IsLineCall old new (Bad r) room out count returned
+  of_refusal r given opened refused t = elim t.is [
+    | inl same ↦
+        let is : t.told ≡ answer.Refused r = same ∙ refused.is in
+        let unchanged = refused.unchanged in
+        let stands : Same = λ history before. subst (λ (h : DeskHandle). HasHistory h.service.desk history) (sym unchanged) before in
+        record {
+          given = answer.Refused r;
+          opened = ap is_open unchanged ∙ opened;
+          answered = λ history before. refl;
+          stands = stands;
+          unchanged = inl (ap (λ (h : DeskHandle). h.service) unchanged);
+          kept = ap (λ (h : DeskHandle). h.service.fired) unchanged ∙ sym (append-nil old.service.fired);
+          number = t.number ∙ ap number_of_answer is;
+          text = told-text given t (answer.Refused r) is;
+          few = λ none. t.few (ap has_rows is ∙ none);
+          fits = inr stands;
+        }
+    | inr memory ↦ let none : has_rows (answer.Refused r) ≡ true = ap has_rows (sym refused.is) ∙ memory.1 in absurd (cc)
+  ]
+
+  of_command : (c : Command) (given : Answer) → IsStepOf old new c given → IsTelling given room out count returned → IsLineCall old new (Cmd c) room out count returned
+  of_command c given stepped t =
+      let step = stepped.step in
+      let rows_same : has_rows given ≡ true → Same = λ rows history before.
+          same-history new.service.desk c given rows history (step.answered history before) (step.stands history before) old.service.desk before in
+      elim t.is [
+        | inl same ↦ record {
+            given = given;
+            opened = stepped.opened;
+            answered = step.answered;
+            stands = step.stands;
+            unchanged = on-refused given (λ same. inl same) step.unchanged;
+            kept = step.kept;
+            number = told-number given t same;
+            text = told-text given t given same;
+            few = λ none. t.few (ap has_rows same ∙ none);
+            fits = fits-by given t (has_rows t.told) refl (λ rows. rows_same (ap has_rows (sym same) ∙ rows));
+          }
+        | inr memory ↦ record {
+            given = answer.Refused Memory;
+            opened = stepped.opened;
+            answered = λ history before. memory-answer new.service.desk c given memory.1 history (step.answered history before);
+            stands = rows_same memory.1;
+            unchanged = inr refl;
+            kept = step.kept ∙ ap (λ (l : List ℕ). old.service.fired ++ l) (rows-no_cookies given memory.1);
+            number = t.number ∙ ap number_of_answer memory.0;
+            text = told-text given t (answer.Refused Memory) memory.0;
+            few = λ none. t.few (ap has_rows memory.0 ∙ none);
+            fits = inr (rows_same memory.1);
+          }
+      ]
+
+  asked-open : (b : Bool) (body : Body) (given : Answer) → b ≡ true → IsAskedIf b old new (asked_by body) given → IsAskedOpen old new (asked_by body) given
+  asked-open true body given is asked = asked
+  asked-open false body given is asked = absurd (cc)
+
+  -- what an open handle was asked for by a line was answered and told
+  pub line-call : (body : Body) (given : Answer) → is_open old ≡ true → IsAsked old new (asked_by body) given → IsTelling given room out count returned → IsLineCall old new body room out count returned
+  line-call (Cmd c) given opened asked t = of_command c given (asked-open (is_open old) (Cmd c) given opened asked) t
+  line-call (Bad r) given opened asked t = of_refusal r given opened (asked-open (is_open old) (Bad r) given opened asked) t

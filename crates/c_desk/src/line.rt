@@ -1,0 +1,125 @@
+// A line of a script, and the text of its answer.
+ghost use Rattle.std.specs.Prelude.{◌≡◌, ◌≤◌, true, false, length, MatchOption};
+ghost use Rattle.point_core.specs.declared.refusal.Refusal.TheVariants.{Memory};
+ghost use Rattle.command_core.specs.declared.answer.Answer.TheVariants as answer;
+ghost use Rattle.line_core.specs.Script.{lines_of};
+ghost use Rattle.c_desk.specs.Handle.{is_open};
+ghost use Rattle.c_desk.specs.Line.{body_of_bytes, asked_by, has_rows, text_told, IsTelling, IsLineCall, StoresText};
+
+use crate::answers::{number, refused};
+use crate::handle::DeskHandle;
+use command_core::{Answer, Command};
+use line_core::{Body, body_of, first_line};
+use point_core::Refusal;
+use report_core::{TEXT_LINE_BYTES, TextLine};
+use script_core::{done_line, print, refusal_line, value_line};
+use std::alloc::Global;
+
+/// A line's number in the text of its refusal, which is that of a script of this line alone.
+pub const LINE: u32 = 1;
+
+/// The least room of an answer: the text of one without rows fits into it, with its NUL.
+pub const ANSWER_ROOM: usize = 96;
+
+const _: () = prove!(TEXT_LINE_BYTES < ANSWER_ROOM);
+
+/// What the bytes say, which are one line: one line feed may end them.
+pub fn body_of_bytes(bytes: &[u8]) -> Option<Body>
+    ensures { result ≡ body_of_bytes bytes.now }
+{
+    match first_line(bytes) {
+        None => body_of(bytes),
+        Some((line, rest)) => {
+            if rest.is_empty() {
+                body_of(line)
+            } else {
+                Some(Body::Bad(Refusal::Syntax))
+            }
+        }
+    }
+}
+
+/// Answers a line, and tells the answer.
+pub fn answer_line(
+    alloc: Global,
+    desk: &mut DeskHandle,
+    body: Body,
+    out: &mut [u8],
+    count: &mut usize,
+) -> i32
+    requires opened { is_open desk.old ≡ true }
+    requires room { ANSWER_ROOM ≤ length out.old }
+    ensures { IsLineCall desk.old desk.new body out.old out.new count.new result }
+{
+    let answer = desk.ask(asked_by(body));
+    tell(alloc, &answer, out, count)
+}
+
+fn asked_by(body: Body) -> Result<Command, Refusal>
+    ensures { result ≡ asked_by body }
+{
+    match body {
+        Body::Cmd(command) => Ok(command),
+        Body::Bad(refusal) => Err(refusal),
+    }
+}
+
+/// Stores the text of the answer, and gives its number. Where it has rows, and there is no memory for their text, `Memory`
+/// is told in its place.
+fn tell(alloc: Global, answer: &Answer, out: &mut [u8], count: &mut usize) -> i32
+    requires room { ANSWER_ROOM ≤ length out.old }
+    ensures { IsTelling answer.now out.old out.new count.new result }
+{
+    match one_line(answer) {
+        Some(text) => {
+            store_text(text.as_bytes(), out, count);
+            number(answer)
+        }
+        None => tell_rows(alloc, answer, out, count),
+    }
+}
+
+/// The text of an answer that has no rows.
+fn one_line(answer: &Answer) -> Option<TextLine>
+    ensures { MatchOption result (has_rows answer.now ≡ true) (λ text.
+        (has_rows answer.now ≡ false) × (text ≡ text_told answer.now)) }
+{
+    match answer {
+        Answer::Done => Some(done_line()),
+        Answer::Value(value) => Some(value_line(*value)),
+        Answer::Raised(value, _) => Some(value_line(*value)),
+        Answer::Refused(refusal) => Some(refusal_line(LINE, *refusal)),
+        Answer::Info(_) => None,
+        Answer::Show(_) => None,
+        Answer::Report(_) => None,
+    }
+}
+
+fn tell_rows(alloc: Global, answer: &Answer, out: &mut [u8], count: &mut usize) -> i32
+    requires room { ANSWER_ROOM ≤ length out.old }
+    requires rows { has_rows answer.now ≡ true }
+    ensures { IsTelling answer.now out.old out.new count.new result }
+{
+    let mut text = Vec::new(alloc);
+    match print(LINE, answer, &mut text) {
+        Ok(()) => {
+            store_text(&text, out, count);
+            number(answer)
+        }
+        Err(refusal) => {
+            store_text(refusal_line(LINE, refusal).as_bytes(), out, count);
+            refused(refusal)
+        }
+    }
+}
+
+/// Stores a text, as much as there is room for with a NUL after it, and its whole length.
+pub fn store_text(text: &[u8], out: &mut [u8], count: &mut usize)
+    requires room { 1 ≤ length out.old }
+    ensures { StoresText text.now out.old out.new count.new }
+{
+    let fits = text.len().min(out.len() - 1);
+    out[..fits].copy_from_slice(&text[..fits]);
+    out[fits] = 0;
+    *count = text.len();
+}
