@@ -1,4 +1,4 @@
--- Lines that were answered and told.
+-- Lines that were answered and reported.
 use Rattle.std.proofs.Common.{◌≡◌, ◌⊎◌, ◌<◌, ◌≤◌, ◌++◌, sym, ap, subst, ◌∙◌, refl, true, false, Bool, ℕ, List, inl, inr, arith, length, Ok, Err}
 use Rattle.std.specs.Prelude.{ℤ}
 use Rattle.std.proofs.lemmas.List.{append-nil}
@@ -33,21 +33,21 @@ module _ (old new : DeskHandle) (room out : List ℕ) (count : ℕ) (returned : 
   abbrev Same : Type 0
   Same = (history : List Command) → HasHistory old.service.desk history → HasHistory new.service.desk history
 
-  -- what is told as it was given
-  told-number : (given : Answer) (t : IsTelling given room out count returned) → t.told ≡ given → returned ≡ number_of_answer given
-  told-number given t same = t.number ∙ ap number_of_answer same
+  -- what is reported as it was given
+  reported-number : (given : Answer) (t : IsTelling given room out count returned) → t.reported ≡ given → returned ≡ number_of_answer given
+  reported-number given t same = t.number ∙ ap number_of_answer same
 
-  told-text : (given : Answer) (t : IsTelling given room out count returned) (a : Answer) → t.told ≡ a → StoresText (text_told a) room out count
-  told-text given t a same = subst (λ (x : Answer). StoresText (text_told x) room out count) same t.text
+  reported-text : (given : Answer) (t : IsTelling given room out count returned) (a : Answer) → t.reported ≡ a → StoresText (text_told a) room out count
+  reported-text given t a same = subst (λ (x : Answer). StoresText (text_told x) room out count) same t.text
 
-  fits-by : (given : Answer) (t : IsTelling given room out count returned) (b : Bool) → has_rows t.told ≡ b → (has_rows t.told ≡ true → Same) → (count < length room) ⊎ Same
+  fits-by : (given : Answer) (t : IsTelling given room out count returned) (b : Bool) → has_rows t.reported ≡ b → (has_rows t.reported ≡ true → Same) → (count < length room) ⊎ Same
   fits-by given t false is rows = let few = t.few is in inl (omega (arith, few, wide))
   fits-by given t true is rows = inr (rows is)
 
   of_refusal : (r : Refusal) (given : Answer) → is_open old ≡ true → IsRefusal r old new given → IsTelling given room out count returned → IsLineCall old new (Bad r) room out count returned
   of_refusal r given opened refused t = elim t.is [
     | inl same ↦
-        let is : t.told ≡ answer.Refused r = same ∙ refused.is in
+        let is : t.reported ≡ answer.Refused r = same ∙ refused.is in
         let unchanged = refused.unchanged in
         let stands : Same = λ history before. subst (λ (h : DeskHandle). HasHistory h.service.desk history) (sym unchanged) before in
         record {
@@ -58,7 +58,7 @@ module _ (old new : DeskHandle) (room out : List ℕ) (count : ℕ) (returned : 
           unchanged = inl (ap (λ (h : DeskHandle). h.service) unchanged);
           kept = ap (λ (h : DeskHandle). h.service.fired) unchanged ∙ sym (append-nil old.service.fired);
           number = t.number ∙ ap number_of_answer is;
-          text = told-text given t (answer.Refused r) is;
+          text = reported-text given t (answer.Refused r) is;
           few = λ none. t.few (ap has_rows is ∙ none);
           fits = inr stands;
         }
@@ -69,39 +69,39 @@ module _ (old new : DeskHandle) (room out : List ℕ) (count : ℕ) (returned : 
   of_command c given stepped t =
       let step = stepped.step in
       let rows_same : has_rows given ≡ true → Same = λ rows history before.
-          same-history new.service.desk c given rows history (step.answered history before) (step.stands history before) old.service.desk before in
+      same-history new.service.desk c given rows history (step.answered history before) (step.stands history before) old.service.desk before in
       elim t.is [
         | inl same ↦ record {
-            given = given;
-            opened = stepped.opened;
-            answered = step.answered;
-            stands = step.stands;
-            unchanged = on-refused given (λ same. inl same) step.unchanged;
-            kept = step.kept;
-            number = told-number given t same;
-            text = told-text given t given same;
-            few = λ none. t.few (ap has_rows same ∙ none);
-            fits = fits-by given t (has_rows t.told) refl (λ rows. rows_same (ap has_rows (sym same) ∙ rows));
-          }
+          given = given;
+          opened = stepped.opened;
+          answered = step.answered;
+          stands = step.stands;
+          unchanged = on-refused given (λ same. inl same) step.unchanged;
+          kept = step.kept;
+          number = reported-number given t same;
+          text = reported-text given t given same;
+          few = λ none. t.few (ap has_rows same ∙ none);
+          fits = fits-by given t (has_rows t.reported) refl (λ rows. rows_same (ap has_rows (sym same) ∙ rows));
+        }
         | inr memory ↦ record {
-            given = answer.Refused Memory;
-            opened = stepped.opened;
-            answered = λ history before. memory-answer new.service.desk c given memory.1 history (step.answered history before);
-            stands = rows_same memory.1;
-            unchanged = inr refl;
-            kept = step.kept ∙ ap (λ (l : List ℕ). old.service.fired ++ l) (rows-no_cookies given memory.1);
-            number = t.number ∙ ap number_of_answer memory.0;
-            text = told-text given t (answer.Refused Memory) memory.0;
-            few = λ none. t.few (ap has_rows memory.0 ∙ none);
-            fits = inr (rows_same memory.1);
-          }
+          given = answer.Refused Memory;
+          opened = stepped.opened;
+          answered = λ history before. memory-answer new.service.desk c given memory.1 history (step.answered history before);
+          stands = rows_same memory.1;
+          unchanged = inr refl;
+          kept = step.kept ∙ ap (λ (l : List ℕ). old.service.fired ++ l) (rows-no_cookies given memory.1);
+          number = t.number ∙ ap number_of_answer memory.0;
+          text = reported-text given t (answer.Refused Memory) memory.0;
+          few = λ none. t.few (ap has_rows memory.0 ∙ none);
+          fits = inr (rows_same memory.1);
+        }
       ]
 
   asked-open : (b : Bool) (body : Body) (given : Answer) → b ≡ true → IsAskedIf b old new (asked_by body) given → IsAskedOpen old new (asked_by body) given
   asked-open true body given is asked = asked
   asked-open false body given is asked = absurd (cc)
 
-  -- what an open handle was asked for by a line was answered and told
+  -- what an open handle was asked for by a line was answered and reported
   pub line-call : (body : Body) (given : Answer) → is_open old ≡ true → IsAsked old new (asked_by body) given → IsTelling given room out count returned → IsLineCall old new body room out count returned
   line-call (Cmd c) given opened asked t = of_command c given (asked-open (is_open old) (Cmd c) given opened asked) t
   line-call (Bad r) given opened asked t = of_refusal r given opened (asked-open (is_open old) (Bad r) given opened asked) t

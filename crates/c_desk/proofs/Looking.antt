@@ -8,7 +8,7 @@ use Rattle.command_core.specs.declared.command.Command.TheVariants as command
 use Rattle.command_core.specs.declared.answer.Answer.{Answer}
 use Rattle.command_core.specs.declared.answer.Answer.TheVariants as answer
 use Rattle.desk_core.specs.World.{World, empty_world, after, fires_some}
-use Rattle.desk_core.specs.Answer.{causes, first_of, told, answer_to, refused_or, is_refused, takes_memory}
+use Rattle.desk_core.specs.Answer.{causes, first_of, reported, answer_to, refused_or, is_refused, takes_memory}
 use Rattle.desk_core.specs.History.{world_of, IsAnswer, history_after}
 use Rattle.desk_core.specs.Desk.{DeskState, HasHistory, Holds}
 use Rattle.desk_core.proofs.Answering.{world_from-push}
@@ -26,22 +26,22 @@ looks : (w : World) (fires : Command → Bool) (c : Command) → has_rows (answe
 looks w fires (command.Info f) is = (refl, refl)
 looks w fires (command.Show b) is = (refl, refl)
 looks w fires command.Report is = (refl, refl)
-looks w fires (command.Timeline t) is = none (first_of (causes w (command.Timeline t))) (told w (command.Timeline t)) refl is
-looks w fires (command.Inc t n) is = none (first_of (causes w (command.Inc t n))) (told w (command.Inc t n)) refl is
-looks w fires (command.Value t) is = none (first_of (causes w (command.Value t))) (told w (command.Value t)) refl is
-looks w fires (command.Shut t) is = none (first_of (causes w (command.Shut t))) (told w (command.Shut t)) refl is
-looks w fires (command.Fence f t p) is = none (first_of (causes w (command.Fence f t p))) (told w (command.Fence f t p)) refl is
-looks w fires (command.Merge f a b) is = none (first_of (causes w (command.Merge f a b))) (told w (command.Merge f a b)) refl is
-looks w fires (command.Close f) is = none (first_of (causes w (command.Close f))) (told w (command.Close f)) refl is
-looks w fires (command.Wait f) is = none (first_of (causes w (command.Wait f))) (told w (command.Wait f)) refl is
-looks w fires (command.Buffer b) is = none (first_of (causes w (command.Buffer b))) (told w (command.Buffer b)) refl is
-looks w fires (command.Add b t p u) is = none (first_of (causes w (command.Add b t p u))) (told w (command.Add b t p u)) refl is
-looks w fires (command.Import b f flags) is = none (first_of (causes w (command.Import b f flags))) (told w (command.Import b f flags)) refl is
-looks w fires (command.Export f b flags) is = none (first_of (causes w (command.Export f b flags))) (told w (command.Export f b flags)) refl is
-looks w fires (command.Test b u) is = none (first_of (causes w (command.Test b u))) (told w (command.Test b u)) refl is
-looks w fires (command.Trim b) is = none (first_of (causes w (command.Trim b))) (told w (command.Trim b)) refl is
-looks w fires (command.Watch f cookie) is = none (first_of (causes w (command.Watch f cookie))) (told w (command.Watch f cookie)) refl is
-looks w fires (command.Unwatch cookie) is = none (first_of (causes w (command.Unwatch cookie))) (told w (command.Unwatch cookie)) refl is
+looks w fires (command.Timeline t) is = none (first_of (causes w (command.Timeline t))) (reported w (command.Timeline t)) refl is
+looks w fires (command.Inc t n) is = none (first_of (causes w (command.Inc t n))) (reported w (command.Inc t n)) refl is
+looks w fires (command.Value t) is = none (first_of (causes w (command.Value t))) (reported w (command.Value t)) refl is
+looks w fires (command.Shut t) is = none (first_of (causes w (command.Shut t))) (reported w (command.Shut t)) refl is
+looks w fires (command.Fence f t p) is = none (first_of (causes w (command.Fence f t p))) (reported w (command.Fence f t p)) refl is
+looks w fires (command.Merge f a b) is = none (first_of (causes w (command.Merge f a b))) (reported w (command.Merge f a b)) refl is
+looks w fires (command.Close f) is = none (first_of (causes w (command.Close f))) (reported w (command.Close f)) refl is
+looks w fires (command.Wait f) is = none (first_of (causes w (command.Wait f))) (reported w (command.Wait f)) refl is
+looks w fires (command.Buffer b) is = none (first_of (causes w (command.Buffer b))) (reported w (command.Buffer b)) refl is
+looks w fires (command.Add b t p u) is = none (first_of (causes w (command.Add b t p u))) (reported w (command.Add b t p u)) refl is
+looks w fires (command.Import b f flags) is = none (first_of (causes w (command.Import b f flags))) (reported w (command.Import b f flags)) refl is
+looks w fires (command.Export f b flags) is = none (first_of (causes w (command.Export f b flags))) (reported w (command.Export f b flags)) refl is
+looks w fires (command.Test b u) is = none (first_of (causes w (command.Test b u))) (reported w (command.Test b u)) refl is
+looks w fires (command.Trim b) is = none (first_of (causes w (command.Trim b))) (reported w (command.Trim b)) refl is
+looks w fires (command.Watch f cookie) is = none (first_of (causes w (command.Watch f cookie))) (reported w (command.Watch f cookie)) refl is
+looks w fires (command.Unwatch cookie) is = none (first_of (causes w (command.Unwatch cookie))) (reported w (command.Unwatch cookie)) refl is
 
 pub rows-accepted : (a : Answer) → has_rows a ≡ true → is_refused a ≡ false
 rows-accepted (answer.Info i) is = refl
@@ -66,7 +66,7 @@ module _ (new : DeskState) (c : Command) (a : Answer) (rows : has_rows a ≡ tru
   w = world_of history
 
   is_answer : a ≡ answer_to w c
-  is_answer = elim answered.told [
+  is_answer = elim answered.reported [
     | inl same ↦ same
     | inr memory ↦ let refused : has_rows (answer.Refused Memory) ≡ true = ap has_rows (sym memory.0) ∙ rows in absurd (cc)
   ]
@@ -78,7 +78,7 @@ module _ (new : DeskState) (c : Command) (a : Answer) (rows : has_rows a ≡ tru
   pub memory-answer : IsAnswer history c (answer.Refused Memory)
   memory-answer =
       let accepted : is_refused (answer_to w c) ≡ false = ap is_refused (sym is_answer) ∙ rows-accepted a rows in
-      record { told = inr (refl, look.1, accepted) }
+      record { reported = inr (refl, look.1, accepted) }
 
   -- the desk still stands for the history
   pub same-history : HasHistory new (history_after history c a) → (desk : DeskState) → HasHistory desk history → HasHistory new history

@@ -14,7 +14,7 @@ use Rattle.command_core.specs.declared.answer.Answer.{Answer}
 use Rattle.command_core.specs.declared.answer.Answer.TheVariants as answer
 use Rattle.fence_core.specs.declared.watches.TheConstants.{WATCHES, WATCHES_EVER}
 use Rattle.desk_core.specs.World.{World, MadeFile, MadeWatch, after, file_named, has_file, has_made_watch, put_set, watch_made, is_due, raised_reach, shut_reach, cookies_of as made_cookies}
-use Rattle.desk_core.specs.Answer.{causes, first_of, told, info_told, answer_to, refused_or, is_refused, is_full, is_signalled}
+use Rattle.desk_core.specs.Answer.{causes, first_of, reported, info_reported, answer_to, refused_or, is_refused, is_full, is_signalled}
 use Rattle.desk_core.specs.History.{world_of, IsAnswer, history_after}
 use Rattle.desk_core.specs.Desk.{DeskState, HasHistory}
 use Rattle.desk_core.proofs.Answering.{world_from-push}
@@ -55,12 +55,12 @@ fired-room due ws len capacity room =
 none-fired : (len n capacity : ℕ) → len + n ≤ capacity → (len + 0) + n ≤ capacity
 none-fired len n capacity room = omega (arith, room)
 
-none-told : (w : World) (name : List ℕ) (o : Option MadeFile) → length (cookies_of (info_told w name o)) ≡ 0
-none-told w name None = refl
-none-told w name (Some f) = refl
+none-reported : (w : World) (name : List ℕ) (o : Option MadeFile) → length (cookies_of (info_reported w name o)) ≡ 0
+none-reported w name None = refl
+none-reported w name (Some f) = refl
 
 world-room : (w : World) (c : Command) (len capacity : ℕ) → IsReadyFor c len capacity → is_refused (answer_to w c) ≡ false → len + length w.watches ≤ capacity
-    → (len + length (cookies_of (told w c))) + length (after w c).watches ≤ capacity
+    → (len + length (cookies_of (reported w c))) + length (after w c).watches ≤ capacity
 world-room w (command.Inc t n) len capacity ready accepted room = fired-room (is_due (raised_reach w t n)) w.watches len capacity room
 world-room w (command.Shut t) len capacity ready accepted room = fired-room (is_due (shut_reach w t)) w.watches len capacity room
 world-room w (command.Watch f cookie) len capacity ready accepted room =
@@ -73,7 +73,7 @@ world-room w (command.Unwatch cookie) len capacity ready accepted room =
     let both = length-filter_both (λ (x : MadeWatch). not (nat_eq x.cookie cookie)) (λ (x : MadeWatch). not (not (nat_eq x.cookie cookie))) (λ x. refl) w.watches in
     omega (arith, both, room)
 world-room w (command.Info f) len capacity ready accepted room =
-    let none = none-told w f (file_named w.files f) in
+    let none = none-reported w f (file_named w.files f) in
     omega (arith, none, room)
 world-room w (command.Timeline t) len capacity ready accepted room = none-fired len (length w.watches) capacity room
 world-room w (command.Value t) len capacity ready accepted room = none-fired len (length w.watches) capacity room
@@ -91,9 +91,9 @@ world-room w (command.Show b) len capacity ready accepted room = none-fired len 
 world-room w command.Report len capacity ready accepted room = none-fired len (length w.watches) capacity room
 
 -- the answer of an accepted command is what it tells
-told-accepted : (cause : Option Refusal) (a : Answer) → is_refused (refused_or cause a) ≡ false → refused_or cause a ≡ a
-told-accepted None a is = refl
-told-accepted (Some r) a is = absurd (cc)
+reported-accepted : (cause : Option Refusal) (a : Answer) → is_refused (refused_or cause a) ≡ false → refused_or cause a ≡ a
+reported-accepted None a is = refl
+reported-accepted (Some r) a is = absurd (cc)
 
 no-cookies : (a : Answer) → is_refused a ≡ true → cookies_of a ≡ []
 no-cookies (answer.Refused r) is = refl
@@ -116,23 +116,23 @@ module _ (old new : DeskState) (c : Command) (given : Answer) (history : List Co
       let after = pending-held held in
       omega (arith, none, before, after, room)
 
-  accepted-room : given ≡ told w c → is_refused (answer_to w c) ≡ false → IsReadyFor c len capacity → len + length old.watches.pending ≤ capacity → HasHistory old history → HasHistory new (history ++ c ∷ [])
+  accepted-room : given ≡ reported w c → is_refused (answer_to w c) ≡ false → IsReadyFor c len capacity → len + length old.watches.pending ≤ capacity → HasHistory old history → HasHistory new (history ++ c ∷ [])
       → (len + length (cookies_of given)) + length new.watches.pending ≤ capacity
   accepted-room is accepted ready room stands held =
       let before = pending-held stands in
       let pending : length new.watches.pending ≡ length (after w c).watches = pending-held held ∙ ap (λ (v : World). length v.watches) (world_from-push empty_world history c) in
       let cookies = ap (λ a. length (cookies_of a)) is in
-      let now : (len + length (cookies_of (told w c))) + length (after w c).watches ≤ capacity = world-room w c len capacity ready accepted (omega (arith, before, room)) in
+      let now : (len + length (cookies_of (reported w c))) + length (after w c).watches ≤ capacity = world-room w c len capacity ready accepted (omega (arith, before, room)) in
       omega (arith, pending, cookies, now)
 
   room-by : (b : Bool) → is_refused given ≡ b → IsAnswer history c given → IsReadyFor c len capacity → len + length old.watches.pending ≤ capacity → HasHistory old history
       → HasHistory new (if b then history else history ++ c ∷ []) → (len + length (cookies_of given)) + length new.watches.pending ≤ capacity
   room-by true is answered ready room stands held = refused-room is room stands held
   room-by false is answered ready room stands held =
-      elim answered.told [
+      elim answered.reported [
         | inl same ↦
             let accepted : is_refused (answer_to w c) ≡ false = ap is_refused (sym same) ∙ is in
-            accepted-room (same ∙ told-accepted (first_of (causes w c)) (told w c) accepted) accepted ready room stands held
+            accepted-room (same ∙ reported-accepted (first_of (causes w c)) (reported w c) accepted) accepted ready room stands held
         | inr memory ↦ let refused : is_refused given ≡ true = ap is_refused memory.0 in absurd (cc)
       ]
 

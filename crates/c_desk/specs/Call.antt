@@ -26,14 +26,14 @@ abbrev pub number_of : Refusal → ℤ
 number_of refusal = pos (refusal_number refusal)
 
 -- the number that the answer tells, or what stood there
-abbrev pub told_or : Answer → ℕ → ℕ
-told_or answer.Done old = old
-told_or (answer.Value n) old = n
-told_or (answer.Raised n fired) old = n
-told_or (answer.Info i) old = old
-told_or (answer.Show rows) old = old
-told_or (answer.Report report) old = old
-told_or (answer.Refused r) old = old
+abbrev pub reported_or : Answer → ℕ → ℕ
+reported_or answer.Done old = old
+reported_or (answer.Value n) old = n
+reported_or (answer.Raised n fired) old = n
+reported_or (answer.Info i) old = old
+reported_or (answer.Show rows) old = old
+reported_or (answer.Report report) old = old
+reported_or (answer.Refused r) old = old
 
 -- 1 for an answer of yes, 0 for one of no, or what stood there
 abbrev pub yes_or : Answer → ℤ → ℤ

@@ -70,16 +70,16 @@ pub record StoresText (text old new : List ℕ) (count : ℕ) : Type 0 where
   pub bytes : new ≡ over_with_nul text old
   pub whole : count ≡ length text
 
--- The answer was told by its number and its text. Where it has rows, and no memory was found for their text, Memory was
--- told in its place.
+-- The answer was reported by its number and its text. Where it has rows, and no memory was found for their text, Memory was
+-- reported in its place.
 pub record IsTelling (given : Answer) (old new : List ℕ) (count : ℕ) (returned : ℤ) : Type 0 where
-  pub told : Answer
-  pub is : (told ≡ given) ⊎ ((told ≡ answer.Refused Memory) × (has_rows given ≡ true))
-  pub number : returned ≡ number_of_answer told
-  pub text : StoresText (text_told told) old new count
-  pub few : has_rows told ≡ false → count < ANSWER_ROOM
+  pub reported : Answer
+  pub is : (reported ≡ given) ⊎ ((reported ≡ answer.Refused Memory) × (has_rows given ≡ true))
+  pub number : returned ≡ number_of_answer reported
+  pub text : StoresText (text_told reported) old new count
+  pub few : has_rows reported ≡ false → count < ANSWER_ROOM
 
--- The line was answered as a line of a script is, but that what it fires was put into the queue, and the answer was told by
+-- The line was answered as a line of a script is, but that what it fires was put into the queue, and the answer was reported by
 -- its number and its text. A line whose text found too little room has changed nothing.
 pub record IsLineCall (old new : DeskHandle) (body : Body) (room out : List ℕ) (count : ℕ) (returned : ℤ) : Type 0 where
   pub given : Answer

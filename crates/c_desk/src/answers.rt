@@ -1,7 +1,7 @@
 // What an answer says to a C program.
 ghost use Rattle.std.specs.Prelude.{◌≡◌};
 ghost use Rattle.c_desk.specs.Told.{StoresInfo, StoresReport, StoresTable};
-ghost use Rattle.c_desk.specs.Call.{number_of, number_of_answer, told_or, yes_or};
+ghost use Rattle.c_desk.specs.Call.{number_of, number_of_answer, reported_or, yes_or};
 
 use crate::rows::{BufferInfo, BufferRow, Counts, FenceInfo, FileInfo, TimelineInfo, put};
 use command_core::Answer;
@@ -29,7 +29,7 @@ pub fn refused(refusal: Refusal) -> i32
 /// Stores the number that the answer has, and nothing if it has none.
 #[inline(always)]
 pub fn store(answer: &Answer, value: &mut u64)
-    ensures { value.new ≡ told_or answer.now value.old }
+    ensures { value.new ≡ reported_or answer.now value.old }
 {
     if let Answer::Value(number) | Answer::Raised(number, _) = answer {
         *value = *number;

@@ -5,7 +5,7 @@
 
 ghost use Rattle.std.specs.Prelude.{◌≡◌, ◌<◌, ◌≤◌, pos, [], true, false, length, None, IfSome, IfOk, IfErr, ⊤};
 ghost use Rattle.c_desk.specs.Asked.{asked_timeline, asked_inc, asked_shut, asked_value, asked_fence, asked_merge, asked_close, asked_wait, asked_info, asked_buffer, asked_add, asked_import, asked_export, asked_test, asked_trim, asked_show, asked_watch, asked_unwatch, asked_report};
-ghost use Rattle.c_desk.specs.Call.{IsCall, told_or, yes_or, number_of, IsNew, IsOpening, IsTaking};
+ghost use Rattle.c_desk.specs.Call.{IsCall, reported_or, yes_or, number_of, IsNew, IsOpening, IsTaking};
 ghost use Rattle.c_desk.specs.Line.{body_of_bytes, IsKept, IsLineCall, StoresText};
 ghost use Rattle.c_desk.specs.Told.{StoresInfo, StoresReport, StoresTable};
 ghost use Rattle.c_desk.specs.Handle.{is_open};
@@ -29,7 +29,7 @@ use std::alloc::Global;
 
 /// Opens a desk with nothing in it at a closed handle.
 ///
-/// Refuses as `Exists` where the handle is open, then as `Memory`; the handle stays as it was then.
+/// Fails with `Exists` if the handle is open, then with `Memory`; the handle stays as it was then.
 #[unsafe(no_mangle)]
 pub extern "C" fn bim_desk_open(alloc: Global, desk: &mut DeskHandle) -> i32
     ensures { IsOpening desk.old desk.new result }
@@ -71,7 +71,7 @@ pub extern "C" fn bim_desk_close(alloc: Global, desk: &mut DeskHandle)
 #[unsafe(no_mangle)]
 pub extern "C" fn bim_timeline_n(desk: &mut DeskHandle, timeline: &[u8], context: &mut u64) -> i32
     ensures { IsCall desk.old desk.new (asked_timeline timeline.now) result (λ given.
-        context.new ≡ told_or given context.old) }
+        context.new ≡ reported_or given context.old) }
 {
     let answer = desk.ask(asked::timeline(timeline));
     store(&answer, context);
@@ -82,7 +82,7 @@ pub extern "C" fn bim_timeline_n(desk: &mut DeskHandle, timeline: &[u8], context
 #[unsafe(no_mangle)]
 pub extern "C" fn bim_inc_n(desk: &mut DeskHandle, timeline: &[u8], n: u64, value: &mut u64) -> i32
     ensures { IsCall desk.old desk.new (asked_inc timeline.now n) result (λ given.
-        value.new ≡ told_or given value.old) }
+        value.new ≡ reported_or given value.old) }
 {
     let answer = desk.ask(asked::inc(timeline, n));
     store(&answer, value);
@@ -93,7 +93,7 @@ pub extern "C" fn bim_inc_n(desk: &mut DeskHandle, timeline: &[u8], n: u64, valu
 #[unsafe(no_mangle)]
 pub extern "C" fn bim_value_n(desk: &mut DeskHandle, timeline: &[u8], value: &mut u64) -> i32
     ensures { IsCall desk.old desk.new (asked_value timeline.now) result (λ given.
-        value.new ≡ told_or given value.old) }
+        value.new ≡ reported_or given value.old) }
 {
     let answer = desk.ask(asked::value(timeline));
     store(&answer, value);
@@ -104,7 +104,7 @@ pub extern "C" fn bim_value_n(desk: &mut DeskHandle, timeline: &[u8], value: &mu
 #[unsafe(no_mangle)]
 pub extern "C" fn bim_shut_n(desk: &mut DeskHandle, timeline: &[u8], value: &mut u64) -> i32
     ensures { IsCall desk.old desk.new (asked_shut timeline.now) result (λ given.
-        value.new ≡ told_or given value.old) }
+        value.new ≡ reported_or given value.old) }
 {
     let answer = desk.ask(asked::shut(timeline));
     store(&answer, value);

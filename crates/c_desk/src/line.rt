@@ -65,7 +65,7 @@ fn asked_by(body: Body) -> Result<Command, Refusal>
 }
 
 /// Stores the text of the answer, and gives its number. Where it has rows, and there is no memory for their text, `Memory`
-/// is told in its place.
+/// is reported in its place.
 fn tell(alloc: Global, answer: &Answer, out: &mut [u8], count: &mut usize) -> i32
     requires room { ANSWER_ROOM ≤ length out.old }
     ensures { IsTelling answer.now out.old out.new count.new result }

@@ -23,7 +23,7 @@ abbrev pub HasLooked : MemberModel → MemberModel → Type 0
 HasLooked old new = new ≡ record old { seat = new.seat }
 
 -- one poll gave the number of the file's status
-pub record TellsStatus (old new : MemberModel) (f : File) (number : ℤ) : Type 0 where
+pub record ReportsStatus (old new : MemberModel) (f : File) (number : ℤ) : Type 0 where
   pub looked : HasLooked old new
   pub loaded : HasLoadedClocks old.seat new.seat (clocks_seen new.seat)
   pub status : number ≡ status_number (common_status (clocks_seen new.seat) f.points)

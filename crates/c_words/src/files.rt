@@ -3,7 +3,7 @@ ghost use Rattle.std.specs.Prelude.{◌≡◌, ◌↔◌, ◌⊎◌, ◌≤◌, 
 ghost use Rattle.point_core.specs.declared.context.TheConstants.{CONTEXTS};
 ghost use Rattle.point_core.specs.declared.refusal.Refusal.TheVariants as refusal;
 ghost use Rattle.c_words.specs.Answers.{done, refused};
-ghost use Rattle.c_words.specs.FileCalls.{IsPlain, TellsStatus, FindsForeign, HasWaited, HasTimedOut, TurnsForeign};
+ghost use Rattle.c_words.specs.FileCalls.{IsPlain, ReportsStatus, FindsForeign, HasWaited, HasTimedOut, TurnsForeign};
 ghost use Rattle.c_words.specs.Files.{IsOpen, IsClosed};
 ghost use Rattle.c_words.specs.Seats.{IsOpen as IsOpenSeat, IsClosed as IsClosedSeat};
 
@@ -92,7 +92,7 @@ pub extern "C" fn bim_file_poll(
     ensures file_closed { IsClosed file.old → (result ≡ refused refusal.NoEntry) × (seat.new ≡ seat.old) }
     ensures seat_closed { IsClosedSeat seat.old → (result ≡ refused refusal.NoEntry) × (seat.new ≡ seat.old) }
     ensures stays { IsOpenSeat seat.old → IsOpenSeat seat.new }
-    ensures polled { result ≡ done → TellsStatus seat.old.held seat.new.held file.old.held status.new }
+    ensures polled { result ≡ done → ReportsStatus seat.old.held seat.new.held file.old.held status.new }
     ensures foreign { IsOpen file.old → IsOpenSeat seat.old →
         (result ≡ done) ⊎
         ((result ≡ refused refusal.Foreign) × FindsForeign seat.old.held seat.new.held file.old.held) }

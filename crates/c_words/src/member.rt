@@ -46,7 +46,7 @@ impl Member {
     ghost use Rattle.point_core.specs.declared.refusal.Refusal.TheVariants as refusal;
     ghost use Rattle.c_words.specs.Member.{AreSizes, IsFirst, HasContext, HasShare, IsParted, IsDriving, HasLoaded};
     ghost use Rattle.c_words.specs.Member.{HasAdded, HasShut, HasSet, HasFoundSet, HasBuffer, HasPut, after_loss};
-    ghost use Rattle.c_words.specs.FileCalls.{HasLooked, TellsStatus, FindsForeign};
+    ghost use Rattle.c_words.specs.FileCalls.{HasLooked, ReportsStatus, FindsForeign};
     ghost use Rattle.c_words.specs.FileCalls.{HasWaited, HasTimedOut, TurnsForeign, HasMerged};
     ghost use Rattle.c_words.specs.Exports.{HasExportedFile, HasOnlyLooked};
     ghost use Rattle.words_core.specs.Seat.{both_of};
@@ -248,7 +248,7 @@ impl Member {
     ///
     /// Fails with `Foreign` if the words do not bear the file out.
     pub fn poll(&mut self, file: &SyncFile) -> Result<Status, Refusal>
-        ensures polled { IfOk result (λ status. TellsStatus self.old self.new file.now (status_number status)) }
+        ensures polled { IfOk result (λ status. ReportsStatus self.old self.new file.now (status_number status)) }
         ensures foreign { IfErr result (λ e. (e ≡ refusal.Foreign) × FindsForeign self.old self.new file.now) }
     {
         file.poll(&self.words, &mut self.seat)
@@ -299,7 +299,14 @@ impl Member {
             return Err(Refusal::NoEntry);
         }
         let board = Board::empty(alloc, &self.words)?;
-        board.export_into(alloc, &self.words, &mut self.seat, buffer, usage, &mut self.listing)?;
+        board.export_into(
+            alloc,
+            &self.words,
+            &mut self.seat,
+            buffer,
+            usage,
+            &mut self.listing,
+        )?;
         let file = listed_file(alloc, &mut self.listing)?;
         Ok(file)
     }

@@ -18,11 +18,11 @@ abbrev pub ended : List ℕ → List ℕ → List ℕ → List Command
 ended gpu buffer drawn = begun gpu buffer drawn ++ command.Inc gpu 1 ∷ []
 
 pub late : (gpu buffer drawn : List ℕ) (frame : Frame) → gpu ≡ codes "gpu" → buffer ≡ codes "buffer" → drawn ≡ codes "drawn" → ((frame ≡ Shown) ↔ (is_signalled (world_of (begun gpu buffer drawn)) drawn ≡ true)) → frame ≡ Late
-late gpu buffer drawn Late g b d told = refl
-late gpu buffer drawn Shown g b d told =
-    let shown = told.0 refl in
+late gpu buffer drawn Late g b d reported = refl
+late gpu buffer drawn Shown g b d reported =
+    let shown = reported.0 refl in
     let pending : is_signalled (world_of (begun gpu buffer drawn)) drawn ≡ false = rw (g, b, d) refl in
     absurd (cc)
 
 pub shown : (gpu buffer drawn : List ℕ) (frame : Frame) → gpu ≡ codes "gpu" → buffer ≡ codes "buffer" → drawn ≡ codes "drawn" → ((frame ≡ Shown) ↔ (is_signalled (world_of (ended gpu buffer drawn)) drawn ≡ true)) → frame ≡ Shown
-shown gpu buffer drawn frame g b d told = told.1 (rw (g, b, d) refl)
+shown gpu buffer drawn frame g b d reported = reported.1 (rw (g, b, d) refl)

@@ -16,12 +16,12 @@ use Rattle.command_core.specs.declared.answer.Answer.TheVariants as answer
 use Rattle.fence_core.specs.Watch.{Watch, IsWatchOf, cookies_of as kept_cookies}
 use Rattle.timeline_core.specs.Timeline.{reach_of}
 use Rattle.desk_core.specs.World.{World, MadeFile, MadeWatch, empty_world, after, file_named, has_file, put_set, has_made_watch, watches_without, watch_made, is_due, raised_reach, shut_reach, other_watches, fired_watches, shut_watches, cookies_of}
-use Rattle.desk_core.specs.Answer.{first_of, causes, told, info_told, answer_to, refused_or, is_refused, is_full, is_signalled, number_if}
+use Rattle.desk_core.specs.Answer.{first_of, causes, reported, info_reported, answer_to, refused_or, is_refused, is_full, is_signalled, number_if}
 use Rattle.desk_core.specs.History.{world_from, world_of, AreAccepted, IsHistory, IsAnswer, history_after, history_of, AreAnswers}
 use Rattle.desk_core.specs.Desk.{DeskState, HasHistory}
-use Rattle.desk_core.specs.Times.{is_unwatch_of, tells_one, fired_told, registers, removes, times_registered, times_removed, times_fired, times_pending}
-use Rattle.desk_core.specs.Headline.{TellsEachWatch}
-use Rattle.desk_core.proofs.Answering.{world_from-push, is_refused-told, AreAccepted-push}
+use Rattle.desk_core.specs.Times.{is_unwatch_of, reports_one, fired_reported, registers, removes, times_registered, times_removed, times_fired, times_pending}
+use Rattle.desk_core.specs.Headline.{ReportsEachWatch}
+use Rattle.desk_core.proofs.Answering.{world_from-push, is_refused-reported, AreAccepted-push}
 use Rattle.desk_core.proofs.Watching.{cookie_of, put_of}
 
 abbrev one_if : Bool → ℕ
@@ -95,7 +95,7 @@ pending-others : (cookie other : ℕ) (xs : List MadeWatch) → nat_eq other coo
 pending-others cookie other [] apart = refl
 pending-others cookie other (x ∷ xs) apart = other_by cookie other x (nat_eq x.cookie other) (watches_without xs other) xs refl apart (pending-others cookie other xs apart)
 
-unwatched_by : (cookie other : ℕ) (ws : List MadeWatch) → pending cookie ws ≤ 1 → (b has : Bool) → nat_eq other cookie ≡ b → has_made_watch ws other ≡ has → 0 + pending cookie ws ≡ 0 + cond (b && tells_one (answer.Value (number_if has))) 1 0 + pending cookie (watches_without ws other)
+unwatched_by : (cookie other : ℕ) (ws : List MadeWatch) → pending cookie ws ≤ 1 → (b has : Bool) → nat_eq other cookie ≡ b → has_made_watch ws other ≡ has → 0 + pending cookie ws ≡ 0 + cond (b && reports_one (answer.Value (number_if has))) 1 0 + pending cookie (watches_without ws other)
 unwatched_by cookie other ws low true true is there =
     let same = eqb-true other cookie is in
     let some = subst (λ k. 1 ≤ pending k ws) same (some-pending other ws there) in
@@ -117,47 +117,47 @@ unwatched_by cookie other ws low false has is there =
 
 -- what was pending and is registered has fired, is removed or is pending then
 abbrev Accounts : ℕ → Command → Answer → ℕ → ℕ → Type 0
-Accounts cookie c a before later = cond (registers cookie (c, a)) 1 0 + before ≡ times cookie (fired_told a) + cond (removes cookie (c, a)) 1 0 + later
+Accounts cookie c a before later = cond (registers cookie (c, a)) 1 0 + before ≡ times cookie (fired_reported a) + cond (removes cookie (c, a)) 1 0 + later
 
 still : (n : ℕ) → 0 + n ≡ 0 + 0 + n
 still n = omega arith
 
-Accounts-info : (cookie : ℕ) (w : World) (f : List ℕ) (o : Option MadeFile) → Accounts cookie (command.Info f) (info_told w f o) (pending cookie w.watches) (pending cookie w.watches)
+Accounts-info : (cookie : ℕ) (w : World) (f : List ℕ) (o : Option MadeFile) → Accounts cookie (command.Info f) (info_reported w f o) (pending cookie w.watches) (pending cookie w.watches)
 Accounts-info cookie w f None = still (pending cookie w.watches)
 Accounts-info cookie w f (Some g) = still (pending cookie w.watches)
 
-Accounts-told : (cookie : ℕ) (w : World) (c : Command) → pending cookie w.watches ≤ 1 → Accounts cookie c (told w c) (pending cookie w.watches) (pending cookie (after w c).watches)
-Accounts-told cookie w (command.Inc t n) low =
+Accounts-reported : (cookie : ℕ) (w : World) (c : Command) → pending cookie w.watches ≤ 1 → Accounts cookie c (reported w c) (pending cookie w.watches) (pending cookie (after w c).watches)
+Accounts-reported cookie w (command.Inc t n) low =
     let parts = sum_by-filter_both (is_due (raised_reach w t n)) (λ x. not (is_due (raised_reach w t n) x)) (λ x. refl) (one_of cookie) w.watches in
     let fired = times-cookies cookie (fired_watches w t n) in
     let whole : 0 + pending cookie w.watches ≡ times cookie (cookies_of (fired_watches w t n)) + 0 + pending cookie (other_watches w (raised_reach w t n)) = omega (arith, parts, fired) in
     whole
-Accounts-told cookie w (command.Shut t) low =
+Accounts-reported cookie w (command.Shut t) low =
     let parts = sum_by-filter_both (is_due (shut_reach w t)) (λ x. not (is_due (shut_reach w t) x)) (λ x. refl) (one_of cookie) w.watches in
     let fired = times-cookies cookie (shut_watches w t) in
     let whole : 0 + pending cookie w.watches ≡ times cookie (cookies_of (shut_watches w t)) + 0 + pending cookie (other_watches w (shut_reach w t)) = omega (arith, parts, fired) in
     whole
-Accounts-told cookie w (command.Watch f other) low =
+Accounts-reported cookie w (command.Watch f other) low =
     let x : MadeWatch = watch_made other (put_set w.files f) w.watches_made in
     let more = sum_by_push (one_of cookie) w.watches x in
     let whole : cond (nat_eq other cookie) 1 0 + pending cookie w.watches ≡ 0 + 0 + pending cookie (w.watches ++ x ∷ []) = omega (arith, more) in
     whole
-Accounts-told cookie w (command.Unwatch other) low = unwatched_by cookie other w.watches low (nat_eq other cookie) (has_made_watch w.watches other) refl refl
-Accounts-told cookie w (command.Info f) low = Accounts-info cookie w f (file_named w.files f)
-Accounts-told cookie w (command.Timeline t) low = still (pending cookie w.watches)
-Accounts-told cookie w (command.Value t) low = still (pending cookie w.watches)
-Accounts-told cookie w (command.Fence f t p) low = still (pending cookie w.watches)
-Accounts-told cookie w (command.Merge f a b) low = still (pending cookie w.watches)
-Accounts-told cookie w (command.Close f) low = still (pending cookie w.watches)
-Accounts-told cookie w (command.Wait f) low = still (pending cookie w.watches)
-Accounts-told cookie w (command.Buffer b) low = still (pending cookie w.watches)
-Accounts-told cookie w (command.Add b t p u) low = still (pending cookie w.watches)
-Accounts-told cookie w (command.Import b f flags) low = still (pending cookie w.watches)
-Accounts-told cookie w (command.Export f b flags) low = still (pending cookie w.watches)
-Accounts-told cookie w (command.Test b u) low = still (pending cookie w.watches)
-Accounts-told cookie w (command.Trim b) low = still (pending cookie w.watches)
-Accounts-told cookie w (command.Show b) low = still (pending cookie w.watches)
-Accounts-told cookie w command.Report low = still (pending cookie w.watches)
+Accounts-reported cookie w (command.Unwatch other) low = unwatched_by cookie other w.watches low (nat_eq other cookie) (has_made_watch w.watches other) refl refl
+Accounts-reported cookie w (command.Info f) low = Accounts-info cookie w f (file_named w.files f)
+Accounts-reported cookie w (command.Timeline t) low = still (pending cookie w.watches)
+Accounts-reported cookie w (command.Value t) low = still (pending cookie w.watches)
+Accounts-reported cookie w (command.Fence f t p) low = still (pending cookie w.watches)
+Accounts-reported cookie w (command.Merge f a b) low = still (pending cookie w.watches)
+Accounts-reported cookie w (command.Close f) low = still (pending cookie w.watches)
+Accounts-reported cookie w (command.Wait f) low = still (pending cookie w.watches)
+Accounts-reported cookie w (command.Buffer b) low = still (pending cookie w.watches)
+Accounts-reported cookie w (command.Add b t p u) low = still (pending cookie w.watches)
+Accounts-reported cookie w (command.Import b f flags) low = still (pending cookie w.watches)
+Accounts-reported cookie w (command.Export f b flags) low = still (pending cookie w.watches)
+Accounts-reported cookie w (command.Test b u) low = still (pending cookie w.watches)
+Accounts-reported cookie w (command.Trim b) low = still (pending cookie w.watches)
+Accounts-reported cookie w (command.Show b) low = still (pending cookie w.watches)
+Accounts-reported cookie w command.Report low = still (pending cookie w.watches)
 
 Accounts-refused : (cookie : ℕ) (c : Command) (r : Refusal) (n : ℕ) → Accounts cookie c (answer.Refused r) n n
 Accounts-refused cookie c r n =
@@ -230,20 +230,20 @@ GoesOn-refused : (cookie : ℕ) (history : List Command) (c : Command) (a : Answ
 GoesOn-refused cookie history c a r accepted is =
     subst (GoesOn cookie history c) (sym is) (Accounts-refused cookie c r (pending cookie (world_of history).watches), accepted)
 
-GoesOn-told : (cookie : ℕ) (history : List Command) (c : Command) (o : Option Refusal) (a : Answer) → IsHistory history → first_of (causes (world_of history) c) ≡ o → a ≡ refused_or o (told (world_of history) c) → GoesOn cookie history c a
-GoesOn-told cookie history c (Some r) a accepted caused is = GoesOn-refused cookie history c a r accepted is
-GoesOn-told cookie history c None a accepted uncaused is =
+GoesOn-reported : (cookie : ℕ) (history : List Command) (c : Command) (o : Option Refusal) (a : Answer) → IsHistory history → first_of (causes (world_of history) c) ≡ o → a ≡ refused_or o (reported (world_of history) c) → GoesOn cookie history c a
+GoesOn-reported cookie history c (Some r) a accepted caused is = GoesOn-refused cookie history c a r accepted is
+GoesOn-reported cookie history c None a accepted uncaused is =
     let w : World = world_of history in
-    let kept = is_refused-told w c in
-    let pushed : history_after history c (told w c) ≡ history ++ c ∷ [] = ap (λ b. if b then history else history ++ c ∷ []) kept in
-    let accounts = subst (λ (v : World). Accounts cookie c (told w c) (pending cookie w.watches) (pending cookie v.watches)) (sym (world_from-push empty_world history c)) (Accounts-told cookie w c (once-pending cookie history accepted)) in
-    let goes = AreAccepted-push empty_world history c accepted (ap (λ o. is_refused (refused_or o (told w c))) uncaused ∙ kept) in
+    let kept = is_refused-reported w c in
+    let pushed : history_after history c (reported w c) ≡ history ++ c ∷ [] = ap (λ b. if b then history else history ++ c ∷ []) kept in
+    let accounts = subst (λ (v : World). Accounts cookie c (reported w c) (pending cookie w.watches) (pending cookie v.watches)) (sym (world_from-push empty_world history c)) (Accounts-reported cookie w c (once-pending cookie history accepted)) in
+    let goes = AreAccepted-push empty_world history c accepted (ap (λ o. is_refused (refused_or o (reported w c))) uncaused ∙ kept) in
     subst (GoesOn cookie history c) (sym is)
-    (subst (λ h. Accounts cookie c (told w c) (pending cookie w.watches) (pending cookie (world_of h).watches) × IsHistory h) (sym pushed) (accounts, goes))
+    (subst (λ h. Accounts cookie c (reported w c) (pending cookie w.watches) (pending cookie (world_of h).watches) × IsHistory h) (sym pushed) (accounts, goes))
 
 GoesOn-answer : (cookie : ℕ) (history : List Command) (c : Command) (a : Answer) → IsHistory history → IsAnswer history c a → GoesOn cookie history c a
-GoesOn-answer cookie history c a accepted answered = elim (answered.told) [
-  | inl is ↦ GoesOn-told cookie history c (first_of (causes (world_of history) c)) a accepted refl is
+GoesOn-answer cookie history c a accepted answered = elim (answered.reported) [
+  | inl is ↦ GoesOn-reported cookie history c (first_of (causes (world_of history) c)) a accepted refl is
   | inr none ↦ GoesOn-refused cookie history c a Memory accepted none.0
 ]
 
@@ -258,7 +258,7 @@ accounted cookie history (c ∷ cs) (a ∷ given) accepted are =
     let rest = accounted cookie (history_after history c a) cs given step.1 are.1 in
     let registered = sum_by-cons (λ both. cond (registers cookie both) 1 0) (c, a) (zip cs given) in
     let removed = sum_by-cons (λ both. cond (removes cookie both) 1 0) (c, a) (zip cs given) in
-    let fired = sum_by-append (λ (k : ℕ). cond (nat_eq k cookie) 1 0) (fired_told a) (flat_map fired_told given) in
+    let fired = sum_by-append (λ (k : ℕ). cond (nat_eq k cookie) 1 0) (fired_reported a) (flat_map fired_reported given) in
     omega (arith, step.0, rest, registered, removed, fired)
 
 cookies-held : (reach : List ℕ) (ws : List Watch) (xs : List MadeWatch) → AllZip (IsWatchOf cookie_of put_of reach) ws xs → kept_cookies ws ≡ cookies_of xs
@@ -272,8 +272,8 @@ times_pending-held desk history cookie stands =
     ap (times cookie) (cookies-held (reach_of (world_of history).timelines) desk.watches.pending (world_of history).watches stands.holds.watches)
     ∙ times-cookies cookie (world_of history).watches
 
-pub TellsEachWatch-stands : (desk : DeskState) (commands : List Command) (given : List Answer) → AreAnswers [] commands given → HasHistory desk (history_of [] commands given) → TellsEachWatch desk commands given
-TellsEachWatch-stands desk commands given answers stands =
+pub ReportsEachWatch-stands : (desk : DeskState) (commands : List Command) (given : List Answer) → AreAnswers [] commands given → HasHistory desk (history_of [] commands given) → ReportsEachWatch desk commands given
+ReportsEachWatch-stands desk commands given answers stands =
     let history : List Command = history_of [] commands given in
     let none : (cookie : ℕ) → pending cookie [] ≡ 0 = λ cookie. refl in
     let all = λ (cookie : ℕ). accounted cookie [] commands given tt answers in

@@ -10,7 +10,7 @@ use Rattle.command_core.specs.declared.answer.Answer.{Answer}
 use Rattle.command_core.specs.declared.answer.Answer.TheVariants as answer
 use Rattle.syncfile_core.specs.Files.{IsRefusedFor}
 use Rattle.desk_core.specs.World.{World, MadeFile, file_named, empty_world, after, fires_some}
-use Rattle.desk_core.specs.Answer.{first_of, causes, told, info_told, answer_to, refused_or, is_refused, takes_memory, OnRefused}
+use Rattle.desk_core.specs.Answer.{first_of, causes, reported, info_reported, answer_to, refused_or, is_refused, takes_memory, OnRefused}
 use Rattle.desk_core.specs.History.{world_from, world_of, AreAccepted, IsAnswer, history_after, history_of, AreAnswers}
 use Rattle.desk_core.specs.Desk.{DeskState, Holds, HasHistory, Answers}
 use Rattle.desk_core.specs.Keeping.{Keeps, cause_of, fires_kept, IsDone, answer_of}
@@ -24,30 +24,30 @@ pub world_from-push : (w : World) (history : List Command) (c : Command) → wor
 world_from-push w [] c = refl
 world_from-push w (d ∷ history) c = world_from-push (after w d) history c
 
-is_refused-info : (w : World) (name : List ℕ) (o : Option MadeFile) → is_refused (info_told w name o) ≡ false
+is_refused-info : (w : World) (name : List ℕ) (o : Option MadeFile) → is_refused (info_reported w name o) ≡ false
 is_refused-info w name None = refl
 is_refused-info w name (Some f) = refl
 
-pub is_refused-told : (w : World) (c : Command) → is_refused (told w c) ≡ false
-is_refused-told w (command.Timeline t) = refl
-is_refused-told w (command.Inc t n) = refl
-is_refused-told w (command.Value t) = refl
-is_refused-told w (command.Shut t) = refl
-is_refused-told w (command.Fence f t p) = refl
-is_refused-told w (command.Merge f a b) = refl
-is_refused-told w (command.Close f) = refl
-is_refused-told w (command.Wait f) = refl
-is_refused-told w (command.Info f) = is_refused-info w f (file_named w.files f)
-is_refused-told w (command.Buffer b) = refl
-is_refused-told w (command.Add b t p u) = refl
-is_refused-told w (command.Import b f flags) = refl
-is_refused-told w (command.Export f b flags) = refl
-is_refused-told w (command.Test b u) = refl
-is_refused-told w (command.Trim b) = refl
-is_refused-told w (command.Show b) = refl
-is_refused-told w command.Report = refl
-is_refused-told w (command.Watch f cookie) = refl
-is_refused-told w (command.Unwatch cookie) = refl
+pub is_refused-reported : (w : World) (c : Command) → is_refused (reported w c) ≡ false
+is_refused-reported w (command.Timeline t) = refl
+is_refused-reported w (command.Inc t n) = refl
+is_refused-reported w (command.Value t) = refl
+is_refused-reported w (command.Shut t) = refl
+is_refused-reported w (command.Fence f t p) = refl
+is_refused-reported w (command.Merge f a b) = refl
+is_refused-reported w (command.Close f) = refl
+is_refused-reported w (command.Wait f) = refl
+is_refused-reported w (command.Info f) = is_refused-info w f (file_named w.files f)
+is_refused-reported w (command.Buffer b) = refl
+is_refused-reported w (command.Add b t p u) = refl
+is_refused-reported w (command.Import b f flags) = refl
+is_refused-reported w (command.Export f b flags) = refl
+is_refused-reported w (command.Test b u) = refl
+is_refused-reported w (command.Trim b) = refl
+is_refused-reported w (command.Show b) = refl
+is_refused-reported w command.Report = refl
+is_refused-reported w (command.Watch f cookie) = refl
+is_refused-reported w (command.Unwatch cookie) = refl
 
 -- the desk keeps the world of each history that it stands for
 pub Keeps-stands : {desk : DeskState} {history : List Command} → HasHistory desk history → Keeps desk (world_of history)
@@ -81,14 +81,14 @@ takes_memory-holds k (command.Unwatch cookie) = refl
 
 answered : (old new : DeskState) (c : Command) (r : Result Answer Refusal) (cause : Option Refusal) (history : List Command) → IsRefusedFor cause r → (takes_memory (fires_kept old) c ≡ false → IfErr r (λ e. e ≢ Memory)) → IfOk r (λ a. IsDone old c a new) → Keeps old (world_of history) → first_of (causes (world_of history) c) ≡ cause → IsAnswer history c (answer_of r)
 answered old new c (Ok a) (Some e) history refused sure done keeps is = absurd (cc)
-answered old new c (Ok a) None history refused sure done keeps is = record { told = inl (done.told (world_of history) keeps ∙ ap (λ o. refused_or o (told (world_of history) c)) (sym is)) }
+answered old new c (Ok a) None history refused sure done keeps is = record { reported = inl (done.reported (world_of history) keeps ∙ ap (λ o. refused_or o (reported (world_of history) c)) (sym is)) }
 answered old new c (Err e') (Some e) history refused sure done keeps is =
     let same : e' ≡ e = cc in
-    record { told = inl (ap answer.Refused same ∙ ap (λ o. refused_or o (told (world_of history) c)) (sym is)) }
+    record { reported = inl (ap answer.Refused same ∙ ap (λ o. refused_or o (reported (world_of history) c)) (sym is)) }
 answered old new c (Err e) None history refused sure done keeps is =
     elim (cases_Bool (takes_memory (fires_kept old) c)) [
       | inl takes ↦ record {
-        told = inr (ap answer.Refused refused, sym (takes_memory-holds keeps c) ∙ takes, ap (λ o. is_refused (refused_or o (told (world_of history) c))) is ∙ is_refused-told (world_of history) c);
+        reported = inr (ap answer.Refused refused, sym (takes_memory-holds keeps c) ∙ takes, ap (λ o. is_refused (refused_or o (reported (world_of history) c))) is ∙ is_refused-reported (world_of history) c);
       }
       | inr takes_none ↦ absurd (sure takes_none refused)
     ]
@@ -109,7 +109,7 @@ HasHistory-outcome old new c (Ok a) refused unchanged done history stands =
     let keeps = Keeps-stands stands in
     let P : World → Type 0 = λ w. Holds new w in
     let uncaused = causes-keeps keeps c ∙ accepted-cause (cause_of old c) a refused in
-    let is = ap (λ o. is_refused (refused_or o (told (world_of history) c))) uncaused ∙ is_refused-told (world_of history) c in
+    let is = ap (λ o. is_refused (refused_or o (reported (world_of history) c))) uncaused ∙ is_refused-reported (world_of history) c in
     let accepted = done.accepted in
     rw accepted (record {
       accepted = AreAccepted-push empty_world history c stands.accepted is;

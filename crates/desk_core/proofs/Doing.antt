@@ -18,11 +18,11 @@ use Rattle.syncfile_core.specs.SyncFile.{File, plain_file, file_of}
 use Rattle.syncfile_core.specs.Files.{file_at as sync_file_at, without_file}
 use Rattle.syncfile_core.specs.Merge.{merge_of}
 use Rattle.desk_core.specs.World.{World, MadeFile, file_named, put_set, buffer_put_set}
-use Rattle.desk_core.specs.Answer.{listed_points, fence_row, or_stub, info_told, number_if}
+use Rattle.desk_core.specs.Answer.{listed_points, fence_row, or_stub, info_reported, number_if}
 use Rattle.desk_core.specs.Desk.{DeskState}
 use Rattle.desk_core.specs.Keeping.{points_at, Keeps, IsDone, AreMade, HaveTimelines, info_at}
 use Rattle.desk_core.proofs.Keeping.{points_of-files_at, sync_file_at-points, sync_file_at-All, AgreesAbove-keeps}
-use Rattle.desk_core.proofs.Signalling.{all_reached-keeps, IsReached-table, common_status-told}
+use Rattle.desk_core.proofs.Signalling.{all_reached-keeps, IsReached-table, common_status-reported}
 use Rattle.desk_core.proofs.Stepping.{Holds-timeline, Holds-raised, Holds-shut, Holds-fence, Holds-close, Holds-merge, Holds-buffer, Holds-put, Holds-export, Holds-trim, Holds-watch, Holds-unwatch}
 use Rattle.fence_core.specs.Watch.{Registry}
 use Rattle.fence_core.specs.Watches.{has_watch, fired_by, after_rise_to, with_watch, without_watch}
@@ -44,53 +44,53 @@ IsDone-timeline desk name made number added room is =
     let low : length desk.timelines < CONTEXTS = omega (arith, ap length added, length-append {A = Timeline}) in
     record {
       accepted = refl;
-      told = λ world k. ap answer.Value (is ∙ ap (λ ts. length ts + 1) k.holds.timelines);
+      reported = λ world k. ap answer.Value (is ∙ ap (λ ts. length ts + 1) k.holds.timelines);
       held = λ world k. rw added (Holds-timeline k.holds name low);
     }
 
 pub IsDone-inc : (desk : DeskState) (name : List ℕ) (n : ℕ) (timelines : List Timeline) (value : ℕ) (reach : List ℕ) (fired : List ℕ) (watches : Registry) → timelines ≡ raised desk.timelines name n → value ≡ value_of desk.timelines name + n → reach ≡ reach_of (raised desk.timelines name n) → fired ≡ fired_by desk.watches reach → watches ≡ after_rise_to desk.watches reach → IsDone desk (command.Inc name n) (answer.Raised value fired) (record { timelines = timelines; files = desk.files; buffers = desk.buffers; watches = watches })
-IsDone-inc desk name n timelines value reach fired watches risen is at told left = record {
+IsDone-inc desk name n timelines value reach fired watches risen is at reported left = record {
   accepted = refl;
-  told = λ world k.
+  reported = λ world k.
       ap (λ v. answer.Raised v fired) (is ∙ ap (λ ts. value_of ts name + n) k.holds.timelines)
-      ∙ ap (answer.Raised (value_of world.timelines name + n)) (told ∙ ap (fired_by desk.watches) at ∙ fired-holds k.holds name n);
+      ∙ ap (answer.Raised (value_of world.timelines name + n)) (reported ∙ ap (fired_by desk.watches) at ∙ fired-holds k.holds name n);
   held = λ world k. rw (risen, left, at) (Holds-raised k.holds name n);
 }
 
 pub IsDone-shut : (desk : DeskState) (name : List ℕ) (timelines : List Timeline) (value : ℕ) (reach : List ℕ) (fired : List ℕ) (watches : Registry) → timelines ≡ shut desk.timelines name → value ≡ value_of desk.timelines name → reach ≡ reach_of (shut desk.timelines name) → fired ≡ fired_by desk.watches reach → watches ≡ after_rise_to desk.watches reach → IsDone desk (command.Shut name) (answer.Raised value fired) (record { timelines = timelines; files = desk.files; buffers = desk.buffers; watches = watches })
-IsDone-shut desk name timelines value reach fired watches closed is at told left = record {
+IsDone-shut desk name timelines value reach fired watches closed is at reported left = record {
   accepted = refl;
-  told = λ world k.
+  reported = λ world k.
       ap (λ v. answer.Raised v fired) (is ∙ ap (λ ts. value_of ts name) k.holds.timelines)
-      ∙ ap (answer.Raised (value_of world.timelines name)) (told ∙ ap (fired_by desk.watches) at ∙ fired-shut k name);
+      ∙ ap (answer.Raised (value_of world.timelines name)) (reported ∙ ap (fired_by desk.watches) at ∙ fired-shut k name);
   held = λ world k. rw (closed, left, at) (Holds-shut k name);
 }
 
 pub IsDone-value : (desk : DeskState) (name : List ℕ) (value : ℕ) → value ≡ value_of desk.timelines name → IsDone desk (command.Value name) (answer.Value value) desk
 IsDone-value desk name value is = record {
   accepted = refl;
-  told = λ world k. ap answer.Value (is ∙ ap (λ ts. value_of ts name) k.holds.timelines);
+  reported = λ world k. ap answer.Value (is ∙ ap (λ ts. value_of ts name) k.holds.timelines);
   held = λ world k. k.holds;
 }
 
 pub IsDone-fence : (desk : DeskState) (name t : List ℕ) (files : List File) (ctx p : ℕ) → files ≡ desk.files ++ plain_file name (point_of ctx p) ∷ [] → ctx ≡ context_of desk.timelines t → IsDone desk (command.Fence name t p) answer.Done (record { timelines = desk.timelines; files = files; buffers = desk.buffers; watches = desk.watches })
 IsDone-fence desk name t files ctx p added is = record {
   accepted = refl;
-  told = λ world k. refl;
+  reported = λ world k. refl;
   held = λ world k. rw added (Holds-fence k.holds name t ctx p is);
 }
 
 pub IsDone-merge : (desk : DeskState) (name a b reach : List ℕ) (files : List File) → files ≡ desk.files ++ merge_of desk.files name (a ∷ b ∷ []) reach ∷ [] → reach ≡ reach_of desk.timelines → IsDone desk (command.Merge name a b) answer.Done (record { timelines = desk.timelines; files = files; buffers = desk.buffers; watches = desk.watches })
 IsDone-merge desk name a b reach files added is = record {
   accepted = refl;
-  told = λ world k. refl;
+  reported = λ world k. refl;
   held = λ world k. rw added (Holds-merge k name a b reach is);
 }
 
 pub IsDone-close : (desk : DeskState) (name : List ℕ) (files : List File) → files ≡ without_file desk.files name → IsDone desk (command.Close name) answer.Done (record { timelines = desk.timelines; files = files; buffers = desk.buffers; watches = desk.watches })
 IsDone-close desk name files is = record {
   accepted = refl;
-  told = λ world k. refl;
+  reported = λ world k. refl;
   held = λ world k. rw is (Holds-close k.holds name);
 }
 
@@ -99,14 +99,14 @@ IsDone-close desk name files is = record {
 pub IsDone-buffer : (desk : DeskState) (b : List ℕ) (new : List Buffer) → new ≡ desk.buffers ++ (b, empty) ∷ [] → AreBuffers new → IsDone desk (command.Buffer b) answer.Done (record { timelines = desk.timelines; files = desk.files; buffers = new; watches = desk.watches })
 IsDone-buffer desk b new added kept = record {
   accepted = refl;
-  told = λ world k. refl;
+  reported = λ world k. refl;
   held = λ world k. rw added (Holds-buffer k.holds b (rw added at kept));
 }
 
 pub IsDone-add : (desk : DeskState) (b t : List ℕ) (ctx p : ℕ) (usage : Usage) (reach : List ℕ) (new : List Buffer) → has_buffer desk.buffers b ≡ true → ctx ≡ context_of desk.timelines t → reach ≡ reach_of desk.timelines → AgreesAbove reach (entries_of new b) (entries_of desk.buffers b ++ entry_of (point_of ctx p) usage ∷ []) → OnlyChanges b desk.buffers new → AreBuffers new → IsDone desk (command.Add b t p usage) answer.Done (record { timelines = desk.timelines; files = desk.files; buffers = new; watches = desk.watches })
 IsDone-add desk b t ctx p usage reach new has is at agrees only kept = record {
   accepted = refl;
-  told = λ world k. refl;
+  reported = λ world k. refl;
   held = λ world k.
       let put : ctx ≡ context_of world.timelines t = is ∙ ap (λ ts. context_of ts t) k.holds.timelines in
       Holds-put k.holds b new kept (entry_of (point_of ctx p) usage ∷ []) (entry_of (point_of (context_of world.timelines t) p) usage ∷ [])
@@ -117,7 +117,7 @@ IsDone-add desk b t ctx p usage reach new has is at agrees only kept = record {
 pub IsDone-import : (desk : DeskState) (b f : List ℕ) (flags : ℕ) (reach : List ℕ) (file : File) (new : List Buffer) → has_buffer desk.buffers b ≡ true → sync_file_at desk.files f ≡ Some file → reach ≡ reach_of desk.timelines → AgreesAbove reach (entries_of new b) (entries_of desk.buffers b ++ imported flags (as_entries file.points)) → OnlyChanges b desk.buffers new → AreBuffers new → IsDone desk (command.Import b f flags) answer.Done (record { timelines = desk.timelines; files = desk.files; buffers = new; watches = desk.watches })
 IsDone-import desk b f flags reach file new has found at agrees only kept = record {
   accepted = refl;
-  told = λ world k. refl;
+  reported = λ world k. refl;
   held = λ world k.
       let listed : points_at desk.files f ≡ file.points = ap (λ o. unwrap_or (option_map (λ (g : File). g.points) o) []) found in
       let P : List Point → Type 0 = λ ps. AgreesAbove (reach_of world.timelines) (as_entries ps) (put_set world.files f) in
@@ -129,29 +129,29 @@ IsDone-import desk b f flags reach file new has found at agrees only kept = reco
 pub IsDone-export : (desk : DeskState) (name b : List ℕ) (flags : ℕ) (reach : List ℕ) (points : List Point) (floor : List ℕ) (files : List File) → files ≡ desk.files ++ file_of name points floor ∷ [] → points ≡ listing (entries_of desk.buffers b) (usage_number (export_usage flags)) reach → reach ≡ reach_of desk.timelines → IsDone desk (command.Export name b flags) answer.Done (record { timelines = desk.timelines; files = files; buffers = desk.buffers; watches = desk.watches })
 IsDone-export desk name b flags reach points floor files added is at = record {
   accepted = refl;
-  told = λ world k. refl;
+  reported = λ world k. refl;
   held = λ world k. rw added (Holds-export k.holds name b flags points floor (is ∙ ap (listing (entries_of desk.buffers b) (usage_number (export_usage flags))) at));
 }
 
-number_if-told : (b : Bool) (P Q : Type 0) (r : Bool) → (P ↔ Q) → ((r ≡ true) ↔ Q) → (IsTrue b ↔ P) → number_if b ≡ number_if r
-number_if-told true P Q r same reached is = ap number_if (sym (reached.1 (same.0 (is.0 refl))))
-number_if-told false P Q true same reached is = absurd (false≢true (is.1 (same.1 (reached.0 refl))))
-number_if-told false P Q false same reached is = refl
+number_if-reported : (b : Bool) (P Q : Type 0) (r : Bool) → (P ↔ Q) → ((r ≡ true) ↔ Q) → (IsTrue b ↔ P) → number_if b ≡ number_if r
+number_if-reported true P Q r same reached is = ap number_if (sym (reached.1 (same.0 (is.0 refl))))
+number_if-reported false P Q true same reached is = absurd (false≢true (is.1 (same.1 (reached.0 refl))))
+number_if-reported false P Q false same reached is = refl
 
 pub IsDone-test : (desk : DeskState) (b : List ℕ) (usage : Usage) (reach : List ℕ) (signalled : Bool) → reach ≡ reach_of desk.timelines → IsTrue signalled ↔ IsReached (entries_of desk.buffers b) (usage_number usage) reach → IsDone desk (command.Test b usage) (answer.Value (number_if signalled)) desk
 IsDone-test desk b usage reach signalled at is = record {
   accepted = refl;
-  told = λ world k.
+  reported = λ world k.
       let at' : reach ≡ reach_of world.timelines = at ∙ ap reach_of k.holds.timelines in
       let here = rw at' at is in
-      ap answer.Value (number_if-told signalled _ _ _ (IsReached-table k b (usage_number usage)) (all_reached-IsReached (reach_of world.timelines) (usage_number usage) (buffer_put_set world.buffers b)) here);
+      ap answer.Value (number_if-reported signalled _ _ _ (IsReached-table k b (usage_number usage)) (all_reached-IsReached (reach_of world.timelines) (usage_number usage) (buffer_put_set world.buffers b)) here);
   held = λ world k. k.holds;
 }
 
 pub IsDone-trim : (desk : DeskState) (b reach : List ℕ) (new : List Buffer) → reach ≡ reach_of desk.timelines → AgreesAbove reach (entries_of desk.buffers b) (entries_of new b) → OnlyChanges b desk.buffers new → AreBuffers new → IsDone desk (command.Trim b) answer.Done (record { timelines = desk.timelines; files = desk.files; buffers = new; watches = desk.watches })
 IsDone-trim desk b reach new at agrees only kept = record {
   accepted = refl;
-  told = λ world k. refl;
+  reported = λ world k. refl;
   held = λ world k. Holds-trim k.holds b new kept (rw at at agrees) only;
 }
 
@@ -164,23 +164,23 @@ as_number false n is = is
 pub IsDone-watch : (desk : DeskState) (f : List ℕ) (cookie : ℕ) (points : List Point) (reach : List ℕ) (watches : Registry) → points ≡ points_at desk.files f → watches ≡ with_watch desk.watches cookie points reach → IsDone desk (command.Watch f cookie) answer.Done (record { timelines = desk.timelines; files = desk.files; buffers = desk.buffers; watches = watches })
 IsDone-watch desk f cookie points reach watches is last = record {
   accepted = refl;
-  told = λ world k. refl;
+  reported = λ world k. refl;
   held = λ world k. rw last (Holds-watch k f cookie points reach is);
 }
 
 pub IsDone-unwatch : (desk : DeskState) (cookie : ℕ) (removed : Bool) (watches : Registry) → removed ≡ has_watch desk.watches cookie → watches ≡ without_watch desk.watches cookie → IsDone desk (command.Unwatch cookie) (answer.Value (number_if removed)) (record { timelines = desk.timelines; files = desk.files; buffers = desk.buffers; watches = watches })
 IsDone-unwatch desk cookie removed watches is without = record {
   accepted = refl;
-  told = λ world k. ap (λ b. answer.Value (number_if b)) (is ∙ has_watch-holds k.holds cookie);
+  reported = λ world k. ap (λ b. answer.Value (number_if b)) (is ∙ has_watch-holds k.holds cookie);
   held = λ world k. rw without (Holds-unwatch k.holds cookie);
 }
 
--- what is told of a file
+-- what is reported of a file
 
 abbrev info_with : List ℕ → Status → List FenceRow → Info
 info_with name status rows = record { name = name; status = status; fences = rows }
 
-info-found : {desk : DeskState} {world : World} → Keeps desk world → (name : List ℕ) (f : File) (o : Option MadeFile) → file_named world.files name ≡ o → sync_file_at desk.files name ≡ Some f → answer.Info (info_at desk.timelines name f.points) ≡ info_told world name o
+info-found : {desk : DeskState} {world : World} → Keeps desk world → (name : List ℕ) (f : File) (o : Option MadeFile) → file_named world.files name ≡ o → sync_file_at desk.files name ≡ Some f → answer.Info (info_at desk.timelines name f.points) ≡ info_reported world name o
 info-found {desk} {world} k name f None missing is =
     let both = sync_file_at-points desk.files world.files name k.holds.names k.holds.points in
     let none : Some f.points ≡ None = ap (option_map (λ (g : File). g.points)) (sym is) ∙ both ∙ ap (option_map listed_points) missing in
@@ -194,14 +194,14 @@ info-found {desk} {world} k name f (Some g) found is =
     let reached = ap (λ ps. all_reached (reach_of world.timelines) 0 (as_entries ps)) (sym listed) ∙ all_reached-keeps k name ∙ ap (all_reached (reach_of world.timelines) 0) put in
     ap answer.Info (
     ap (λ ts. info_at ts name f.points) k.holds.timelines
-    ∙ ap (λ s. info_with name s (or_stub (map (fence_row world.timelines) f.points))) (common_status-told (clocks_of world.timelines) f.points g.put reached)
+    ∙ ap (λ s. info_with name s (or_stub (map (fence_row world.timelines) f.points))) (common_status-reported (clocks_of world.timelines) f.points g.put reached)
     ∙ ap (λ ps. info_with name (status_of (all_reached (reach_of world.timelines) 0 g.put) (some_cancelled (clocks_of world.timelines) ps)) (or_stub (map (fence_row world.timelines) ps))) same
     )
 
 pub IsDone-info : (desk : DeskState) (name : List ℕ) (f : File) (info : Info) → sync_file_at desk.files name ≡ Some f → info ≡ info_at desk.timelines name f.points → IsDone desk (command.Info name) (answer.Info info) desk
-IsDone-info desk name f info is told = record {
+IsDone-info desk name f info is reported = record {
   accepted = refl;
-  told = λ world k. ap answer.Info told ∙ info-found k name f (file_named world.files name) refl is;
+  reported = λ world k. ap answer.Info reported ∙ info-found k name f (file_named world.files name) refl is;
   held = λ world k. k.holds;
 }
 

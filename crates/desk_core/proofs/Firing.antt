@@ -14,11 +14,11 @@ use Rattle.std.proofs.Common.{◌^◌}
 use Rattle.timeline_core.specs.Timeline.{reach_of}
 use Rattle.fence_core.proofs.Once.{Contains-filter, Contains-filtered}
 use Rattle.desk_core.specs.Desk.{DeskState, HasHistory}
-use Rattle.desk_core.specs.Headline.{TellsWhatFires, put_into_file}
+use Rattle.desk_core.specs.Headline.{ReportsWhatFires, put_into_file}
 use Rattle.desk_core.specs.History.{world_of}
 use Rattle.desk_core.specs.World.{cookies_of}
 use Rattle.desk_core.proofs.Answering.{world_from-push}
-use Rattle.desk_core.proofs.Sums.{told_raised, told_closed}
+use Rattle.desk_core.proofs.Sums.{reported_raised, reported_closed}
 use Rattle.desk_core.specs.Fired.{fired_from, fired_along, pending_after, IsLeftBy}
 use Rattle.std.proofs.lemmas.Bool.{ne_eqb}
 use Rattle.std.proofs.lemmas.List.Elements.{Contains-append_left}
@@ -108,24 +108,24 @@ fired_along-once number history = omega (arith, Fired-from number empty_world hi
 
 pub Contains-due : (w : World) (reach : List ℕ) (x : MadeWatch) → Contains (due_watches w reach) x ↔ (Contains w.watches x × IsReached x.put 0 reach)
 Contains-due w reach x =
-    let told = all_reached-IsReached reach 0 x.put in (
-      λ fired. let both = Contains-filtered (is_due reach) w.watches x fired in (both.0, told.0 both.1),
-      λ due. Contains-filter (is_due reach) w.watches x due.0 (told.1 due.1),
+    let reported = all_reached-IsReached reach 0 x.put in (
+      λ fired. let both = Contains-filtered (is_due reach) w.watches x fired in (both.0, reported.0 both.1),
+      λ due. Contains-filter (is_due reach) w.watches x due.0 (reported.1 due.1),
     )
 
-pub TellsWhatFires-stands : (desk : DeskState) (history : List Command) → HasHistory desk history → TellsWhatFires desk history
-TellsWhatFires-stands desk history stands =
+pub ReportsWhatFires-stands : (desk : DeskState) (history : List Command) → HasHistory desk history → ReportsWhatFires desk history
+ReportsWhatFires-stands desk history stands =
     let world : World = world_of history in
     record {
-      told = λ name n value fired given. elim ((given history stands).told) [
-        | inl is ↦ (told_raised (has_timeline world.timelines name) (is_closed world.timelines name) (nat_le (2 ^ 64) (value_of world.timelines name + n)) value (value_of world.timelines name + n) fired (cookies_of (fired_watches world name n)) is).2
+      reported = λ name n value fired given. elim ((given history stands).reported) [
+        | inl is ↦ (reported_raised (has_timeline world.timelines name) (is_closed world.timelines name) (nat_le (2 ^ 64) (value_of world.timelines name + n)) value (value_of world.timelines name + n) fired (cookies_of (fired_watches world name n)) is).2
         | inr none ↦ absurd (cc (none.0))
       ];
       due = λ name n x.
           let P : World → Type 0 = λ w. Contains (fired_watches world name n) x ↔ (Contains world.watches x × IsReached x.put 0 (reach_of w.timelines)) in
           subst P (sym (world_from-push empty_world history (command.Inc name n))) (Contains-due world (raised_reach world name n) x);
-      told_shut = λ name value fired given. elim ((given history stands).told) [
-        | inl is ↦ (told_closed (has_timeline world.timelines name) (is_closed world.timelines name) value (value_of world.timelines name) fired (cookies_of (shut_watches world name)) is).2
+      reported_shut = λ name value fired given. elim ((given history stands).reported) [
+        | inl is ↦ (reported_closed (has_timeline world.timelines name) (is_closed world.timelines name) value (value_of world.timelines name) fired (cookies_of (shut_watches world name)) is).2
         | inr none ↦ absurd (cc (none.0))
       ];
       due_shut = λ name x.

@@ -1,4 +1,4 @@
--- What is told of everything, by names and by what the desk keeps.
+-- What is reported of everything, by names and by what the desk keeps.
 use Rattle.std.proofs.Common.{◌≡◌, ℕ, zero, suc, ◌+◌, ◌<◌, ◌≤◌, ◌||◌, Bool, true, false, cond, find, refl, sym, ap, ◌∙◌, List, [], ◌∷◌, ◌++◌, length, map, take, get_or, Option, None, Some, Err, if◌then◌else◌, arith, Bor}
 use Rattle.std.specs.List.{IsDistinct, AllByRecursion}
 use Rattle.std.specs.Cmp.Lexicographic.{nat_list_eq_equiv}
@@ -66,20 +66,20 @@ rows-next row_of rows later row xs i x within at written is next =
     ∙ ap (λ y. map row_of (take i xs ++ y ∷ [])) at
     ∙ ap (map row_of) (sym (take_more xs i x within))
 
--- the file of a name that was told
+-- the file of a name that was reported
 
 pub record IsFileAt (fs : List File) (i : ℕ) (name : List ℕ) (f : File) : Type 0 where
   pub within : i < length fs
   pub at : f ≡ get_or fs i f
   pub found : file_at fs name ≡ Some f
 
-pub file_at-told : (fs : List File) (names : List (List ℕ)) (i : ℕ) (name : List ℕ) → names ≡ file_names_of fs → HasDistinctNames fs → i < length names → name ≡ get_or names i name → (f : File) × IsFileAt fs i name f
-file_at-told fs names i name told distinct h at =
+pub file_at-reported : (fs : List File) (names : List (List ℕ)) (i : ℕ) (name : List ℕ) → names ≡ file_names_of fs → HasDistinctNames fs → i < length names → name ≡ get_or names i name → (f : File) × IsFileAt fs i name f
+file_at-reported fs names i name reported distinct h at =
     let named_by = λ (f : File). f.name in
     let none = file_of [] [] [] in
-    let within : i < length fs = omega (arith, ap length told, length-map fs named_by, h) in
+    let within : i < length fs = omega (arith, ap length reported, length-map fs named_by, h) in
     let f = get_or fs i none in
-    let is : name ≡ f.name = at ∙ ap (λ ns. get_or ns i name) told ∙ get_or-map named_by fs i none name within in (
+    let is : name ≡ f.name = at ∙ ap (λ ns. get_or ns i name) reported ∙ get_or-map named_by fs i none name within in (
       f,
       record {
         within = within;
@@ -95,7 +95,7 @@ IsSome-copied (Some b) f is = refl
 pub copied-now : (o : Option (Bor File)) (b : Bor File) (f : File) → o ≡ Some b → option_copied o ≡ Some f → b.now ≡ f
 copied-now o b f is found = same_Some b.now f (sym (ap option_copied is) ∙ found)
 
--- a buffer of a name that was told
+-- a buffer of a name that was reported
 
 list_any-at : (ks : List (List ℕ)) (i : ℕ) (name : List ℕ) → i < length ks → name ≡ get_or ks i name → list_any (same_name name) ks ≡ true
 list_any-at [] i name h at = absurd (omega arith)
@@ -106,12 +106,12 @@ list_any-at (k ∷ ks) (suc i) name h at = ap (λ b. same_name name k || b) (lis
     or-true true = refl
     or-true false = refl
 
-pub has_buffer-told : (bs : List Buffer) (i : ℕ) (name : List ℕ) → i < length (names_of bs) → name ≡ get_or (names_of bs) i name → has_buffer bs name ≡ true
-has_buffer-told bs i name h at = is_some-lookup (same_name name) bs ∙ list_any-at (names_of bs) i name h at
+pub has_buffer-reported : (bs : List Buffer) (i : ℕ) (name : List ℕ) → i < length (names_of bs) → name ≡ get_or (names_of bs) i name → has_buffer bs name ≡ true
+has_buffer-reported bs i name h at = is_some-lookup (same_name name) bs ∙ list_any-at (names_of bs) i name h at
 
-pub Memory-told : (T : Type 0) (b : Bool) (e : Refusal) → b ≡ true → IsRefusedFor {T = T} (if b then None else Some NoEntry) (Err e) → e ≡ Memory
-Memory-told T true e is memory = memory
-Memory-told T false e is refused = absurd (cc)
+pub Memory-reported : (T : Type 0) (b : Bool) (e : Refusal) → b ≡ true → IsRefusedFor {T = T} (if b then None else Some NoEntry) (Err e) → e ≡ Memory
+Memory-reported T true e is memory = memory
+Memory-reported T false e is refused = absurd (cc)
 
 -- there are not more rows than buffers
 pub within-BUFFERS : {T : Type 0} (bs : List Buffer) (row_of : List ℕ → T) (rows : List T) (i : ℕ) → rows ≡ map row_of (take i (names_of bs)) → length bs ≤ BUFFERS → length rows ≤ BUFFERS

@@ -57,7 +57,7 @@ third_order : answers_from empty_world (
 unfolding contexts
 third_order = refl
 
--- a name that is not there is told before one that is there already
+-- a name that is not there is reported before one that is there already
 refusals_in_order : answers_from empty_world (
     command.Timeline (codes "a")
     ∷ command.Timeline (codes "a")

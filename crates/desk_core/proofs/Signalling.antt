@@ -30,5 +30,5 @@ pub IsReached-table : {desk : DeskState} {world : World} → Keeps desk world �
 IsReached-table {desk} {world} k name usage = (IsReached-AgreesAbove usage (k.holds.tables name), IsReached-AgreesAbove usage (AgreesAbove-sym (k.holds.tables name)))
 
 -- the status of points by all that was put, where these are reached when all of that is
-pub common_status-told : (clocks : List Clock) (ps : List Point) (put : List Entry) → all_reached (reach_of_clocks clocks) 0 (as_entries ps) ≡ all_reached (reach_of_clocks clocks) 0 put → common_status clocks ps ≡ status_of (all_reached (reach_of_clocks clocks) 0 put) (some_cancelled clocks ps)
-common_status-told clocks ps put same = ap (λ b. status_of b (some_cancelled clocks ps)) (sym (all_reached-points (reach_of_clocks clocks) ps) ∙ same)
+pub common_status-reported : (clocks : List Clock) (ps : List Point) (put : List Entry) → all_reached (reach_of_clocks clocks) 0 (as_entries ps) ≡ all_reached (reach_of_clocks clocks) 0 put → common_status clocks ps ≡ status_of (all_reached (reach_of_clocks clocks) 0 put) (some_cancelled clocks ps)
+common_status-reported clocks ps put same = ap (λ b. status_of b (some_cancelled clocks ps)) (sym (all_reached-points (reach_of_clocks clocks) ps) ∙ same)

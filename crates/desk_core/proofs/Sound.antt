@@ -35,7 +35,7 @@ use Rattle.desk_core.specs.World.{World, MadeFile, MadeBuffer, put_set, has_made
 use Rattle.point_core.specs.Named.{same_name}
 use Rattle.resv_core.specs.Resv.{entry_of}
 use Rattle.dmabuf_core.specs.Flags.{exported, imported, export_usage, import_usage, is_within, at_strongest, with_usage}
-use Rattle.desk_core.specs.Answer.{first_of, cause, making_file, causes, refused_or, is_refused, told}
+use Rattle.desk_core.specs.Answer.{first_of, cause, making_file, causes, refused_or, is_refused, reported}
 use Rattle.desk_core.specs.History.{world_from, world_of, AreAccepted, IsHistory}
 use Rattle.desk_core.specs.Sound.{WasMade, IsFilePoint, IsOfMade, IsOfTimelines, IsSound}
 use Rattle.desk_core.proofs.Buffers.{put_into-All, buffer_put_set-All}
@@ -52,8 +52,8 @@ accepted-None None a is = refl
 accepted-None (Some r) a is = absurd (cc)
 
 -- an accepted command has no cause to be refused
-pub causes-accepted : (w : World) (c : Command) → is_refused (refused_or (first_of (causes w c)) (told w c)) ≡ false → first_of (causes w c) ≡ None
-causes-accepted w c is = accepted-None (first_of (causes w c)) (told w c) is
+pub causes-accepted : (w : World) (c : Command) → is_refused (refused_or (first_of (causes w c)) (reported w c)) ≡ false → first_of (causes w c) ≡ None
+causes-accepted w c is = accepted-None (first_of (causes w c)) (reported w c) is
 
 pub not-false : (b : Bool) → not b ≡ false → b ≡ true
 not-false true is = refl

@@ -23,7 +23,7 @@ use Rattle.point_core.proofs.Named.{find-All}
 use Rattle.desk_core.specs.Answer.{first_of, cause, causes, refused_or}
 use Rattle.desk_core.specs.History.{world_from, world_of, AreAccepted, IsHistory, increment_in, increments_in}
 use Rattle.desk_core.specs.Desk.{DeskState, HasHistory}
-use Rattle.desk_core.specs.Headline.{TellsSums}
+use Rattle.desk_core.specs.Headline.{ReportsSums}
 use Rattle.desk_core.proofs.Sound.{first_of-none, causes-accepted, not-false}
 use lib.Pointwise.{pointwise}
 
@@ -149,42 +149,42 @@ AreSums-from w done (c ∷ history) s accepted =
 pub AreSums-history : (history : List Command) → IsHistory history → AreSums (world_of history).timelines (increments_in history)
 AreSums-history history accepted = AreSums-from empty_world [] history (record { kept = All-nil (λ (t : Timeline). t.value ≡ 0); missing = λ name is. refl }) accepted
 
--- what is told
+-- what is reported
 
 -- the value of a name is its sum
 value_of-sum : (ts : List Timeline) (history : List Command) (name : List ℕ) → AreSums ts (increments_in history) → has_timeline ts name ≡ true → value_of ts name ≡ incremented (increments_in history) name
 value_of-sum ts history name sums has = find-All (λ (t : Timeline). t.value ≡ incremented (increments_in history) t.name) (is_named name) ts (timeline_of name (clock_named ts name)) sums (timeline_at-clock_named ts name has)
 
-told_value : (b : Bool) (value v : ℕ) → answer.Value value ≡ refused_or (if not b then Some NoEntry else None) (answer.Value v) → (b ≡ true) × (value ≡ v)
-told_value true value v is = (refl, cc)
-told_value false value v is = absurd (cc)
+reported_value : (b : Bool) (value v : ℕ) → answer.Value value ≡ refused_or (if not b then Some NoEntry else None) (answer.Value v) → (b ≡ true) × (value ≡ v)
+reported_value true value v is = (refl, cc)
+reported_value false value v is = absurd (cc)
 
-pub told_raised : (b closed past : Bool) (value v : ℕ) (fired rest : List ℕ) → answer.Raised value fired ≡ refused_or (if not b then Some NoEntry else (if closed then Some AlreadyClosed else (if past then Some Overflow else None))) (answer.Raised v rest) → (b ≡ true) × (value ≡ v) × (fired ≡ rest)
-told_raised true true past value v fired rest is = absurd (cc)
-told_raised true false true value v fired rest is = absurd (cc)
-told_raised true false false value v fired rest is = (refl, cc, cc)
-told_raised false closed past value v fired rest is = absurd (cc)
+pub reported_raised : (b closed past : Bool) (value v : ℕ) (fired rest : List ℕ) → answer.Raised value fired ≡ refused_or (if not b then Some NoEntry else (if closed then Some AlreadyClosed else (if past then Some Overflow else None))) (answer.Raised v rest) → (b ≡ true) × (value ≡ v) × (fired ≡ rest)
+reported_raised true true past value v fired rest is = absurd (cc)
+reported_raised true false true value v fired rest is = absurd (cc)
+reported_raised true false false value v fired rest is = (refl, cc, cc)
+reported_raised false closed past value v fired rest is = absurd (cc)
 
-pub told_closed : (b closed : Bool) (value v : ℕ) (fired rest : List ℕ) → answer.Raised value fired ≡ refused_or (if not b then Some NoEntry else (if closed then Some AlreadyClosed else None)) (answer.Raised v rest) → (b ≡ true) × (value ≡ v) × (fired ≡ rest)
-told_closed true true value v fired rest is = absurd (cc)
-told_closed true false value v fired rest is = (refl, cc, cc)
-told_closed false closed value v fired rest is = absurd (cc)
+pub reported_closed : (b closed : Bool) (value v : ℕ) (fired rest : List ℕ) → answer.Raised value fired ≡ refused_or (if not b then Some NoEntry else (if closed then Some AlreadyClosed else None)) (answer.Raised v rest) → (b ≡ true) × (value ≡ v) × (fired ≡ rest)
+reported_closed true true value v fired rest is = absurd (cc)
+reported_closed true false value v fired rest is = (refl, cc, cc)
+reported_closed false closed value v fired rest is = absurd (cc)
 
-pub TellsSums-stands : (desk : DeskState) (history : List Command) → HasHistory desk history → TellsSums desk history
-TellsSums-stands desk history stands =
+pub ReportsSums-stands : (desk : DeskState) (history : List Command) → HasHistory desk history → ReportsSums desk history
+ReportsSums-stands desk history stands =
     let sums = AreSums-history history stands.accepted in
     record {
       kept = rw (stands.holds.timelines) sums;
-      told = λ name value given. elim ((given history stands).told) [
-        | inl is ↦ let h = told_value (has_timeline (world_of history).timelines name) value (value_of (world_of history).timelines name) is in h.1 ∙ value_of-sum (world_of history).timelines history name sums h.0
+      reported = λ name value given. elim ((given history stands).reported) [
+        | inl is ↦ let h = reported_value (has_timeline (world_of history).timelines name) value (value_of (world_of history).timelines name) is in h.1 ∙ value_of-sum (world_of history).timelines history name sums h.0
         | inr none ↦ absurd (cc (none.0))
       ];
-      raised = λ name n value fired given. elim ((given history stands).told) [
-        | inl is ↦ let h = told_raised (has_timeline (world_of history).timelines name) (is_closed (world_of history).timelines name) (nat_le (2 ^ 64) (value_of (world_of history).timelines name + n)) value (value_of (world_of history).timelines name + n) fired (cookies_of (fired_watches (world_of history) name n)) is in h.1 ∙ ap (λ v. v + n) (value_of-sum (world_of history).timelines history name sums h.0)
+      raised = λ name n value fired given. elim ((given history stands).reported) [
+        | inl is ↦ let h = reported_raised (has_timeline (world_of history).timelines name) (is_closed (world_of history).timelines name) (nat_le (2 ^ 64) (value_of (world_of history).timelines name + n)) value (value_of (world_of history).timelines name + n) fired (cookies_of (fired_watches (world_of history) name n)) is in h.1 ∙ ap (λ v. v + n) (value_of-sum (world_of history).timelines history name sums h.0)
         | inr none ↦ absurd (cc (none.0))
       ];
-      shut = λ name value fired given. elim ((given history stands).told) [
-        | inl is ↦ let h = told_closed (has_timeline (world_of history).timelines name) (is_closed (world_of history).timelines name) value (value_of (world_of history).timelines name) fired (cookies_of (shut_watches (world_of history) name)) is in h.1 ∙ value_of-sum (world_of history).timelines history name sums h.0
+      shut = λ name value fired given. elim ((given history stands).reported) [
+        | inl is ↦ let h = reported_closed (has_timeline (world_of history).timelines name) (is_closed (world_of history).timelines name) value (value_of (world_of history).timelines name) fired (cookies_of (shut_watches (world_of history) name)) is in h.1 ∙ value_of-sum (world_of history).timelines history name sums h.0
         | inr none ↦ absurd (cc (none.0))
       ];
     }

@@ -16,11 +16,11 @@ use Rattle.timeline_core.specs.Timeline.{clocks_of, reach_of}
 use Rattle.syncfile_core.specs.SyncFile.{File}
 use Rattle.syncfile_core.specs.Files.{file_at as sync_file_at}
 use Rattle.desk_core.specs.World.{World, MadeFile, has_file, file_named, put_set, has_made_buffer}
-use Rattle.desk_core.specs.Answer.{refused_or, listed_points, info_of, info_told, number_if}
+use Rattle.desk_core.specs.Answer.{refused_or, listed_points, info_of, info_reported, number_if}
 use Rattle.desk_core.specs.Desk.{DeskState, HasHistory, Answers}
 use Rattle.desk_core.specs.History.{world_of}
 use Rattle.desk_core.specs.Keeping.{points_at, Keeps}
-use Rattle.desk_core.specs.Headline.{TellsWhatWasPut, values_after, put_into_file, IsFileReached, TellsWhatIsInBuffers, put_into_buffer, IsBufferReached}
+use Rattle.desk_core.specs.Headline.{ReportsWhatWasPut, values_after, put_into_file, IsFileReached, ReportsWhatIsInBuffers, put_into_buffer, IsBufferReached}
 use Rattle.desk_core.proofs.Answering.{Keeps-stands}
 use Rattle.desk_core.proofs.Finding.{has_sync_file-found}
 use Rattle.desk_core.proofs.Keeping.{sync_file_at-points, has_sync_file-names, AgreesAbove-keeps}
@@ -48,11 +48,11 @@ agrees {desk} {world} k name f is = rw (listed desk.files name f is) at (AgreesA
 same_Info : (a b : Info) → answer.Info a ≡ answer.Info b → a ≡ b
 same_Info a b is = cc
 
-told_status : (world : World) (name : List ℕ) (b : Bool) (o : Option MadeFile) (told : Info) → answer.Info told ≡ refused_or (if not b then Some NoEntry else None) (info_told world name o) → (told.status ≢ Active) ↔ IsReached (unwrap_or (option_map (λ (f : MadeFile). f.put) o) []) 0 (reach_of world.timelines)
-told_status world name false o told is = absurd (cc)
-told_status world name true None told is = absurd (cc)
-told_status world name true (Some f) told is =
-    let same = same_Info told (info_of world name f) is in
+reported_status : (world : World) (name : List ℕ) (b : Bool) (o : Option MadeFile) (reported : Info) → answer.Info reported ≡ refused_or (if not b then Some NoEntry else None) (info_reported world name o) → (reported.status ≢ Active) ↔ IsReached (unwrap_or (option_map (λ (f : MadeFile). f.put) o) []) 0 (reach_of world.timelines)
+reported_status world name false o reported is = absurd (cc)
+reported_status world name true None reported is = absurd (cc)
+reported_status world name true (Some f) reported is =
+    let same = same_Info reported (info_of world name f) is in
     rw same (status_of-not_active (all_reached (reach_of world.timelines) 0 f.put) (some_cancelled (clocks_of world.timelines) (listed_points f)) (all_reached-IsReached (reach_of world.timelines) 0 f.put))
 
 -- what is reached, and in part cancelled
@@ -61,11 +61,11 @@ status_of-Cancelled true true h = (λ _. (h.0 refl, refl), λ _. refl)
 status_of-Cancelled true false h = (λ is. absurd (cc), λ both. absurd (false≢true both.1))
 status_of-Cancelled false cancelled h = (λ is. absurd (cc), λ both. absurd (false≢true (h.1 both.0)))
 
-told_cancelled : (world : World) (name : List ℕ) (b : Bool) (o : Option MadeFile) (ps : List Point) (told : Info) → Some ps ≡ option_map listed_points o → answer.Info told ≡ refused_or (if not b then Some NoEntry else None) (info_told world name o) → (told.status ≡ Cancelled) ↔ (IsReached (unwrap_or (option_map (λ (f : MadeFile). f.put) o) []) 0 (reach_of world.timelines) × (some_cancelled (clocks_of world.timelines) ps ≡ true))
-told_cancelled world name false o ps told listed is = absurd (cc)
-told_cancelled world name true None ps told listed is = absurd (cc)
-told_cancelled world name true (Some f) ps told listed is =
-    let same = same_Info told (info_of world name f) is in
+reported_cancelled : (world : World) (name : List ℕ) (b : Bool) (o : Option MadeFile) (ps : List Point) (reported : Info) → Some ps ≡ option_map listed_points o → answer.Info reported ≡ refused_or (if not b then Some NoEntry else None) (info_reported world name o) → (reported.status ≡ Cancelled) ↔ (IsReached (unwrap_or (option_map (λ (f : MadeFile). f.put) o) []) 0 (reach_of world.timelines) × (some_cancelled (clocks_of world.timelines) ps ≡ true))
+reported_cancelled world name false o ps reported listed is = absurd (cc)
+reported_cancelled world name true None ps reported listed is = absurd (cc)
+reported_cancelled world name true (Some f) ps reported listed is =
+    let same = same_Info reported (info_of world name f) is in
     let points : ps ≡ listed_points f = cc in
     rw (same, points) (status_of-Cancelled (all_reached (reach_of world.timelines) 0 f.put) (some_cancelled (clocks_of world.timelines) (listed_points f)) (all_reached-IsReached (reach_of world.timelines) 0 f.put))
 
@@ -86,13 +86,13 @@ timed_out_if false given P is h = (λ _ p. absurd (false≢true (h.1 p)), λ _. 
 waited-stands : {desk : DeskState} {history : List Command} → HasHistory desk history → (name : List ℕ) (f : File) (given : Answer) → sync_file_at desk.files name ≡ Some f → Answers desk (command.Wait name) given → given ≡ (if put_reached (world_of history) name then answer.Done else answer.Refused TimedOut)
 waited-stands {desk} {history} stands name f given is answers =
     let has : has_file (world_of history).files name ≡ true = sym (has_sync_file-names desk.files (world_of history).files name stands.holds.names) ∙ has_sync_file-found desk.files name ∙ ap is_some is in
-    elim ((answers history stands).told) [
-      | inl told ↦ waited (has_file (world_of history).files name) (put_reached (world_of history) name) given has told
+    elim ((answers history stands).reported) [
+      | inl reported ↦ waited (has_file (world_of history).files name) (put_reached (world_of history) name) given has reported
       | inr none ↦ absurd (false≢true none.1)
     ]
 
-pub TellsWhatWasPut-stands : (desk : DeskState) (history : List Command) → HasHistory desk history → TellsWhatWasPut desk history
-TellsWhatWasPut-stands desk history stands =
+pub ReportsWhatWasPut-stands : (desk : DeskState) (history : List Command) → HasHistory desk history → ReportsWhatWasPut desk history
+ReportsWhatWasPut-stands desk history stands =
     let k = Keeps-stands stands in
     let world : World = world_of history in
     let reached_by = λ (name : List ℕ). all_reached-IsReached (values_after history) 0 (put_into_file history name) in
@@ -100,14 +100,14 @@ TellsWhatWasPut-stands desk history stands =
       agrees = agrees k;
       same_put = λ a b f g is is' same. AgreesAbove-trans (agrees k a f is) (AgreesAbove-trans (AgreesAbove-same_entries (values_after history) (put_into_file history a) (put_into_file history b) same.there same.back) (AgreesAbove-sym (agrees k b g is')));
       reached = λ name f is. rw (listed desk.files name f is) at (IsReached-keeps k name);
-      signalled = λ name told given. elim ((given history stands).told) [
-        | inl is ↦ told_status world name (has_file world.files name) (file_named world.files name) told is
+      signalled = λ name reported given. elim ((given history stands).reported) [
+        | inl is ↦ reported_status world name (has_file world.files name) (file_named world.files name) reported is
         | inr none ↦ absurd (cc (none.0))
       ];
-      cancelled = λ name f told is given. elim ((given history stands).told) [
+      cancelled = λ name f reported is given. elim ((given history stands).reported) [
         | inl answered ↦
             let both = sync_file_at-points desk.files world.files name k.holds.names k.holds.points in
-            told_cancelled world name (has_file world.files name) (file_named world.files name) f.points told (ap (option_map (λ (g : File). g.points)) (sym is) ∙ both) answered
+            reported_cancelled world name (has_file world.files name) (file_named world.files name) f.points reported (ap (option_map (λ (g : File). g.points)) (sym is) ∙ both) answered
         | inr none ↦ absurd (cc (none.0))
       ];
       waited = λ name f given is answers. done_if (put_reached world name) given (IsFileReached history name) (waited-stands stands name f given is answers) (reached_by name);
@@ -139,8 +139,8 @@ zero_if false given P is h = (λ _ p. absurd (false≢true (h.1 p)), λ _. is)
 tested-stands : {desk : DeskState} {history : List Command} → HasHistory desk history → (name : List ℕ) (usage : Usage) (given : Answer) → has_buffer desk.buffers name ≡ true → Answers desk (command.Test name usage) given → given ≡ answer.Value (number_if (all_reached (values_after history) (usage_number usage) (put_into_buffer history name)))
 tested-stands {desk} {history} stands name usage given has answers =
     let made : has_made_buffer (world_of history).buffers name ≡ true = sym (has_buffer-names desk.buffers (world_of history).buffers name stands.holds.buffers) ∙ has in
-    elim ((answers history stands).told) [
-      | inl told ↦ tested (has_made_buffer (world_of history).buffers name) given (number_if (all_reached (values_after history) (usage_number usage) (put_into_buffer history name))) made told
+    elim ((answers history stands).reported) [
+      | inl reported ↦ tested (has_made_buffer (world_of history).buffers name) given (number_if (all_reached (values_after history) (usage_number usage) (put_into_buffer history name))) made reported
       | inr none ↦ absurd (false≢true none.1)
     ]
 
@@ -158,8 +158,8 @@ places-found (b ∷ bs) name all = elim (cases_Bool (same_name name b.0)) [
       omega arith
 ]
 
-pub TellsWhatIsInBuffers-stands : (desk : DeskState) (history : List Command) → HasHistory desk history → TellsWhatIsInBuffers desk history
-TellsWhatIsInBuffers-stands desk history stands =
+pub ReportsWhatIsInBuffers-stands : (desk : DeskState) (history : List Command) → HasHistory desk history → ReportsWhatIsInBuffers desk history
+ReportsWhatIsInBuffers-stands desk history stands =
     let k = Keeps-stands stands in
     let tables = stands.holds.tables in
     let reached_by = λ (name : List ℕ) (usage : Usage). all_reached-IsReached (values_after history) (usage_number usage) (put_into_buffer history name) in

@@ -40,26 +40,26 @@ cause_of-found d name f is =
 
 -- what the files' answer says of the check
 waited : (d : DeskState) (name : List ℕ) (clocks : List Clock) (r : Result Status Refusal) (o : Option File) → clocks ≡ clocks_of d.timelines → sync_file_at d.files name ≡ o → MatchOption o (r ≡ Err NoEntry) (λ f. r ≡ Ok (common_status clocks f.points)) → (s : Status) → r ≡ Ok s → cause_of d (command.Wait name) ≡ cause_if s
-waited d name clocks r None same is told s ok = absurd (cc)
-waited d name clocks r (Some f) same is told s ok =
+waited d name clocks r None same is reported s ok = absurd (cc)
+waited d name clocks r (Some f) same is reported s ok =
     let status : s ≡ common_status clocks f.points = cc in
     cause_of-found d name f is ∙ ap (λ cs. cause_if (common_status cs f.points)) (sym same) ∙ ap cause_if (sym status)
 
 unwaited : (d : DeskState) (name : List ℕ) (clocks : List Clock) (r : Result Status Refusal) (o : Option File) → sync_file_at d.files name ≡ o → MatchOption o (r ≡ Err NoEntry) (λ f. r ≡ Ok (common_status clocks f.points)) → (e : Refusal) → r ≡ Err e → (cause_of d (command.Wait name) ≡ Some NoEntry) × (e ≡ NoEntry)
-unwaited d name clocks r None is told e err = (cause_of-missing d name is, cc)
-unwaited d name clocks r (Some f) is told e err = absurd (cc)
+unwaited d name clocks r None is reported e err = (cause_of-missing d name is, cc)
+unwaited d name clocks r (Some f) is reported e err = absurd (cc)
 
 refused_for : {T : Type 0} (o : Option Refusal) (r : Result T Refusal) (cause e : Refusal) → o ≡ Some cause → e ≡ cause → IsErrAnd r (λ given. given ≡ e) → IsRefusedFor o r
 refused_for o (Ok v) cause e is same given = absurd given
-refused_for o (Err f) cause e is same given = let told : f ≡ cause = cc in rw is (ap Err told)
+refused_for o (Err f) cause e is same given = let reported : f ≡ cause = cc in rw is (ap Err reported)
 
 pub IsRefusedFor-no_file : {T : Type 0} (d : DeskState) (name : List ℕ) (clocks : List Clock) (checked : Result Status Refusal) (e : Refusal) (r : Result T Refusal) → MatchOption (sync_file_at d.files name) (checked ≡ Err NoEntry) (λ f. checked ≡ Ok (common_status clocks f.points)) → checked ≡ Err e → IsErrAnd r (λ given. given ≡ e) → IsRefusedFor (cause_of d (command.Wait name)) r
-IsRefusedFor-no_file d name clocks checked e r told err given =
-    let missing = unwaited d name clocks checked (sync_file_at d.files name) refl told e err in
+IsRefusedFor-no_file d name clocks checked e r reported err given =
+    let missing = unwaited d name clocks checked (sync_file_at d.files name) refl reported e err in
     refused_for (cause_of d (command.Wait name)) r NoEntry e missing.0 missing.1 given
 
 pub cause_of-waited : (d : DeskState) (name : List ℕ) (clocks : List Clock) (checked : Result Status Refusal) (s : Status) → clocks ≡ clocks_of d.timelines → MatchOption (sync_file_at d.files name) (checked ≡ Err NoEntry) (λ f. checked ≡ Ok (common_status clocks f.points)) → checked ≡ Ok s → cause_of d (command.Wait name) ≡ cause_if s
-cause_of-waited d name clocks checked s same told ok = waited d name clocks checked (sync_file_at d.files name) same refl told s ok
+cause_of-waited d name clocks checked s same reported ok = waited d name clocks checked (sync_file_at d.files name) same refl reported s ok
 
 -- a close that is refused takes nothing out
 
@@ -84,7 +84,7 @@ pub found_if : {T : Type 0} (b : Bool) (o : Option Refusal) (r : Result T Refusa
 found_if true o r t refused ok = refl
 found_if false o r t refused ok = absurd (cc)
 
--- a refusal, told by one call and then by another
+-- a refusal, reported by one call and then by another
 pub refused_again : (T U : Type 0) (o : Option Refusal) (e : Refusal) → IsRefusedFor {T = T} o (Err e) → IsRefusedFor {T = U} o (Err e)
 refused_again T U (Some cause) e refused = let same : e ≡ cause = cc in ap Err same
 refused_again T U None e refused = refused
@@ -104,7 +104,7 @@ uncaused None r t refused ok = refl
 uncaused (Some cause) r t refused ok = absurd (cc)
 
 -- what a call tells that is refused where there is none of that name
-pub told_where : (b : Bool) (r : Result Bool Refusal) (s : Bool) (P : Bool → Type 0) → MatchBool b (IsOkAnd r P) (r ≡ Err NoEntry) → r ≡ Ok s → P s
-told_where true (Ok s') s P told ok = let same : s' ≡ s = cc in rw (← same) told
-told_where true (Err e) s P told ok = absurd (cc)
-told_where false r s P told ok = absurd (cc)
+pub reported_where : (b : Bool) (r : Result Bool Refusal) (s : Bool) (P : Bool → Type 0) → MatchBool b (IsOkAnd r P) (r ≡ Err NoEntry) → r ≡ Ok s → P s
+reported_where true (Ok s') s P reported ok = let same : s' ≡ s = cc in rw (← same) reported
+reported_where true (Err e) s P reported ok = absurd (cc)
+reported_where false r s P reported ok = absurd (cc)

@@ -145,22 +145,22 @@ watch_cause-keeps {desk} {world} k f cookie =
 
 -- a check of a file's status that is refused, and one that is answered
 no_status : (o : Option File) (clocks : List Clock) (r : Result Status Refusal) (e : Refusal) → MatchOption o (r ≡ Err NoEntry) (λ f. r ≡ Ok (common_status clocks f.points)) → r ≡ Err e → (o ≡ None) × (e ≡ NoEntry)
-no_status None clocks r e told err = (refl, cc)
-no_status (Some f) clocks r e told err = absurd (cc)
+no_status None clocks r e reported err = (refl, cc)
+no_status (Some f) clocks r e reported err = absurd (cc)
 
 found_status : (o : Option File) (clocks : List Clock) (r : Result Status Refusal) (s : Status) → MatchOption o (r ≡ Err NoEntry) (λ f. r ≡ Ok (common_status clocks f.points)) → r ≡ Ok s → (f : File) × (o ≡ Some f) × (s ≡ common_status clocks f.points)
-found_status None clocks r s told ok = absurd (cc)
-found_status (Some f) clocks r s told ok = (f, refl, cc)
+found_status None clocks r s reported ok = absurd (cc)
+found_status (Some f) clocks r s reported ok = (f, refl, cc)
 
 -- whether a cookie is free, as it was answered
 pub refused_cookie : (o : Option Refusal) (r : Result (Unit {0}) Refusal) (e : Refusal) → MatchOption o (IsOk r) (λ cause. r ≡ Err cause) → r ≡ Err e → o ≡ Some e
-refused_cookie None (Ok t) e told err = absurd (cc)
-refused_cookie None (Err f) e told err = absurd (false≢true told)
-refused_cookie (Some cause) r e told err = cc
+refused_cookie None (Ok t) e reported err = absurd (cc)
+refused_cookie None (Err f) e reported err = absurd (false≢true reported)
+refused_cookie (Some cause) r e reported err = cc
 
 pub free_cookie : (o : Option Refusal) (r : Result (Unit {0}) Refusal) (t : Unit {0}) → MatchOption o (IsOk r) (λ cause. r ≡ Err cause) → r ≡ Ok t → o ≡ None
-free_cookie None r t told ok = refl
-free_cookie (Some cause) r t told ok = absurd (cc)
+free_cookie None r t reported ok = refl
+free_cookie (Some cause) r t reported ok = absurd (cc)
 
 abbrev pub if_reached : Bool → Option Refusal
 if_reached reached = if reached then Some Signalled else None
@@ -180,15 +180,15 @@ watch-there d f cookie file found =
     let has = has_sync_file-found d.files f ∙ ap is_some found in
     ap (λ b. if b then cause_to_refuse_watch d.watches cookie (points_at d.files f) (reach_of d.timelines) else Some NoEntry) has
 
-module _ (d : DeskState) (f : List ℕ) (cookie : ℕ) (clocks : List Clock) (r : Result Status Refusal) (at : clocks ≡ clocks_of d.timelines) (told : MatchOption (sync_file_at d.files f) (r ≡ Err NoEntry) (λ g. r ≡ Ok (common_status clocks g.points))) where
+module _ (d : DeskState) (f : List ℕ) (cookie : ℕ) (clocks : List Clock) (r : Result Status Refusal) (at : clocks ≡ clocks_of d.timelines) (reported : MatchOption (sync_file_at d.files f) (r ≡ Err NoEntry) (λ g. r ≡ Ok (common_status clocks g.points))) where
   pub watch-missing : (e : Refusal) → r ≡ Err e → (cause_of d (command.Watch f cookie) ≡ Some NoEntry) × (e ≡ NoEntry)
   watch-missing e err =
-      let none = no_status (sync_file_at d.files f) clocks r e told err in
+      let none = no_status (sync_file_at d.files f) clocks r e reported err in
       let missing = has_sync_file-found d.files f ∙ ap is_some none.0 in
       (ap (λ b. if b then cause_to_refuse_watch d.watches cookie (points_at d.files f) (reach_of d.timelines) else Some NoEntry) missing, none.1)
 
   watch-found : (s : Status) → r ≡ Ok s → cause_of d (command.Watch f cookie) ≡ cause_to_refuse_watch d.watches cookie (points_at d.files f) (reach_of d.timelines)
-  watch-found s ok = let found = found_status (sync_file_at d.files f) clocks r s told ok in watch-there d f cookie found.0 found.1
+  watch-found s ok = let found = found_status (sync_file_at d.files f) clocks r s reported ok in watch-there d f cookie found.0 found.1
 
   -- the cookie is not free
   pub watch-taken : (s : Status) → r ≡ Ok s → (e : Refusal) → cause_to_refuse d.watches cookie ≡ Some e → cause_of d (command.Watch f cookie) ≡ Some e
@@ -197,7 +197,7 @@ module _ (d : DeskState) (f : List ℕ) (cookie : ℕ) (clocks : List Clock) (r 
   -- the cookie is free
   pub watch-free : (s : Status) → r ≡ Ok s → cause_to_refuse d.watches cookie ≡ None → cause_of d (command.Watch f cookie) ≡ signalled_cause s
   watch-free s ok free =
-      let found = found_status (sync_file_at d.files f) clocks r s told ok in
+      let found = found_status (sync_file_at d.files f) clocks r s reported ok in
       let listed : points_at d.files f ≡ found.0.points = ap (λ o. unwrap_or (option_map (λ (g : File). g.points) o) []) found.1 in
       watch-found s ok
       ∙ ap (λ o. if_none o (if_reached (are_reached (reach_of d.timelines) (points_at d.files f)))) free

@@ -121,9 +121,9 @@ info_of w name f =
     record { name = name; status = file_status w f; fences = or_stub (map (fence_row w.timelines) (listed_points f)) }
 
 -- what is reported of the file of a name: of no file nothing, though there always is one when this is asked
-abbrev pub info_told : World → List ℕ → Option MadeFile → Answer
-info_told w name None = answer.Done
-info_told w name (Some f) = answer.Info (info_of w name f)
+abbrev pub info_reported : World → List ℕ → Option MadeFile → Answer
+info_reported w name None = answer.Done
+info_reported w name (Some f) = answer.Info (info_of w name f)
 
 -- the row of a pending top, with the name of its timeline
 abbrev pub show_row : List Timeline → TopRow → ShowRow
@@ -154,27 +154,27 @@ report_of w = record {
 }
 
 -- what the command reports if it is accepted, which it is if none of its causes holds: what it names is there
-abbrev pub told : World → Command → Answer
-told w (command.Timeline t) = answer.Value (length w.timelines + 1)
-told w (command.Inc t n) = answer.Raised (value_of w.timelines t + n) (cookies_of (fired_watches w t n))
-told w (command.Value t) = answer.Value (value_of w.timelines t)
-told w (command.Shut t) = answer.Raised (value_of w.timelines t) (cookies_of (shut_watches w t))
-told w (command.Fence f t p) = answer.Done
-told w (command.Merge f a b) = answer.Done
-told w (command.Close f) = answer.Done
-told w (command.Wait f) = answer.Done
-told w (command.Info f) = info_told w f (file_named w.files f)
-told w (command.Buffer b) = answer.Done
-told w (command.Add b t p u) = answer.Done
-told w (command.Import b f flags) = answer.Done
-told w (command.Export f b flags) = answer.Done
-told w (command.Test b u) =
+abbrev pub reported : World → Command → Answer
+reported w (command.Timeline t) = answer.Value (length w.timelines + 1)
+reported w (command.Inc t n) = answer.Raised (value_of w.timelines t + n) (cookies_of (fired_watches w t n))
+reported w (command.Value t) = answer.Value (value_of w.timelines t)
+reported w (command.Shut t) = answer.Raised (value_of w.timelines t) (cookies_of (shut_watches w t))
+reported w (command.Fence f t p) = answer.Done
+reported w (command.Merge f a b) = answer.Done
+reported w (command.Close f) = answer.Done
+reported w (command.Wait f) = answer.Done
+reported w (command.Info f) = info_reported w f (file_named w.files f)
+reported w (command.Buffer b) = answer.Done
+reported w (command.Add b t p u) = answer.Done
+reported w (command.Import b f flags) = answer.Done
+reported w (command.Export f b flags) = answer.Done
+reported w (command.Test b u) =
     answer.Value (number_if (all_reached (reach_of w.timelines) (usage_number u) (buffer_put_set w.buffers b)))
-told w (command.Trim b) = answer.Done
-told w (command.Watch f cookie) = answer.Done
-told w (command.Unwatch cookie) = answer.Value (number_if (has_made_watch w.watches cookie))
-told w (command.Show b) = answer.Show (show_rows w.timelines (buffer_put_set w.buffers b))
-told w command.Report = answer.Report (report_of w)
+reported w (command.Trim b) = answer.Done
+reported w (command.Watch f cookie) = answer.Done
+reported w (command.Unwatch cookie) = answer.Value (number_if (has_made_watch w.watches cookie))
+reported w (command.Show b) = answer.Show (show_rows w.timelines (buffer_put_set w.buffers b))
+reported w command.Report = answer.Report (report_of w)
 
 abbrev pub refused_or : Option Refusal → Answer → Answer
 refused_or None a = a
@@ -205,7 +205,7 @@ takes_memory fires command.Report = true
 
 -- the one answer of the command
 abbrev pub answer_to : World → Command → Answer
-answer_to w c = refused_or (first_of (causes w c)) (told w c)
+answer_to w c = refused_or (first_of (causes w c)) (reported w c)
 
 abbrev pub is_refused : Answer → Bool
 is_refused (answer.Refused r) = true

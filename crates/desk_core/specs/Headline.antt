@@ -49,7 +49,7 @@ IsFileReached history name = IsReached (put_into_file history name) 0 (values_af
 
 -- above the timelines' values a file says what was put into it, and the desk reports that it is signalled exactly when all
 -- of that is
-pub record TellsWhatWasPut (desk : DeskState) (history : List Command) : Type 0 where
+pub record ReportsWhatWasPut (desk : DeskState) (history : List Command) : Type 0 where
   -- each file agrees with the union of the points put into it
   pub agrees : (name : List ℕ) (f : File) → sync_file_at desk.files name ≡ Some f
       → AgreesAbove (values_after history) (as_entries f.points) (put_into_file history name)
@@ -61,12 +61,12 @@ pub record TellsWhatWasPut (desk : DeskState) (history : List Command) : Type 0 
   pub reached : (name : List ℕ) (f : File) → sync_file_at desk.files name ≡ Some f
       → (IsReached (as_entries f.points) 0 (values_after history) ↔ IsFileReached history name)
   -- `info` reports that a file is signalled, its status not being active, exactly when every point put into it is reached
-  pub signalled : (name : List ℕ) (told : Info) → Answers desk (command.Info name) (answer.Info told)
-      → ((told.status ≢ Active) ↔ IsFileReached history name)
+  pub signalled : (name : List ℕ) (reported : Info) → Answers desk (command.Info name) (answer.Info reported)
+      → ((reported.status ≢ Active) ↔ IsFileReached history name)
   -- and that it is cancelled exactly when besides a point that it lists is
-  pub cancelled : (name : List ℕ) (f : File) (told : Info) → sync_file_at desk.files name ≡ Some f
-      → Answers desk (command.Info name) (answer.Info told)
-      → ((told.status ≡ Cancelled) ↔ (IsFileReached history name × (some_cancelled (clocks_after history) f.points ≡ true)))
+  pub cancelled : (name : List ℕ) (f : File) (reported : Info) → sync_file_at desk.files name ≡ Some f
+      → Answers desk (command.Info name) (answer.Info reported)
+      → ((reported.status ≡ Cancelled) ↔ (IsFileReached history name × (some_cancelled (clocks_after history) f.points ≡ true)))
   -- a `wait` is done exactly when every point put into the file is reached, and else it has timed out
   pub waited : (name : List ℕ) (f : File) (given : Answer) → sync_file_at desk.files name ≡ Some f
       → Answers desk (command.Wait name) given → ((given ≡ answer.Done) ↔ IsFileReached history name)
@@ -87,7 +87,7 @@ IsBufferReached history name usage = IsReached (put_into_buffer history name) (u
 
 -- above the timelines' values a reservation says what was put into its buffer, and the desk reports that it is signalled at a
 -- usage exactly when all of that is
-pub record TellsWhatIsInBuffers (desk : DeskState) (history : List Command) : Type 0 where
+pub record ReportsWhatIsInBuffers (desk : DeskState) (history : List Command) : Type 0 where
   -- each reservation agrees, at every usage, with the union of all that was put into it
   pub agrees : (name : List ℕ) → AgreesAbove (values_after history) (entries_of desk.buffers name) (put_into_buffer history name)
   -- reservations with the same put entries agree
@@ -106,10 +106,10 @@ pub record TellsWhatIsInBuffers (desk : DeskState) (history : List Command) : Ty
   pub places : (name : List ℕ) → length (entries_of desk.buffers name) ≤ PLACES
 
 -- values are sums of increments, and the desk reports them
-pub record TellsSums (desk : DeskState) (history : List Command) : Type 0 where
+pub record ReportsSums (desk : DeskState) (history : List Command) : Type 0 where
   pub kept : AreSums desk.timelines (increments_in history)
   -- `value` reports the sum
-  pub told : (name : List ℕ) (value : ℕ) → Answers desk (command.Value name) (answer.Value value)
+  pub reported : (name : List ℕ) (value : ℕ) → Answers desk (command.Value name) (answer.Value value)
       → value ≡ incremented (increments_in history) name
   -- `inc` reports the sum with the new increment
   pub raised : (name : List ℕ) (n value : ℕ) (fired : List ℕ) → Answers desk (command.Inc name n) (answer.Raised value fired)
@@ -127,15 +127,15 @@ abbrev pub shut_after : List Command → List ℕ → List MadeWatch
 shut_after history name = shut_watches (world_of history) name
 
 -- an increment or a closing fires the watches all of whose put points it signals, and none fires twice
-pub record TellsWhatFires (desk : DeskState) (history : List Command) : Type 0 where
+pub record ReportsWhatFires (desk : DeskState) (history : List Command) : Type 0 where
   -- `inc` reports the cookies of the watches that it fires, by registration
-  pub told : (name : List ℕ) (n value : ℕ) (fired : List ℕ) → Answers desk (command.Inc name n) (answer.Raised value fired)
+  pub reported : (name : List ℕ) (n value : ℕ) (fired : List ℕ) → Answers desk (command.Inc name n) (answer.Raised value fired)
       → fired ≡ cookies_of (fired_after history name n)
   -- these are the pending watches of which every put point is reached at the new values
   pub due : (name : List ℕ) (n : ℕ) (x : MadeWatch) → (Contains (fired_after history name n) x
       ↔ (Contains (pending_after history) x × IsReached x.put 0 (values_after (history ++ command.Inc name n ∷ []))))
   -- and `shut` those that it fires
-  pub told_shut : (name : List ℕ) (value : ℕ) (fired : List ℕ) → Answers desk (command.Shut name) (answer.Raised value fired)
+  pub reported_shut : (name : List ℕ) (value : ℕ) (fired : List ℕ) → Answers desk (command.Shut name) (answer.Raised value fired)
       → fired ≡ cookies_of (shut_after history name)
   pub due_shut : (name : List ℕ) (x : MadeWatch) → (Contains (shut_after history name) x
       ↔ (Contains (pending_after history) x × IsReached x.put 0 (values_after (history ++ command.Shut name ∷ []))))
@@ -143,7 +143,7 @@ pub record TellsWhatFires (desk : DeskState) (history : List Command) : Type 0 w
   pub once : (number : ℕ) → count_by (nat_eq number) (fired_along history) ≤ 1
 
 -- over a run, each watch that was registered has fired, or was removed, or is pending at the end, and only one of these
-pub record TellsEachWatch (desk : DeskState) (commands : List Command) (given : List Answer) : Type 0 where
+pub record ReportsEachWatch (desk : DeskState) (commands : List Command) (given : List Answer) : Type 0 where
   -- of each cookie: how often it was registered, and what became of that
   pub each : (cookie : ℕ)
       → times_registered cookie commands given ≡ times_fired cookie given + times_removed cookie commands given + times_pending cookie desk

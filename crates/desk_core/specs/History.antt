@@ -55,7 +55,7 @@ increments_in history = flat_map increment_in history
 
 -- the one answer of the command, or Memory if that is no refusal and the command takes memory
 pub record IsAnswer (history : List Command) (command : Command) (given : Answer) : Type 0 where
-  pub told : (given ≡ answer_to (world_of history) command)
+  pub reported : (given ≡ answer_to (world_of history) command)
       ⊎ ((given ≡ answer.Refused Memory) × (takes_memory (fires_some (world_of history)) command ≡ true)
       × (is_refused (answer_to (world_of history) command) ≡ false))
 

@@ -29,7 +29,7 @@ use Rattle.command_core.specs.declared.answer.Answer.TheVariants as answer
 use Rattle.command_core.specs.declared.command.Command.{Command}
 use Rattle.command_core.specs.declared.command.Command.TheVariants as command
 use Rattle.desk_core.specs.World.{World, after}
-use Rattle.desk_core.specs.Answer.{told, is_refused, fence_row, or_stub, show_rows, fence_count}
+use Rattle.desk_core.specs.Answer.{reported, is_refused, fence_row, or_stub, show_rows, fence_count}
 use Rattle.desk_core.specs.Desk.{DeskState, Holds}
 use Rattle.desk_core.specs.Sound.{IsSound}
 
@@ -165,7 +165,7 @@ cause_of d command.Report = None
 -- the command was done in each world that the desk keeps
 pub record IsDone (old : DeskState) (c : Command) (given : Answer) (new : DeskState) : Type 0 where
   pub accepted : is_refused given ≡ false
-  pub told : (world : World) → Keeps old world → given ≡ told world c
+  pub reported : (world : World) → Keeps old world → given ≡ reported world c
   pub held : (world : World) → Keeps old world → Holds new (after world c)
 
 -- what is answered: what was reported, or the refusal

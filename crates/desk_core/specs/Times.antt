@@ -54,24 +54,24 @@ is_unwatch_of cookie (command.Watch f other) = false
 is_unwatch_of cookie (command.Unwatch other) = other == cookie
 
 -- an `unwatch` answers so if it took a watch out
-abbrev pub tells_one : Answer → Bool
-tells_one (answer.Value n) = n == 1
-tells_one (answer.Refused r) = false
-tells_one answer.Done = false
-tells_one (answer.Raised n fired) = false
-tells_one (answer.Info i) = false
-tells_one (answer.Show rows) = false
-tells_one (answer.Report report) = false
+abbrev pub reports_one : Answer → Bool
+reports_one (answer.Value n) = n == 1
+reports_one (answer.Refused r) = false
+reports_one answer.Done = false
+reports_one (answer.Raised n fired) = false
+reports_one (answer.Info i) = false
+reports_one (answer.Show rows) = false
+reports_one (answer.Report report) = false
 
 -- the cookies that are reported to have fired
-abbrev pub fired_told : Answer → List ℕ
-fired_told (answer.Raised n fired) = fired
-fired_told (answer.Refused r) = []
-fired_told answer.Done = []
-fired_told (answer.Value n) = []
-fired_told (answer.Info i) = []
-fired_told (answer.Show rows) = []
-fired_told (answer.Report report) = []
+abbrev pub fired_reported : Answer → List ℕ
+fired_reported (answer.Raised n fired) = fired
+fired_reported (answer.Refused r) = []
+fired_reported answer.Done = []
+fired_reported (answer.Value n) = []
+fired_reported (answer.Info i) = []
+fired_reported (answer.Show rows) = []
+fired_reported (answer.Report report) = []
 
 -- a `watch` of that cookie was accepted
 abbrev pub registers : ℕ → Command × Answer → Bool
@@ -79,7 +79,7 @@ registers cookie both = not (is_refused both.1) && is_watch_of cookie both.0
 
 -- an `unwatch` of that cookie took a watch out
 abbrev pub removes : ℕ → Command × Answer → Bool
-removes cookie both = is_unwatch_of cookie both.0 && tells_one both.1
+removes cookie both = is_unwatch_of cookie both.0 && reports_one both.1
 
 abbrev pub times_registered : ℕ → List Command → List Answer → ℕ
 times_registered cookie commands given = count_by (registers cookie) (zip commands given)
@@ -89,7 +89,7 @@ times_removed cookie commands given = count_by (removes cookie) (zip commands gi
 
 -- how often the cookie stands among those that the answers tell to have fired
 abbrev pub times_fired : ℕ → List Answer → ℕ
-times_fired cookie given = count_by (λ k. k == cookie) (flat_map fired_told given)
+times_fired cookie given = count_by (λ k. k == cookie) (flat_map fired_reported given)
 
 -- how many watches of that cookie the desk keeps
 abbrev pub times_pending : ℕ → DeskState → ℕ

@@ -11,7 +11,7 @@ ghost use Rattle.desk_core.specs.Desk.{DeskState, HasHistory};
 ghost use Rattle.desk_core.specs.Keeping.{cause_of};
 ghost use Rattle.desk_core.specs.World.{MadeWatch, watch_made};
 ghost use Rattle.desk_core.specs.Fired.{fired_along, pending_after, IsLeftBy};
-ghost use Rattle.desk_core.specs.Headline.{TellsSums, TellsWhatWasPut, TellsWhatIsInBuffers, TellsWhatFires, TellsEachWatch, put_into_file};
+ghost use Rattle.desk_core.specs.Headline.{ReportsSums, ReportsWhatWasPut, ReportsWhatIsInBuffers, ReportsWhatFires, ReportsEachWatch, put_into_file};
 
 /// What was put into files and buffers is of timelines that were made, and no value has fallen since; there are no more
 /// timelines than contexts.
@@ -42,12 +42,12 @@ pub fn a_watch_keeps_what_was_put()
 
 /// A desk that stands for a history has the sums of its increments, what was put into its files and buffers, and which
 /// watches an increment fires.
-pub fn a_desk_tells_its_history()
-    ensures sums { (desk : DeskState) (history : List Command) → HasHistory desk history → TellsSums desk history }
-    ensures files { (desk : DeskState) (history : List Command) → HasHistory desk history → TellsWhatWasPut desk history }
+pub fn a_desk_shows_its_history()
+    ensures sums { (desk : DeskState) (history : List Command) → HasHistory desk history → ReportsSums desk history }
+    ensures files { (desk : DeskState) (history : List Command) → HasHistory desk history → ReportsWhatWasPut desk history }
     ensures buffers { (desk : DeskState) (history : List Command) →
-        HasHistory desk history → TellsWhatIsInBuffers desk history }
-    ensures watches { (desk : DeskState) (history : List Command) → HasHistory desk history → TellsWhatFires desk history }
+        HasHistory desk history → ReportsWhatIsInBuffers desk history }
+    ensures watches { (desk : DeskState) (history : List Command) → HasHistory desk history → ReportsWhatFires desk history }
 {}
 
 /// By the answers of a run, from its first command on, each watch that was registered has fired, was removed, or is
@@ -55,7 +55,7 @@ pub fn a_desk_tells_its_history()
 pub fn each_watch_fires_or_is_removed_or_pending()
     ensures { (desk : DeskState) (commands : List Command) (given : List Answer) →
         AreAnswers [] commands given → HasHistory desk (history_of [] commands given) →
-        TellsEachWatch desk commands given }
+        ReportsEachWatch desk commands given }
 {}
 
 /// A desk, which keeps less than all that was put into it, refuses each command for the first cause that holds in the world

@@ -29,7 +29,7 @@ use Rattle.desk_core.specs.Desk.{DeskState}
 use Rattle.desk_core.specs.Keeping.{Keeps}
 use Rattle.desk_core.specs.Sound.{IsSound, WasMade}
 use Rattle.desk_core.proofs.Keeping.{AgreesAbove-listed_points, sync_file_at-points, file_named-All}
-use Rattle.desk_core.proofs.Signalling.{common_status-told}
+use Rattle.desk_core.proofs.Signalling.{common_status-reported}
 use Rattle.picture_core.specs.declared.bar.Bar.{Bar}
 use Rattle.picture_core.specs.declared.bar.Settled.{Settled}
 use Rattle.picture_core.specs.Bars.{bar_of, bars_after, closed_if, drawn_at, is_closed_by, is_open_of, is_there, settled_at, with_closed}
@@ -466,7 +466,7 @@ status_by desk w name (Some f) (Some g) same sound made is =
     let agrees = AgreesAbove-listed_points w.timelines g (made g refl) sound.timelines.room in
     ap Some (ap (λ (ts : List Timeline). common_status (clocks_of ts) f.points) same
     ∙ ap (common_status (clocks_of w.timelines)) points
-    ∙ common_status-told (clocks_of w.timelines) (listed_points g) g.put (all_reached-AgreesAbove 0 agrees (AgreesAbove-sym agrees)))
+    ∙ common_status-reported (clocks_of w.timelines) (listed_points g) g.put (all_reached-AgreesAbove 0 agrees (AgreesAbove-sym agrees)))
 
 pub desk_status-world : {desk : DeskState} {w : World} → Keeps desk w → (name : List ℕ) → desk_status desk name ≡ status_in w name
 desk_status-world {desk} {w} keeps name =
@@ -480,9 +480,9 @@ shown_settled : (column : ℕ) (o : Option Settled) (found : Option Status) → 
 shown_settled column None found past carried none = none refl
 shown_settled column (Some s) found past carried none = carried ∙ ap (λ b. Some (if b then s.status else Active)) (sym (le-leb s.column column past.0))
 
-told_status : (o found : Option Status) (drawn : Status) → o ≡ found → is_some found ≡ true → IfSome o (λ s. drawn ≡ s) → found ≡ Some drawn
-told_status None found drawn same some is = absurd (false≢true (ap is_some same ∙ some))
-told_status (Some s) found drawn same some is = sym same ∙ ap Some (sym is)
+reported_status : (o found : Option Status) (drawn : Status) → o ≡ found → is_some found ≡ true → IfSome o (λ s. drawn ≡ s) → found ≡ Some drawn
+reported_status None found drawn same some is = absurd (false≢true (ap is_some same ∙ some))
+reported_status (Some s) found drawn same some is = sym same ∙ ap Some (sym is)
 
 IsSome-Some : {X : Type 0} (o : Option X) (x : X) → o ≡ Some x → IsSome o
 IsSome-Some o x is = rw is refl
@@ -519,7 +519,7 @@ module _ (desk : DeskState) (column : ℕ) (old new : List Bar) (asked : AreAske
       by : (o : Option Settled) → x.settled ≡ o → status_in w y.name ≡ Some (drawn_at y column)
       by None at =
           ap (status_in w) a.name
-          ∙ told_status (desk_status desk x.name) (status_in w x.name) (drawn_at y column) (desk_status-world keeps x.name) (some_status (file_named w.files x.name) (kept there)) (a.here at (there_open column x past there))
+          ∙ reported_status (desk_status desk x.name) (status_in w x.name) (drawn_at y column) (desk_status-world keeps x.name) (some_status (file_named w.files x.name) (kept there)) (a.here at (there_open column x past there))
         where
           some_status : (p : Option MadeFile) → is_some p ≡ true → is_some (option_map (file_status w) p) ≡ true
           some_status None none = none

@@ -34,8 +34,8 @@ use Rattle.draw_core.proofs.Entering.{AreBarsOf-asked, AreBarsOf-entered, AreBar
 
 -- an accepted command has no cause to be refused
 accepted : (history : List Command) (c : Command) (given : Answer) → IsAnswer history c given → is_refused given ≡ false → first_of (causes (world_of history) c) ≡ None
-accepted history c given is fine = elim is.told [
-  | inl told ↦ causes-accepted (world_of history) c (sym (ap is_refused told) ∙ fine)
+accepted history c given is fine = elim is.reported [
+  | inl reported ↦ causes-accepted (world_of history) c (sym (ap is_refused reported) ∙ fine)
   | inr memory ↦ absurd (cc (sym (ap is_refused memory.0) ∙ fine))
 ]
 
@@ -45,12 +45,12 @@ module _ (R : List Command → List Command → (ℕ → List Bar → List Bar) 
     (one : (history : List Command) (c : Command) → first_of (causes (world_of history) c) ≡ None → R history (history ++ c ∷ []) (λ column bars. bars_after column c bars)) where
   line_if : (history : List Command) (c : Command) (given : Answer) (refused : Bool) → is_refused given ≡ refused → IsAnswer history c given
       → R history (if refused then history else history ++ c ∷ []) (λ column bars. if refused then bars else bars_after column c bars)
-  line_if history c given true is told = none history
-  line_if history c given false is told = one history c (accepted history c given told is)
+  line_if history c given true is reported = none history
+  line_if history c given false is reported = one history c (accepted history c given reported is)
 
   by_line : (history : List Command) (body : Body) (given : Answer) → IsLineAnswer history body given → R history (history_after_line history body given) (λ column bars. bars_after_line column body given bars)
-  by_line history (Bad refusal) given told = none history
-  by_line history (Cmd c) given told = line_if history c given (is_refused given) refl told
+  by_line history (Bad refusal) given reported = none history
+  by_line history (Cmd c) given reported = line_if history c given (is_refused given) refl reported
 
 -- all that a line keeps of the bars, where the desk has the history
 abbrev Keeps : List Command → List Command → (ℕ → List Bar → List Bar) → Type 0
@@ -78,7 +78,7 @@ Keeps-one history c free column bars desk stands h =
     )
 
 Keeps-line : (history : List Command) (body : Body) (given : Answer) → IsLineAnswer history body given → Keeps history (history_after_line history body given) (λ column bars. bars_after_line column body given bars)
-Keeps-line history body given told = by_line Keeps Keeps-none Keeps-one history body given told
+Keeps-line history body given reported = by_line Keeps Keeps-none Keeps-one history body given reported
 
 -- the run of a script
 
@@ -120,7 +120,7 @@ HasDrawn-past window done desk columns bars l past h =
 
 module _ (window : Window) (done : List Line) (desk later : DeskState) (columns : List Column) (bars : List Bar) (l : Line) (given : Answer)
     (low : l.number ≤ window.last)
-    (told : (history : List Command) → HasHistory desk history → IsLineAnswer history l.body given)
+    (reported : (history : List Command) → HasHistory desk history → IsLineAnswer history l.body given)
     (stands : (history : List Command) → HasHistory desk history → HasHistory later (history_after_line history l.body given))
     (h : HasDrawn window done desk columns bars) where
   abbrev now : List Command
@@ -133,7 +133,7 @@ module _ (window : Window) (done : List Line) (desk later : DeskState) (columns 
   pushed = lines_run-push window done l low
 
   answers' : AreLineAnswers [] (lines_run window (done ++ l ∷ [])) (h.given ++ given ∷ [])
-  answers' = rw pushed (AreLineAnswers-push [] (lines_run window done) h.given l given h.answers (told now h.stands))
+  answers' = rw pushed (AreLineAnswers-push [] (lines_run window done) h.given l given h.answers (reported now h.stands))
 
   along : history_along [] (lines_run window (done ++ l ∷ [])) (h.given ++ given ∷ []) ≡ next
   along = rw pushed (history_along-push [] (lines_run window done) h.given l given h.answers)
@@ -142,7 +142,7 @@ module _ (window : Window) (done : List Line) (desk later : DeskState) (columns 
   stands' = rw along (stands now h.stands)
 
   keeps : Keeps now next (λ column bs. bars_after_line column l.body given bs)
-  keeps = Keeps-line now l.body given (told now h.stands)
+  keeps = Keeps-line now l.body given (reported now h.stands)
 
   -- a line before the window
   pub HasDrawn-undrawn : All (IsBelow l.number) done → l.number < window.first → HasDrawn window (done ++ l ∷ []) later columns (bars_after_line 0 l.body given bars)
@@ -214,7 +214,7 @@ column_or column n low = elim (cases_lt n column) [
 
 module _ (window : Window) (done : List Line) (desk later : DeskState) (old new : List Column) (bars asked : List Bar) (l : Line) (given : Answer)
     (in' : is_in_window window l.number ≡ true) (below : All (IsBelow l.number) done)
-    (told : (history : List Command) → HasHistory desk history → IsLineAnswer history l.body given)
+    (reported : (history : List Command) → HasHistory desk history → IsLineAnswer history l.body given)
     (stands : (history : List Command) → HasHistory desk history → HasHistory later (history_after_line history l.body given))
     (lines : lines_drawn new ≡ lines_drawn old ++ l.number ∷ [])
     (by : AreAsked later (length old + 1) (bars_after_line (length old + 1) l.body given bars) asked)
@@ -239,8 +239,8 @@ module _ (window : Window) (done : List Line) (desk later : DeskState) (old new 
   long : length new ≡ length old + 1
   long = length-drawn old new l.number lines
 
-  all_told : AreLineAnswers [] (lines_run window (done ++ l ∷ [])) (h.given ++ given ∷ [])
-  all_told = rw more (AreLineAnswers-push [] (lines_run window done) h.given l given h.answers (told here h.stands))
+  all_reported : AreLineAnswers [] (lines_run window (done ++ l ∷ [])) (h.given ++ given ∷ [])
+  all_reported = rw more (AreLineAnswers-push [] (lines_run window done) h.given l given h.answers (reported here h.stands))
 
   all_along : history_along [] (lines_run window (done ++ l ∷ [])) (h.given ++ given ∷ []) ≡ there
   all_along = rw more (history_along-push [] (lines_run window done) h.given l given h.answers)
@@ -255,7 +255,7 @@ module _ (window : Window) (done : List Line) (desk later : DeskState) (old new 
       × ((All (IsCarried (world_of here) (length old + 1)) bars → All (IsCarried (world_of there) (length old + 1)) (bars_after_line (length old + 1) l.body given bars))
       × ((All (λ (b : Bar). b.settled ≡ None) bars → All (λ (b : Bar). b.settled ≡ None) (bars_after_line (length old + 1) l.body given bars))
       × ((w : World) (k : ℕ) → k < length old + 1 → ShowFiles w k bars → ShowFiles w k (bars_after_line (length old + 1) l.body given bars))))
-  did = Keeps-line here l.body given (told here h.stands) (length old + 1) bars desk h.stands moved
+  did = Keeps-line here l.body given (reported here h.stands) (length old + 1) bars desk h.stands moved
 
   carried : All (IsCarried (world_of here) (length old + 1)) bars
   carried = IsCarried-shown (world_of here) (length old) (length old + 1) (omega arith) bars h.kept.past (subst (λ w. All (IsShown w (length old)) bars) h.last (h.shown (length old) (omega arith)).each)
@@ -273,7 +273,7 @@ module _ (window : Window) (done : List Line) (desk later : DeskState) (old new 
   new_world : world_shown window (done ++ l ∷ []) (h.given ++ given ∷ []) new (suc (length old)) ≡ world_of there
   new_world =
       ap (λ (n : ℕ). world_of (history_before n [] (lines_run window (done ++ l ∷ [])) (h.given ++ given ∷ []))) (line_after-new window old new l.number lines)
-      ∙ ap world_of (history_before-all (l.number + 1) [] (lines_run window (done ++ l ∷ [])) (h.given ++ given ∷ []) all_told (rw more (All-push (IsBelow (l.number + 1)) (lines_run window done) l (All-weaker (IsBelow l.number) (IsBelow (l.number + 1)) (λ m low. omega arith) (lines_run window done) (below-run window l.number done below)) (omega arith))))
+      ∙ ap world_of (history_before-all (l.number + 1) [] (lines_run window (done ++ l ∷ [])) (h.given ++ given ∷ []) all_reported (rw more (All-push (IsBelow (l.number + 1)) (lines_run window done) l (All-weaker (IsBelow l.number) (IsBelow (l.number + 1)) (λ m low. omega arith) (lines_run window done) (below-run window l.number done below)) (omega arith))))
       ∙ ap world_of all_along
 
   -- the columns so far
@@ -309,7 +309,7 @@ module _ (window : Window) (done : List Line) (desk later : DeskState) (old new 
   pub HasDrawn-drawn : HasDrawn window (done ++ l ∷ []) later new asked
   HasDrawn-drawn = record {
     given = h.given ++ given ∷ [];
-    answers = all_told;
+    answers = all_reported;
     stands = rw all_along now_stands;
     lines = lines ∙ ap (λ ns. ns ++ l.number ∷ []) h.lines ∙ sym (drawn_lines-in window done l in');
     kept = rw (all_along, long) kept';

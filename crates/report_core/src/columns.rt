@@ -5,8 +5,8 @@ ghost use Rattle.report_core.specs.Columns.{right};
 ghost use Rattle.report_core.specs.Subject.{subject_text};
 ghost use Rattle.report_core.specs.Row.{columns};
 
-use crate::row_kind::RowKind;
 use crate::line::{TEXT_LINE_BYTES, TextLine};
+use crate::row_kind::RowKind;
 use crate::rows::{COUNT_WIDTH, KIND_BYTES, NUMBER_WIDTH, ROW_BYTES, SUBJECT_WIDTH};
 use itoa::{Buffer, write_digits};
 use point_core::{Name, Refusal};

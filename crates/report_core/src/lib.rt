@@ -4,17 +4,17 @@
 #![tactic(auto)]
 
 mod columns;
-mod row_kind;
 mod line;
 mod report;
+mod row_kind;
 mod rows;
 mod settled;
 mod status;
 mod writing;
 
-pub use row_kind::RowKind;
 pub use line::{TEXT_LINE_BYTES, TextLine};
 pub use report::{buffer_text, report_text, show_text, timelines_text};
+pub use row_kind::RowKind;
 pub use rows::{
     COUNT_WIDTH, FILE_ROW_BYTES, KIND_WIDTH, NUMBER_WIDTH, ROW_BYTES, SUBJECT_WIDTH, file_row, row,
 };

@@ -19,7 +19,12 @@ pub fn show_text(rows: &[ShowRow], out: &mut Vec<u8>) -> Result<(), Refusal>
     ensures err { OnErr result ((result ≡ Err Memory) × StartsWith out.new.items out.old.items) }
 {
     for shown in rows {
-        row(RowKind::Level(shown.usage), &shown.timeline, shown.point, out)?;
+        row(
+            RowKind::Level(shown.usage),
+            &shown.timeline,
+            shown.point,
+            out,
+        )?;
     }
     Ok(())
 }

@@ -6,8 +6,8 @@ ghost use Rattle.report_core.specs.Subject.{subject_text};
 ghost use Rattle.report_core.specs.Row.{row_text, file_row_text};
 
 use crate::columns::{Subject, push_columns, push_text_columns, put_number};
-use crate::row_kind::RowKind;
 use crate::line::TextLine;
+use crate::row_kind::RowKind;
 use crate::status::status_text;
 use command_core::FileRow;
 use point_core::{NAME_BYTES, Name, Refusal};

@@ -20,7 +20,7 @@ use Rattle.words_core.proofs.LoadingAll.{reach_seen-is}
 use Rattle.words_core.specs.Loads.{clocks_seen, reach_seen, HasLoadedClocks}
 use Rattle.words_core.specs.Seat.{SeatModel}
 use Rattle.syncfile_core.specs.SyncFile.{File, StandsFor}
-use Rattle.syncfile_core.proofs.Reached.{TellsSetsOf-always}
+use Rattle.syncfile_core.proofs.Reached.{ReportsSetsOf-always}
 use Rattle.syncfile_core.specs.Running.{IsBorneOutAt, IsBorneOut, IsActivePoll, HasRunOut, HasPolled}
 
 -- files that the words bear out
@@ -57,7 +57,7 @@ StandsFor-merged reach a b within within' above above' one other stands stands' 
 -- a file that the words bear out is no longer active exactly where each point is reached that it stands for
 pub polled-stands : (seat : SeatModel) (f : File) → IsBorneOut seat f → (set : List Entry) → StandsFor f set → (common_status (clocks_seen seat) f.points ≢ Active) ↔ IsReached set 0 (reach_seen seat)
 polled-stands seat f out set stands =
-    subst (λ reach. IsAtLeast reach f.floor → (common_status (clocks_seen seat) f.points ≢ Active) ↔ IsReached set 0 reach) (reach_seen-is seat) (TellsSetsOf-always f (clocks_seen seat) set stands) out.floor
+    subst (λ reach. IsAtLeast reach f.floor → (common_status (clocks_seen seat) f.points ≢ Active) ↔ IsReached set 0 reach) (reach_seen-is seat) (ReportsSetsOf-always f (clocks_seen seat) set stands) out.floor
 
 pub still_active : (status : Status) → is_signalled status ≡ false → status ≡ Active
 still_active Active none = refl

@@ -8,11 +8,11 @@ use Rattle.point_core.proofs.Ticking.{status_of-not_active}
 use Rattle.point_core.proofs.Agreement.{AgreesAbove-later, AgreesAbove-sym}
 use Rattle.point_core.proofs.Reached.{IsReached-AgreesAbove, list_all-IsReached}
 use Rattle.syncfile_core.specs.SyncFile.{File}
-use Rattle.syncfile_core.specs.Status.{TellsSetsOf}
+use Rattle.syncfile_core.specs.Status.{ReportsSetsOf}
 
 -- a file is no longer active exactly where each point is reached that it stands for
-pub TellsSetsOf-always : (f : File) (clocks : List Clock) → TellsSetsOf f clocks
-TellsSetsOf-always f clocks = λ set stands above.
+pub ReportsSetsOf-always : (f : File) (clocks : List Clock) → ReportsSetsOf f clocks
+ReportsSetsOf-always f clocks = λ set stands above.
     let reach = reach_of_clocks clocks in
     let agrees = AgreesAbove-later above stands in
     let listed = list_all-IsReached f.points reach in

@@ -28,7 +28,7 @@ info_of f clocks = record { name = f.name; status = common_status clocks f.point
 
 -- for a set that the file stands for, with a floor that has been reached: no longer active exactly where each of its points is
 -- reached
-abbrev pub TellsSetsOf : File → List Clock → Type 0
-TellsSetsOf f clocks =
+abbrev pub ReportsSetsOf : File → List Clock → Type 0
+ReportsSetsOf f clocks =
     (set : List Entry) → StandsFor f set → IsAtLeast (reach_of_clocks clocks) f.floor
     → ((common_status clocks f.points ≢ Active) ↔ IsReached set 0 (reach_of_clocks clocks))

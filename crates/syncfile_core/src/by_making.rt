@@ -76,7 +76,7 @@ impl ByMaking {
 
     /// The names, by the order of making.
     ///
-    /// Refuses as `Memory` alone.
+    /// Fails with `Memory` alone.
     pub(crate) fn names(&self, alloc: Global) -> Result<Vec<Name>, Refusal>
         ensures names { IfOk result (λ names. names.items ≡ names_of self.now) }
         ensures distinct { HasDistinctNames self.now }
@@ -108,7 +108,7 @@ impl ByMaking {
 
     /// Takes the file of that name out. The others keep their order.
     ///
-    /// Refuses as `NoEntry`; nothing has changed then.
+    /// Fails with `NoEntry`; nothing has changed then.
     pub(crate) fn remove(&mut self, name: &Name) -> Result<(), Refusal>
         ensures known { MatchBool (has_file self.old name.now) (IsOk result) (result ≡ Err NoEntry) }
         ensures without { self.new ≡ without_file self.old name.now }

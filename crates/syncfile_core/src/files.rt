@@ -6,7 +6,7 @@ ghost use Rattle.syncfile_core.specs.SyncFile.{file_of, plain_file};
 ghost use Rattle.syncfile_core.specs.Merge.{files_at, merge_of, cause_to_refuse_merge, StandsForUnion};
 ghost use Rattle.point_core.specs.Agreement.{as_entry, HasRisingContexts};
 ghost use Rattle.point_core.specs.Clocks.{common_status};
-ghost use Rattle.syncfile_core.specs.Status.{info_of, TellsSetsOf};
+ghost use Rattle.syncfile_core.specs.Status.{info_of, ReportsSetsOf};
 ghost use Rattle.syncfile_core.specs.Files.{has_file, file_at, without_file, names_of, HasDistinctNames, HasStanding, cause_to_refuse, IsRefusedFor};
 
 use crate::by_making::ByMaking;
@@ -60,7 +60,7 @@ impl Files {
 
     /// The names, by the order of making.
     ///
-    /// Refuses as `Memory` alone.
+    /// Fails with `Memory` alone.
     pub fn names(&self) -> Result<Vec<Name>, Refusal>
         ensures names { IfOk result (λ names. names.items ≡ names_of self.now) }
         ensures distinct { HasDistinctNames self.now }
@@ -72,12 +72,12 @@ impl Files {
     /// The file's status: active while a point is, else cancelled where one is, else signalled. A file without points is
     /// signalled.
     ///
-    /// Refuses as `NoEntry`. Takes no memory.
+    /// Fails with `NoEntry`. Takes no memory.
     pub fn status(&self, name: &Name, clocks: &Clocks) -> Result<Status, Refusal>
         ensures status { MatchOption (file_at self.now name.now)
             (result ≡ Err NoEntry)
             (λ f. result ≡ Ok (common_status clocks.now f.points)) }
-        ensures stands { IfSome (file_at self.now name.now) (λ f. TellsSetsOf f clocks.now) }
+        ensures stands { IfSome (file_at self.now name.now) (λ f. ReportsSetsOf f clocks.now) }
     {
         let file = self.known(name)?;
         Ok(clocks.common_status(file.points.as_slice()))
@@ -86,7 +86,7 @@ impl Files {
     /// The file's name, its status, and a fence for each of its points. A file without points is shown as one fence,
     /// the stub, as the kernel does.
     ///
-    /// Refuses as `NoEntry`, then as `Memory`.
+    /// Fails with `NoEntry`, then with `Memory`.
     pub fn info(&self, name: &Name, clocks: &Clocks) -> Result<FileInfo, Refusal>
         ensures info { MatchOption (file_at self.now name.now)
             (result ≡ Err NoEntry)
@@ -119,7 +119,7 @@ impl Files {
 
     /// Makes a file of one point, signalled or not, with a floor of 0 everywhere, as sw_sync's create-fence call does.
     ///
-    /// Refuses as `free` does, then as `Memory`; nothing is made then.
+    /// Fails as `free` does, then with `Memory`; nothing is made then.
     pub fn create(&mut self, name: Name, point: Point) -> Result<(), Refusal>
         ensures refused { IsRefusedFor (cause_to_refuse self.old name) result }
         ensures last { OnOk result (self.new ≡ self.old ++ plain_file name point ∷ []) }
@@ -134,7 +134,7 @@ impl Files {
     /// Merges two files, which both stay: the latest pending point of each context of either, above a floor that is the
     /// greatest of the reach and of both floors. Linux's `sync_file_merge` drops and keeps the same points.
     ///
-    /// Refuses as `NoEntry` where a file to be merged is not there, then as `free` does, then as `Memory`; nothing is made
+    /// Fails with `NoEntry` if a file to be merged is not there, then as `free` does, then with `Memory`; nothing is made
     /// then.
     pub fn merge(&mut self, name: Name, a: &Name, b: &Name, reach: &Reach) -> Result<(), Refusal>
         ensures refused { IsRefusedFor (cause_to_refuse_merge self.old name (a.now ∷ b.now ∷ [])) result }
@@ -153,7 +153,7 @@ impl Files {
 
     /// Merges any number of files, as `merge` does two. Of no files, it makes a file without points.
     ///
-    /// Refuses as `merge` does.
+    /// Fails as `merge` does.
     pub fn merge_many(&mut self, name: Name, inputs: &[Name], reach: &Reach) -> Result<(), Refusal>
         ensures refused { IsRefusedFor (cause_to_refuse_merge self.old name inputs.now) result }
         ensures last { OnOk result (self.new ≡ self.old ++ merge_of self.old name inputs.now reach.now ∷ []) }
@@ -172,7 +172,7 @@ impl Files {
 
     /// Makes a file of a listing.
     ///
-    /// Refuses as `free` does, then as `Memory`; nothing is made then.
+    /// Fails as `free` does, then with `Memory`; nothing is made then.
     pub fn adopt(&mut self, name: Name, listing: Listing) -> Result<(), Refusal>
         requires rising { HasRisingContexts listing.points }
         ensures refused { IsRefusedFor (cause_to_refuse self.old name) result }
@@ -191,7 +191,7 @@ impl Files {
 
     /// Closes a file. The others keep their order.
     ///
-    /// Refuses as `NoEntry`; nothing is closed then. Takes no memory.
+    /// Fails with `NoEntry`; nothing is closed then. Takes no memory.
     pub fn close(&mut self, name: &Name) -> Result<(), Refusal>
         ensures known { MatchBool (has_file self.old name.now) (IsOk result) (result ≡ Err NoEntry) }
         ensures without { self.new ≡ without_file self.old name.now }

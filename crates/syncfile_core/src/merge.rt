@@ -13,7 +13,7 @@ use std::alloc::Global;
 
 /// The merge of two files, whose points are gone through once.
 ///
-/// Refuses as `Memory` alone.
+/// Fails with `Memory` alone.
 pub(crate) fn of_two(
     alloc: Global,
     name: Name,
@@ -38,7 +38,7 @@ pub(crate) fn of_two(
 /// The greatest value of each context, among the reach and the floors of both files: the reach, where no floor is above
 /// it.
 ///
-/// Refuses as `Memory` alone.
+/// Fails with `Memory` alone.
 fn floor_of_two(
     alloc: Global,
     left: &SyncFile,
@@ -93,7 +93,7 @@ impl Gathered {
 
     /// The file of the points that are above the reach.
     ///
-    /// Refuses as `Memory` alone.
+    /// Fails with `Memory` alone.
     pub(crate) fn file(&self, alloc: Global, name: Name, reach: &Reach) -> Result<SyncFile, Refusal>
         requires gathered { IsGatheredAbove self.now.latest self.now.floor reach.now }
         ensures file { (inputs : List File) →

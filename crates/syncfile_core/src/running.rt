@@ -23,7 +23,7 @@ impl SyncFile {
     /// the value of an open context, or the greatest value of a closed one. Each clock is loaded once, so no one moment need
     /// have had all of them; what was loaded is the new file's floor. Linux's `sync_file_merge` asks each fence once too.
     ///
-    /// Refuses as `Foreign` where a floor is above what was loaded, or a point's context or a floor above 0
+    /// Fails with `Foreign` if a floor is above what was loaded, or a point's context or a floor above 0
     /// is past the words' contexts: such a file was made by other words. Then as `Memory`. The loads stand in the
     /// seat's trace also then.
     pub fn merge_with(
@@ -62,7 +62,7 @@ impl SyncFile {
     /// closed before it was reached, else signalled. What is no longer Active stays as it is; what is Active was so at a
     /// load of this call. It is the status of Linux's `struct sync_file_info`.
     ///
-    /// Refuses as `Foreign`, as `merge_with` does. Takes no memory.
+    /// Fails with `Foreign`, as `merge_with` does. Takes no memory.
     pub fn poll(&self, words: &Words, seat: &mut Seat) -> Result<Status, Refusal>
         requires own { seat.old.words ≡ words.now }
         ensures kept { (seat.new.words ≡ seat.old.words) × (seat.new.parts ≡ seat.old.parts) }
@@ -86,7 +86,7 @@ impl SyncFile {
     /// Polls until a poll is not Active, so many times at most: Ok once each point is signalled or cancelled, as Linux's
     /// `sync_wait` answers a fence that has an error. There is no time, and nobody is woken.
     ///
-    /// Refuses as `TimedOut` after so many polls that were Active, so after none where `tries` is 0; and as
+    /// Fails with `TimedOut` after so many polls that were Active, so after none if `tries` is 0; and as
     /// `Foreign` at the first poll that is. Takes no memory.
     pub fn wait_for(&self, words: &Words, seat: &mut Seat, tries: u32) -> Result<(), Refusal>
         requires own { seat.old.words ≡ words.now }
@@ -167,7 +167,7 @@ impl<'a> Found<'a> {
 
     /// The file's status, once all contexts of the words were loaded.
     ///
-    /// Refuses as `Foreign` alone, where the words don't bear the file out.
+    /// Fails with `Foreign` alone, if the words don't bear the file out.
     fn status_of(&self, file: &SyncFile, contexts: usize) -> Result<Status, Refusal>
         ensures status { (clocks : List Clock) → HasFoundTo clocks file.now contexts self.now →
             IfOk result (λ status. status ≡ common_status clocks file.now.points) }

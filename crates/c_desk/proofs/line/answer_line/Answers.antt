@@ -14,9 +14,9 @@ returns c =
     let t = c.tell.ensures in
     let asked = subst (λ (a : Result Command Refusal). IsAsked old new a given) c.asked_by.ensures c.ask-answer.ensures in
     line-call old new c.args.out.now c.tell.new.out c.tell.new.count _ c.requires.room c.args.body given c.requires.opened asked (record {
-      told = t.told;
+      reported = t.reported;
       is = t.is;
-      number = number-passed t.told t.number;
+      number = number-passed t.reported t.number;
       text = t.text;
       few = t.few;
     })

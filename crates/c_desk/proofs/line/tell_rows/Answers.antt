@@ -17,7 +17,7 @@ returns c =
     let text = c.as_bytes.ensures.value ∙ c.refusal_line.ensures ∙ ap (λ (r : Refusal). refusal_text LINE r) memory in
     let fits : count < ANSWER_ROOM = let few = c.as_bytes.ensures.few in let whole = c.store_text-in-Err.ensures.whole in let same = ap (λ (l : List ℕ). length l) c.as_bytes.ensures.value in omega (arith, few, whole, same) in
     record {
-      told = answer.Refused Memory;
+      reported = answer.Refused Memory;
       is = inr (refl, c.requires.rows);
       number = answers (c.refused.ensures ∙ ap number_of memory);
       text = subst (λ (l : List ℕ). StoresText l c.args.out.now out count) text c.store_text-in-Err.ensures;

@@ -1,5 +1,5 @@
-use Rattle.desk_core.proofs.Accounting.{TellsEachWatch-stands}
+use Rattle.desk_core.proofs.Accounting.{ReportsEachWatch-stands}
 use Rattle.desk_core.proofs.laws.each_watch_fires_or_is_removed_or_pending.Goals as goal
 
 pub returns : goal.returns
-returns c = TellsEachWatch-stands
+returns c = ReportsEachWatch-stands

@@ -5,7 +5,7 @@ use Rattle.dmabuf_core.specs.Buffers.{names_of, has_buffer, entries_of}
 use Rattle.command_core.specs.declared.answer.BufferRows.{BufferRows}
 use Rattle.desk_core.specs.Answer.{show_row}
 use Rattle.desk_core.specs.Keeping.{buffer_rows_at}
-use Rattle.desk_core.proofs.Reporting.{rows_of-made, rows-next, has_buffer-told, Memory-told, within-BUFFERS}
+use Rattle.desk_core.proofs.Reporting.{rows_of-made, rows-next, has_buffer-reported, Memory-reported, within-BUFFERS}
 use Rattle.desk_core.proofs.report.buffer_rows.Goals as goal
 
 pub show_rows-requires : goal.show_rows-requires
@@ -18,11 +18,11 @@ pub returns-in_err-tops-clause-memory : goal.returns-in_err-tops-clause-memory
 returns-in_err-tops-clause-memory c =
     let bs = c.args.buffers.now in
     let name = c.name-item.result in
-    let told : c.deref-name-items.result.now ≡ names_of bs = c.deref-name-items.ensures.value ∙ c.in_ok-names.ensures.names in
-    let within : c.loop-name.name-index < length (names_of bs) = subst (λ ns. c.loop-name.name-index < length ns) told c.loop-name-test.true in
-    let at : name ≡ get_or (names_of bs) c.loop-name.name-index name = c.name-item.is ∙ ap (λ ns. get_or ns c.loop-name.name-index name) told in
-    let known = has_buffer-told bs c.loop-name.name-index name within at in
-    let memory = Memory-told _ (has_buffer bs name) c.in_err-tops.field-0.0 known c.in_err-tops.ensures.refused in
+    let reported : c.deref-name-items.result.now ≡ names_of bs = c.deref-name-items.ensures.value ∙ c.in_ok-names.ensures.names in
+    let within : c.loop-name.name-index < length (names_of bs) = subst (λ ns. c.loop-name.name-index < length ns) reported c.loop-name-test.true in
+    let at : name ≡ get_or (names_of bs) c.loop-name.name-index name = c.name-item.is ∙ ap (λ ns. get_or ns c.loop-name.name-index name) reported in
+    let known = has_buffer-reported bs c.loop-name.name-index name within at in
+    let memory = Memory-reported _ (has_buffer bs name) c.in_err-tops.field-0.0 known c.in_err-tops.ensures.refused in
     let p = err_from_is_err_and c.from_residual-in_err-tops.result c.from_residual-in_err-tops.ensures.1 in
     rw (p.1, p.2) memory
 
@@ -31,9 +31,9 @@ loop-name-preserved c =
     let bs = c.args.buffers.now in
     let ts = c.args.timelines.now in
     let name = c.name-item.result in
-    let told : c.deref-name-items.result.now ≡ names_of bs = c.deref-name-items.ensures.value ∙ c.in_ok-names.ensures.names in
-    let within : c.loop-name.name-index < length (names_of bs) = subst (λ ns. c.loop-name.name-index < length ns) told c.loop-name-test.true in
-    let at : name ≡ get_or (names_of bs) c.loop-name.name-index name = c.name-item.is ∙ ap (λ ns. get_or ns c.loop-name.name-index name) told in
+    let reported : c.deref-name-items.result.now ≡ names_of bs = c.deref-name-items.ensures.value ∙ c.in_ok-names.ensures.names in
+    let within : c.loop-name.name-index < length (names_of bs) = subst (λ ns. c.loop-name.name-index < length ns) reported c.loop-name-test.true in
+    let at : name ≡ get_or (names_of bs) c.loop-name.name-index name = c.name-item.is ∙ ap (λ ns. get_or ns c.loop-name.name-index name) reported in
     let shown = c.of-shown.ensures ∙ c.in_ok-show_rows.ensures.rows ∙ ap (map (show_row ts)) (c.deref.ensures.value ∙ c.in_ok-tops.ensures.rows ∙ ap (rows_of (entries_of bs name)) c.requires.reach) in
     let row : BufferRows = record { name = name; rows = c.of-shown.result } in
     let is : row ≡ buffer_rows_at ts bs name = ap (λ rows. record { name = name; rows = rows }) shown in

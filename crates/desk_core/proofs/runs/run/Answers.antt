@@ -2,10 +2,10 @@ use Rattle.std.proofs.Common.{◌++◌, [], ◌∷◌, take, arith, refl, sym, a
 use Rattle.std.proofs.lemmas.List.{take_more, take_all}
 use Rattle.std.proofs.lemmas.Result.{err_from_is_err_and}
 use Rattle.desk_core.proofs.Answering.{HasRun-push}
-use Rattle.desk_core.proofs.Telling.{TellsWhatWasPut-stands, TellsWhatIsInBuffers-stands}
-use Rattle.desk_core.proofs.Firing.{TellsWhatFires-stands}
-use Rattle.desk_core.proofs.Accounting.{TellsEachWatch-stands}
-use Rattle.desk_core.proofs.Sums.{TellsSums-stands}
+use Rattle.desk_core.proofs.Telling.{ReportsWhatWasPut-stands, ReportsWhatIsInBuffers-stands}
+use Rattle.desk_core.proofs.Firing.{ReportsWhatFires-stands}
+use Rattle.desk_core.proofs.Accounting.{ReportsEachWatch-stands}
+use Rattle.desk_core.proofs.Sums.{ReportsSums-stands}
 use Rattle.desk_core.proofs.runs.run.Goals as goal
 
 pub loop-command-init : goal.loop-command-init
@@ -24,27 +24,27 @@ loop-command-preserved c =
 pub returns-clause-sums : goal.returns-clause-sums
 returns-clause-sums c =
     let all = take_all c.loop-command.command-index c.args.commands.now c.loop-command-test.false in
-    TellsSums-stands _ _ (rw all at c.loop-command.invariant.0.stands)
+    ReportsSums-stands _ _ (rw all at c.loop-command.invariant.0.stands)
 
 pub returns-clause-files : goal.returns-clause-files
 returns-clause-files c =
     let all = take_all c.loop-command.command-index c.args.commands.now c.loop-command-test.false in
-    TellsWhatWasPut-stands _ _ (rw all at c.loop-command.invariant.0.stands)
+    ReportsWhatWasPut-stands _ _ (rw all at c.loop-command.invariant.0.stands)
 
 pub returns-clause-buffers : goal.returns-clause-buffers
 returns-clause-buffers c =
     let all = take_all c.loop-command.command-index c.args.commands.now c.loop-command-test.false in
-    TellsWhatIsInBuffers-stands _ _ (rw all at c.loop-command.invariant.0.stands)
+    ReportsWhatIsInBuffers-stands _ _ (rw all at c.loop-command.invariant.0.stands)
 
 pub returns-clause-watches : goal.returns-clause-watches
 returns-clause-watches c =
     let all = take_all c.loop-command.command-index c.args.commands.now c.loop-command-test.false in
-    TellsWhatFires-stands _ _ (rw all at c.loop-command.invariant.0.stands)
+    ReportsWhatFires-stands _ _ (rw all at c.loop-command.invariant.0.stands)
 
 pub returns-clause-each_watch : goal.returns-clause-each_watch
 returns-clause-each_watch c =
     let all = take_all c.loop-command.command-index c.args.commands.now c.loop-command-test.false in
-    TellsEachWatch-stands _ _ _ (rw all at c.loop-command.invariant.0.answers) (rw all at c.loop-command.invariant.0.stands)
+    ReportsEachWatch-stands _ _ _ (rw all at c.loop-command.invariant.0.answers) (rw all at c.loop-command.invariant.0.stands)
 
 pub returns-in_err-answers-clause-memory : goal.returns-in_err-answers-clause-memory
 returns-in_err-answers-clause-memory c =

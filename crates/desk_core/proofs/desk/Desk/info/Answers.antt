@@ -40,5 +40,5 @@ pub returns-clause-done : goal.returns-clause-done
 returns-clause-done c =
     let some = accepted_look_up c.self.inside.files c.args.name _ _ _ c.get.ensures.found (sym c.ok_or.ensures.value ∙ c.in_ok-file.was) in
     let listed : c.as_slice.result.now ≡ c.in_ok-file.file.now.points = c.as_slice.ensures ∙ ap (λ (f : File). f.points) c.file.view_is in
-    let told = c.in_ok-info.ensures.info ∙ ap (info_at c.self.inside.timelines c.args.name) listed in
-    rw (← c.self.view_is) (IsDone-info _ c.args.name _ c.in_ok-info.info some told)
+    let reported = c.in_ok-info.ensures.info ∙ ap (info_at c.self.inside.timelines c.args.name) listed in
+    rw (← c.self.view_is) (IsDone-info _ c.args.name _ c.in_ok-info.info some reported)
