@@ -4,7 +4,6 @@ use Rattle.std.specs.List.{list_any, AllByRecursion}
 use Rattle.std.specs.Map.{keys_of, values_of}
 use Rattle.std.specs.BTreeMap.{is_at}
 use Rattle.std.specs.Ordering.{nat_cmp}
-use Rattle.std.specs.Cmp.{nat_eq_equiv}
 use Rattle.std.proofs.lemmas.Bool.{cases_Bool, eqb-true, eq-eqb, false≢true, and_parts, and_from}
 use Rattle.std.proofs.lemmas.Bool.Decides.{nat_tests}
 use Rattle.std.proofs.lemmas.Option.{same_Some, none-some}
@@ -15,7 +14,7 @@ use Rattle.fence_core.specs.Watch.{Watch, is_for}
 use Rattle.fence_core.specs.Watches.{fires}
 use Rattle.fence_core.specs.Reported.{at}
 use Rattle.fence_core.specs.PointIndex.{waiting, is_same, holds, is_of, is_due}
-use Rattle.fence_core.specs.Registered.{place_at, IsIndexed, NoneFires}
+use Rattle.fence_core.specs.Registered.{place_at, IsIndexed}
 use Rattle.fence_core.specs.declared.watches.places.Places.{Places}
 use Rattle.fence_core.specs.declared.watches.point_index.WaitingPoint.{WaitingPoint}
 use Rattle.fence_core.proofs.PointIndex.{is_same-is, same_itself, one_point, not_same, same-one}

@@ -1,10 +1,9 @@
-use Rattle.std.proofs.Common.{◌≡◌, ◌≤◌, sym, ap, ◌∙◌, subst, refl, List, take, length, arith}
-use Rattle.point_core.specs.declared.entry.Point.{Point}
+use Rattle.std.proofs.Common.{◌≡◌, ◌≤◌, ap, ◌∙◌, subst}
 use Rattle.point_core.specs.Clocks.{reached_by}
 use Rattle.words_core.specs.Loads.{clock_seen, loads_at}
 use Rattle.words_core.specs.Seat.{SeatModel, with_steps}
 use Rattle.fence_core.specs.SharedFence.{SharedFenceModel}
-use Rattle.fence_core.specs.Signal.{HaveFound, IsPendingAt}
+use Rattle.fence_core.specs.Signal.{IsPendingAt}
 use Rattle.fence_core.proofs.Signalling.{HaveFound-more, IsPendingAt-next}
 use Rattle.fence_core.proofs.shared_fence.SharedFence.signal.Goals as goal
 

@@ -2,7 +2,6 @@ use Rattle.std.proofs.Common.{◌≡◌, ◌<◌, ◌+◌, ℕ, [], ◌∷◌, �
 use Rattle.std.specs.List.{list_any}
 use Rattle.std.specs.Map.{values_of}
 use Rattle.std.proofs.lemmas.List.{map-append}
-use Rattle.point_core.specs.Reach.{IsAtLeast}
 use Rattle.fence_core.specs.declared.watches.TheConstants.{WATCHES}
 use Rattle.fence_core.specs.Fence.{members_of}
 use Rattle.fence_core.specs.Watch.{Watch, Registry, is_for, watch_of, registry_of}

@@ -1,4 +1,4 @@
-use Rattle.std.proofs.Common.{sym, ap, ◌∙◌, is_some, not, ◌&&◌, None}
+use Rattle.std.proofs.Common.{sym, ap, ◌∙◌, is_some, not, None}
 use Rattle.std.specs.List.{list_any}
 use Rattle.std.specs.Map.{values_of}
 use Rattle.std.proofs.lemmas.Option.{none-some}

@@ -1,4 +1,4 @@
-use Rattle.std.proofs.Common.{◌∙◌, sym, ap, not, ◌&&◌, arith}
+use Rattle.std.proofs.Common.{◌∙◌, ap, not, ◌&&◌, arith}
 use Rattle.fence_core.specs.PointIndex.{holds, is_same, number_due}
 use Rattle.fence_core.proofs.PointIndex.{holds-take, and-right, AreWaiting-less, taken-due}
 use Rattle.fence_core.proofs.Above.{AreAbove-less}
