@@ -1,5 +1,5 @@
 -- Lines that were answered and told.
-use Rattle.std.proofs.Common.{◌≡◌, ◌⊎◌, ◌<◌, ◌≤◌, ◌++◌, sym, ap, subst, ◌∙◌, refl, true, false, Bool, ℕ, List, inl, inr, arith, length, Ok, Err}
+use Rattle.std.proofs.Common.{◌≡◌, ◌⊎◌, ◌<◌, ◌≤◌, ◌++◌, sym, ap, subst, ◌∙◌, refl, true, false, Bool, ℕ, List, inl, inr, arith, length}
 use Rattle.std.specs.Prelude.{ℤ}
 use Rattle.std.proofs.lemmas.List.{append-nil}
 use Rattle.point_core.specs.declared.refusal.Refusal.{Refusal}
@@ -9,7 +9,6 @@ use Rattle.command_core.specs.declared.answer.Answer.{Answer}
 use Rattle.command_core.specs.declared.answer.Answer.TheVariants as answer
 use Rattle.desk_core.specs.Answer.{OnRefused}
 use Rattle.desk_core.specs.Desk.{HasHistory}
-use Rattle.desk_core.specs.History.{IsAnswer}
 use Rattle.line_core.specs.declared.line.Body.{Body}
 use Rattle.line_core.specs.declared.line.Body.TheVariants.{Cmd, Bad}
 use Rattle.c_desk.specs.declared.handle.DeskHandle.{DeskHandle}
@@ -17,7 +16,6 @@ use Rattle.c_desk.specs.declared.line.TheConstants.{ANSWER_ROOM}
 use Rattle.c_desk.specs.Call.{number_of_answer, IsRefusal, IsStepOf, IsAskedOpen, IsAskedIf, IsAsked}
 use Rattle.c_desk.specs.Handle.{is_open}
 use Rattle.c_desk.specs.Line.{asked_by, has_rows, text_told, StoresText, IsTelling, IsLineCall}
-use Rattle.c_desk.specs.Service.{cookies_of}
 use Rattle.c_desk.proofs.Looking.{rows-no_cookies, memory-answer, same-history}
 
 on-refused : {A B : Type 0} (given : Answer) → (A → B) → OnRefused given A → OnRefused given B
@@ -69,32 +67,32 @@ module _ (old new : DeskHandle) (room out : List ℕ) (count : ℕ) (returned : 
   of_command c given stepped t =
       let step = stepped.step in
       let rows_same : has_rows given ≡ true → Same = λ rows history before.
-          same-history new.service.desk c given rows history (step.answered history before) (step.stands history before) old.service.desk before in
+      same-history new.service.desk c given rows history (step.answered history before) (step.stands history before) old.service.desk before in
       elim t.is [
         | inl same ↦ record {
-            given = given;
-            opened = stepped.opened;
-            answered = step.answered;
-            stands = step.stands;
-            unchanged = on-refused given (λ same. inl same) step.unchanged;
-            kept = step.kept;
-            number = told-number given t same;
-            text = told-text given t given same;
-            few = λ none. t.few (ap has_rows same ∙ none);
-            fits = fits-by given t (has_rows t.told) refl (λ rows. rows_same (ap has_rows (sym same) ∙ rows));
-          }
+          given = given;
+          opened = stepped.opened;
+          answered = step.answered;
+          stands = step.stands;
+          unchanged = on-refused given (λ same. inl same) step.unchanged;
+          kept = step.kept;
+          number = told-number given t same;
+          text = told-text given t given same;
+          few = λ none. t.few (ap has_rows same ∙ none);
+          fits = fits-by given t (has_rows t.told) refl (λ rows. rows_same (ap has_rows (sym same) ∙ rows));
+        }
         | inr memory ↦ record {
-            given = answer.Refused Memory;
-            opened = stepped.opened;
-            answered = λ history before. memory-answer new.service.desk c given memory.1 history (step.answered history before);
-            stands = rows_same memory.1;
-            unchanged = inr refl;
-            kept = step.kept ∙ ap (λ (l : List ℕ). old.service.fired ++ l) (rows-no_cookies given memory.1);
-            number = t.number ∙ ap number_of_answer memory.0;
-            text = told-text given t (answer.Refused Memory) memory.0;
-            few = λ none. t.few (ap has_rows memory.0 ∙ none);
-            fits = inr (rows_same memory.1);
-          }
+          given = answer.Refused Memory;
+          opened = stepped.opened;
+          answered = λ history before. memory-answer new.service.desk c given memory.1 history (step.answered history before);
+          stands = rows_same memory.1;
+          unchanged = inr refl;
+          kept = step.kept ∙ ap (λ (l : List ℕ). old.service.fired ++ l) (rows-no_cookies given memory.1);
+          number = t.number ∙ ap number_of_answer memory.0;
+          text = told-text given t (answer.Refused Memory) memory.0;
+          few = λ none. t.few (ap has_rows memory.0 ∙ none);
+          fits = inr (rows_same memory.1);
+        }
       ]
 
   asked-open : (b : Bool) (body : Body) (given : Answer) → b ≡ true → IsAskedIf b old new (asked_by body) given → IsAskedOpen old new (asked_by body) given

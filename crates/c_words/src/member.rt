@@ -299,7 +299,14 @@ impl Member {
             return Err(Refusal::NoEntry);
         }
         let board = Board::empty(alloc, &self.words)?;
-        board.export_into(alloc, &self.words, &mut self.seat, buffer, usage, &mut self.listing)?;
+        board.export_into(
+            alloc,
+            &self.words,
+            &mut self.seat,
+            buffer,
+            usage,
+            &mut self.listing,
+        )?;
         let file = listed_file(alloc, &mut self.listing)?;
         Ok(file)
     }
