@@ -1,5 +1,5 @@
 -- Lines that were answered and reported.
-use Rattle.std.proofs.Common.{◌≡◌, ◌⊎◌, ◌<◌, ◌≤◌, ◌++◌, sym, ap, subst, ◌∙◌, refl, true, false, Bool, ℕ, List, inl, inr, arith, length, Ok, Err}
+use Rattle.std.proofs.Common.{◌≡◌, ◌⊎◌, ◌<◌, ◌≤◌, ◌++◌, sym, ap, subst, ◌∙◌, refl, true, false, Bool, ℕ, List, inl, inr, arith, length}
 use Rattle.std.specs.Prelude.{ℤ}
 use Rattle.std.proofs.lemmas.List.{append-nil}
 use Rattle.point_core.specs.declared.refusal.Refusal.{Refusal}
@@ -9,7 +9,6 @@ use Rattle.command_core.specs.declared.answer.Answer.{Answer}
 use Rattle.command_core.specs.declared.answer.Answer.TheVariants as answer
 use Rattle.desk_core.specs.Answer.{OnRefused}
 use Rattle.desk_core.specs.Desk.{HasHistory}
-use Rattle.desk_core.specs.History.{IsAnswer}
 use Rattle.line_core.specs.declared.line.Body.{Body}
 use Rattle.line_core.specs.declared.line.Body.TheVariants.{Cmd, Bad}
 use Rattle.c_desk.specs.declared.handle.DeskHandle.{DeskHandle}
@@ -17,7 +16,6 @@ use Rattle.c_desk.specs.declared.line.TheConstants.{ANSWER_ROOM}
 use Rattle.c_desk.specs.Call.{number_of_answer, IsRefusal, IsStepOf, IsAskedOpen, IsAskedIf, IsAsked}
 use Rattle.c_desk.specs.Handle.{is_open}
 use Rattle.c_desk.specs.Line.{asked_by, has_rows, text_told, StoresText, IsTelling, IsLineCall}
-use Rattle.c_desk.specs.Service.{cookies_of}
 use Rattle.c_desk.proofs.Looking.{rows-no_cookies, memory-answer, same-history}
 
 on-refused : {A B : Type 0} (given : Answer) → (A → B) → OnRefused given A → OnRefused given B

@@ -1,10 +1,9 @@
 -- Bytes after a line's line feed.
-use Rattle.std.proofs.Common.{◌≡◌, ℕ, ◌<◌, refl, arith, length, Bool, true, false, List, [], ◌∷◌, Option, Some}
+use Rattle.std.proofs.Common.{◌≡◌, ℕ, ◌<◌, refl, arith, length, Bool, true, false, List, [], ◌∷◌, Some}
 use Rattle.std.specs.Prelude.{cond}
-use Rattle.std.specs.List.{slice_split, onto_first}
+use Rattle.std.specs.List.{onto_first}
 use Rattle.point_core.specs.declared.refusal.Refusal.TheVariants.{Syntax}
 use Rattle.line_core.specs.Script.{is_line_feed, lines_of}
-use Rattle.line_core.specs.declared.line.Body.{Body}
 use Rattle.line_core.specs.declared.line.Body.TheVariants.{Bad}
 use Rattle.c_desk.specs.Line.{body_of_lines}
 

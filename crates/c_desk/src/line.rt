@@ -1,8 +1,5 @@
 // A line of a script, and the text of its answer.
 ghost use Rattle.std.specs.Prelude.{◌≡◌, ◌≤◌, true, false, length, MatchOption};
-ghost use Rattle.point_core.specs.declared.refusal.Refusal.TheVariants.{Memory};
-ghost use Rattle.command_core.specs.declared.answer.Answer.TheVariants as answer;
-ghost use Rattle.line_core.specs.Script.{lines_of};
 ghost use Rattle.c_desk.specs.Handle.{is_open};
 ghost use Rattle.c_desk.specs.Line.{body_of_bytes, asked_by, has_rows, text_told, IsTelling, IsLineCall, StoresText};
 
