@@ -15,7 +15,7 @@ use Rattle.c_desk.specs.declared.handle.DeskHandle.{DeskHandle}
 use Rattle.c_desk.specs.declared.line.TheConstants.{ANSWER_ROOM}
 use Rattle.c_desk.specs.Call.{number_of_answer, IsRefusal, IsStepOf, IsAskedOpen, IsAskedIf, IsAsked}
 use Rattle.c_desk.specs.Handle.{is_open}
-use Rattle.c_desk.specs.Line.{asked_by, has_rows, text_told, StoresText, IsTelling, IsLineCall}
+use Rattle.c_desk.specs.Line.{asked_by, has_rows, answer_text, StoresText, IsReporting, IsLineCall}
 use Rattle.c_desk.proofs.Looking.{rows-no_cookies, memory-answer, same-history}
 
 on-refused : {A B : Type 0} (given : Answer) → (A → B) → OnRefused given A → OnRefused given B
@@ -32,17 +32,17 @@ module _ (old new : DeskHandle) (room out : List ℕ) (count : ℕ) (returned : 
   Same = (history : List Command) → HasHistory old.service.desk history → HasHistory new.service.desk history
 
   -- what is reported as it was given
-  reported-number : (given : Answer) (t : IsTelling given room out count returned) → t.reported ≡ given → returned ≡ number_of_answer given
+  reported-number : (given : Answer) (t : IsReporting given room out count returned) → t.reported ≡ given → returned ≡ number_of_answer given
   reported-number given t same = t.number ∙ ap number_of_answer same
 
-  reported-text : (given : Answer) (t : IsTelling given room out count returned) (a : Answer) → t.reported ≡ a → StoresText (text_told a) room out count
-  reported-text given t a same = subst (λ (x : Answer). StoresText (text_told x) room out count) same t.text
+  reported-text : (given : Answer) (t : IsReporting given room out count returned) (a : Answer) → t.reported ≡ a → StoresText (answer_text a) room out count
+  reported-text given t a same = subst (λ (x : Answer). StoresText (answer_text x) room out count) same t.text
 
-  fits-by : (given : Answer) (t : IsTelling given room out count returned) (b : Bool) → has_rows t.reported ≡ b → (has_rows t.reported ≡ true → Same) → (count < length room) ⊎ Same
+  fits-by : (given : Answer) (t : IsReporting given room out count returned) (b : Bool) → has_rows t.reported ≡ b → (has_rows t.reported ≡ true → Same) → (count < length room) ⊎ Same
   fits-by given t false is rows = let few = t.few is in inl (omega (arith, few, wide))
   fits-by given t true is rows = inr (rows is)
 
-  of_refusal : (r : Refusal) (given : Answer) → is_open old ≡ true → IsRefusal r old new given → IsTelling given room out count returned → IsLineCall old new (Bad r) room out count returned
+  of_refusal : (r : Refusal) (given : Answer) → is_open old ≡ true → IsRefusal r old new given → IsReporting given room out count returned → IsLineCall old new (Bad r) room out count returned
   of_refusal r given opened refused t = elim t.is [
     | inl same ↦
         let is : t.reported ≡ answer.Refused r = same ∙ refused.is in
@@ -63,7 +63,7 @@ module _ (old new : DeskHandle) (room out : List ℕ) (count : ℕ) (returned : 
     | inr memory ↦ let none : has_rows (answer.Refused r) ≡ true = ap has_rows (sym refused.is) ∙ memory.1 in absurd (cc)
   ]
 
-  of_command : (c : Command) (given : Answer) → IsStepOf old new c given → IsTelling given room out count returned → IsLineCall old new (Cmd c) room out count returned
+  of_command : (c : Command) (given : Answer) → IsStepOf old new c given → IsReporting given room out count returned → IsLineCall old new (Cmd c) room out count returned
   of_command c given stepped t =
       let step = stepped.step in
       let rows_same : has_rows given ≡ true → Same = λ rows history before.
@@ -100,6 +100,6 @@ module _ (old new : DeskHandle) (room out : List ℕ) (count : ℕ) (returned : 
   asked-open false body given is asked = absurd (cc)
 
   -- what an open handle was asked for by a line was answered and reported
-  pub line-call : (body : Body) (given : Answer) → is_open old ≡ true → IsAsked old new (asked_by body) given → IsTelling given room out count returned → IsLineCall old new body room out count returned
+  pub line-call : (body : Body) (given : Answer) → is_open old ≡ true → IsAsked old new (asked_by body) given → IsReporting given room out count returned → IsLineCall old new body room out count returned
   line-call (Cmd c) given opened asked t = of_command c given (asked-open (is_open old) (Cmd c) given opened asked) t
   line-call (Bad r) given opened asked t = of_refusal r given opened (asked-open (is_open old) (Bad r) given opened asked) t

@@ -90,7 +90,7 @@ world-room w (command.Trim b) len capacity ready accepted room = none-fired len 
 world-room w (command.Show b) len capacity ready accepted room = none-fired len (length w.watches) capacity room
 world-room w command.Report len capacity ready accepted room = none-fired len (length w.watches) capacity room
 
--- the answer of an accepted command is what it tells
+-- the answer of an accepted command is what it reports
 reported-accepted : (cause : Option Refusal) (a : Answer) → is_refused (refused_or cause a) ≡ false → refused_or cause a ≡ a
 reported-accepted None a is = refl
 reported-accepted (Some r) a is = absurd (cc)

@@ -25,7 +25,7 @@ number_of_answer (answer.Refused r) = pos (refusal_number r)
 abbrev pub number_of : Refusal → ℤ
 number_of refusal = pos (refusal_number refusal)
 
--- the number that the answer tells, or what stood there
+-- the number that the answer reports, or what stood there
 abbrev pub reported_or : Answer → ℕ → ℕ
 reported_or answer.Done old = old
 reported_or (answer.Value n) old = n

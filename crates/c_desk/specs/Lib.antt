@@ -4,6 +4,6 @@ pub mod Handle
 pub mod Lending
 pub mod Line
 pub mod Owning
+pub mod Reported
 pub mod Rows
 pub mod Service
-pub mod Told

@@ -48,8 +48,8 @@ without_cookies (answer.Report report) = answer.Report report
 without_cookies (answer.Refused r) = answer.Refused r
 
 -- the text that a script has of that, where the line is its first
-abbrev pub text_told : Answer → List ℕ
-text_told given = text_of LINE (without_cookies given)
+abbrev pub answer_text : Answer → List ℕ
+answer_text given = text_of LINE (without_cookies given)
 
 -- the text of the answer is of as many lines as it has rows
 abbrev pub has_rows : Answer → Bool
@@ -72,11 +72,11 @@ pub record StoresText (text old new : List ℕ) (count : ℕ) : Type 0 where
 
 -- The answer was reported by its number and its text. Where it has rows, and no memory was found for their text, Memory was
 -- reported in its place.
-pub record IsTelling (given : Answer) (old new : List ℕ) (count : ℕ) (returned : ℤ) : Type 0 where
+pub record IsReporting (given : Answer) (old new : List ℕ) (count : ℕ) (returned : ℤ) : Type 0 where
   pub reported : Answer
   pub is : (reported ≡ given) ⊎ ((reported ≡ answer.Refused Memory) × (has_rows given ≡ true))
   pub number : returned ≡ number_of_answer reported
-  pub text : StoresText (text_told reported) old new count
+  pub text : StoresText (answer_text reported) old new count
   pub few : has_rows reported ≡ false → count < ANSWER_ROOM
 
 -- The line was answered as a line of a script is, but that what it fires was put into the queue, and the answer was reported by
@@ -90,7 +90,7 @@ pub record IsLineCall (old new : DeskHandle) (body : Body) (room out : List ℕ)
   pub unchanged : OnRefused given ((new.service ≡ old.service) ⊎ (given ≡ answer.Refused Memory))
   pub kept : new.service.fired ≡ old.service.fired ++ cookies_of given
   pub number : returned ≡ number_of_answer given
-  pub text : StoresText (text_told given) room out count
+  pub text : StoresText (answer_text given) room out count
   pub few : has_rows given ≡ false → count < ANSWER_ROOM
   pub fits : (count < length room)
       ⊎ ((history : List Command) → HasHistory old.service.desk history → HasHistory new.service.desk history)

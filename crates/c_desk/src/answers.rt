@@ -1,6 +1,6 @@
 // What an answer says to a C program.
 ghost use Rattle.std.specs.Prelude.{◌≡◌};
-ghost use Rattle.c_desk.specs.Told.{StoresInfo, StoresReport, StoresTable};
+ghost use Rattle.c_desk.specs.Reported.{StoresInfo, StoresReport, StoresTable};
 ghost use Rattle.c_desk.specs.Call.{number_of, number_of_answer, reported_or, yes_or};
 
 use crate::rows::{BufferInfo, BufferRow, Counts, FenceInfo, FileInfo, TimelineInfo, put};

@@ -7,7 +7,7 @@ ghost use Rattle.std.specs.Prelude.{◌≡◌, ◌<◌, ◌≤◌, pos, [], true
 ghost use Rattle.c_desk.specs.Asked.{asked_timeline, asked_inc, asked_shut, asked_value, asked_fence, asked_merge, asked_close, asked_wait, asked_info, asked_buffer, asked_add, asked_import, asked_export, asked_test, asked_trim, asked_show, asked_watch, asked_unwatch, asked_report};
 ghost use Rattle.c_desk.specs.Call.{IsCall, reported_or, yes_or, number_of, IsNew, IsOpening, IsTaking};
 ghost use Rattle.c_desk.specs.Line.{body_of_bytes, IsKept, IsLineCall, StoresText};
-ghost use Rattle.c_desk.specs.Told.{StoresInfo, StoresReport, StoresTable};
+ghost use Rattle.c_desk.specs.Reported.{StoresInfo, StoresReport, StoresTable};
 ghost use Rattle.c_desk.specs.Handle.{is_open};
 
 mod answers;

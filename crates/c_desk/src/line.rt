@@ -1,7 +1,7 @@
 // A line of a script, and the text of its answer.
 ghost use Rattle.std.specs.Prelude.{◌≡◌, ◌≤◌, true, false, length, MatchOption};
 ghost use Rattle.c_desk.specs.Handle.{is_open};
-ghost use Rattle.c_desk.specs.Line.{body_of_bytes, asked_by, has_rows, text_told, IsTelling, IsLineCall, StoresText};
+ghost use Rattle.c_desk.specs.Line.{body_of_bytes, asked_by, has_rows, answer_text, IsReporting, IsLineCall, StoresText};
 
 use crate::answers::{number, refused};
 use crate::handle::DeskHandle;
@@ -36,7 +36,7 @@ pub fn body_of_bytes(bytes: &[u8]) -> Option<Body>
     }
 }
 
-/// Answers a line, and tells the answer.
+/// Answers a line, and reports the answer.
 pub fn answer_line(
     alloc: Global,
     desk: &mut DeskHandle,
@@ -49,7 +49,7 @@ pub fn answer_line(
     ensures { IsLineCall desk.old desk.new body out.old out.new count.new result }
 {
     let answer = desk.ask(asked_by(body));
-    tell(alloc, &answer, out, count)
+    report(alloc, &answer, out, count)
 }
 
 fn asked_by(body: Body) -> Result<Command, Refusal>
@@ -63,23 +63,23 @@ fn asked_by(body: Body) -> Result<Command, Refusal>
 
 /// Stores the text of the answer, and gives its number. Where it has rows, and there is no memory for their text, `Memory`
 /// is reported in its place.
-fn tell(alloc: Global, answer: &Answer, out: &mut [u8], count: &mut usize) -> i32
+fn report(alloc: Global, answer: &Answer, out: &mut [u8], count: &mut usize) -> i32
     requires room { ANSWER_ROOM ≤ length out.old }
-    ensures { IsTelling answer.now out.old out.new count.new result }
+    ensures { IsReporting answer.now out.old out.new count.new result }
 {
     match one_line(answer) {
         Some(text) => {
             store_text(text.as_bytes(), out, count);
             number(answer)
         }
-        None => tell_rows(alloc, answer, out, count),
+        None => report_rows(alloc, answer, out, count),
     }
 }
 
 /// The text of an answer that has no rows.
 fn one_line(answer: &Answer) -> Option<TextLine>
     ensures { MatchOption result (has_rows answer.now ≡ true) (λ text.
-        (has_rows answer.now ≡ false) × (text ≡ text_told answer.now)) }
+        (has_rows answer.now ≡ false) × (text ≡ answer_text answer.now)) }
 {
     match answer {
         Answer::Done => Some(done_line()),
@@ -92,10 +92,10 @@ fn one_line(answer: &Answer) -> Option<TextLine>
     }
 }
 
-fn tell_rows(alloc: Global, answer: &Answer, out: &mut [u8], count: &mut usize) -> i32
+fn report_rows(alloc: Global, answer: &Answer, out: &mut [u8], count: &mut usize) -> i32
     requires room { ANSWER_ROOM ≤ length out.old }
     requires rows { has_rows answer.now ≡ true }
-    ensures { IsTelling answer.now out.old out.new count.new result }
+    ensures { IsReporting answer.now out.old out.new count.new result }
 {
     let mut text = Vec::new(alloc);
     match print(LINE, answer, &mut text) {

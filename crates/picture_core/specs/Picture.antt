@@ -11,7 +11,7 @@ use Rattle.picture_core.specs.declared.shapes.Picture.{Picture}
 use Rattle.picture_core.specs.declared.shapes.Shape.{Shape}
 use Rattle.picture_core.specs.declared.sheet.Sheet.{Sheet}
 use Rattle.picture_core.specs.Legend.{AddsSamples, IsFrom, fill_in, fills_of_legend, top_of_samples}
-use Rattle.picture_core.specs.Shapes.{bar_shapes, bars_on, fills_at, seen_of, shapes_of_all, waitings, waits_on, waits_told}
+use Rattle.picture_core.specs.Shapes.{bar_shapes, bars_on, fills_at, seen_of, shapes_of_all, waitings, waits_on, waits_in}
 use Rattle.picture_core.specs.Sheet.{height_of_bar, left_of, middle_of}
 
 -- the area of the column at that place, from 0, which has the number above
@@ -36,7 +36,7 @@ pub record AddsAll (s : Sheet) (h : History) (old new : Canvas) : Type 0 where
 -- a picture of a history, drawn on a sheet
 pub record IsPictureOn (s : Sheet) (h : History) (p : Picture) : Type 0 where
   pub shapes : AddsBars s h [] (bar_shapes p.shapes.items)
-  pub waits : waits_told p.texts.items ≡ waitings h.waits.items
+  pub waits : waits_in p.texts.items ≡ waitings h.waits.items
   pub columns : p.columns.items ≡ areas_of_columns s (length h.columns.items)
   pub fits : s.bottom + LEGEND_HEIGHT < 2 ^ 64
 
@@ -64,4 +64,4 @@ pub record ShowsHistory (h : History) (p : Picture) : Type 0 where
   pub seen : (column k : ℕ) (b : Bar) → column ≤ length h.columns.items
       → k < length h.bars.items → get_or h.bars.items k b ≡ b
       → fills_at (middle column) (height k) p.shapes.items ≡ seen_of column b
-  pub waits : waits_told p.texts.items ≡ waitings h.waits.items
+  pub waits : waits_in p.texts.items ≡ waitings h.waits.items

@@ -53,14 +53,14 @@ waiting_in (label.Number number) = None
 waiting_in (label.Watch cookie) = None
 
 -- what texts say is waited for, in order
-abbrev pub waits_told : List Text → List Waiting
-waits_told texts = filter_map (λ (t : Text). waiting_in t.label) texts
+abbrev pub waits_in : List Text → List Waiting
+waits_in texts = filter_map (λ (t : Text). waiting_in t.label) texts
 
 abbrev pub waitings : List BarWait → List Waiting
 waitings waits = map (λ (w : BarWait). w.waiting) waits
 
 abbrev pub waits_on : Canvas → List Waiting
-waits_on canvas = waits_told canvas.texts.items
+waits_on canvas = waits_in canvas.texts.items
 
 -- what a bar is filled with where it has that status
 abbrev pub fill_of : Status → Fill

@@ -11,9 +11,9 @@ returns c =
     let old = c.args.desk.now in
     let new = c.ask-answer.new.self in
     let given = c.ask-answer.result in
-    let t = c.tell.ensures in
+    let t = c.report.ensures in
     let asked = subst (λ (a : Result Command Refusal). IsAsked old new a given) c.asked_by.ensures c.ask-answer.ensures in
-    line-call old new c.args.out.now c.tell.new.out c.tell.new.count _ c.requires.room c.args.body given c.requires.opened asked (record {
+    line-call old new c.args.out.now c.report.new.out c.report.new.count _ c.requires.room c.args.body given c.requires.opened asked (record {
       reported = t.reported;
       is = t.is;
       number = number-passed t.reported t.number;

@@ -7,7 +7,7 @@ use Rattle.c_desk.specs.declared.line.TheConstants.{LINE, ANSWER_ROOM}
 use Rattle.c_desk.specs.Call.{number_of}
 use Rattle.c_desk.specs.Line.{StoresText}
 use Rattle.c_desk.proofs.Signed.{answers}
-use Rattle.c_desk.proofs.line.tell_rows.Goals as goal
+use Rattle.c_desk.proofs.line.report_rows.Goals as goal
 
 pub returns : goal.returns
 returns c =

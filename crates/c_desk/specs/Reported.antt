@@ -1,4 +1,4 @@
--- What an answer tells, as C programs see it.
+-- What an answer reports, as C programs see it.
 use Rattle.std.specs.Prelude.{◌≡◌, ℕ, ℤ, pos, ◌-◌, if◌then◌else◌, List, ◌++◌, length, map, replicate, codes}
 use Rattle.point_core.specs.Status.{status_number}
 use Rattle.point_core.specs.Usage.{usage_number}
