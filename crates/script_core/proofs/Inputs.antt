@@ -23,7 +23,7 @@ use Rattle.script_core.proofs.Progress.{AppendsFront-all}
 
 -- without Memory each line has its one answer
 exact : (history : List Command) (body : Body) (a : Answer) → IsLineAnswer history body a → a ≢ answer.Refused Memory → a ≡ answer_of_line history body
-exact history (Cmd command) a is other = elim is.told [ inl e ↦ e | inr m ↦ absurd (other m.0) ]
+exact history (Cmd command) a is other = elim is.reported [ inl e ↦ e | inr m ↦ absurd (other m.0) ]
 exact history (Bad refusal) a is other = is
 
 texts_of-output : (history : List Command) (ls : List Line) (given : List Answer) → AreLineAnswers history ls given → NoneIsMemory given → texts_of ls given ≡ output_from history ls
