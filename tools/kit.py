@@ -36,6 +36,38 @@ def lines_of(crate):
     return sum((rtlib.text_of(it) or "").count("\n") for it in rtlib.files_of(crate.folder))
 
 
+def seconds(crates):
+    """Returns by name about how many processor seconds each crate's proof takes: as tools/seconds has it, or by its lines."""
+    with open(f"{TOP}/tools/seconds", encoding="utf-8") as file:
+        known = {name: float(it) for name, it in (line.split() for line in file)}
+    return {it.name: known.get(it.name) or max(lines_of(it) / 20, 20) for it in crates}
+
+
+def without(words, *flags):
+    """Returns the words without these flags and their values."""
+    for flag in flags:
+        at = words.index(flag)
+        words = [*words[:at], *words[at + 2 :]]
+    return words
+
+
+def is_newer(made, sources):
+    """Returns whether a file is there and no source of it is newer."""
+    return os.path.exists(made) and all(os.path.getmtime(it) <= os.path.getmtime(made) for it in sources)
+
+
+def sources_of(crate):
+    """Returns the sources of a crate and of those below it."""
+    rtlib = sys.modules["rtlib"]
+    return [file for it in [crate, *crate.below()] for file in rtlib.files_of(it.folder) if file.endswith((".rt", ".antt"))]
+
+
+def is_there(crate):
+    """Returns whether a proof of these sources has left the library that crates above load. The gate leaves no stamp of sources, but newer files."""
+    has_stamp = os.path.exists(f"{os.path.dirname(crate.rlib)}/stamp")
+    return crate.is_built() or (not has_stamp and is_newer(f"{crate.rlib}/format", sources_of(crate)))
+
+
 def is_refused(rt, verdict):
     """Returns whether rt's verdict on an edit is that the prover refuses it: some kits give a truth value, others a name."""
     return verdict in [getattr(rt, it, True) for it in ("REFUSED", "AT_LIMIT")]
