@@ -14,7 +14,8 @@
  * - A handle is a struct of the caller's. It starts closed, as its BIM_..._INIT says, and an open call opens it. A
  *   closed handle is refused with BIM_NO_ENTRY, and an open one with BIM_EXISTS where a call is to open it. Copying
  *   the struct moves the handle: only one of the copies may be used from then on.
- * - No pointer may be NULL, except for rows of which there is no room. A string of the library's is never freed.
+ * - No pointer may be NULL, except for rows of which there is no room. What a call may change, its handles and
+ *   out-parameters, overlaps nothing else that it is given. A string of the library's is never freed.
  * - No call blocks, sleeps, starts a thread or makes a system call of its own; memory comes from malloc. No call may
  *   be made from a signal handler.
  */
