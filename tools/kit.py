@@ -63,9 +63,12 @@ def sources_of(crate):
 
 
 def is_there(crate):
-    """Returns whether a proof of these sources has left the library that crates above load. The gate leaves no stamp of sources, but newer files."""
-    has_stamp = os.path.exists(f"{os.path.dirname(crate.rlib)}/stamp")
-    return crate.is_built() or (not has_stamp and is_newer(f"{crate.rlib}/format", sources_of(crate)))
+    """Returns whether a proof of these sources has left the library that crates above load.
+
+    The gate leaves no stamps of sources, but newer files; and they fit only those below that it has left as well.
+    """
+    is_of_gate = not any(os.path.exists(f"{os.path.dirname(it.rlib)}/stamp") for it in [crate, *crate.below()])
+    return crate.is_built() or (is_of_gate and is_newer(f"{crate.rlib}/format", sources_of(crate)))
 
 
 def is_refused(rt, verdict):
