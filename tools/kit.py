@@ -4,6 +4,7 @@ import importlib.util
 import os
 import shutil
 import sys
+import tempfile
 
 TOP = os.path.dirname(os.path.dirname(os.path.realpath(__file__)))
 
@@ -49,6 +50,12 @@ def without(words, *flags):
         at = words.index(flag)
         words = [*words[:at], *words[at + 2 :]]
     return words
+
+
+def now():
+    """Returns the time as the sources' own file system has it, whose clock may be another."""
+    with tempfile.TemporaryFile(dir=f"{TOP}/crates") as file:
+        return os.fstat(file.fileno()).st_mtime
 
 
 def is_newer(made, sources):
