@@ -69,13 +69,28 @@ def sources_of(crate):
     return [file for it in [crate, *crate.below()] for file in rtlib.files_of(it.folder) if file.endswith((".rt", ".antt"))]
 
 
-def is_there(crate):
-    """Returns whether a proof of these sources has left the library that crates above load.
+def is_of_gate(crate):
+    """Returns whether the gate has left this library and those below, of these sources. It leaves no stamps of sources, but newer files."""
+    left = [it.rlib for it in [crate, *crate.below()]]
+    has_stamps = any(os.path.exists(f"{os.path.dirname(it)}/stamp") for it in left)
+    return not has_stamps and all(os.path.exists(f"{it}/format") for it in left) and is_newer(f"{crate.rlib}/format", sources_of(crate))
 
-    The gate leaves no stamps of sources, but newer files; and they fit only those below that it has left as well.
-    """
-    is_of_gate = not any(os.path.exists(f"{os.path.dirname(it.rlib)}/stamp") for it in [crate, *crate.below()])
-    return crate.is_built() or (is_of_gate and is_newer(f"{crate.rlib}/format", sources_of(crate)))
+
+def is_there(crate):
+    """Returns whether a proof of these sources has left the library that crates above load."""
+    return crate.is_built() or is_of_gate(crate)
+
+
+def archive_of(crate):
+    """Returns the archive of a static library, as a path in its folder."""
+    return f"out/lib{crate.name}.a"
+
+
+def compile_checked(rt, crate, words, checked, made):
+    """Compiles what a check with these words has written down as proved. Returns the status."""
+    words = [*without(words, "--logic-built", "--jobs"), "--crate-checked", checked]
+    words += ["--toolchain", f"{rt.rtlib.KIT}/toolchain", "--backend", "llvm", "-o", made]
+    return crate.call(rt.rtlib.RATTLE, "build", *words)
 
 
 def is_refused(rt, verdict):
