@@ -87,6 +87,9 @@ static void merge_costs(double *merges, double *closes)
 
     for (int i = 0; i < NAMES; i++)
         snprintf(names[i], sizeof names[i], "merge%d", i);
+    /* A refusal would be timed as a fast call. */
+    CHECK(bim_merge(&desk, names[0], "pending", "other"));
+    CHECK(bim_close(&desk, names[0]));
     for (int attempt = 0; attempt < TRIES; attempt++) {
         double merging = 0, closing = 0;
         for (int round = 0; round < CALLS / NAMES; round++) {
