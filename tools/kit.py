@@ -69,11 +69,15 @@ def sources_of(crate):
     return [file for it in [crate, *crate.below()] for file in rtlib.files_of(it.folder) if file.endswith((".rt", ".antt"))]
 
 
+def sum_of_gate(crate):
+    """Returns the file in which the gate leaves the sum of what a library was proved of. Whatever builds it anew removes that file."""
+    return f"{os.path.dirname(crate.rlib)}/gate"
+
+
 def is_of_gate(crate):
-    """Returns whether the gate has left this library and those below, of these sources. It leaves no stamps of sources, but newer files."""
-    left = [it.rlib for it in [crate, *crate.below()]]
-    has_stamps = any(os.path.exists(f"{os.path.dirname(it)}/stamp") for it in left)
-    return not has_stamps and all(os.path.exists(f"{it}/format") for it in left) and is_newer(f"{crate.rlib}/format", sources_of(crate))
+    """Returns whether the gate has left this library and those below, of these sources."""
+    text_of = sys.modules["rtlib"].text_of
+    return all(text_of(sum_of_gate(it)) == it.stamp() and os.path.exists(f"{it.rlib}/format") for it in [crate, *crate.below()])
 
 
 def is_there(crate):
