@@ -14,10 +14,12 @@ mod due_floor;
 mod pending;
 mod places;
 mod point_index;
+mod registration;
 
 use self::pending::{PendingWatch, PendingWatches};
 use self::places::Places;
 use self::point_index::{Fired, PointIndex, WaitingPoint};
+use self::registration::Registration;
 use crate::fence::Fence;
 use point_core::{LimitKind, Point, Reach, Refusal};
 use std::alloc::Global;
@@ -97,7 +99,7 @@ impl Watches {
         ensures unchanged { OnErr result (self.new ≡ self.old) }
     {
         self.free(cookie)?;
-        let (members, registration) = (fence.members(), self.made);
+        let (members, registration) = (fence.members(), Registration(self.made));
         let Some(first) = fence.first_above(reach) else {
             return Err(Refusal::Signalled);
         };
@@ -310,7 +312,7 @@ fn one_listed(alloc: Global, cookie: u64) -> Result<Vec<u64>, Refusal>
 }
 
 /// The cookies, by registration.
-fn listed(alloc: Global, fired: &BTreeMap<u64, u64>) -> Result<Vec<u64>, Refusal>
+fn listed(alloc: Global, fired: &BTreeMap<Registration, u64>) -> Result<Vec<u64>, Refusal>
     ensures listed { IfOk result (λ cookies. cookies.items ≡ values_of fired.now.entries) }
     ensures memory { IfErr result (λ e. e ≡ Memory) }
     ensures none { values_of fired.now.entries ≡ [] → IsOk result }

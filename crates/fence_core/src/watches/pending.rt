@@ -7,6 +7,7 @@ ghost use Rattle.std.specs.List.Sorted.{IsStrictlySortedBy};
 ghost use Rattle.point_core.specs.declared.refusal.Refusal.TheVariants.{Memory};
 ghost use Rattle.fence_core.specs.Reported.{at};
 
+use super::registration::Registration;
 use crate::fence::Fence;
 use point_core::Refusal;
 use std::alloc::Global;
@@ -33,7 +34,7 @@ impl Model for PendingWatch {
 /// it.
 #[derive(Drop)]
 pub(super) struct PendingWatches {
-    by_registration: HashMap<u64, PendingWatch>,
+    by_registration: HashMap<Registration, PendingWatch>,
 }
 
 impl Model for PendingWatches {
@@ -62,7 +63,7 @@ impl PendingWatches {
     }
 
     /// The watch of that registration.
-    pub(super) fn get(&self, registration: &u64) -> Option<&PendingWatch>
+    pub(super) fn get(&self, registration: &Registration) -> Option<&PendingWatch>
         ensures value { option_copied result ≡ at self.now.entries registration.now }
     {
         self.by_registration.get(registration)
@@ -71,7 +72,11 @@ impl PendingWatches {
     /// Puts a watch in.
     ///
     /// Fails with `Memory` alone, and then leaves all as it was.
-    pub(super) fn insert(&mut self, registration: u64, watch: PendingWatch) -> Result<(), Refusal>
+    pub(super) fn insert(
+        &mut self,
+        registration: Registration,
+        watch: PendingWatch,
+    ) -> Result<(), Refusal>
         ensures updates { OnOk result ((q : ℕ) → at self.new.entries q ≡
             (if is_at (nat_cmp registration) q then Some watch else at self.old.entries q)) }
         ensures entries { OnOk result (self.new.entries ≡ insert_entry nat_cmp self.old.entries registration watch) }
@@ -86,7 +91,7 @@ impl PendingWatches {
     }
 
     /// Takes the watch of that registration out.
-    pub(super) fn remove(&mut self, registration: &u64) -> Option<PendingWatch>
+    pub(super) fn remove(&mut self, registration: &Registration) -> Option<PendingWatch>
         ensures value { result ≡ at self.old.entries registration.now }
         ensures updates { (q : ℕ) → at self.new.entries q ≡
             (if is_at (nat_cmp registration.now) q then None else at self.old.entries q) }

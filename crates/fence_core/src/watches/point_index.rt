@@ -21,6 +21,7 @@ use self::single_rise::fired_by_one_context;
 use super::due_floor::DueFloor;
 use super::pending::PendingWatches;
 use super::places::Places;
+use super::registration::Registration;
 use point_core::{Context, Point, Reach, Refusal};
 use std::alloc::Global;
 use std::collections::{BTreeMap, BTreeSet};
@@ -31,11 +32,11 @@ use std::marker::Model;
 pub(super) struct WaitingPoint {
     ctx: Context,
     value: u64,
-    pub(super) registration: u64,
+    pub(super) registration: Registration,
 }
 
 impl WaitingPoint {
-    pub(super) fn of(point: &Point, registration: u64) -> WaitingPoint
+    pub(super) fn of(point: &Point, registration: Registration) -> WaitingPoint
         ensures { result ≡ waiting point.now registration }
     {
         let Point { ctx, value } = *point;
@@ -53,7 +54,7 @@ impl WaitingPoint {
         WaitingPoint {
             ctx,
             value: 0,
-            registration: 0,
+            registration: Registration(0),
         }
     }
 
@@ -64,7 +65,7 @@ impl WaitingPoint {
         WaitingPoint {
             ctx,
             value,
-            registration: u64::MAX,
+            registration: Registration(u64::MAX),
         }
     }
 
@@ -134,7 +135,7 @@ impl PointIndex {
     /// Puts a point in.
     ///
     /// Fails with `Memory` alone, and then leaves all as it was.
-    pub(super) fn put(&mut self, point: &Point, registration: u64) -> Result<(), Refusal>
+    pub(super) fn put(&mut self, point: &Point, registration: Registration) -> Result<(), Refusal>
         requires above { 1 ≤ point.now.value }
         ensures put { OnOk result ((k : Waiting) →
             holds self.new k ≡ (is_same (waiting point.now registration) k || holds self.old k)) }
@@ -300,7 +301,7 @@ impl PointIndex {
         alloc: Global,
         pending: &PendingWatches,
         reach: &Reach,
-    ) -> Result<BTreeMap<u64, u64>, Refusal>
+    ) -> Result<BTreeMap<Registration, u64>, Refusal>
         ensures only_firing { IfOk result (λ fired. AreOnlyFiring pending.now.entries reach.now fired.entries) }
         ensures all { IfOk result (λ fired. (k : Waiting) → is_due k.ctx (value_at reach.now k.ctx) k ≡ true →
             holds self.now k ≡ true → IsReported pending.now.entries reach.now fired.entries k.registration) }
@@ -334,7 +335,7 @@ impl PointIndex {
 fn insert(
     points: &mut BTreeSet<WaitingPoint>,
     point: &Point,
-    registration: u64,
+    registration: Registration,
 ) -> Result<(), Refusal>
     requires waiting { AreWaiting points.old.keys }
     ensures waiting { AreWaiting points.new.keys }
@@ -346,8 +347,9 @@ fn insert(
     ensures unchanged { OnErr result (points.new.keys ≡ points.old.keys) }
 {
     let number = point.ctx.number();
-    // For the proof: what a context keeps.
+    // For the proof: what a context and a registration keep.
     prove!(number >= 1);
+    prove!(registration.0 <= u64::MAX);
     let Ok(_added) = points.insert(WaitingPoint::of(point, registration)) else {
         return Err(Refusal::Memory);
     };

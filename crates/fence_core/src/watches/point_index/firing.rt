@@ -10,6 +10,7 @@ ghost use Rattle.fence_core.specs.Reported.{IsReported, AreOnlyFiring, Fires};
 use super::WaitingPoint;
 use crate::watches::due_floor::DueFloor;
 use crate::watches::pending::PendingWatches;
+use crate::watches::registration::Registration;
 use point_core::{Context, Reach, Refusal};
 use std::collections::{BTreeMap, BTreeSet};
 
@@ -19,7 +20,7 @@ pub(super) fn report_reached(
     pending: &PendingWatches,
     floor: &DueFloor,
     reach: &Reach,
-    fired: &mut BTreeMap<u64, u64>,
+    fired: &mut BTreeMap<Registration, u64>,
 ) -> Result<(), Refusal>
     requires waiting { AreWaiting points.now.keys }
     requires above { (k : Waiting) → holds points.now.keys k ≡ true →
@@ -46,7 +47,7 @@ fn report_due(
     pending: &PendingWatches,
     ctx: Context,
     reach: &Reach,
-    fired: &mut BTreeMap<u64, u64>,
+    fired: &mut BTreeMap<Registration, u64>,
 ) -> Result<(), Refusal>
     requires waiting { AreWaiting points.now.keys }
     requires only_firing { AreOnlyFiring pending.now.entries reach.now fired.old.entries }
@@ -68,10 +69,10 @@ fn report_due(
 
 /// Adds the watch to the fired ones if it fires.
 fn report(
-    registration: u64,
+    registration: Registration,
     pending: &PendingWatches,
     reach: &Reach,
-    fired: &mut BTreeMap<u64, u64>,
+    fired: &mut BTreeMap<Registration, u64>,
 ) -> Result<(), Refusal>
     requires only_firing { AreOnlyFiring pending.now.entries reach.now fired.old.entries }
     ensures only_firing { AreOnlyFiring pending.now.entries reach.now fired.new.entries }

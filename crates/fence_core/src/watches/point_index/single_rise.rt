@@ -7,6 +7,7 @@ ghost use Rattle.fence_core.specs.Reported.{IsReported, AreOnlyFiring, reported_
 
 use super::WaitingPoint;
 use crate::watches::pending::PendingWatches;
+use crate::watches::registration::Registration;
 use point_core::{Context, Reach};
 use std::collections::BTreeSet;
 
@@ -14,7 +15,10 @@ use std::collections::BTreeSet;
 #[derive(Clone, Copy, Debug)]
 pub(in crate::watches) enum Fired {
     Nothing,
-    One { registration: u64, cookie: u64 },
+    One {
+        registration: Registration,
+        cookie: u64,
+    },
     Several,
 }
 
@@ -41,7 +45,12 @@ pub(super) fn fired_by_one_context(
 }
 
 /// The same with one more watch, if it fires.
-fn with_watch(fired: Fired, registration: u64, pending: &PendingWatches, reach: &Reach) -> Fired
+fn with_watch(
+    fired: Fired,
+    registration: Registration,
+    pending: &PendingWatches,
+    reach: &Reach,
+) -> Fired
     requires only_firing { AreOnlyFiring pending.now.entries reach.now (reported_of fired) }
     ensures only_firing { AreOnlyFiring pending.now.entries reach.now (reported_of result) }
     ensures before { is_one_at_most result ≡ true → is_one_at_most fired ≡ true }

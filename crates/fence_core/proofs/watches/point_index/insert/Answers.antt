@@ -1,4 +1,4 @@
-use Rattle.std.proofs.Common.{ap, subst, ◌∙◌, ◌||◌, ◌≤◌}
+use Rattle.std.proofs.Common.{ap, subst, ◌≡◌, ◌∙◌, ◌||◌, ◌≤◌, arith}
 use Rattle.point_core.specs.declared.context.TheConstants.{CONTEXTS}
 use Rattle.fence_core.specs.PointIndex.{waiting, is_same, holds}
 use Rattle.fence_core.proofs.PointIndex.{holds-put, AreWaiting-put, put-due}
@@ -14,7 +14,9 @@ returns-clause-due c = λ ctx value none. put-due ctx value c.of.result (waiting
 
 pub returns-clause-waiting : goal.returns-clause-waiting
 returns-clause-waiting c =
+    let is : c.registration.inside.0 ≡ c.args.registration = c.registration.view_is in
+    let fits = c.if-prove-2.false in
     AreWaiting-put c.args.points.now.keys c.insert.new.self.keys (waiting c.args.point.now c.args.registration) c.requires.waiting
     (subst (λ n. (1 ≤ n) × (n ≤ CONTEXTS)) c.number-number.ensures.value c.number-number.ensures.within)
-    c.ranges.registration.fits
+    (omega arith)
     (λ k. holds-put c.args.points.now.keys c.insert.new.self.keys c.of.result k (c.in-Ok.ensures.updates.0 k) ∙ ap (λ w. is_same w k || holds c.args.points.now.keys k) c.of.ensures)

@@ -1,0 +1,16 @@
+// The numbers of registrations.
+use std::marker::Model;
+
+/// Which of all watches that were ever registered one is, counted from 0. It never comes again, while a cookie may.
+#[derive(Clone, Copy, Debug, PartialEq, Eq, Hash, PartialOrd, Ord)]
+pub(super) struct Registration(pub(super) u64);
+
+impl Model for Registration {
+    ghost use Rattle.std.specs.Prelude.{ℕ};
+
+    ghost Value = { ℕ };
+
+    ghost view = { λ r. r.0 };
+
+    ghost inverse = { λ n. record { 0 = n } };
+}
