@@ -5,7 +5,7 @@ use Rattle.std.proofs.lemmas.Bool.{and_parts, cases_Bool, eqb-true, eq-eqb, fals
 use Rattle.point_core.specs.declared.context.TheConstants.{CONTEXTS}
 use Rattle.point_core.specs.declared.entry.Point.{Point}
 use Rattle.point_core.specs.Reach.{value_at, with_value, reaching, is_reached, IsAtLeast}
-use Rattle.point_core.proofs.Values.{value_at-with_value_same, value_at-with_value_other, IsAtLeast-with_value}
+use Rattle.point_core.proofs.Values.{value_at-with_value_same, value_at-with_value_other, later_values-is, later_values-at_least, IsAtLeast-at, IsAtLeast-with_value}
 use Rattle.fence_core.specs.declared.watches.point_index.WaitingPoint.{WaitingPoint}
 use Rattle.fence_core.specs.PointIndex.{waiting, is_same, holds, is_due, AreWaiting, AreAbove}
 use Rattle.fence_core.proofs.PointIndex.{is_same-is, one_point}
@@ -98,6 +98,12 @@ AreAbove-empty ks floor higher ctx most is full low high contexts h none =
 -- a reach with one more point reached is at least the reach
 pub IsAtLeast-reaching : (reach higher : List ℕ) (p : Point) → higher ≡ reaching reach p → IsAtLeast higher reach
 IsAtLeast-reaching reach higher p is = subst (λ r. IsAtLeast r reach) (sym is) (IsAtLeast-with_value reach p.ctx (max (value_at reach p.ctx) p.value) (omega arith))
+
+-- two reaches of which each is at least the other are one
+pub IsAtLeast-both : (reach other : List ℕ) → length reach ≡ length other → IsAtLeast reach other → IsAtLeast other reach → reach ≡ other
+IsAtLeast-both reach other e h k =
+    sym (later_values-at_least reach other e h)
+    ∙ sym (later_values-is reach other other e (sym e) (λ n low. let up = IsAtLeast-at h n in let down = IsAtLeast-at k n in omega arith))
 
 -- a point above a reach is not due there
 pub above-not_due : (reach : List ℕ) (p : Point) (registration : ℕ) → is_reached reach p ≡ false → is_due p.ctx (value_at reach p.ctx) (waiting p registration) ≡ false

@@ -97,7 +97,7 @@ impl Fence {
 }
 
 /// The first of the points that is above the reach.
-fn first_above(points: &[Point], reach: &Reach) -> Option<Point>
+pub(crate) fn first_above(points: &[Point], reach: &Reach) -> Option<Point>
     ensures above { IfSome result (λ p. IsOneAbove reach.now points.now p) }
     ensures pending { IfSome result (λ _. are_reached reach.now points.now ≡ false) }
     ensures signalled { IfNone result (are_reached reach.now points.now ≡ true) }

@@ -4,6 +4,7 @@ ghost use Rattle.point_core.specs.declared.context.TheConstants.{CONTEXTS};
 ghost use Rattle.std.specs.List.{list_any};
 ghost use Rattle.std.specs.Map.{values_of};
 ghost use Rattle.point_core.specs.declared.refusal.Refusal.TheVariants.{Memory};
+ghost use Rattle.point_core.specs.Agreement.{HasRisingContexts};
 ghost use Rattle.point_core.specs.Reach.{IsAtLeast, reaching};
 ghost use Rattle.point_core.specs.Refusal.{IsRefusedFor};
 ghost use Rattle.fence_core.specs.Fence.{members_of};
@@ -20,7 +21,7 @@ use self::pending::{PendingWatch, PendingWatches};
 use self::places::Places;
 use self::point_index::{Fired, PointIndex, WaitingPoint};
 use self::registration::Registration;
-use crate::fence::Fence;
+use crate::fence::{Fence, first_above};
 use point_core::{LimitKind, Point, Reach, Refusal};
 use std::alloc::Global;
 use std::collections::BTreeMap;
@@ -98,12 +99,24 @@ impl Watches {
         ensures last { OnOk result (self.new ≡ with_watch self.old cookie (members_of fence.now) reach.now) }
         ensures unchanged { OnErr result (self.new ≡ self.old) }
     {
+        self.register(cookie, fence.members(), reach)
+    }
+
+    /// Registers a callback on the fence of these points, as `add` does. The points are copied once, and only when nothing
+    /// but `Memory` is left to refuse it for.
+    pub fn register(&mut self, cookie: u64, points: &[Point], reach: &Reach) -> Result<(), Refusal>
+        requires rising { HasRisingContexts points.now }
+        requires rises { IsAtLeast reach.now self.old.reach }
+        ensures refused { IsRefusedFor (cause_to_refuse_watch self.old cookie points.now reach.now) result }
+        ensures last { OnOk result (self.new ≡ with_watch self.old cookie points.now reach.now) }
+        ensures unchanged { OnErr result (self.new ≡ self.old) }
+    {
         self.free(cookie)?;
-        let (members, registration) = (fence.members(), Registration(self.made));
-        let Some(first) = fence.first_above(reach) else {
+        let Some(first) = first_above(points, reach) else {
             return Err(Refusal::Signalled);
         };
-        let fence = Fence::of(self.alloc, members)?;
+        let fence = Fence::of(self.alloc, points)?;
+        let registration = Registration(self.made);
         self.index.put(&first, registration)?;
         let place = WaitingPoint::of(&first, registration);
         let Ok(_new) = self.places.insert(cookie, &place) else {
@@ -116,8 +129,7 @@ impl Watches {
             self.index.take(&place);
             return Err(Refusal::Memory);
         };
-        self.is_settled = stays_settled(self.is_settled, &self.reach, reach);
-        self.reach.copy_from(reach);
+        self.is_settled = follow(&mut self.reach, self.is_settled, reach);
         self.made += 1;
         Ok(())
     }
@@ -294,11 +306,20 @@ impl Watches {
     }
 }
 
-/// Whether what was above the one reach is above the other, which is at least that.
-fn stays_settled(is_settled: bool, before: &Reach, after: &Reach) -> bool
-    ensures { IsTrue result ↔ (IsTrue is_settled × IsAtLeast before.now after.now) }
+/// Raises the kept reach to the other. Says whether what was above the one, if it was, is above the other too.
+fn follow(kept: &mut Reach, is_settled: bool, reach: &Reach) -> bool
+    requires rises { IsAtLeast reach.now kept.old }
+    ensures values { kept.new ≡ reach.now }
+    ensures settled { IsTrue result ↔ (IsTrue is_settled × IsAtLeast kept.old reach.now) }
 {
-    is_settled && before.at_least(after)
+    // For the proof: both have a value for each context.
+    prove!(kept.at(0) <= u64::MAX);
+    prove!(reach.at(0) <= u64::MAX);
+    if kept.at_least(reach) {
+        return is_settled;
+    }
+    kept.copy_from(reach);
+    false
 }
 
 /// The cookie of the one watch that fires.
