@@ -82,7 +82,7 @@ impl Buffers {
     /// Adds one fence to a buffer, as Linux's `dma_resv_add_fence` after a `dma_resv_reserve_fences` of one.
     ///
     /// Fails with `NoEntry`, then with `Memory`, and then leaves every table as it was. Memory is taken by the first fence of
-    /// a buffer alone, as `Resv::reserve` says.
+    /// a buffer alone, as `Resv::make_room` says.
     pub fn add(
         &mut self,
         name: &Name,
@@ -100,7 +100,7 @@ impl Buffers {
         let Some(table) = self.by_name.get_mut(name) else {
             return Err(Refusal::NoEntry);
         };
-        table.reserve(1, reach)?;
+        table.make_room(1, reach)?;
         table.put(point, usage, reach);
         Ok(())
     }
@@ -230,7 +230,7 @@ fn add_all(table: &mut Resv, points: &[Point], usage: Usage, reach: &Reach) -> R
     ensures unchanged { OnErr result (table.new ≡ table.old) }
     ensures memory { IfErr result (λ e. e ≡ Memory) }
 {
-    table.reserve(count(points), reach)?;
+    table.make_room(count(points), reach)?;
     table.add_all(points, usage, reach);
     Ok(())
 }

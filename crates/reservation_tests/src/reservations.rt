@@ -1,7 +1,7 @@
 // Reservations: what is put in, what replaces what, and what is listed.
 use crate::values::{EVERY_USAGE, are_full_rows, holds, point, reach_at, row, value_of};
 use point_core::{CONTEXTS, Context, LatestPoints, Point, Reach, TopRow, Usage};
-use resv_core::{PLACES, Resv};
+use resv_core::{GROWTH, PLACES, Resv, SCANNED};
 use std::process::Abort;
 
 fn add(rt: &impl Abort, resv: &mut Resv, point: Point, usage: Usage, reach: &Reach) {
@@ -133,6 +133,35 @@ fn takes_the_last_place(rt: &impl Abort, resv: &mut Resv) {
 fn every_place_is_taken(rt: HostRuntime) {
     let mut resv = Resv::new(rt.alloc()).expect(&rt, "a reservation");
     takes_the_last_place(&rt, &mut resv);
+}
+
+fn make_room_for_one(rt: &impl Abort, resv: &mut Resv) {
+    let made = resv.make_room(1, &Reach::zero());
+    made.expect(rt, "memory");
+}
+
+fn make_room_for_none(rt: &impl Abort, resv: &mut Resv) {
+    let made = resv.make_room(0, &Reach::zero());
+    made.expect(rt, "memory");
+}
+
+// A table that has grown is trimmed for a new entry, though there is room, and isn't for none.
+fn is_trimmed_early(rt: &impl Abort, resv: &mut Resv) {
+    let entries = GROWTH * SCANNED;
+    add_falling(rt, resv, entries as u64);
+    make_room_for_none(rt, resv);
+    has_room(rt, resv, PLACES - entries);
+    make_room_for_one(rt, resv);
+    has_room(rt, resv, PLACES - 1);
+    has_the_row(rt, resv, entries as u64);
+}
+
+#[test]
+fn table_that_has_grown(rt: HostRuntime) {
+    let mut resv = Resv::new(rt.alloc()).expect(&rt, "a reservation");
+    make_room_for_one(&rt, &mut resv);
+    has_room(&rt, &resv, PLACES);
+    is_trimmed_early(&rt, &mut resv);
 }
 
 // A small table takes no place for what an entry of it covers, and a later point replaces that entry.

@@ -17,6 +17,6 @@ pub use laws::{
     tables_that_agree_show_the_same,
 };
 pub use plan::{Act, Acts, Plan, ROUND_ACTS, Rounds, Settled};
-pub use resv::{PLACES, PLACES_PER_CONTEXT, Resv};
+pub use resv::{GROWTH, PLACES, PLACES_PER_CONTEXT, Resv};
 pub use shared_table::SharedTable;
 pub use tops::Tops;

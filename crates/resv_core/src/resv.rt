@@ -1,5 +1,5 @@
 // The reservation of a buffer.
-ghost use Rattle.std.specs.Prelude.{◌≡◌, ◌+◌, ◌-◌, ◌<◌, ◌≤◌, ◌↔◌, ◌++◌, ◌&&◌, [], Ok, if◌then◌else◌, length, vec_len, IfErr, IfOk, IsTrue, OnErr, OnOk};
+ghost use Rattle.std.specs.Prelude.{◌≡◌, ◌+◌, ◌-◌, ◌<◌, ◌≤◌, ◌↔◌, ◌⊎◌, ◌++◌, ◌&&◌, [], Ok, if◌then◌else◌, length, vec_len, IfErr, IfOk, IsTrue, OnErr, OnOk};
 ghost use Rattle.std.specs.List.{list_any};
 ghost use Rattle.std.specs.Vec.{vec_capacity};
 ghost use Rattle.point_core.specs.declared.context.TheConstants.{CONTEXTS};
@@ -28,6 +28,11 @@ const _: () = prove!(PLACES_PER_CONTEXT == 5);
 
 const _: () = prove!(PLACES == 1_280);
 
+/// `make_room` trims a table of so many times the entries that the last trim left, or `SCANNED` where it left fewer.
+pub const GROWTH: usize = 2;
+
+const _: () = prove!(GROWTH == 2);
+
 /// The fences of a buffer, each with the usage that it was added for, as Linux's `struct dma_resv`.
 ///
 /// What matters of a table is its latest pending point of each context at each usage or a stronger one. Where an
@@ -35,6 +40,8 @@ const _: () = prove!(PLACES == 1_280);
 #[derive(Debug, Drop)]
 pub struct Resv {
     entries: Vec<Entry>,
+    // how many entries the last trim left
+    left: usize,
     alloc: Global,
 }
 
@@ -59,6 +66,7 @@ impl Resv {
     {
         Ok(Resv {
             entries: Vec::new(alloc),
+            left: 0,
             alloc,
         })
     }
@@ -93,6 +101,35 @@ impl Resv {
             self.trim(reach);
         }
         Ok(())
+    }
+
+    /// Makes room for `n` entries as `reserve` does, and keeps the table small: by `GROWTH` it is also trimmed where there is
+    /// room. So a trim looks at no more than two entries for each that was added. For no entries nothing changes.
+    ///
+    /// Fails as `reserve` does.
+    pub fn make_room(&mut self, n: usize, reach: &Reach) -> Result<(), Refusal>
+        requires few { n ≤ CONTEXTS }
+        ensures table { IsTable self.new }
+        ensures room { OnOk result (n ≤ self.new.room) }
+        ensures agrees { Leaves Reserve reach.now self.old.entries self.new.entries }
+        ensures trimmed { (self.new ≡ self.old) ⊎ IsTrimmed reach.now self.new.entries }
+        ensures nothing { n ≡ 0 → self.new ≡ self.old }
+        ensures memory { IfErr result (λ e. e ≡ Refusal.Memory) }
+        ensures first { OnErr result (self.old ≡ empty) }
+        ensures refused { OnErr result (self.new ≡ self.old) }
+    {
+        if n == 0 || !self.has_outgrown() {
+            return self.reserve(n, reach);
+        }
+        self.trim(reach);
+        Ok(())
+    }
+
+    /// Whether the table has grown by so much since the last trim that it is time for another.
+    fn has_outgrown(&self) -> bool
+        ensures places { IsTrue result → length self.now.entries + self.now.room ≡ PLACES }
+    {
+        self.entries.len() / GROWTH >= self.left.max(SCANNED)
     }
 
     /// How many entries can be added before there has to be another `reserve`.
@@ -190,6 +227,7 @@ impl Resv {
     {
         if self.entries.capacity() != 0 {
             compact(&mut self.entries, reach);
+            self.left = self.entries.len();
         }
     }
 
