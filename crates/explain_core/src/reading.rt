@@ -1,11 +1,9 @@
 // A script from a reader, its answers to a writer, and to another why lines were refused.
-ghost use Rattle.std.specs.Prelude.{◌≡◌, ◌+◌, ◌⊎◌, [], take, Err, List, ℕ, IfOk, IfSome, OnErr, IfErr};
-ghost use Rattle.std.specs.Io.KnownBytes.{Consumes};
+ghost use Rattle.std.specs.Prelude.{◌≡◌, ◌+◌, ◌⊎◌, [], Err, IfOk, OnErr, IfErr};
 ghost use Rattle.point_core.specs.declared.refusal.Refusal.TheVariants.{Read as ReadFault, Write as WriteFault, Memory};
 ghost use Rattle.script_core.specs.Answering.{HasAnswered, HasAnsweredBytes};
-ghost use Rattle.line_core.specs.Reading.{ConsumesAtMost, IsInput};
-ghost use Rattle.script_core.specs.Output.{WritesPrefix, AnswersScript, AnswersEndedLines};
-ghost use Rattle.line_core.specs.Script.{script_of};
+ghost use Rattle.line_core.specs.Reading.{ConsumesAtMost, ReadsScript};
+ghost use Rattle.script_core.specs.Output.{AnswersInput, AnswersEndedLines, WritesInputPrefix};
 ghost use Rattle.line_core.specs.declared.script.TheConstants.{SCRIPT_BYTES};
 
 use crate::explainer::Explainer;
@@ -33,24 +31,22 @@ pub fn explain<R: Read, W: Write, N: Write>(
     writer: &mut W,
     notes: &mut N,
 ) -> Result<Totals, Refusal>
-    ensures ok { IfOk result (λ totals. (script : List ℕ) × IsInput (R.remaining reader.old) script
-        × AnswersScript script totals (W.contents writer.old) (W.contents writer.new)) }
+    ensures ok { IfOk result (λ totals. AnswersInput (R.remaining reader.old) totals
+        (W.contents writer.old) (W.contents writer.new)) }
 
     // What is read is the script, up to the byte after its limit.
-    ensures reads { IfOk result (λ _. IfSome (R.remaining reader.old) (λ input.
-        Consumes (R.remaining reader.old) (R.remaining reader.new) (take (SCRIPT_BYTES + 1) input))) }
+    ensures reads { IfOk result (λ _. ReadsScript (R.remaining reader.old) (R.remaining reader.new)) }
 
     // Whatever the result, no byte is read past that one.
     ensures within { ConsumesAtMost (SCRIPT_BYTES + 1) (R.remaining reader.old) (R.remaining reader.new) }
 
     // The lines whose line feed was read are answered.
-    ensures read { result ≡ Err ReadFault
-        → AnswersEndedLines (R.remaining reader.old) (R.remaining reader.new)
+    ensures read { result ≡ Err ReadFault → AnswersEndedLines (R.remaining reader.old) (R.remaining reader.new)
         (W.contents writer.old) (W.contents writer.new) }
 
     // A prefix of the answers is written.
-    ensures err { OnErr result ((script : List ℕ) × IsInput (R.remaining reader.old) script
-        × WritesPrefix (script_of script) (W.contents writer.old) (W.contents writer.new)) }
+    ensures err { OnErr result (WritesInputPrefix (R.remaining reader.old)
+        (W.contents writer.old) (W.contents writer.new)) }
     ensures refusals { IfErr result (λ refusal.
         (refusal ≡ ReadFault) ⊎ (refusal ≡ WriteFault) ⊎ (refusal ≡ Memory)) }
 {
@@ -68,16 +64,14 @@ fn explain_answers<R: Read, W: Write, N: Write>(
     notes: &mut N,
 ) -> Result<Totals, Refusal>
     requires fresh { HasAnswered [] answers.old (W.contents writer.old) (W.contents writer.old) }
-    ensures ok { IfOk result (λ totals. (script : List ℕ) × IsInput (R.remaining reader.old) script
-        × AnswersScript script totals (W.contents writer.old) (W.contents writer.new)) }
-    ensures reads { IfOk result (λ _. IfSome (R.remaining reader.old) (λ input.
-        Consumes (R.remaining reader.old) (R.remaining reader.new) (take (SCRIPT_BYTES + 1) input))) }
+    ensures ok { IfOk result (λ totals. AnswersInput (R.remaining reader.old) totals
+        (W.contents writer.old) (W.contents writer.new)) }
+    ensures reads { IfOk result (λ _. ReadsScript (R.remaining reader.old) (R.remaining reader.new)) }
     ensures within { ConsumesAtMost (SCRIPT_BYTES + 1) (R.remaining reader.old) (R.remaining reader.new) }
-    ensures read { result ≡ Err ReadFault
-        → AnswersEndedLines (R.remaining reader.old) (R.remaining reader.new)
+    ensures read { result ≡ Err ReadFault → AnswersEndedLines (R.remaining reader.old) (R.remaining reader.new)
         (W.contents writer.old) (W.contents writer.new) }
-    ensures err { OnErr result ((script : List ℕ) × IsInput (R.remaining reader.old) script
-        × WritesPrefix (script_of script) (W.contents writer.old) (W.contents writer.new)) }
+    ensures err { OnErr result (WritesInputPrefix (R.remaining reader.old)
+        (W.contents writer.old) (W.contents writer.new)) }
     ensures refusals { IfErr result (λ refusal.
         (refusal ≡ ReadFault) ⊎ (refusal ≡ WriteFault) ⊎ (refusal ≡ Memory)) }
 {
@@ -93,16 +87,14 @@ fn explain_script<R: Read, W: Write, N: Write>(
     notes: &mut N,
 ) -> Result<Totals, Refusal>
     requires fresh { HasAnswered [] answers.old (W.contents writer.old) (W.contents writer.old) }
-    ensures ok { IfOk result (λ totals. (script : List ℕ) × IsInput (R.remaining reader.old) script
-        × AnswersScript script totals (W.contents writer.old) (W.contents writer.new)) }
-    ensures reads { IfOk result (λ _. IfSome (R.remaining reader.old) (λ input.
-        Consumes (R.remaining reader.old) (R.remaining reader.new) (take (SCRIPT_BYTES + 1) input))) }
+    ensures ok { IfOk result (λ totals. AnswersInput (R.remaining reader.old) totals
+        (W.contents writer.old) (W.contents writer.new)) }
+    ensures reads { IfOk result (λ _. ReadsScript (R.remaining reader.old) (R.remaining reader.new)) }
     ensures within { ConsumesAtMost (SCRIPT_BYTES + 1) (R.remaining reader.old) (R.remaining reader.new) }
-    ensures read { result ≡ Err ReadFault
-        → AnswersEndedLines (R.remaining reader.old) (R.remaining reader.new)
+    ensures read { result ≡ Err ReadFault → AnswersEndedLines (R.remaining reader.old) (R.remaining reader.new)
         (W.contents writer.old) (W.contents writer.new) }
-    ensures err { OnErr result ((script : List ℕ) × IsInput (R.remaining reader.old) script
-        × WritesPrefix (script_of script) (W.contents writer.old) (W.contents writer.new)) }
+    ensures err { OnErr result (WritesInputPrefix (R.remaining reader.old)
+        (W.contents writer.old) (W.contents writer.new)) }
     ensures refusals { IfErr result (λ refusal.
         (refusal ≡ ReadFault) ⊎ (refusal ≡ WriteFault) ⊎ (refusal ≡ Memory)) }
 {
@@ -127,8 +119,8 @@ fn explain_lines<R: Read, W: Write, N: Write>(
     ensures ok { IfOk result (λ ending. HasAnsweredBytes (R.remaining reader.old) (R.remaining reader.new) ending
         answers.new (W.contents writer.old) (W.contents writer.new)) }
     ensures within { ConsumesAtMost (SCRIPT_BYTES + 1) (R.remaining reader.old) (R.remaining reader.new) }
-    ensures err { OnErr result ((script : List ℕ) × IsInput (R.remaining reader.old) script
-        × WritesPrefix (script_of script) (W.contents writer.old) (W.contents writer.new)) }
+    ensures err { OnErr result (WritesInputPrefix (R.remaining reader.old)
+        (W.contents writer.old) (W.contents writer.new)) }
     ensures refusals { IfErr result (λ refusal. (refusal ≡ WriteFault) ⊎ (refusal ≡ Memory)) }
 {
     let mut lines = ScriptLines::new();

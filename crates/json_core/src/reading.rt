@@ -1,8 +1,7 @@
 // A script from a reader, and the objects of its answers to a writer.
-ghost use Rattle.std.specs.Prelude.{◌≡◌, ◌+◌, ◌⊎◌, List, ℕ, [], take, Err, IfErr, IfOk, IfSome, OnErr};
-ghost use Rattle.std.specs.Io.KnownBytes.{Consumes};
+ghost use Rattle.std.specs.Prelude.{◌≡◌, ◌+◌, ◌⊎◌, List, ℕ, [], take, Err, IfErr, IfOk, OnErr};
 ghost use Rattle.point_core.specs.declared.refusal.Refusal.TheVariants.{Read as ReadFault, Write as WriteFault, Memory};
-ghost use Rattle.line_core.specs.Reading.{ConsumesAtMost, IsInput, WasRead};
+ghost use Rattle.line_core.specs.Reading.{ConsumesAtMost, IsInput, ReadsScript, WasRead};
 ghost use Rattle.line_core.specs.Script.{lines_of, lines_until, script_of};
 ghost use Rattle.line_core.specs.declared.script.TheConstants.{SCRIPT_BYTES};
 ghost use Rattle.json_core.specs.Written.{HasBegun, HasWritten, WritesEndedObjects, WritesObjects, WritesScriptPrefix};
@@ -33,8 +32,7 @@ pub fn run_json<R: Read, W: Write>(
         (W.contents writer.old) (W.contents writer.new)) }
 
     // What is read is the script, up to the byte past its limit.
-    ensures reads { IfOk result (λ _. IfSome (R.remaining reader.old) (λ input.
-        Consumes (R.remaining reader.old) (R.remaining reader.new) (take (SCRIPT_BYTES + 1) input))) }
+    ensures reads { IfOk result (λ _. ReadsScript (R.remaining reader.old) (R.remaining reader.new)) }
 
     // Whatever the result, no byte is read past that one.
     ensures within { ConsumesAtMost (SCRIPT_BYTES + 1) (R.remaining reader.old) (R.remaining reader.new) }
@@ -64,8 +62,7 @@ fn answer_script<R: Read, W: Write>(
     ensures ok { IfOk result (λ totals. (script : List ℕ) × IsInput (R.remaining reader.old) script
         × WritesObjects (lines_of (take SCRIPT_BYTES script)) (script_of script) totals
         (W.contents writer.old) (W.contents writer.new)) }
-    ensures reads { IfOk result (λ _. IfSome (R.remaining reader.old) (λ input.
-        Consumes (R.remaining reader.old) (R.remaining reader.new) (take (SCRIPT_BYTES + 1) input))) }
+    ensures reads { IfOk result (λ _. ReadsScript (R.remaining reader.old) (R.remaining reader.new)) }
     ensures within { ConsumesAtMost (SCRIPT_BYTES + 1) (R.remaining reader.old) (R.remaining reader.new) }
     ensures read { result ≡ Err ReadFault
         → WritesEndedObjects (R.remaining reader.old) (R.remaining reader.new)

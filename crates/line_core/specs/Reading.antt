@@ -1,5 +1,5 @@
 -- What is read of a script.
-use Rattle.std.specs.Prelude.{◌≡◌, ℕ, ◌+◌, ◌≤◌, List, length, Option, IfSome}
+use Rattle.std.specs.Prelude.{◌≡◌, ℕ, ◌+◌, ◌≤◌, List, length, take, Option, IfSome}
 use Rattle.std.specs.Io.KnownBytes.{Consumes, IsAtEnd}
 use Rattle.line_core.specs.declared.script.Ending.{Ending}
 use Rattle.line_core.specs.declared.script.Ending.TheVariants as ending
@@ -19,6 +19,10 @@ EndsSo left bytes ending.Failed = length bytes ≤ SCRIPT_BYTES
 pub record WasRead (old new : Option (List ℕ)) (bytes : List ℕ) (end : Ending) : Type 0 where
   pub consumed : Consumes old new bytes
   pub ends : EndsSo new bytes end
+
+-- the reader's script was read, up to the byte past its limit
+abbrev pub ReadsScript : Option (List ℕ) → Option (List ℕ) → Type 0
+ReadsScript old new = IfSome old (λ input. Consumes old new (take (SCRIPT_BYTES + 1) input))
 
 -- some bytes were read, at most so many
 pub record ConsumesAtMost (most : ℕ) (old new : Option (List ℕ)) : Type 0 where

@@ -16,6 +16,7 @@ use Rattle.line_core.specs.declared.line.Line.{Line}
 use Rattle.script_core.specs.Bytes.{AppendsFront}
 use Rattle.line_core.specs.declared.script.Ending.TheVariants as ending
 use Rattle.line_core.specs.declared.script.TheConstants.{SCRIPT_BYTES}
+use Rattle.line_core.specs.Reading.{IsInput}
 use Rattle.line_core.specs.Script.{script_of, lines_until}
 use Rattle.script_core.specs.Text.{text_of}
 
@@ -105,3 +106,11 @@ pub record AnswersEndedLines (before after old new : Option (List ℕ)) : Type 0
   pub few : length bytes ≤ SCRIPT_BYTES
   pub given : List Answer
   pub answers : WritesAnswers (lines_until ending.Failed bytes) given old new
+
+-- the script that the reader had was answered
+abbrev pub AnswersInput : Option (List ℕ) → Totals → Option (List ℕ) → Option (List ℕ) → Type 0
+AnswersInput known totals old new = (script : List ℕ) × IsInput known script × AnswersScript script totals old new
+
+-- a prefix of the answers of the script that the reader had was written
+abbrev pub WritesInputPrefix : Option (List ℕ) → Option (List ℕ) → Option (List ℕ) → Type 0
+WritesInputPrefix known old new = (script : List ℕ) × IsInput known script × WritesPrefix (script_of script) old new
