@@ -159,8 +159,8 @@ impl Buffers {
     /// Fails with `NoEntry`. Takes no memory.
     pub fn test(&self, name: &Name, usage: Usage, reach: &Reach) -> Result<bool, Refusal>
         ensures { MatchBool (has_buffer self.now name.now)
-            (IsOkAnd result (λ told.
-            IsTrue told ↔ IsReached (entries_of self.now name.now) (usage_number usage) reach.now))
+            (IsOkAnd result (λ signalled.
+            IsTrue signalled ↔ IsReached (entries_of self.now name.now) (usage_number usage) reach.now))
             (result ≡ Err NoEntry) }
     {
         Ok(self.known(name)?.test(usage, reach))

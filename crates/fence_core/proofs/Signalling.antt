@@ -52,4 +52,4 @@ within-at contexts (q ∷ qs) (suc i) p all low at = within-at contexts qs i p (
 
 -- its words have the context of each point
 pub AreWithin-at : {contexts : ℕ} {points : List Point} (i : ℕ) (p : Point) → AreWithin contexts points → i < length points → p ≡ get_or points i p → p.ctx ≤ contexts
-AreWithin-at {contexts} {points} i p h low at = within-at contexts points i p h.told low at
+AreWithin-at {contexts} {points} i p h low at = within-at contexts points i p h.each low at

@@ -26,7 +26,7 @@ abbrev pub are_within : ℕ → List Point → Bool
 are_within contexts points = list_all (λ (p : Point). nat_le p.ctx contexts) points
 
 pub record AreWithin (contexts : ℕ) (points : List Point) : Type 0 where
-  pub told : are_within contexts points ≡ true
+  pub each : are_within contexts points ≡ true
 
 -- why no fence of these points may be made
 abbrev pub cause_to_refuse_shared : WordsModel → List Point → Option Refusal

@@ -55,7 +55,7 @@ pub record IsPendingAt (points : List Point) (before after : SeatModel) (ctx val
   pub entered : after ≡ with_steps seat (loads_at ctx (open_clock value))
 
 -- every point was found reached, and then one test-and-set of the flag was entered
-pub record SetsFlag (f : SharedFenceModel) (before after : SeatModel) (told : ℕ → Step) : Type 0 where
+pub record SetsFlag (f : SharedFenceModel) (before after : SeatModel) (ended : ℕ → Step) : Type 0 where
   pub seat : SeatModel
   pub found : HaveFound f.points before seat
-  pub entered : after ≡ with_step seat (told (flag_word f.words f.flag))
+  pub entered : after ≡ with_step seat (ended (flag_word f.words f.flag))

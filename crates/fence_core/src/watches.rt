@@ -155,7 +155,7 @@ impl Watches {
     ///
     /// Takes no memory.
     pub fn remove(&mut self, cookie: u64) -> bool
-        ensures told { result ≡ has_watch self.old cookie }
+        ensures found { result ≡ has_watch self.old cookie }
         ensures without { self.new ≡ without_watch self.old cookie }
     {
         let Some(place) = self.places.remove(cookie) else {
@@ -169,7 +169,7 @@ impl Watches {
     }
 
     /// Takes out the watches all of whose points are signalled at this reach, and gives their cookies in order of
-    /// registration.
+    /// registration. It is for any rise; a desk raises one context at a time, by `after_inc`.
     ///
     /// Fails with `Memory` alone, and only when a watch fires; then none has fired, and nothing has changed. The
     /// reach must be at least the last one that was handed in by a call that was not refused.

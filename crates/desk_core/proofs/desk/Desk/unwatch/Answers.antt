@@ -5,5 +5,5 @@ pub returns : goal.returns
 returns c = record {
   done =
       let value = as_number c.remove.result c.from.result c.from.ensures in
-      rw (← c.self.view_is, value) (IsDone-unwatch _ c.args.cookie c.remove.result c.remove.new.self c.remove.ensures.told c.remove.ensures.without);
+      rw (← c.self.view_is, value) (IsDone-unwatch _ c.args.cookie c.remove.result c.remove.new.self c.remove.ensures.found c.remove.ensures.without);
 }
