@@ -6,6 +6,7 @@ pub mod Fitting
 pub mod Fronts
 pub mod GivenLines
 pub mod Inputs
+pub mod Keyed
 pub mod LineLemmas
 pub mod Numbers
 pub mod Runs

@@ -1,5 +1,6 @@
 pub mod Cutting
 pub mod Following
+pub mod Keys
 pub mod Line
 pub mod Lines
 pub mod Number

@@ -1,5 +1,6 @@
 -- The table of commands: the word of each, the words that follow it, and the command that they make.
-use Rattle.std.specs.Prelude.{ℕ, Bool, true, false, ◌&&◌, is_some, if◌then◌else◌, List, [], ◌∷◌, Option, None, Some, option_map, codes}
+use Rattle.std.specs.Prelude.{ℕ, ◌==◌, Bool, true, false, ◌&&◌, is_some, if◌then◌else◌, List, [], ◌∷◌, map, Option, None, Some, option_map, codes}
+use Rattle.std.specs.Int.{w64, from_le_bytes}
 use Rattle.std.specs.Str.{bytes_eq}
 use Rattle.command_core.specs.declared.command.Command.{Command}
 use Rattle.command_core.specs.declared.command.Command.TheVariants as command
@@ -9,6 +10,7 @@ use Rattle.line_core.specs.declared.table.CommandWord.TheVariants.{Timeline, Inc
 use Rattle.line_core.specs.declared.table.Operand.{Operand}
 use Rattle.line_core.specs.declared.table.Operand.TheVariants.{Name, Number, Usage, Flags}
 use Rattle.line_core.specs.Following.{is_name, one_name, one_number, name_and_number, two_names_and_number, three_names, two_names_number_and_usage, two_names_and_flags, name_and_usage}
+use Rattle.line_core.specs.Keys.{key_of}
 use Rattle.line_core.specs.Number.{is_number}
 use Rattle.line_core.specs.Usages.{usage_of, flags_of}
 use Rattle.line_core.specs.Words.{are_none}
@@ -53,6 +55,18 @@ forms =
 abbrev pub form_at : List Form → List ℕ → Option Form
 form_at [] word = None
 form_at (form ∷ forms) word = if bytes_eq word form.word then Some form else form_at forms word
+
+-- a row's key, and what its word asks for
+abbrev pub keyed : CommandForm → ℕ × CommandWord
+keyed row = (from_le_bytes w64 row.key, row.asks)
+
+abbrev pub keyed_forms : List (ℕ × CommandWord)
+keyed_forms = map (λ form. (key_of form.word, form.asks)) forms
+
+-- what the word of a key asks for
+abbrev pub asked_at : List (ℕ × CommandWord) → ℕ → Option CommandWord
+asked_at [] key = None
+asked_at (row ∷ rows) key = if row.0 == key then Some row.1 else asked_at rows key
 
 -- whether a word may stand for an operand
 abbrev pub matches : Operand → List ℕ → Bool

@@ -3,11 +3,11 @@ ghost use Rattle.std.specs.Prelude.{◌≡◌, None, Some, if◌then◌else◌, 
 ghost use Rattle.line_core.specs.Words.{words_of};
 ghost use Rattle.line_core.specs.Following.{one_name, one_number, name_and_number, two_names_and_number};
 ghost use Rattle.line_core.specs.Following.{three_names, two_names_number_and_usage, two_names_and_flags, name_and_usage};
-ghost use Rattle.line_core.specs.Table.{command_from, form_at, forms};
-ghost use Rattle.line_core.specs.Words.{are_none};
+ghost use Rattle.line_core.specs.Table.{command_from};
+ghost use Rattle.line_core.specs.Words.{HasNoSpace, are_none};
 
 use crate::number::number;
-use crate::table::{CommandWord, command_form};
+use crate::table::{CommandWord, command_word};
 use crate::usages::{flags, usage};
 use crate::words::{first_word, four, one, three, two};
 use command_core::Command;
@@ -16,6 +16,7 @@ use point_core::{Name, Usage};
 /// The command of a line, by its first word and the bytes after it, or none if they fit no row.
 #[inline(never)]
 pub(crate) fn command(word: &[u8], rest: &[u8]) -> Option<Command>
+    requires word { HasNoSpace word.now }
     ensures command { result ≡ command_from word.now (words_of rest.now) }
 {
     match command_word(word) {
@@ -40,13 +41,6 @@ pub(crate) fn command(word: &[u8], rest: &[u8]) -> Option<Command>
         Some(CommandWord::Report) => report(rest),
         None => None,
     }
-}
-
-/// What the word asks for, or none if it is no command's.
-fn command_word(word: &[u8]) -> Option<CommandWord>
-    ensures word { result ≡ option_map (λ form. form.asks) (form_at forms word.now) }
-{
-    Some(command_form(word)?.asks)
 }
 
 // A function pays at its start for the locals of all that is inlined into it. So each command has a function of its own.

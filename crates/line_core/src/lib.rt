@@ -5,6 +5,7 @@
 
 mod command;
 mod cutter;
+mod keys;
 pub mod laws;
 mod line;
 mod number;

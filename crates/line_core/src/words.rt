@@ -2,7 +2,7 @@
 ghost use Rattle.std.specs.Prelude.{◌≡◌, ◌∷◌, [], option_map, MatchOption, length, ◌≤◌, position, not, take, IfSome};
 ghost use Rattle.std.specs.List.{prefix_len, position_or_len};
 ghost use Rattle.std.specs.Str.{bytes_eq};
-ghost use Rattle.line_core.specs.Words.{is_space, words_of, BeginsWithWord, one_of, two_of, three_of, four_of};
+ghost use Rattle.line_core.specs.Words.{is_space, words_of, BeginsWithWord, HasNoSpace, one_of, two_of, three_of, four_of};
 
 /// The first word, and the bytes after it.
 pub(crate) fn first_word(bytes: &[u8]) -> Option<(&[u8], &[u8])>
@@ -30,6 +30,7 @@ pub(crate) fn part_word(bytes: &[u8]) -> (&[u8], &[u8])
     requires begins { BeginsWithWord bytes.now }
     ensures words { words_of bytes.now ≡ result.0.now ∷ words_of result.1.now }
     ensures first { take 1 result.0.now ≡ take 1 bytes.now }
+    ensures whole { HasNoSpace result.0.now }
 {
     let end = first_space(bytes).unwrap_or(bytes.len());
     bytes.split_at(end)
