@@ -130,7 +130,7 @@ impl Buffers {
             return Err(Refusal::NoEntry);
         };
         let usage = SyncFlags::of(flags)?.import_usage();
-        add_all(table, file.points.as_slice(), usage, reach)
+        put_all(table, file.points.as_slice(), usage, reach)
     }
 
     /// The fences that an access with those flags has to wait for, as a listing to make a sync file of, as Linux's
@@ -218,10 +218,10 @@ impl Buffers {
     }
 }
 
-/// Adds the points of a file to a table, with that usage, once there are places for all.
+/// Puts the points of a file into a table, with that usage, once there are places for all.
 ///
 /// Fails with `Memory` alone, and leaves the table as it was.
-fn add_all(table: &mut Resv, points: &[Point], usage: Usage, reach: &Reach) -> Result<(), Refusal>
+fn put_all(table: &mut Resv, points: &[Point], usage: Usage, reach: &Reach) -> Result<(), Refusal>
     requires rising { HasRisingContexts points.now }
     ensures table { IsTable table.new }
     ensures agrees { OnOk result (AgreesAbove reach.now table.new.entries
@@ -231,7 +231,7 @@ fn add_all(table: &mut Resv, points: &[Point], usage: Usage, reach: &Reach) -> R
     ensures memory { IfErr result (λ e. e ≡ Memory) }
 {
     table.make_room(count(points), reach)?;
-    table.add_all(points, usage, reach);
+    table.put_all(points, usage, reach);
     Ok(())
 }
 

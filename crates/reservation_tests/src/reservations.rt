@@ -286,3 +286,31 @@ fn points_added_together(rt: HostRuntime) {
     let mut resv = Resv::new(rt.alloc()).expect(&rt, "a reservation");
     adds_together(&rt, &mut resv);
 }
+
+// Of points that are put together, one that is covered stays out, and one that covers an entry takes its place.
+fn puts_together(rt: &impl Abort, resv: &mut Resv) {
+    let zero = Reach::zero();
+    put(rt, resv, point(rt, 1, 9), Usage::Write, &zero);
+    put(rt, resv, point(rt, 2, 5), Usage::Read, &zero);
+    resv.put_all(&[], Usage::Read, &zero);
+    resv.reserve(3, &zero).expect(rt, "memory");
+    let points = [point(rt, 1, 8), point(rt, 2, 7), point(rt, 3, 4)];
+    resv.put_all(&points, Usage::Read, &zero);
+    has_room(rt, resv, PLACES - 3);
+    let rows = [
+        row(rt, Usage::Write, 1, 9),
+        row(rt, Usage::Read, 1, 9),
+        row(rt, Usage::Read, 2, 7),
+        row(rt, Usage::Read, 3, 4),
+        row(rt, Usage::Bookkeep, 1, 9),
+        row(rt, Usage::Bookkeep, 2, 7),
+        row(rt, Usage::Bookkeep, 3, 4),
+    ];
+    has_rows(rt, resv, &zero, &rows);
+}
+
+#[test]
+fn points_put_together(rt: HostRuntime) {
+    let mut resv = Resv::new(rt.alloc()).expect(&rt, "a reservation");
+    puts_together(&rt, &mut resv);
+}

@@ -2,6 +2,7 @@ pub mod Comparing
 pub mod Compaction
 pub mod Counting
 pub mod Dropping
+pub mod Placing
 pub mod Replacing
 pub mod RoundActs
 pub mod Rows

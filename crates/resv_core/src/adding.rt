@@ -30,7 +30,7 @@ pub(crate) fn add_all(entries: &mut Vec<Entry>, points: &[Point], usage: Usage, 
     }
 }
 
-fn entry_of(point: Point, usage: Usage) -> Entry
+pub(crate) fn entry_of(point: Point, usage: Usage) -> Entry
     ensures entry { result ≡ entry_of point usage }
     ensures context { HasContexts (result ∷ []) }
 {

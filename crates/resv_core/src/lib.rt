@@ -6,6 +6,7 @@
 mod adding;
 mod laws;
 mod plan;
+mod putting;
 mod resv;
 mod shared_table;
 mod table_rows;

@@ -10,6 +10,7 @@ ghost use Rattle.resv_core.specs.Resv.{IsTable, IsTrimmed, are_few, dropped_for,
 ghost use Rattle.resv_core.specs.Run.{Leaves, Reserve, Add, AddAll, Trim};
 
 use crate::adding::{SCANNED, add_all};
+use crate::putting::put_all;
 use crate::table_rows::rows_of;
 use crate::tops::{Tops, USAGES, compact, put_each};
 use point_core::{
@@ -189,6 +190,25 @@ impl Resv {
         }
     }
 
+    /// Puts fences of one usage together, once there is room for all of them. A fence stays out where an entry covers it, and
+    /// takes the place of one that gives way to it; it is compared with one entry alone, the last of its context at its usage or a
+    /// stronger one. The others take free places. So what they cover may stay until the table is trimmed. Without fences nothing
+    /// changes. Takes no memory.
+    ///
+    /// The kernel adds the fences of an imported sync file one after another.
+    pub fn put_all(&mut self, points: &[Point], usage: Usage, reach: &Reach)
+        requires room { length points.now ≤ self.old.room }
+        ensures table { IsTable self.new }
+        ensures agrees { Leaves (AddAll (entries_as usage points.now)) reach.now self.old.entries self.new.entries }
+        ensures falls { self.old.room ≤ self.new.room + length points.now }
+        ensures places { length self.new.entries + self.new.room ≡ length self.old.entries + self.old.room }
+        ensures nothing { points.now ≡ [] → self.new ≡ self.old }
+    {
+        if !points.is_empty() {
+            put_all(&mut self.entries, points, usage, reach);
+        }
+    }
+
     /// Adds a fence, so `reserve` first. In a table of less than `SCANNED` entries it takes no place where one of them covers
     /// the fence, and else replaces as `add` does. In a larger one it takes a free place without a look at the others, and
     /// what it covers stays until the table is trimmed. Takes no memory.
@@ -299,7 +319,7 @@ fn is_met(new: &Entry, old: &Entry, reach: &Reach) -> bool
 }
 
 /// Whether the old entry may be replaced by the new one: it is signalled, or the new one covers it.
-fn gives_way(new: &Entry, old: &Entry, reach: &Reach) -> bool
+pub(crate) fn gives_way(new: &Entry, old: &Entry, reach: &Reach) -> bool
     ensures { result ≡ gives_way reach.now new.now old.now }
 {
     is_signalled(old.point, reach) || covers(*new, *old)

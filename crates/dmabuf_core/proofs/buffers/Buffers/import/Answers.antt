@@ -24,23 +24,23 @@ returns-in_err-of-clause-unchanged c = OnErr-always c.from_residual.result _ (sa
 pub returns-in_err-of-clause-kept : goal.returns-in_err-of-clause-kept
 returns-in_err-of-clause-kept c = subst AreBuffers (c.self.view_is ∙ sym (same c)) c.self.invariant
 
-kept : (c : goal.After-self-2-1) → AreBuffers (c.get_mut.follows.lender c.add_all.new.table).entries
-kept c = subst AreBuffers (sym (c.get_mut.follows.holds c.add_all.new.table).0) (AreBuffers-set_value c.args.name.now c.self.inside.by_name.entries c.add_all.new.table c.self.invariant c.add_all.ensures.table)
+kept : (c : goal.After-self-2-1) → AreBuffers (c.get_mut.follows.lender c.put_all.new.table).entries
+kept c = subst AreBuffers (sym (c.get_mut.follows.holds c.put_all.new.table).0) (AreBuffers-set_value c.args.name.now c.self.inside.by_name.entries c.put_all.new.table c.self.invariant c.put_all.ensures.table)
 
-unwritten : (c : goal.After-self-2-1) → c.add_all.new.table ≡ c.in-Some.table.now → (c.get_mut.follows.lender c.add_all.new.table).entries ≡ c.args.self.now
+unwritten : (c : goal.After-self-2-1) → c.put_all.new.table ≡ c.in-Some.table.now → (c.get_mut.follows.lender c.put_all.new.table).entries ≡ c.args.self.now
 unwritten c is =
-    (c.get_mut.follows.holds c.add_all.new.table).0
-    ∙ set_value-same (pointwise nat_eq c.args.name.now) c.self.inside.by_name.entries c.add_all.new.table (sym c.in-Some.ensures.value ∙ ap Some (sym is))
+    (c.get_mut.follows.holds c.put_all.new.table).0
+    ∙ set_value-same (pointwise nat_eq c.args.name.now) c.self.inside.by_name.entries c.put_all.new.table (sym c.in-Some.ensures.value ∙ ap Some (sym is))
     ∙ c.self.view_is
 
 pub invariant_of-self-2 : goal.invariant_of-self-2
 invariant_of-self-2 c = kept c
 
 pub returns-clause-nothing : goal.returns-clause-nothing
-returns-clause-nothing c = λ none. unwritten c (c.add_all.ensures.nothing (c.as_slice.ensures ∙ ap (λ (f : File). f.points) c.file.view_is ∙ none))
+returns-clause-nothing c = λ none. unwritten c (c.put_all.ensures.nothing (c.as_slice.ensures ∙ ap (λ (f : File). f.points) c.file.view_is ∙ none))
 
 pub returns-clause-unchanged : goal.returns-clause-unchanged
-returns-clause-unchanged c = OnErr-weaker c.add_all.result _ _ (unwritten c) c.add_all.ensures.unchanged
+returns-clause-unchanged c = OnErr-weaker c.put_all.result _ _ (unwritten c) c.put_all.ensures.unchanged
 
 pub returns-clause-kept : goal.returns-clause-kept
 returns-clause-kept c = kept c

@@ -1,5 +1,0 @@
-use Rattle.dmabuf_core.proofs.Adding.{AgreesAbove-added}
-use Rattle.dmabuf_core.proofs.buffers.add_all.Goals as goal
-
-pub returns-clause-agrees : goal.returns-clause-agrees
-returns-clause-agrees c = AgreesAbove-added c.args.reach.now c.args.usage c.args.points.now c.make_room.ensures.agrees c.add_all.ensures.agrees
