@@ -8,5 +8,6 @@ pub mod GivenLines
 pub mod Inputs
 pub mod Keyed
 pub mod LineLemmas
+pub mod Lowest
 pub mod Numbers
 pub mod Runs

@@ -3,6 +3,7 @@ pub mod Following
 pub mod Keys
 pub mod Line
 pub mod Lines
+pub mod Marks
 pub mod Number
 pub mod Reading
 pub mod Script

@@ -1,6 +1,5 @@
 // Lines that are commands, by the table.
 ghost use Rattle.std.specs.Prelude.{◌≡◌, None, Some, if◌then◌else◌, option_map};
-ghost use Rattle.line_core.specs.Words.{words_of};
 ghost use Rattle.line_core.specs.Following.{one_name, one_number, name_and_number, two_names_and_number};
 ghost use Rattle.line_core.specs.Following.{three_names, two_names_number_and_usage, two_names_and_flags, name_and_usage};
 ghost use Rattle.line_core.specs.Table.{command_from};
@@ -9,15 +8,15 @@ ghost use Rattle.line_core.specs.Words.{HasNoSpace, are_none};
 use crate::number::number;
 use crate::table::{CommandWord, command_word};
 use crate::usages::{flags, usage};
-use crate::words::{first_word, four, one, three, two};
+use crate::words::{Words, are_none, four, one, three, two};
 use command_core::Command;
 use point_core::{Name, Usage};
 
 /// The command of a line, by its first word and the bytes after it, or none if they fit no row.
 #[inline(never)]
-pub(crate) fn command(word: &[u8], rest: &[u8]) -> Option<Command>
+pub(crate) fn command(word: &[u8], rest: &Words<'_>) -> Option<Command>
     requires word { HasNoSpace word.now }
-    ensures command { result ≡ command_from word.now (words_of rest.now) }
+    ensures command { result ≡ command_from word.now rest.now }
 {
     match command_word(word) {
         Some(CommandWord::Timeline) => timeline(rest),
@@ -46,190 +45,184 @@ pub(crate) fn command(word: &[u8], rest: &[u8]) -> Option<Command>
 // A function pays at its start for the locals of all that is inlined into it. So each command has a function of its own.
 
 #[inline(never)]
-fn timeline(rest: &[u8]) -> Option<Command>
-    ensures command { result ≡ option_map Command.Timeline (one_name (words_of rest.now)) }
+fn timeline(rest: &Words<'_>) -> Option<Command>
+    ensures command { result ≡ option_map Command.Timeline (one_name rest.now) }
 {
     Some(Command::Timeline(one_name(rest)?))
 }
 
 #[inline(never)]
-fn inc(rest: &[u8]) -> Option<Command>
-    ensures command { result ≡ option_map (λ w. Command.Inc w.0 w.1) (name_and_number (words_of rest.now)) }
+fn inc(rest: &Words<'_>) -> Option<Command>
+    ensures command { result ≡ option_map (λ w. Command.Inc w.0 w.1) (name_and_number rest.now) }
 {
     let (timeline, count) = name_and_number(rest)?;
     Some(Command::Inc(timeline, count))
 }
 
 #[inline(never)]
-fn value(rest: &[u8]) -> Option<Command>
-    ensures command { result ≡ option_map Command.Value (one_name (words_of rest.now)) }
+fn value(rest: &Words<'_>) -> Option<Command>
+    ensures command { result ≡ option_map Command.Value (one_name rest.now) }
 {
     Some(Command::Value(one_name(rest)?))
 }
 
 #[inline(never)]
-fn shut(rest: &[u8]) -> Option<Command>
-    ensures command { result ≡ option_map Command.Shut (one_name (words_of rest.now)) }
+fn shut(rest: &Words<'_>) -> Option<Command>
+    ensures command { result ≡ option_map Command.Shut (one_name rest.now) }
 {
     Some(Command::Shut(one_name(rest)?))
 }
 
 #[inline(never)]
-fn fence(rest: &[u8]) -> Option<Command>
-    ensures command { result ≡ option_map (λ w. Command.Fence w.0 w.1 w.2) (two_names_and_number (words_of rest.now)) }
+fn fence(rest: &Words<'_>) -> Option<Command>
+    ensures command { result ≡ option_map (λ w. Command.Fence w.0 w.1 w.2) (two_names_and_number rest.now) }
 {
     let (file, timeline, point) = two_names_and_number(rest)?;
     Some(Command::Fence(file, timeline, point))
 }
 
 #[inline(never)]
-fn merge(rest: &[u8]) -> Option<Command>
-    ensures command { result ≡ option_map (λ w. Command.Merge w.0 w.1 w.2) (three_names (words_of rest.now)) }
+fn merge(rest: &Words<'_>) -> Option<Command>
+    ensures command { result ≡ option_map (λ w. Command.Merge w.0 w.1 w.2) (three_names rest.now) }
 {
     let (file, first, second) = three_names(rest)?;
     Some(Command::Merge(file, first, second))
 }
 
 #[inline(never)]
-fn close(rest: &[u8]) -> Option<Command>
-    ensures command { result ≡ option_map Command.Close (one_name (words_of rest.now)) }
+fn close(rest: &Words<'_>) -> Option<Command>
+    ensures command { result ≡ option_map Command.Close (one_name rest.now) }
 {
     Some(Command::Close(one_name(rest)?))
 }
 
 #[inline(never)]
-fn wait(rest: &[u8]) -> Option<Command>
-    ensures command { result ≡ option_map Command.Wait (one_name (words_of rest.now)) }
+fn wait(rest: &Words<'_>) -> Option<Command>
+    ensures command { result ≡ option_map Command.Wait (one_name rest.now) }
 {
     Some(Command::Wait(one_name(rest)?))
 }
 
 #[inline(never)]
-fn info(rest: &[u8]) -> Option<Command>
-    ensures command { result ≡ option_map Command.Info (one_name (words_of rest.now)) }
+fn info(rest: &Words<'_>) -> Option<Command>
+    ensures command { result ≡ option_map Command.Info (one_name rest.now) }
 {
     Some(Command::Info(one_name(rest)?))
 }
 
 #[inline(never)]
-fn buffer(rest: &[u8]) -> Option<Command>
-    ensures command { result ≡ option_map Command.Buffer (one_name (words_of rest.now)) }
+fn buffer(rest: &Words<'_>) -> Option<Command>
+    ensures command { result ≡ option_map Command.Buffer (one_name rest.now) }
 {
     Some(Command::Buffer(one_name(rest)?))
 }
 
 #[inline(never)]
-fn add(rest: &[u8]) -> Option<Command>
-    ensures command { result ≡ option_map (λ w. Command.Add w.0 w.1 w.2 w.3) (two_names_number_and_usage (words_of rest.now)) }
+fn add(rest: &Words<'_>) -> Option<Command>
+    ensures command { result ≡ option_map (λ w. Command.Add w.0 w.1 w.2 w.3) (two_names_number_and_usage rest.now) }
 {
     let (buffer, timeline, point, usage) = two_names_number_and_usage(rest)?;
     Some(Command::Add(buffer, timeline, point, usage))
 }
 
 #[inline(never)]
-fn import(rest: &[u8]) -> Option<Command>
-    ensures command { result ≡ option_map (λ w. Command.Import w.0 w.1 w.2) (two_names_and_flags (words_of rest.now)) }
+fn import(rest: &Words<'_>) -> Option<Command>
+    ensures command { result ≡ option_map (λ w. Command.Import w.0 w.1 w.2) (two_names_and_flags rest.now) }
 {
     let (buffer, file, flags) = two_names_and_flags(rest)?;
     Some(Command::Import(buffer, file, flags))
 }
 
 #[inline(never)]
-fn export(rest: &[u8]) -> Option<Command>
-    ensures command { result ≡ option_map (λ w. Command.Export w.0 w.1 w.2) (two_names_and_flags (words_of rest.now)) }
+fn export(rest: &Words<'_>) -> Option<Command>
+    ensures command { result ≡ option_map (λ w. Command.Export w.0 w.1 w.2) (two_names_and_flags rest.now) }
 {
     let (file, buffer, flags) = two_names_and_flags(rest)?;
     Some(Command::Export(file, buffer, flags))
 }
 
 #[inline(never)]
-fn test(rest: &[u8]) -> Option<Command>
-    ensures command { result ≡ option_map (λ w. Command.Test w.0 w.1) (name_and_usage (words_of rest.now)) }
+fn test(rest: &Words<'_>) -> Option<Command>
+    ensures command { result ≡ option_map (λ w. Command.Test w.0 w.1) (name_and_usage rest.now) }
 {
     let (buffer, usage) = name_and_usage(rest)?;
     Some(Command::Test(buffer, usage))
 }
 
 #[inline(never)]
-fn trim(rest: &[u8]) -> Option<Command>
-    ensures command { result ≡ option_map Command.Trim (one_name (words_of rest.now)) }
+fn trim(rest: &Words<'_>) -> Option<Command>
+    ensures command { result ≡ option_map Command.Trim (one_name rest.now) }
 {
     Some(Command::Trim(one_name(rest)?))
 }
 
 #[inline(never)]
-fn watch(rest: &[u8]) -> Option<Command>
-    ensures command { result ≡ option_map (λ w. Command.Watch w.0 w.1) (name_and_number (words_of rest.now)) }
+fn watch(rest: &Words<'_>) -> Option<Command>
+    ensures command { result ≡ option_map (λ w. Command.Watch w.0 w.1) (name_and_number rest.now) }
 {
     let (file, cookie) = name_and_number(rest)?;
     Some(Command::Watch(file, cookie))
 }
 
 #[inline(never)]
-fn unwatch(rest: &[u8]) -> Option<Command>
-    ensures command { result ≡ option_map Command.Unwatch (one_number (words_of rest.now)) }
+fn unwatch(rest: &Words<'_>) -> Option<Command>
+    ensures command { result ≡ option_map Command.Unwatch (one_number rest.now) }
 {
     Some(Command::Unwatch(one_number(rest)?))
 }
 
 #[inline(never)]
-fn show(rest: &[u8]) -> Option<Command>
-    ensures command { result ≡ option_map Command.Show (one_name (words_of rest.now)) }
+fn show(rest: &Words<'_>) -> Option<Command>
+    ensures command { result ≡ option_map Command.Show (one_name rest.now) }
 {
     Some(Command::Show(one_name(rest)?))
 }
 
-fn report(rest: &[u8]) -> Option<Command>
-    ensures command { result ≡ (if are_none (words_of rest.now) then Some Command.Report else None) }
+fn report(rest: &Words<'_>) -> Option<Command>
+    ensures command { result ≡ (if are_none rest.now then Some Command.Report else None) }
 {
-    if has_no_word(rest) {
+    if are_none(rest) {
         Some(Command::Report)
     } else {
         None
     }
 }
 
-fn has_no_word(rest: &[u8]) -> bool
-    ensures words { result ≡ are_none (words_of rest.now) }
-{
-    first_word(rest).is_none()
-}
-
-fn one_name(rest: &[u8]) -> Option<Name>
-    ensures words { result ≡ one_name (words_of rest.now) }
+fn one_name(rest: &Words<'_>) -> Option<Name>
+    ensures words { result ≡ one_name rest.now }
 {
     Name::read(one(rest)?)
 }
 
-fn one_number(rest: &[u8]) -> Option<u64>
-    ensures words { result ≡ one_number (words_of rest.now) }
+fn one_number(rest: &Words<'_>) -> Option<u64>
+    ensures words { result ≡ one_number rest.now }
 {
     number(one(rest)?)
 }
 
-fn name_and_number(rest: &[u8]) -> Option<(Name, u64)>
-    ensures words { result ≡ name_and_number (words_of rest.now) }
+fn name_and_number(rest: &Words<'_>) -> Option<(Name, u64)>
+    ensures words { result ≡ name_and_number rest.now }
 {
     let (first, second) = two(rest)?;
     Some((Name::read(first)?, number(second)?))
 }
 
-fn two_names_and_number(rest: &[u8]) -> Option<(Name, Name, u64)>
-    ensures words { result ≡ two_names_and_number (words_of rest.now) }
+fn two_names_and_number(rest: &Words<'_>) -> Option<(Name, Name, u64)>
+    ensures words { result ≡ two_names_and_number rest.now }
 {
     let (first, second, third) = three(rest)?;
     Some((Name::read(first)?, Name::read(second)?, number(third)?))
 }
 
-fn three_names(rest: &[u8]) -> Option<(Name, Name, Name)>
-    ensures words { result ≡ three_names (words_of rest.now) }
+fn three_names(rest: &Words<'_>) -> Option<(Name, Name, Name)>
+    ensures words { result ≡ three_names rest.now }
 {
     let (first, second, third) = three(rest)?;
     Some((Name::read(first)?, Name::read(second)?, Name::read(third)?))
 }
 
-fn two_names_number_and_usage(rest: &[u8]) -> Option<(Name, Name, u64, Usage)>
-    ensures words { result ≡ two_names_number_and_usage (words_of rest.now) }
+fn two_names_number_and_usage(rest: &Words<'_>) -> Option<(Name, Name, u64, Usage)>
+    ensures words { result ≡ two_names_number_and_usage rest.now }
 {
     let (first, second, third, fourth) = four(rest)?;
     Some((
@@ -240,15 +233,15 @@ fn two_names_number_and_usage(rest: &[u8]) -> Option<(Name, Name, u64, Usage)>
     ))
 }
 
-fn two_names_and_flags(rest: &[u8]) -> Option<(Name, Name, u32)>
-    ensures words { result ≡ two_names_and_flags (words_of rest.now) }
+fn two_names_and_flags(rest: &Words<'_>) -> Option<(Name, Name, u32)>
+    ensures words { result ≡ two_names_and_flags rest.now }
 {
     let (first, second, third) = three(rest)?;
     Some((Name::read(first)?, Name::read(second)?, flags(third)?))
 }
 
-fn name_and_usage(rest: &[u8]) -> Option<(Name, Usage)>
-    ensures words { result ≡ name_and_usage (words_of rest.now) }
+fn name_and_usage(rest: &Words<'_>) -> Option<(Name, Usage)>
+    ensures words { result ≡ name_and_usage rest.now }
 {
     let (first, second) = two(rest)?;
     Some((Name::read(first)?, usage(second)?))

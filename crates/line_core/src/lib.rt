@@ -8,6 +8,7 @@ mod cutter;
 mod keys;
 pub mod laws;
 mod line;
+mod marks;
 mod number;
 mod script;
 mod script_lines;

@@ -3,7 +3,7 @@ ghost use Rattle.std.specs.Prelude.{◌≡◌};
 ghost use Rattle.line_core.specs.Line.{body_of};
 
 use crate::command::command;
-use crate::words::{from_word, part_word};
+use crate::words::Words;
 use command_core::Command;
 use point_core::Refusal;
 
@@ -37,12 +37,11 @@ pub fn body_of(line: &[u8]) -> Option<Body>
     if line.len() > LINE_BYTES {
         return Some(Body::Bad(Refusal::LongLine));
     }
-    let line = from_word(line)?;
-    if line.starts_with(b"#") {
+    let (word, rest) = Words::of(line).first()?;
+    if word.starts_with(b"#") {
         return None;
     }
-    let (word, rest) = part_word(line);
-    match command(word, rest) {
+    match command(word, &rest) {
         Some(command) => Some(Body::Cmd(command)),
         None => Some(Body::Bad(Refusal::Syntax)),
     }

@@ -1,21 +1,98 @@
 // Words of a line: runs of bytes other than the space.
-ghost use Rattle.std.specs.Prelude.{◌≡◌, ◌∷◌, [], option_map, MatchOption, length, ◌≤◌, position, not, take, IfSome};
+ghost use Rattle.std.specs.Prelude.{◌≡◌, ◌∷◌, [], option_map, MatchOption, length, ◌≤◌, position, not, IfSome};
 ghost use Rattle.std.specs.List.{prefix_len, position_or_len};
 ghost use Rattle.std.specs.Str.{bytes_eq};
-ghost use Rattle.line_core.specs.Words.{is_space, words_of, BeginsWithWord, HasNoSpace, one_of, two_of, three_of, four_of};
+ghost use Rattle.line_core.specs.Marks.{HasMarks, MayHaveMarks};
+ghost use Rattle.line_core.specs.Words.{is_space, words_of, BeginsWithWord, HasNoSpace, are_none, one_of, two_of, three_of, four_of};
 
-/// The first word, and the bytes after it.
-pub(crate) fn first_word(bytes: &[u8]) -> Option<(&[u8], &[u8])>
+use crate::marks::{marked_end, marked_start, marks, marks_from};
+use std::marker::Model;
+
+/// The words of some bytes, in order.
+#[derive(Drop)]
+pub(crate) struct Words<'a> {
+    bytes: &'a [u8],
+    // if the bytes are few
+    marks: Option<u64>,
+}
+
+impl<'a> Model for Words<'a> {
+    ghost use Rattle.std.specs.Prelude.{List, ℕ};
+    ghost use Rattle.line_core.specs.Marks.{MayHaveMarks};
+    ghost use Rattle.line_core.specs.Words.{words_of};
+
+    ghost Value = { List (List ℕ) };
+
+    ghost view = { λ w. words_of w.bytes.now };
+
+    ghost invariant = { λ w. MayHaveMarks w.bytes.now w.marks };
+}
+
+impl<'a> Words<'a> {
+    /// The words of those bytes.
+    pub(crate) fn of(bytes: &'a [u8]) -> Words<'a>
+        ensures words { result ≡ words_of bytes.now }
+    {
+        let marks = marks(bytes);
+        Words { bytes, marks }
+    }
+
+    /// The first word, and the words after it.
+    #[inline(always)]
+    pub(crate) fn first(&self) -> Option<(&'a [u8], Words<'a>)>
+        ensures words { MatchOption result (self.now ≡ []) (λ w. self.now ≡ w.0.now ∷ w.1) }
+        ensures whole { IfSome result (λ w. HasNoSpace w.0.now) }
+    {
+        let (word, bytes, marks) = first_word(self.bytes, self.marks)?;
+        Some((word, Words { bytes, marks }))
+    }
+}
+
+/// The first word, the bytes after it, and their marks, if there are any.
+#[inline(always)]
+fn first_word(bytes: &[u8], marks: Option<u64>) -> Option<(&[u8], &[u8], Option<u64>)>
+    requires marks { MayHaveMarks bytes.now marks }
     ensures words { MatchOption result
         (words_of bytes.now ≡ [])
         (λ w. words_of bytes.now ≡ w.0.now ∷ words_of w.1.now) }
+    ensures whole { IfSome result (λ w. HasNoSpace w.0.now) }
+    ensures marks { IfSome result (λ w. MayHaveMarks w.1.now w.2) }
+{
+    match marks {
+        Some(marks) => first_by_marks(bytes, marks),
+        None => first_by_bytes(bytes),
+    }
+}
+
+#[inline(always)]
+fn first_by_bytes(bytes: &[u8]) -> Option<(&[u8], &[u8], Option<u64>)>
+    ensures words { MatchOption result
+        (words_of bytes.now ≡ [])
+        (λ w. words_of bytes.now ≡ w.0.now ∷ words_of w.1.now) }
+    ensures whole { IfSome result (λ w. HasNoSpace w.0.now) }
+    ensures marks { IfSome result (λ w. MayHaveMarks w.1.now w.2) }
 {
     let bytes = from_word(bytes)?;
-    Some(part_word(bytes))
+    let (word, rest) = part_word(bytes);
+    Some((word, rest, None))
+}
+
+#[inline(always)]
+fn first_by_marks(bytes: &[u8], marks: u64) -> Option<(&[u8], &[u8], Option<u64>)>
+    requires marks { HasMarks bytes.now marks }
+    ensures words { MatchOption result
+        (words_of bytes.now ≡ [])
+        (λ w. words_of bytes.now ≡ w.0.now ∷ words_of w.1.now) }
+    ensures whole { IfSome result (λ w. HasNoSpace w.0.now) }
+    ensures marks { IfSome result (λ w. MayHaveMarks w.1.now w.2) }
+{
+    let (bytes, marks) = from_marked_word(bytes, marks)?;
+    let (word, rest, marks) = part_marked_word(bytes, marks);
+    Some((word, rest, Some(marks)))
 }
 
 /// The bytes from the first word on.
-pub(crate) fn from_word(bytes: &[u8]) -> Option<&[u8]>
+fn from_word(bytes: &[u8]) -> Option<&[u8]>
     ensures words { MatchOption result
         (words_of bytes.now ≡ [])
         (λ b. words_of bytes.now ≡ words_of b.now) }
@@ -25,15 +102,40 @@ pub(crate) fn from_word(bytes: &[u8]) -> Option<&[u8]>
     Some(&bytes[start..])
 }
 
+/// The same, with their marks.
+fn from_marked_word(bytes: &[u8], marks: u64) -> Option<(&[u8], u64)>
+    requires marks { HasMarks bytes.now marks }
+    ensures words { MatchOption result
+        (words_of bytes.now ≡ [])
+        (λ b. words_of bytes.now ≡ words_of b.0.now) }
+    ensures begins { IfSome result (λ b. BeginsWithWord b.0.now) }
+    ensures marks { IfSome result (λ b. HasMarks b.0.now b.1) }
+{
+    let start = marked_start(bytes, marks)?;
+    Some((&bytes[start..], marks_from(bytes, marks, start)))
+}
+
 /// The word that the bytes begin with, and the bytes after it.
-pub(crate) fn part_word(bytes: &[u8]) -> (&[u8], &[u8])
+fn part_word(bytes: &[u8]) -> (&[u8], &[u8])
     requires begins { BeginsWithWord bytes.now }
     ensures words { words_of bytes.now ≡ result.0.now ∷ words_of result.1.now }
-    ensures first { take 1 result.0.now ≡ take 1 bytes.now }
     ensures whole { HasNoSpace result.0.now }
 {
     let end = first_space(bytes).unwrap_or(bytes.len());
     bytes.split_at(end)
+}
+
+/// The same, with the marks of the bytes after it.
+fn part_marked_word(bytes: &[u8], marks: u64) -> (&[u8], &[u8], u64)
+    requires begins { BeginsWithWord bytes.now }
+    requires marks { HasMarks bytes.now marks }
+    ensures words { words_of bytes.now ≡ result.0.now ∷ words_of result.1.now }
+    ensures whole { HasNoSpace result.0.now }
+    ensures marks { HasMarks result.1.now result.2 }
+{
+    let end = marked_end(bytes, marks);
+    let (word, rest) = bytes.split_at(end);
+    (word, rest, marks_from(bytes, marks, end))
 }
 
 fn first_other_than_space(bytes: &[u8]) -> Option<usize>
@@ -48,41 +150,48 @@ fn first_space(bytes: &[u8]) -> Option<usize>
     bytes.iter().position(|byte| *byte == b' ')
 }
 
-/// The word, if there is exactly one.
-pub(crate) fn one(bytes: &[u8]) -> Option<&[u8]>
-    ensures words { option_map (λ w. w.now) result ≡ one_of (words_of bytes.now) }
+/// Whether there is no word.
+pub(crate) fn are_none(words: &Words<'_>) -> bool
+    ensures words { result ≡ are_none words.now }
 {
-    let (word, rest) = first_word(bytes)?;
-    match first_word(rest) {
+    words.first().is_none()
+}
+
+/// The word, if there is exactly one.
+pub(crate) fn one<'a>(words: &Words<'a>) -> Option<&'a [u8]>
+    ensures words { option_map (λ w. w.now) result ≡ one_of words.now }
+{
+    let (word, rest) = words.first()?;
+    match rest.first() {
         None => Some(word),
         Some(_) => None,
     }
 }
 
 /// The words, if there are exactly two.
-pub(crate) fn two(bytes: &[u8]) -> Option<(&[u8], &[u8])>
-    ensures words { option_map (λ w. (w.0.now, w.1.now)) result ≡ two_of (words_of bytes.now) }
+pub(crate) fn two<'a>(words: &Words<'a>) -> Option<(&'a [u8], &'a [u8])>
+    ensures words { option_map (λ w. (w.0.now, w.1.now)) result ≡ two_of words.now }
 {
-    let (first, rest) = first_word(bytes)?;
-    let second = one(rest)?;
+    let (first, rest) = words.first()?;
+    let second = one(&rest)?;
     Some((first, second))
 }
 
 /// The words, if there are exactly three.
-pub(crate) fn three(bytes: &[u8]) -> Option<(&[u8], &[u8], &[u8])>
-    ensures words { option_map (λ w. (w.0.now, w.1.now, w.2.now)) result ≡ three_of (words_of bytes.now) }
+pub(crate) fn three<'a>(words: &Words<'a>) -> Option<(&'a [u8], &'a [u8], &'a [u8])>
+    ensures words { option_map (λ w. (w.0.now, w.1.now, w.2.now)) result ≡ three_of words.now }
 {
-    let (first, rest) = first_word(bytes)?;
-    let (second, third) = two(rest)?;
+    let (first, rest) = words.first()?;
+    let (second, third) = two(&rest)?;
     Some((first, second, third))
 }
 
 /// The words, if there are exactly four.
-pub(crate) fn four(bytes: &[u8]) -> Option<(&[u8], &[u8], &[u8], &[u8])>
-    ensures words { option_map (λ w. (w.0.now, w.1.now, w.2.now, w.3.now)) result ≡ four_of (words_of bytes.now) }
+pub(crate) fn four<'a>(words: &Words<'a>) -> Option<(&'a [u8], &'a [u8], &'a [u8], &'a [u8])>
+    ensures words { option_map (λ w. (w.0.now, w.1.now, w.2.now, w.3.now)) result ≡ four_of words.now }
 {
-    let (first, rest) = first_word(bytes)?;
-    let (second, third, fourth) = three(rest)?;
+    let (first, rest) = words.first()?;
+    let (second, third, fourth) = three(&rest)?;
     Some((first, second, third, fourth))
 }
 

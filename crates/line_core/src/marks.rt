@@ -1,0 +1,96 @@
+// Marks of bytes: a number with a bit for each byte that says whether the byte is of a word. With them words are found without
+// a look at each byte.
+ghost use Rattle.std.specs.Prelude.{◌≡◌, ◌+◌, ◌*◌, ◌≤◌, not, drop, take, length, position, unwrap_or, IfSome};
+ghost use Rattle.line_core.specs.Marks.{HasMarks, MayHaveMarks, marks_of};
+ghost use Rattle.line_core.specs.Words.{is_space};
+
+use std::simd::prelude::*;
+
+/// How many bytes are compared at once, and half as many.
+pub(crate) const LANES: usize = 16;
+
+const HALF_LANES: usize = 8;
+
+/// The marks of the bytes, or none if these are fewer than half the lanes or more than twice the lanes.
+pub(crate) fn marks(bytes: &[u8]) -> Option<u64>
+    ensures marks { MayHaveMarks bytes.now result }
+{
+    let count = bytes.len();
+    if count < HALF_LANES || count > 2 * LANES {
+        None
+    } else if count < LANES {
+        Some(marks_of_halves(bytes))
+    } else {
+        Some(marks_of_lanes(bytes))
+    }
+}
+
+/// By the first bytes and the last, which may overlap.
+fn marks_of_lanes(bytes: &[u8]) -> u64
+    requires least { LANES ≤ length bytes.now }
+    requires most { length bytes.now ≤ 2 * LANES }
+    ensures marks { HasMarks bytes.now result }
+{
+    let last = bytes.len() - LANES;
+    let more = lane_marks(bytes, last) >> (LANES - last);
+    (more << LANES) | lane_marks(bytes, 0)
+}
+
+fn marks_of_halves(bytes: &[u8]) -> u64
+    requires least { HALF_LANES ≤ length bytes.now }
+    requires most { length bytes.now ≤ LANES }
+    ensures marks { HasMarks bytes.now result }
+{
+    let last = bytes.len() - HALF_LANES;
+    let more = half_lane_marks(bytes, last) >> (HALF_LANES - last);
+    (more << HALF_LANES) | half_lane_marks(bytes, 0)
+}
+
+fn lane_marks(bytes: &[u8], start: usize) -> u64
+    requires within { start + LANES ≤ length bytes.now }
+    ensures marks { result ≡ marks_of (take LANES (drop start bytes.now)) }
+{
+    u8x16::from_slice(&bytes[start..])
+        .simd_ne(u8x16::splat(b' '))
+        .to_bitmask()
+}
+
+fn half_lane_marks(bytes: &[u8], start: usize) -> u64
+    requires within { start + HALF_LANES ≤ length bytes.now }
+    ensures marks { result ≡ marks_of (take HALF_LANES (drop start bytes.now)) }
+{
+    u8x8::from_slice(&bytes[start..])
+        .simd_ne(u8x8::splat(b' '))
+        .to_bitmask()
+}
+
+/// Where the first word begins. The bytes are for the contract alone, here and below.
+pub(crate) fn marked_start(bytes: &[u8], marks: u64) -> Option<usize>
+    requires marks { HasMarks bytes.now marks }
+    ensures place { result ≡ position (λ b. not (is_space b)) bytes.now }
+    ensures within { IfSome result (λ start. start ≤ length bytes.now) }
+{
+    if marks == 0 {
+        None
+    } else {
+        Some(marks.trailing_zeros() as usize)
+    }
+}
+
+/// Where the word ends that the bytes begin with.
+pub(crate) fn marked_end(bytes: &[u8], marks: u64) -> usize
+    requires marks { HasMarks bytes.now marks }
+    ensures place { unwrap_or (position is_space bytes.now) (length bytes.now) ≡ result }
+    ensures within { result ≤ length bytes.now }
+{
+    marks.trailing_ones() as usize
+}
+
+/// The marks of the bytes from a place on.
+pub(crate) fn marks_from(bytes: &[u8], marks: u64, start: usize) -> u64
+    requires marks { HasMarks bytes.now marks }
+    requires within { start ≤ length bytes.now }
+    ensures marks { HasMarks (drop start bytes.now) result }
+{
+    marks >> start
+}
