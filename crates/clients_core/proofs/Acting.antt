@@ -4,9 +4,10 @@ use mathlib.Core.Logic.{dite}
 use native.Mathlib.Decide.{ℕ_discrete}
 use Rattle.std.specs.Prelude.{◌⊎◌, slice_get}
 use Rattle.std.proofs.lemmas.Bool.Decides.{eqb_tells}
-use Rattle.std.proofs.lemmas.List.{take_more, take-append-drop, length-set}
+use Rattle.std.proofs.lemmas.List.{drop_at, get_or-map, length-map, length-set, take_at, take_more, take-append-drop}
 use Rattle.std.proofs.lemmas.List.Concat.{flat_map-append}
-use Rattle.std.proofs.lemmas.List.Elements.{All-append, All-cons, All-head, All-nil, All-tail, All-take}
+use Rattle.std.proofs.lemmas.List.Elements.{All-append, All-cons, All-drop, All-get_or, All-head, All-nil, All-tail, All-take}
+use Rattle.std.proofs.lemmas.List.Sums.{sum_by-append, sum_by_more_le}
 use Rattle.std.specs.List.{flat_map, range_with_len}
 use Rattle.std.proofs.lemmas.Option.{none-some, same_Some, slice_get_read, slice_get_within, get_or_from_slice_get}
 use Rattle.point_core.specs.declared.entry.Point.{Point}
@@ -19,8 +20,8 @@ use Rattle.words_core.specs.Seat.{SeatModel}
 use Rattle.resv_core.specs.declared.plan.Act.{Act}
 use Rattle.resv_core.specs.declared.plan.Act.TheVariants.{Inc, Put, Look}
 use Rattle.resv_core.specs.Resv.{entry_of}
-use Rattle.resv_core.specs.Rounds.{round_of, rounds_of}
-use Rattle.resv_core.specs.Settled.{IsWithin, put_by, puts_of}
+use Rattle.resv_core.specs.Rounds.{in_round, round_of, rounds_of}
+use Rattle.resv_core.specs.Settled.{IsWithin, increment_by, increments_of, put_by, puts_of}
 use Rattle.clients_core.specs.declared.own_puts.OwnPuts.{OwnPuts}
 use Rattle.clients_core.specs.OwnPuts.{AreOwnPuts}
 use Rattle.clients_core.specs.Acting.{ClientModel, KnowPuts, HasActed, HaveActed, HasStopped}
@@ -147,36 +148,74 @@ module _ (puts : ℕ → Entry → SeatModel → SeatModel → Result (Unit {0})
 
 -- the rounds before one, that one, and the rounds after it
 
-rounds-parted : (client next a i k : ℕ) → flat_map (round_of client next) (range_with_len a (i + k)) ≡ flat_map (round_of client next) (range_with_len a i) ++ flat_map (round_of client next) (range_with_len (a + i) k)
-rounds-parted client next a zero k =
+rounds-parted : (acts : List Act) (a i k : ℕ) → flat_map (round_of acts) (range_with_len a (i + k)) ≡ flat_map (round_of acts) (range_with_len a i) ++ flat_map (round_of acts) (range_with_len (a + i) k)
+rounds-parted acts a zero k =
     let none : zero + k ≡ k = omega arith in
     let same : a ≡ a + 0 = omega arith in
-    ap (λ (n : ℕ). flat_map (round_of client next) (range_with_len a n)) none ∙ ap (λ (b : ℕ). flat_map (round_of client next) (range_with_len b k)) same
-rounds-parted client next a (suc i) k =
+    ap (λ (n : ℕ). flat_map (round_of acts) (range_with_len a n)) none ∙ ap (λ (b : ℕ). flat_map (round_of acts) (range_with_len b k)) same
+rounds-parted acts a (suc i) k =
     let more : suc i + k ≡ suc (i + k) = omega arith in
     let same : a + 1 + i ≡ a + suc i = omega arith in
-    ap (λ (n : ℕ). flat_map (round_of client next) (range_with_len a n)) more
-    ∙ ap (λ (acts : List Act). round_of client next a ++ acts) (rounds-parted client next (a + 1) i k ∙ ap (λ (b : ℕ). flat_map (round_of client next) (range_with_len (a + 1) i) ++ flat_map (round_of client next) (range_with_len b k)) same)
-    ∙ sym (append_assoc (round_of client next a) (flat_map (round_of client next) (range_with_len (a + 1) i)) (flat_map (round_of client next) (range_with_len (a + suc i) k)))
+    ap (λ (n : ℕ). flat_map (round_of acts) (range_with_len a n)) more
+    ∙ ap (λ (rest : List Act). round_of acts a ++ rest) (rounds-parted acts (a + 1) i k ∙ ap (λ (b : ℕ). flat_map (round_of acts) (range_with_len (a + 1) i) ++ flat_map (round_of acts) (range_with_len b k)) same)
+    ∙ sym (append_assoc (round_of acts a) (flat_map (round_of acts) (range_with_len (a + 1) i)) (flat_map (round_of acts) (range_with_len (a + suc i) k)))
 
 -- the rounds after one
-abbrev pub rounds_after : ℕ → ℕ → ℕ → ℕ → List Act
-rounds_after client next i n = flat_map (round_of client next) (range_with_len (1 + i + 1) (n - (i + 1)))
+abbrev pub rounds_after : List Act → ℕ → ℕ → List Act
+rounds_after acts i n = flat_map (round_of acts) (range_with_len (1 + i + 1) (n - (i + 1)))
 
-pub rounds-round : (client next i n : ℕ) → i < n → rounds_of n client next ≡ rounds_of i client next ++ (round_of client next (i + 1) ++ rounds_after client next i n)
-rounds-round client next i n low =
+pub rounds-round : (acts : List Act) (i n : ℕ) → i < n → rounds_of acts n ≡ rounds_of acts i ++ (round_of acts (i + 1) ++ rounds_after acts i n)
+rounds-round acts i n low =
     let parts : n ≡ i + suc (n - (i + 1)) = omega arith in
     let here : 1 + i ≡ i + 1 = omega arith in
-    ap (λ (k : ℕ). flat_map (round_of client next) (range_with_len 1 k)) parts
-    ∙ rounds-parted client next 1 i (suc (n - (i + 1)))
-    ∙ ap (λ (r : ℕ). rounds_of i client next ++ (round_of client next r ++ rounds_after client next i n)) here
+    ap (λ (k : ℕ). flat_map (round_of acts) (range_with_len 1 k)) parts
+    ∙ rounds-parted acts 1 i (suc (n - (i + 1)))
+    ∙ ap (λ (r : ℕ). rounds_of acts i ++ (round_of acts r ++ rounds_after acts i n)) here
 
-pub within-before : (contexts buffers client next i n : ℕ) → i < n → All (IsWithin contexts buffers) (rounds_of n client next) → All (IsWithin contexts buffers) (rounds_of i client next)
-within-before contexts buffers client next i n low all =
-    let xs = rounds_of i client next in
-    let rest = round_of client next (i + 1) ++ rounds_after client next i n in
-    subst (All (IsWithin contexts buffers)) (take-append-same xs rest) (All-take (IsWithin contexts buffers) (length xs) (xs ++ rest) (subst (All (IsWithin contexts buffers)) (rounds-round client next i n low) all))
-  where
-    take-append-same : (xs ys : List Act) → take (length xs) (xs ++ ys) ≡ xs
-    take-append-same [] ys = refl
-    take-append-same (x ∷ xs) ys = ap (λ (l : List Act). x ∷ l) (take-append-same xs ys)
+-- each of them is within where all are
+pub within-before : (contexts buffers : ℕ) (acts : List Act) (i n : ℕ) → i < n → All (IsWithin contexts buffers) (rounds_of acts n) → All (IsWithin contexts buffers) (rounds_of acts i)
+within-before contexts buffers acts i n low all =
+    let before = rounds_of acts i in
+    let rest = round_of acts (i + 1) ++ rounds_after acts i n in
+    subst (All (IsWithin contexts buffers)) (take_at before rest (length before) refl)
+    (All-take (IsWithin contexts buffers) (length before) (before ++ rest)
+    (subst (All (IsWithin contexts buffers)) (rounds-round acts i n low) all))
+
+pub round-within : (contexts buffers : ℕ) (acts : List Act) (i n : ℕ) → i < n → All (IsWithin contexts buffers) (rounds_of acts n) → All (IsWithin contexts buffers) (round_of acts (i + 1))
+round-within contexts buffers acts i n low all =
+    let before = rounds_of acts i in
+    let here = round_of acts (i + 1) in
+    let after = rounds_after acts i n in
+    subst (All (IsWithin contexts buffers)) (take_at here after (length here) refl)
+    (All-take (IsWithin contexts buffers) (length here) (here ++ after)
+    (subst (All (IsWithin contexts buffers)) (drop_at before (here ++ after) (length before) refl)
+    (All-drop (IsWithin contexts buffers) (length before) (before ++ (here ++ after))
+    (subst (All (IsWithin contexts buffers)) (rounds-round acts i n low) all))))
+
+-- the rounds before one, and that one, advance by no more than all
+pub increments-before : (acts : List Act) (i n : ℕ) → i < n → increments_of (rounds_of acts i) + increments_of (round_of acts (i + 1)) ≤ increments_of (rounds_of acts n)
+increments-before acts i n low =
+    let before = rounds_of acts i in
+    let here = round_of acts (i + 1) in
+    let after = rounds_after acts i n in
+    let whole : increments_of (rounds_of acts n) ≡ increments_of (before ++ (here ++ after)) = ap increments_of (rounds-round acts i n low) in
+    let first = sum_by-append increment_by before (here ++ after) in
+    let second = sum_by-append increment_by here after in
+    omega (arith, whole, first, second)
+
+-- one act of a round
+
+pub length-round : (acts : List Act) (number : ℕ) → length (round_of acts number) ≡ length acts
+length-round acts number = length-map acts (in_round number)
+
+pub round-at : (acts : List Act) (number i : ℕ) (act made : Act) → i < length acts → act ≡ get_or acts i act → made ≡ in_round number act → made ≡ get_or (round_of acts number) i made
+round-at acts number i act made low at is = is ∙ ap (in_round number) at ∙ sym (get_or-map (in_round number) acts i act made low)
+
+pub All-at : {X : Type 0} (P : X → Type 0) (xs : List X) (i : ℕ) (x : X) → i < length xs → x ≡ get_or xs i x → All P xs → P x
+All-at P xs i x low at all = subst P (sym at) (All-get_or P xs i x low all)
+
+pub increments-at : (acts : List Act) (i : ℕ) (act : Act) → i < length acts → act ≡ get_or acts i act → increments_of (take i acts) + increment_by act ≤ increments_of acts
+increments-at acts i act low at =
+    let more = sum_by_more_le increment_by acts i act low in
+    let here : increment_by act ≡ increment_by (get_or acts i act) = ap increment_by at in
+    omega (arith, more, here)

@@ -18,23 +18,23 @@ use Rattle.point_core.proofs.Agreement.{AgreesAbove-append, AgreesAbove-comm, Ag
 use Rattle.point_core.proofs.Canonical.{listing-itself}
 use Rattle.resv_core.specs.declared.plan.Act.{Act}
 use Rattle.resv_core.specs.Resv.{entry_of, row_of, rows_at, rows_of}
-use Rattle.resv_core.specs.Rounds.{round_of, rounds_of}
+use Rattle.resv_core.specs.Rounds.{round_of}
 use Rattle.resv_core.specs.Settled.{puts_of, all_puts}
 use Rattle.resv_core.proofs.Runs.{rows_of-AgreesAbove}
 use Rattle.clients_core.specs.declared.rounds.TheConstants.{ROUND_BUFFERS}
 use Rattle.clients_core.specs.Plans.{settled_of}
-use Rattle.clients_core.specs.Rounds.{next_client, plans_of_rounds, rows_of_clients, settled_of_rounds}
+use Rattle.clients_core.specs.Rounds.{client_round, client_rounds, next_client, plans_of_rounds, rows_of_clients, settled_of_rounds}
 use Rattle.clients_core.proofs.PlansOfRounds.{values-rounds}
 
 -- what the rounds of a client put on a timeline
 abbrev pub fences : Usage → ℕ → (ℕ → ℕ) → ℕ → ℕ → List Entry
 fences usage ctx value a n = map (λ round. entry_of (point_of ctx (value round)) usage) (range_with_len a n)
 
-puts-written : (client next a n : ℕ) → puts_of 0 (flat_map (round_of client next) (range_with_len a n)) ≡ fences Write client (λ round. 2 * round) a n
+puts-written : (client next a n : ℕ) → puts_of 0 (flat_map (round_of (client_round client next)) (range_with_len a n)) ≡ fences Write client (λ round. 2 * round) a n
 puts-written client next a zero = refl
 puts-written client next a (suc n) = ap (λ es. entry_of (point_of client (2 * a)) Write ∷ es) (puts-written client next (a + 1) n)
 
-puts-read : (client next a n : ℕ) → puts_of 1 (flat_map (round_of client next) (range_with_len a n)) ≡ fences Read next (λ round. 3 * round) a n
+puts-read : (client next a n : ℕ) → puts_of 1 (flat_map (round_of (client_round client next)) (range_with_len a n)) ≡ fences Read next (λ round. 3 * round) a n
 puts-read client next a zero = refl
 puts-read client next a (suc n) = ap (λ es. entry_of (point_of next (3 * a)) Read ∷ es) (puts-read client next (a + 1) n)
 
@@ -144,7 +144,7 @@ rows-written clients zero few some = absurd (omega arith)
 rows-written clients (suc n) few some =
     let rounds : ℕ = suc n in
     let reach = replicate clients rounds in
-    let plan : ℕ → List Act = λ client. rounds_of rounds client (next_client clients client) in
+    let plan : ℕ → List Act = client_rounds clients rounds in
     let last : ℕ → Entry = λ client. entry_of (point_of client (2 * rounds)) Write in
     let each : (c : ℕ) → AgreesAbove reach (puts_of 0 (plan c)) (last c ∷ []) = λ c.
     AgreesAbove-trans (AgreesAbove-same reach (puts-written c (next_client clients c) 1 rounds))
@@ -168,7 +168,7 @@ rows-read (suc m) (suc n) any few some =
     let clients : ℕ = suc m in
     let rounds : ℕ = suc n in
     let reach = replicate clients rounds in
-    let plan : ℕ → List Act = λ client. rounds_of rounds client (next_client clients client) in
+    let plan : ℕ → List Act = client_rounds clients rounds in
     let last : ℕ → Entry = λ client. entry_of (point_of client (3 * rounds)) Read in
     let each : (c : ℕ) → AgreesAbove reach (puts_of 1 (plan c)) (last (next_client clients c) ∷ []) = λ c.
     AgreesAbove-trans (AgreesAbove-same reach (puts-read c (next_client clients c) 1 rounds))

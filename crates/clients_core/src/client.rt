@@ -9,13 +9,13 @@ ghost use Rattle.resv_core.specs.declared.plan.Act.{Act};
 ghost use Rattle.clients_core.specs.Acting.{KnowPuts, HasActed, HaveActed, HasStopped, client_of, judged};
 ghost use Rattle.clients_core.specs.OwnPuts.{AreOwnPuts};
 ghost use Rattle.clients_core.specs.Clients.{IsClientRefusal, IsSinglePart, IsDriving};
-ghost use Rattle.resv_core.specs.Rounds.{acts_of_rounds};
+ghost use Rattle.resv_core.specs.Rounds.{IsRepeatable, acts_of, round_of};
 ghost use Rattle.resv_core.specs.Settled.{IsWithin, increment_by, increments_of};
 
 use crate::gate::Gate;
 use crate::own_puts::{OwnPuts, no_puts};
 use point_core::{Entry, Listing, Point, Refusal, Usage};
-use resv_core::{Act, Acts, Plan, ROUND_ACTS, Rounds, SharedTable};
+use resv_core::{Act, Plan, Round, SharedTable};
 use std::alloc::Global;
 use std::sync::Wait;
 use words_core::{Driver, Seat, Words};
@@ -59,34 +59,22 @@ pub(crate) fn act_all<R: Wait, T: SharedTable, G: Gate>(
         shared.words.contexts(),
     )?;
     let mut listing = Listing::empty(shared.alloc);
-    match plan.acts() {
-        Acts::Listed(acts) => act_listed(
-            shared,
-            client,
-            0,
-            acts,
-            own.as_mut_slice(),
-            &mut listing,
-            driver,
-            seat,
-        ),
-        Acts::InRounds(rounds) => act_rounds(
-            shared,
-            client,
-            &rounds,
-            own.as_mut_slice(),
-            &mut listing,
-            driver,
-            seat,
-        ),
-    }
+    act_rounds(
+        shared,
+        client,
+        &plan.round(),
+        own.as_mut_slice(),
+        &mut listing,
+        driver,
+        seat,
+    )
 }
 
-/// The acts of rounds, one round after another.
+/// All rounds, one after another.
 fn act_rounds<R: Wait, T: SharedTable, G: Gate>(
     shared: &Shared<R, T, G>,
     client: usize,
-    rounds: &Rounds,
+    round: &Round,
     own: &mut [OwnPuts],
     listing: &mut Listing,
     driver: &mut Driver,
@@ -94,39 +82,30 @@ fn act_rounds<R: Wait, T: SharedTable, G: Gate>(
 ) -> Result<(), Refusal>
     requires own { (T.made_for shared.now.table.now ≡ shared.now.words.now) × IsSinglePart shared.now.words.now seat.old }
     requires driver { IsDriving shared.now.words.now driver.old }
-    requires within { All (IsWithin shared.now.words.now.contexts shared.now.words.now.buffers) (acts_of_rounds rounds.now) }
-    requires fits { driver.old.value + increments_of (acts_of_rounds rounds.now) < 2 ^ 64 }
+    requires rounds { IsRepeatable round.now.acts.now round.now.times }
+    requires within { All (IsWithin shared.now.words.now.contexts shared.now.words.now.buffers) (acts_of round.now) }
+    requires fits { driver.old.value + increments_of (acts_of round.now) < 2 ^ 64 }
     requires buffers { length own.old ≡ shared.now.words.now.buffers }
     requires none { KnowPuts shared.now.words.now.contexts own.old [] }
     ensures seats { IsSinglePart shared.now.words.now seat.new × IsDriving shared.now.words.now driver.new }
     ensures acted { OnOk result (HaveActed (T.puts shared.now.table.now) (T.exports shared.now.table.now) []
-        (acts_of_rounds rounds.now) (client_of driver.old seat.old) (client_of driver.new seat.new)) }
+        (acts_of round.now) (client_of driver.old seat.old) (client_of driver.new seat.new)) }
     ensures stopped { IfErr result (λ e. HasStopped (T.puts shared.now.table.now) (T.exports shared.now.table.now) []
-        (acts_of_rounds rounds.now) (client_of driver.old seat.old) (client_of driver.new seat.new) e) }
+        (acts_of round.now) (client_of driver.old seat.old) (client_of driver.new seat.new) e) }
     ensures refusals { IfErr result IsClientRefusal }
 {
-    for index in 0..rounds.count {
-        let first = ROUND_ACTS * index as usize;
-        act_listed(
-            shared,
-            client,
-            first,
-            &rounds.round(index + 1),
-            own,
-            listing,
-            driver,
-            seat,
-        )?;
+    for index in 0..round.times {
+        act_round(shared, client, round, index + 1, own, listing, driver, seat)?;
     }
     Ok(())
 }
 
-/// Acts one after another, which are numbered from the place of the first.
-fn act_listed<R: Wait, T: SharedTable, G: Gate>(
+/// The acts of the round of that number, from 1.
+fn act_round<R: Wait, T: SharedTable, G: Gate>(
     shared: &Shared<R, T, G>,
     client: usize,
-    first: usize,
-    acts: &[Act],
+    round: &Round,
+    number: u32,
     own: &mut [OwnPuts],
     listing: &mut Listing,
     driver: &mut Driver,
@@ -134,31 +113,36 @@ fn act_listed<R: Wait, T: SharedTable, G: Gate>(
 ) -> Result<(), Refusal>
     requires own { (T.made_for shared.now.table.now ≡ shared.now.words.now) × IsSinglePart shared.now.words.now seat.old }
     requires driver { IsDriving shared.now.words.now driver.old }
-    requires within { All (IsWithin shared.now.words.now.contexts shared.now.words.now.buffers) acts.now }
-    requires fits { driver.old.value + increments_of acts.now < 2 ^ 64 }
-    requires places { first + length acts.now < 2 ^ 64 }
+    requires rounds { IsRepeatable round.now.acts.now round.now.times }
+    requires number { (1 ≤ number) × (number ≤ round.now.times) }
+    requires within { All (IsWithin shared.now.words.now.contexts shared.now.words.now.buffers) (round_of round.now.acts.now number) }
+    requires fits { driver.old.value + increments_of (round_of round.now.acts.now number) < 2 ^ 64 }
     requires buffers { length own.old ≡ shared.now.words.now.buffers }
     ensures seats { IsSinglePart shared.now.words.now seat.new × IsDriving shared.now.words.now driver.new }
     ensures acted { OnOk result ((done : List Act) → KnowPuts shared.now.words.now.contexts own.old done →
         All (IsWithin shared.now.words.now.contexts shared.now.words.now.buffers) done →
         HaveActed (T.puts shared.now.table.now) (T.exports shared.now.table.now) done
-        acts.now (client_of driver.old seat.old) (client_of driver.new seat.new)) }
+        (round_of round.now.acts.now number) (client_of driver.old seat.old) (client_of driver.new seat.new)) }
     ensures known { OnOk result ((done : List Act) → KnowPuts shared.now.words.now.contexts own.old done →
-        KnowPuts shared.now.words.now.contexts own.new (done ++ acts.now)) }
+        KnowPuts shared.now.words.now.contexts own.new (done ++ round_of round.now.acts.now number)) }
     ensures stopped { IfErr result (λ e. (done : List Act) → KnowPuts shared.now.words.now.contexts own.old done →
         All (IsWithin shared.now.words.now.contexts shared.now.words.now.buffers) done →
         HasStopped (T.puts shared.now.table.now) (T.exports shared.now.table.now) done
-        acts.now (client_of driver.old seat.old) (client_of driver.new seat.new) e) }
-    ensures advanced { OnOk result (driver.new.value ≡ driver.old.value + increments_of acts.now) }
+        (round_of round.now.acts.now number) (client_of driver.old seat.old) (client_of driver.new seat.new) e) }
+    ensures advanced { OnOk result
+        (driver.new.value ≡ driver.old.value + increments_of (round_of round.now.acts.now number)) }
     ensures buffers { length own.new ≡ length own.old }
     ensures refusals { IfErr result IsClientRefusal }
 {
+    let acts = round.acts;
+    let first = acts.len() * (number - 1) as usize;
     for (index, act) in acts.iter().enumerate() {
         let place = first + index;
         if !shared.gate.enter(client, place) {
             return Err(Refusal::TimedOut);
         }
-        let done = act_once(shared, act, own, listing, driver, seat);
+        let act = act.in_round(number);
+        let done = act_once(shared, &act, own, listing, driver, seat);
         shared.gate.leave(client, place);
         done?;
     }

@@ -1,11 +1,11 @@
 // What plans put into a buffer.
-ghost use Rattle.std.specs.Prelude.{◌≡◌, ◌++◌, IfErr, IfOk, OnOk};
+ghost use Rattle.std.specs.Prelude.{◌≡◌, ◌++◌, All, IfErr, IfOk, OnOk};
 ghost use Rattle.point_core.specs.declared.refusal.Refusal.TheVariants as refusal;
-ghost use Rattle.resv_core.specs.Rounds.{acts_of_rounds};
+ghost use Rattle.resv_core.specs.Rounds.{IsInRange, round_of};
 ghost use Rattle.resv_core.specs.Settled.{all_puts, put_by, puts_of};
 
 use point_core::{Entry, Refusal};
-use resv_core::{Act, Acts, Plan, Rounds};
+use resv_core::{Act, Plan};
 use std::alloc::Global;
 
 /// What all plans put into a buffer, plan by plan.
@@ -29,29 +29,26 @@ fn push_plan(entries: &mut Vec<Entry>, buffer: usize, plan: &Plan) -> Result<(),
     ensures puts { OnOk result (entries.new.items ≡ entries.old.items ++ puts_of buffer plan.now) }
     ensures memory { IfErr result (λ e. e ≡ refusal.Memory) }
 {
-    match plan.acts() {
-        Acts::Listed(acts) => push_puts(entries, buffer, acts),
-        Acts::InRounds(rounds) => push_rounds(entries, buffer, &rounds),
-    }
-}
-
-fn push_rounds(entries: &mut Vec<Entry>, buffer: usize, rounds: &Rounds) -> Result<(), Refusal>
-    ensures puts { OnOk result (entries.new.items ≡ entries.old.items ++ puts_of buffer (acts_of_rounds rounds.now)) }
-    ensures memory { IfErr result (λ e. e ≡ refusal.Memory) }
-{
-    for index in 0..rounds.count {
-        push_puts(entries, buffer, &rounds.round(index + 1))?;
+    let round = plan.round();
+    for index in 0..round.times {
+        push_round(entries, buffer, round.acts, index + 1)?;
     }
     Ok(())
 }
 
-/// Appends what the acts put into a buffer.
-fn push_puts(entries: &mut Vec<Entry>, buffer: usize, acts: &[Act]) -> Result<(), Refusal>
-    ensures puts { OnOk result (entries.new.items ≡ entries.old.items ++ puts_of buffer acts.now) }
+/// Appends what the acts put into a buffer in the round of that number.
+fn push_round(
+    entries: &mut Vec<Entry>,
+    buffer: usize,
+    acts: &[Act],
+    number: u32,
+) -> Result<(), Refusal>
+    requires in_range { All (IsInRange number) acts.now }
+    ensures puts { OnOk result (entries.new.items ≡ entries.old.items ++ puts_of buffer (round_of acts.now number)) }
     ensures memory { IfErr result (λ e. e ≡ refusal.Memory) }
 {
     for act in acts {
-        push_put(entries, buffer, act)?;
+        push_put(entries, buffer, &act.in_round(number))?;
     }
     Ok(())
 }

@@ -26,4 +26,4 @@ pub use gate::{Gate, OpenGate};
 pub use locked_buffer::LockedBuffer;
 pub use locked_table::LockedTable;
 pub use plans::{ACTS, CLIENTS};
-pub use rounds::{ROUND_BUFFERS, ROUNDS, plans_of_rounds};
+pub use rounds::{ROUND_ACTS, ROUND_BUFFERS, ROUNDS, plans_of_rounds};

@@ -1,12 +1,13 @@
 // The tables that plans come to.
+ghost use Rattle.std.specs.Prelude.{All};
 ghost use Rattle.point_core.specs.Agreement.{HasContexts};
-ghost use Rattle.resv_core.specs.Rounds.{acts_of_rounds};
+ghost use Rattle.resv_core.specs.Rounds.{IsInRange, round_of};
 ghost use Rattle.resv_core.specs.Settled.{all_puts, put_by, puts_of};
 ghost use Rattle.resv_core.specs.Tops.{AreTops};
 ghost use Rattle.clients_core.specs.Board.{TakesIn};
 
 use point_core::{Entry, Reach};
-use resv_core::{Act, Acts, Plan, Rounds, Tops};
+use resv_core::{Act, Plan, Tops};
 
 /// The tables of what all plans put into a buffer.
 pub(crate) fn planned_tops(buffer: usize, plans: &[Plan], reach: &Reach) -> Tops
@@ -23,25 +24,18 @@ pub(crate) fn planned_tops(buffer: usize, plans: &[Plan], reach: &Reach) -> Tops
 fn put_plan(tops: &mut Tops, buffer: usize, plan: &Plan)
     ensures tops { TakesIn (puts_of buffer plan.now) tops.old tops.new }
 {
-    match plan.acts() {
-        Acts::Listed(acts) => put_acts(tops, buffer, acts),
-        Acts::InRounds(rounds) => put_rounds(tops, buffer, &rounds),
+    let round = plan.round();
+    for index in 0..round.times {
+        put_round(tops, buffer, round.acts, index + 1);
     }
 }
 
-fn put_rounds(tops: &mut Tops, buffer: usize, rounds: &Rounds)
-    ensures tops { TakesIn (puts_of buffer (acts_of_rounds rounds.now)) tops.old tops.new }
-{
-    for index in 0..rounds.count {
-        put_acts(tops, buffer, &rounds.round(index + 1));
-    }
-}
-
-fn put_acts(tops: &mut Tops, buffer: usize, acts: &[Act])
-    ensures tops { TakesIn (puts_of buffer acts.now) tops.old tops.new }
+fn put_round(tops: &mut Tops, buffer: usize, acts: &[Act], number: u32)
+    requires in_range { All (IsInRange number) acts.now }
+    ensures tops { TakesIn (puts_of buffer (round_of acts.now number)) tops.old tops.new }
 {
     for act in acts {
-        put_act(tops, buffer, act);
+        put_act(tops, buffer, &act.in_round(number));
     }
 }
 

@@ -7,7 +7,7 @@ ghost use Rattle.clients_core.specs.Plans.{cause_to_refuse_plans, is_within, are
 ghost use Rattle.resv_core.specs.Settled.{increment_by, increments_of};
 
 use point_core::{BUFFERS, LimitKind, Refusal};
-use resv_core::{Act, Acts, Plan};
+use resv_core::{Act, Plan};
 
 /// The most clients.
 pub const CLIENTS: usize = 8;
@@ -57,16 +57,12 @@ fn are_within(plans: &[Plan], contexts: usize, buffers: usize) -> bool
         .all(|plan| is_plan_within(plan, contexts, buffers))
 }
 
-/// Whether each act of the plan is. All rounds are, if the first is.
+/// Whether each act of the plan is. Every round has the same contexts and buffers.
 fn is_plan_within(plan: &Plan, contexts: usize, buffers: usize) -> bool
     ensures { result ≡ list_all (is_within contexts buffers) plan.now }
 {
-    match plan.acts() {
-        Acts::Listed(acts) => are_acts_within(acts, contexts, buffers),
-        Acts::InRounds(rounds) => {
-            rounds.count == 0 || are_acts_within(&rounds.round(1), contexts, buffers)
-        }
-    }
+    let round = plan.round();
+    round.times == 0 || are_acts_within(round.acts, contexts, buffers)
 }
 
 fn are_acts_within(acts: &[Act], contexts: usize, buffers: usize) -> bool
@@ -112,10 +108,11 @@ pub(crate) fn total_increment(plan: &Plan) -> Option<u64>
     ensures fits { IsSome result ↔ (increments_of plan.now < 2 ^ 64) }
     ensures total { IfSome result (λ total. total ≡ increments_of plan.now) }
 {
-    match plan.acts() {
-        Acts::Listed(acts) => increment_of_all(acts),
-        Acts::InRounds(rounds) => Some(u64::from(rounds.count)),
+    let round = plan.round();
+    if round.times == 0 {
+        return Some(0);
     }
+    increment_of_all(round.acts)?.checked_mul(u64::from(round.times))
 }
 
 fn increment_of_all(acts: &[Act]) -> Option<u64>

@@ -2,11 +2,11 @@
 ghost use Rattle.std.specs.Prelude.{◌≡◌, ◌+◌, ◌<◌, ◌≤◌, None, IfErr, IfOk};
 ghost use Rattle.point_core.specs.declared.refusal.Refusal.TheVariants as refusal;
 ghost use Rattle.clients_core.specs.Plans.{cause_to_refuse_plans, settled_of};
-ghost use Rattle.clients_core.specs.Rounds.{next_client, plans_of_rounds, settled_of_rounds};
+ghost use Rattle.clients_core.specs.Rounds.{client_round, next_client, plans_of_rounds, settled_of_rounds};
 
 use crate::plans::CLIENTS;
-use point_core::{Context, Refusal};
-use resv_core::{Plan, Rounds};
+use point_core::{Context, Point, Refusal, Usage};
+use resv_core::{Act, Plan};
 use std::alloc::Global;
 
 /// The most rounds of a run.
@@ -18,6 +18,23 @@ const _: () = prove!(ROUNDS == 10_000);
 pub const ROUND_BUFFERS: usize = 2;
 
 const _: () = prove!(ROUND_BUFFERS == 2);
+
+/// How many acts a round has.
+pub const ROUND_ACTS: usize = 4;
+
+const _: () = prove!(ROUND_ACTS == 4);
+
+/// The buffer that all clients write to, and look at.
+const WRITTEN: usize = 0;
+
+/// The buffer in which each client reads what the next one makes.
+const READ: usize = 1;
+
+/// How far apart the points are that a client writes in two rounds.
+const WRITTEN_APART: u64 = 2;
+
+/// How far apart the points are that it reads.
+const READ_APART: u64 = 3;
 
 /// The plans of clients that do the same in every round. In round r, from 1, a client puts point 2 r of its own
 /// timeline into buffer 0 for writing, advances its timeline by 1, puts point 3 r of the next client's timeline into
@@ -35,13 +52,32 @@ pub fn plans_of_rounds(alloc: Global, clients: usize, rounds: u64) -> Result<Vec
 {
     let mut plans = Vec::with_capacity(alloc, clients)?;
     for index in 0..clients {
-        plans.push_reserved(Plan::of_rounds(Rounds {
-            client: Context::at(index),
-            next: Context::at(place_after(index, clients)),
-            count: rounds as u32,
-        }));
+        let next = place_after(index, clients);
+        let acts = client_round(Context::at(index), Context::at(next));
+        let acts = Vec::from_slice(alloc, &acts)?;
+        plans.push_reserved(Plan::repeated(acts, rounds as u32)?);
     }
     Ok(plans)
+}
+
+/// What a client does in each round.
+fn client_round(client: Context, next: Context) -> [Act; ROUND_ACTS]
+    ensures acts { result ≡ client_round client next }
+{
+    let written = Point {
+        ctx: client,
+        value: WRITTEN_APART,
+    };
+    let read = Point {
+        ctx: next,
+        value: READ_APART,
+    };
+    [
+        Act::Put(WRITTEN, written, Usage::Write),
+        Act::Inc(1),
+        Act::Put(READ, read, Usage::Read),
+        Act::Look(WRITTEN, Usage::Read),
+    ]
 }
 
 /// The place of the client that comes next to the one of that place.

@@ -1,8 +1,10 @@
 // Gates that hold clients back.
 use crate::plans::{WRITTEN, check_one_table, check_refused, plans_of, point};
-use clients_core::{Board, Gate, LockedTable, ROUND_BUFFERS, plans_of_rounds, run_clients};
+use clients_core::{
+    Board, Gate, LockedTable, ROUND_ACTS, ROUND_BUFFERS, plans_of_rounds, run_clients,
+};
 use point_core::{Context, Point, Refusal, Usage};
-use resv_core::{Act, Plan, ROUND_ACTS, SharedTable};
+use resv_core::{Act, Plan, SharedTable};
 use std::alloc::Global;
 use std::process::Abort;
 use std::sync::Wait;

@@ -1,39 +1,44 @@
--- What a client does in rounds, and the acts of a plan.
-use Rattle.std.specs.Prelude.{ℕ, ◌*◌, List, [], ◌∷◌}
-use Rattle.std.specs.List.{flat_map, range_with_len}
-use Rattle.point_core.specs.declared.entry.Usage.TheVariants.{Write, Read}
+-- Rounds of acts, which are numbered from 1. In each of them the acts are the same, but for the points that are put.
+use Rattle.std.specs.Prelude.{ℕ, ◌*◌, ◌^◌, ◌<◌, ◌≤◌, ◌⊎◌, ◌&&◌, nat_lt, Bool, true, IsTrue, List, length, map, All}
+use Rattle.std.specs.List.{flat_map, list_all, range_with_len}
 use Rattle.point_core.specs.Agreement.{point_of}
 use Rattle.resv_core.specs.declared.plan.Act.{Act}
 use Rattle.resv_core.specs.declared.plan.Act.TheVariants.{Inc, Put, Look}
-use Rattle.resv_core.specs.declared.plan.Acts.{Acts}
-use Rattle.resv_core.specs.declared.plan.Acts.TheVariants as acts
-use Rattle.resv_core.specs.declared.plan.Source.{Source}
-use Rattle.resv_core.specs.declared.plan.Source.TheVariants as source
-use Rattle.resv_core.specs.declared.plan.Rounds.{Rounds}
+use Rattle.resv_core.specs.declared.plan.Round.{Round}
 
--- a round: a fence of the client's own timeline, one step of that timeline, a fence of the next client's, and a look
-abbrev pub round_of : ℕ → ℕ → ℕ → List Act
-round_of client next round =
-    Put 0 (point_of client (2 * round)) Write
-    ∷ Inc 1
-    ∷ Put 1 (point_of next (3 * round)) Read
-    ∷ Look 0 Read
-    ∷ []
+-- the act in the round of that number: a point that it puts is multiplied by the number
+abbrev pub in_round : ℕ → Act → Act
+in_round number (Inc n) = Inc n
+in_round number (Put into point usage) = Put into (point_of point.ctx (point.value * number)) usage
+in_round number (Look into usage) = Look into usage
 
--- the rounds are numbered from 1
-abbrev pub rounds_of : ℕ → ℕ → ℕ → List Act
-rounds_of rounds client next = flat_map (round_of client next) (range_with_len 1 rounds)
+-- the acts of the round of that number
+abbrev pub round_of : List Act → ℕ → List Act
+round_of acts number = map (in_round number) acts
 
--- all acts of the rounds
-abbrev pub acts_of_rounds : Rounds → List Act
-acts_of_rounds rounds = rounds_of rounds.count rounds.client rounds.next
+-- the acts of so many rounds
+abbrev pub rounds_of : List Act → ℕ → List Act
+rounds_of acts times = flat_map (round_of acts) (range_with_len 1 times)
 
--- the acts that a plan was made of
-abbrev pub acts_from : Source → List Act
-acts_from (source.Listed list) = list.items
-acts_from (source.InRounds rounds) = acts_of_rounds rounds
+-- all acts of a round that is repeated
+abbrev pub acts_of : Round → List Act
+acts_of round = rounds_of round.acts.now round.times
 
--- the acts of a plan
-abbrev pub acts_in : Acts → List Act
-acts_in (acts.Listed list) = list.now
-acts_in (acts.InRounds rounds) = acts_of_rounds rounds
+-- the point that the act puts in that round is at most the greatest u64, as a test
+abbrev pub is_in_range : ℕ → Act → Bool
+is_in_range number (Inc n) = true
+is_in_range number (Put into point usage) = nat_lt (point.value * number) (2 ^ 64)
+is_in_range number (Look into usage) = true
+
+-- the acts can be made in so many rounds: each point, and the number of all acts, is at most the greatest u64
+abbrev pub is_repeatable : List Act → ℕ → Bool
+is_repeatable acts times = nat_lt (length acts * times) (2 ^ 64) && list_all (is_in_range times) acts
+
+-- the act can be made in that round, as every act can in the first
+abbrev pub IsInRange : ℕ → Act → Type 0
+IsInRange number act = (number ≤ 1) ⊎ IsTrue (is_in_range number act)
+
+-- what is known of acts that are made in so many rounds
+pub record IsRepeatable (acts : List Act) (times : ℕ) : Type 0 where
+  pub points : All (IsInRange times) acts
+  pub count : length acts * times < 2 ^ 64

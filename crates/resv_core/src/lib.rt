@@ -17,7 +17,7 @@ pub use laws::{
     a_table_agrees_with_all_that_was_added, a_trimmed_table_has_one_entry_of_each_usage,
     tables_that_agree_show_the_same,
 };
-pub use plan::{Act, Acts, Plan, ROUND_ACTS, Rounds, Settled};
+pub use plan::{Act, Plan, Round, Settled};
 pub use resv::{GROWTH, PLACES, PLACES_PER_CONTEXT, Resv};
 pub use shared_table::SharedTable;
 pub use tops::Tops;

@@ -1,8 +1,10 @@
 // What a client does, and what all plans come to.
-ghost use Rattle.std.specs.Prelude.{◌≡◌, length};
-ghost use Rattle.resv_core.specs.Rounds.{acts_in, acts_of_rounds, round_of};
+ghost use Rattle.std.specs.Prelude.{◌≡◌, IfErr, IsTrue, OkIff, length};
+ghost use Rattle.std.specs.List.{list_all};
+ghost use Rattle.point_core.specs.declared.refusal.Refusal.TheVariants as refusal;
+ghost use Rattle.resv_core.specs.Rounds.{IsInRange, IsRepeatable, acts_of, in_round, is_in_range, is_repeatable, rounds_of};
 
-use point_core::{Context, Items, Point, TopRow, Usage};
+use point_core::{Items, Point, Refusal, TopRow, Usage};
 use std::marker::Model;
 
 /// One act of a client.
@@ -16,107 +18,93 @@ pub enum Act {
     Look(usize, Usage),
 }
 
-/// The buffer that clients of rounds write to, and look at.
-const WRITTEN: usize = 0;
-
-/// The buffer that each of them reads from what the next client makes.
-const READ: usize = 1;
-
-/// How many acts a round has.
-pub const ROUND_ACTS: usize = 4;
-
-const _: () = prove!(ROUND_ACTS == 4);
-
-/// What a client does in many rounds, which are numbered from 1. In round r it puts point 2 r of its own timeline into
-/// buffer 0 for writing, advances its timeline by 1, puts point 3 r of the next client's timeline into buffer 1 for
-/// reading, and looks at buffer 0 for reading.
-#[derive(Clone, Copy, Debug)]
-pub struct Rounds {
-    /// The client's own timeline.
-    pub client: Context,
-    /// The next client's.
-    pub next: Context,
-    /// How many rounds there are.
-    pub count: u32,
-}
-
-impl Rounds {
-    /// The acts of a round.
-    pub fn round(&self, number: u32) -> [Act; ROUND_ACTS]
-        ensures acts { result ≡ round_of self.now.client self.now.next number }
+impl Act {
+    /// The act as it is in the round of that number, from 1: a point that it puts is as many times as late.
+    pub fn in_round(&self, number: u32) -> Act
+        requires { IsInRange number self.now }
+        ensures { result ≡ in_round number self.now }
     {
-        let written = Point {
-            ctx: self.client,
-            value: 2 * u64::from(number),
-        };
-        let read = Point {
-            ctx: self.next,
-            value: 3 * u64::from(number),
-        };
-        [
-            Act::Put(WRITTEN, written, Usage::Write),
-            Act::Inc(1),
-            Act::Put(READ, read, Usage::Read),
-            Act::Look(WRITTEN, Usage::Read),
-        ]
+        if number == 1 {
+            return *self;
+        }
+        match *self {
+            Act::Inc(n) => Act::Inc(n),
+            Act::Put(buffer, point, usage) => {
+                let Point { ctx, value } = point;
+                let value = value * u64::from(number);
+                Act::Put(buffer, Point { ctx, value }, usage)
+            }
+            Act::Look(buffer, usage) => Act::Look(buffer, usage),
+        }
+    }
+
+    /// Whether the point that it puts in the round of that number is at most the greatest u64.
+    fn is_in_range(&self, number: u32) -> bool
+        ensures { result ≡ is_in_range number self.now }
+    {
+        match *self {
+            Act::Put(_, point, _) => point.value.checked_mul(u64::from(number)).is_some(),
+            Act::Inc(_) | Act::Look(_, _) => true,
+        }
     }
 }
 
-/// The acts of a plan, in order.
+/// A round of acts, which is made a number of times. In round r, from 1, a point v that is put is the point v r.
 #[derive(Clone, Copy, Debug)]
-pub enum Acts<'a> {
-    Listed(&'a [Act]),
-    InRounds(Rounds),
+pub struct Round<'a> {
+    pub acts: &'a [Act],
+    pub times: u32,
 }
 
-#[derive(Debug, Drop)]
-enum Source {
-    Listed(Vec<Act>),
-    InRounds(Rounds),
-}
-
-/// The acts of a client, in order. It is made of a `Vec`, whose memory it keeps, or of rounds, which take none.
+/// The acts of a client, in order: a round of them, which is repeated.
 #[derive(Debug, Drop)]
 pub struct Plan {
-    source: Source,
+    acts: Vec<Act>,
+    times: u32,
 }
 
 impl Model for Plan {
     ghost use Rattle.std.specs.Prelude.{List};
     ghost use Rattle.resv_core.specs.declared.plan.Act.{Act};
-    ghost use Rattle.resv_core.specs.Rounds.{acts_from};
+    ghost use Rattle.resv_core.specs.Rounds.{IsRepeatable, rounds_of};
 
     ghost Value = { List Act };
 
-    ghost view = { λ plan. acts_from plan.source };
+    ghost view = { λ plan. rounds_of plan.acts.items plan.times };
+
+    ghost invariant = { λ plan. IsRepeatable plan.acts.items plan.times };
 }
 
 impl Plan {
-    /// Takes no memory.
+    /// The acts, each made once. Takes no memory.
     pub fn of(acts: Vec<Act>) -> Plan
         ensures acts { result ≡ acts.items }
     {
-        Plan {
-            source: Source::Listed(acts),
-        }
+        Plan { acts, times: 1 }
     }
 
-    /// The acts of all rounds. Takes no memory.
-    pub fn of_rounds(rounds: Rounds) -> Plan
-        ensures acts { result ≡ acts_of_rounds rounds }
+    /// The acts of so many rounds, in which each point that is put is multiplied by the number of its round, from 1. Takes
+    /// no memory.
+    ///
+    /// Fails with `Overflow` alone, if one of these points or the number of all acts is past the greatest u64.
+    pub fn repeated(acts: Vec<Act>, times: u32) -> Result<Plan, Refusal>
+        ensures acts { OkIff result (IsTrue (is_repeatable acts.items times)) (rounds_of acts.items times) }
+        ensures overflow { IfErr result (λ e. e ≡ refusal.Overflow) }
     {
-        Plan {
-            source: Source::InRounds(rounds),
+        if !is_repeatable(acts.as_slice(), times) {
+            return Err(Refusal::Overflow);
         }
+        Ok(Plan { acts, times })
     }
 
-    /// Takes no memory.
-    pub fn acts(&self) -> Acts<'_>
-        ensures acts { acts_in result ≡ self.now }
+    /// The round that is repeated. Takes no memory.
+    pub fn round(&self) -> Round<'_>
+        ensures acts { acts_of result ≡ self.now }
+        ensures in_range { IsRepeatable result.acts.now result.times }
     {
-        match &self.source {
-            Source::Listed(acts) => Acts::Listed(acts.as_slice()),
-            Source::InRounds(rounds) => Acts::InRounds(*rounds),
+        Round {
+            acts: self.acts.as_slice(),
+            times: self.times,
         }
     }
 
@@ -124,11 +112,22 @@ impl Plan {
     pub fn len(&self) -> usize
         ensures count { result ≡ length self.now }
     {
-        match &self.source {
-            Source::Listed(acts) => acts.len(),
-            Source::InRounds(rounds) => ROUND_ACTS * rounds.count as usize,
-        }
+        self.acts.len() * self.times as usize
     }
+}
+
+/// Whether the acts can be made in so many rounds.
+fn is_repeatable(acts: &[Act], times: u32) -> bool
+    ensures { result ≡ is_repeatable acts.now times }
+{
+    acts.len().checked_mul(times as usize).is_some() && are_in_range(acts, times)
+}
+
+/// Whether each act is in range in the round of that number.
+fn are_in_range(acts: &[Act], number: u32) -> bool
+    ensures { result ≡ list_all (is_in_range number) acts.now }
+{
+    acts.iter().all(|act| act.is_in_range(number))
 }
 
 /// What the plans of all clients come to: the value of each timeline, and the pending tops of each buffer above the
