@@ -98,6 +98,9 @@ pub accepted_again : (T U : Type 0) (o : Option Refusal) (t : T) (u : U) → IsR
 accepted_again T U (Some cause) t u refused = absurd (cc)
 accepted_again T U None t u refused = tt
 
+pub accepted_as : {T U : Type 0} (o cause : Option Refusal) (t : T) (u : U) → o ≡ cause → IsRefusedFor cause (Ok t) → IsRefusedFor o (Ok u)
+accepted_as o cause t u is accepted = rw is (accepted_again _ _ cause t u accepted)
+
 -- what is not refused has no cause
 pub uncaused : {T : Type 0} (o : Option Refusal) (r : Result T Refusal) (t : T) → IsRefusedFor o r → r ≡ Ok t → o ≡ None
 uncaused None r t refused ok = refl

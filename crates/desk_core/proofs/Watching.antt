@@ -1,7 +1,6 @@
 -- The watches that a desk keeps, and those of the world.
-use Rattle.std.proofs.Common.{◌≡◌, ◌≤◌, ℕ, ◌+◌, max, arith, Bool, true, false, not, ◌&&◌, ◌||◌, if◌then◌else◌, refl, sym, ap, ◌∙◌, List, [], ◌∷◌, length, nat_le, nat_lt, Option, None, Some, option_map, unwrap_or, is_some, Result, Ok, Err, IsOk}
+use Rattle.std.proofs.Common.{◌≡◌, ◌≤◌, ℕ, ◌+◌, max, arith, Bool, true, false, not, ◌&&◌, ◌||◌, if◌then◌else◌, refl, sym, ap, ◌∙◌, List, [], length, nat_le, nat_lt, Option, None, Some, option_map, unwrap_or, is_some, Result, Ok, Err, IsOk}
 use Rattle.std.specs.Prelude.{MatchOption}
-use Rattle.fence_core.specs.declared.fence.Fence.{Fence}
 use Rattle.std.proofs.lemmas.Bool.{false≢true, leb-true, leb-false, lt-ltb, le-ltb}
 use Rattle.std.proofs.lemmas.Slice.Zip.{AllZip-long}
 use Rattle.point_core.specs.declared.refusal.Refusal.{Refusal}
@@ -22,7 +21,7 @@ use Rattle.timeline_core.proofs.Raising.{reach_of-raised, reach_of-shut-reaching
 use Rattle.syncfile_core.specs.SyncFile.{File}
 use Rattle.syncfile_core.specs.Files.{file_at as sync_file_at}
 use Rattle.fence_core.specs.declared.watches.TheConstants.{WATCHES, WATCHES_EVER}
-use Rattle.fence_core.specs.Fence.{are_reached, members_of, fence_of}
+use Rattle.fence_core.specs.Fence.{are_reached}
 use Rattle.fence_core.specs.Watch.{IsWatchOf}
 use Rattle.fence_core.specs.Watches.{has_watch, has_room, fired_by, cause_to_refuse, cause_to_refuse_watch, if_none}
 use Rattle.fence_core.proofs.Firing.{AllZip-later, fired-none, cookies_of-fires, list_any-fires, list_any-is_for}
@@ -169,11 +168,6 @@ if_reached reached = if reached then Some Signalled else None
 abbrev pub signalled_cause : Status → Option Refusal
 signalled_cause s = if_reached (is_signalled s)
 
-pub members-fence_of : (points : List Point) → members_of (fence_of points) ≡ points
-members-fence_of [] = refl
-members-fence_of (p ∷ []) = refl
-members-fence_of (p ∷ q ∷ points) = refl
-
 -- the file is there
 pub watch-there : (d : DeskState) (f : List ℕ) (cookie : ℕ) (file : File) → sync_file_at d.files f ≡ Some file → cause_of d (command.Watch f cookie) ≡ cause_to_refuse_watch d.watches cookie (points_at d.files f) (reach_of d.timelines)
 watch-there d f cookie file found =
@@ -229,8 +223,8 @@ pub sure-fired : {T : Type 0} (d : DeskState) (reach later : List ℕ) (r : Resu
 sure-fired d reach later (Ok v) e at none ok err = absurd (cc)
 sure-fired d reach later (Err f) e at none ok err = false≢true (ok (ap (fired_by d.watches) at ∙ fired-none later d.watches.pending none))
 
--- the points of the fence that is made of a file's
-pub watch_points : (fs : List File) (name : List ℕ) (file : File) (points : List Point) (fence : Fence) → sync_file_at fs name ≡ Some file → points ≡ file.points → fence ≡ fence_of points → members_of fence ≡ points_at fs name
-watch_points fs name file points fence found listed made =
-    ap members_of made ∙ members-fence_of points ∙ listed
+-- the points that a file lists
+pub watch_points : (fs : List File) (name : List ℕ) (file : File) (points : List Point) → sync_file_at fs name ≡ Some file → points ≡ file.points → points ≡ points_at fs name
+watch_points fs name file points found listed =
+    listed
     ∙ ap (λ p. unwrap_or (option_map (λ (g : File). g.points) p) []) (sym found)

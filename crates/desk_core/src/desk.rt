@@ -1,15 +1,15 @@
 // One command in, one answer out.
-ghost use Rattle.std.specs.Prelude.{◌≡◌, ◌≢◌, ◌↔◌, false, List, [], Some, option_copied, option_map, IsTrue, IsSome, IfSome, IsOk, IfOk, IfErr, OnErr};
+ghost use Rattle.std.specs.Prelude.{◌≡◌, ◌≢◌, ◌↔◌, false, List, [], option_copied, option_map, IsTrue, IsSome, IfSome, IsOk, IfOk, IfErr, OnErr};
 ghost use Rattle.command_core.specs.declared.command.Command.{Command};
 
 use crate::{info, report};
 use command_core::{Answer, Command};
 use dmabuf_core::{Buffers, SyncFlags};
-use fence_core::{Fence, Watches};
+use fence_core::Watches;
 use point_core::{Context, Items, Name, Point, Refusal, Status, Usage};
 use std::alloc::Global;
 use std::marker::Model;
-use syncfile_core::{Files, SyncFile};
+use syncfile_core::Files;
 use timeline_core::Timelines;
 
 /// All timelines, files, buffers and watches of a service. It keeps of each file what was pending when it was made, of each
@@ -171,7 +171,7 @@ impl Desk {
         ensures { Answers self.now (Command.Watch file.now cookie) (Answer.Refused result) }
     {
         match self.watchable(file, cookie) {
-            Ok(_) => Refusal::Memory,
+            Ok(()) => Refusal::Memory,
             Err(cause) => cause,
         }
     }
@@ -377,26 +377,26 @@ impl Desk {
         ensures done { IfOk result (λ given. IsDone self.old (Command.Watch name.now cookie) given self.new) }
         ensures unchanged { OnErr result (self.new ≡ self.old) }
     {
-        let file = self.watchable(name, cookie)?;
-        let fence = Fence::of(self.alloc, file.points.as_slice())?;
-        self.watches.add(cookie, &fence, self.timelines.as_reach())?;
+        let file = self.files.get(name).ok_or(Refusal::NoEntry)?;
+        let reach = self.timelines.as_reach();
+        self.watches
+            .register(cookie, file.points.as_slice(), reach)?;
         Ok(Answer::Done)
     }
 
-    /// The file of that name, where a watch of it under the cookie may be registered.
+    /// Whether a watch of the file of that name may be registered under the cookie.
     ///
     /// Takes no memory.
-    fn watchable(&self, name: &Name, cookie: u64) -> Result<&SyncFile, Refusal>
+    fn watchable(&self, name: &Name, cookie: u64) -> Result<(), Refusal>
         ensures refused { IsRefusedFor (cause_of self.now (Command.Watch name.now cookie)) result }
         ensures sure { IfErr result (λ e. e ≢ Refusal.Memory) }
-        ensures found { IfOk result (λ file. file_at self.now.files name.now ≡ Some file.now) }
     {
         let status = self.files.status(name, self.timelines.as_clocks())?;
         self.watches.free(cookie)?;
         if status.is_signalled() {
             return Err(Refusal::Signalled);
         }
-        Ok(self.files.get(name).unwrap())
+        Ok(())
     }
 
     fn unwatch(&mut self, cookie: u64) -> Answer
