@@ -22,9 +22,7 @@ use Rattle.fence_core.proofs.Registered.{is_at-true, is_at-is}
 use Rattle.fence_core.proofs.Indexed.{fires-due}
 use Rattle.fence_core.specs.Watch.{Watch, is_for, cookies_of}
 use Rattle.fence_core.specs.Watches.{fires}
-use Rattle.fence_core.specs.Reported.{at, cookie_if_fires, IsReported, AreOnlyFiring, Fires, reported_of}
-use Rattle.fence_core.specs.declared.watches.point_index.single_rise.Fired.{Fired}
-use Rattle.fence_core.specs.declared.watches.point_index.single_rise.Fired.TheVariants.{Nothing, One, Several}
+use Rattle.fence_core.specs.Reported.{at, cookie_if_fires, IsReported, AreOnlyFiring, Fires}
 
 -- the cookies of the watches that fire, by registration
 reported : List ℕ → List (ℕ × Watch) → List (ℕ × ℕ)
@@ -113,16 +111,6 @@ values-fired reach es places index fired ordered h rising some all =
     values-IsReported reach es fired ordered rising (λ r. IsReported-all reach es fired r some (λ w found fired_it.
     let k = fires-due es places index reach r w h found fired_it in
     subst (IsReported es reach fired) k.1 (all k.0 k.3 k.2)))
-
-ordered-reported_of : (f : Fired) → IsStrictlySortedBy nat_cmp (keys_of (reported_of f))
-unfolding IsStrictlySortedBy
-ordered-reported_of Nothing = tt
-ordered-reported_of (One registration cookie) = (tt, tt)
-ordered-reported_of Several = tt
-
--- the same where one watch is reported at most
-pub values-reported_of : (reach : List ℕ) (es : List (ℕ × Watch)) (places : Places) (index : List WaitingPoint) (f : Fired) → IsStrictlySortedBy nat_cmp (keys_of es) → IsIndexed es places index → AreOnlyFiring es reach (reported_of f) → ((k : WaitingPoint) → is_due k.ctx (value_at reach k.ctx) k ≡ true → holds index k ≡ true → IsReported es reach (reported_of f) k.registration) → values_of (reported_of f) ≡ cookies_of (filter (fires reach) (values_of es))
-values-reported_of reach es places index f ordered h some all = values-fired reach es places index (reported_of f) ordered h (ordered-reported_of f) some all
 
 -- where no point is due, no watch fires
 pub none-due : (reach : List ℕ) (es : List (ℕ × Watch)) (places : Places) (index : List WaitingPoint) → IsStrictlySortedBy nat_cmp (keys_of es) → IsIndexed es places index → ((k : WaitingPoint) → holds index k ≡ true → is_due k.ctx (value_at reach k.ctx) k ≡ false) → cookies_of (filter (fires reach) (values_of es)) ≡ []

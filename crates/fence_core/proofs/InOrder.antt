@@ -65,7 +65,7 @@ turned : (q r : ℕ) → is_at (nat_cmp q) r ≡ is_at (nat_cmp r) q
 turned q r = is_eq-nat_cmp q r ∙ nat_eq_equiv.symm q r ∙ sym (is_eq-nat_cmp r q)
 
 -- one more
-at-insert : {X : Type 0} (es : List (ℕ × X)) (r : ℕ) (v : X) (q : ℕ) → at (insert_entry nat_cmp es r v) q ≡ cond (is_at (nat_cmp r) q) (Some v) (at es q)
+pub at-insert : {X : Type 0} (es : List (ℕ × X)) (r : ℕ) (v : X) (q : ℕ) → at (insert_entry nat_cmp es r v) q ≡ cond (is_at (nat_cmp r) q) (Some v) (at es q)
 at-insert [] r v q = ap (λ b. cond b (Some v) None) (turned q r)
 at-insert (e ∷ es) r v q = by (nat_cmp r e.0) refl (at-insert es r v q)
   where
@@ -93,7 +93,7 @@ at-insert (e ∷ es) r v q = by (nat_cmp r e.0) refl (at-insert es r v q)
           ∙ ap (λ o. cond (is_at (nat_cmp r) q) (Some v) o) (sym (ap (λ b. cond b (Some e.1) (at es q)) past))
     ]
 
-All-insert : {X : Type 0} (P : ℕ → Type 0) (es : List (ℕ × X)) (r : ℕ) (v : X) → AllByRecursion P (keys_of es) → P r → AllByRecursion P (keys_of (insert_entry nat_cmp es r v))
+pub All-insert : {X : Type 0} (P : ℕ → Type 0) (es : List (ℕ × X)) (r : ℕ) (v : X) → AllByRecursion P (keys_of es) → P r → AllByRecursion P (keys_of (insert_entry nat_cmp es r v))
 All-insert P [] r v all own = (own, tt)
 All-insert P (e ∷ es) r v all own = by (nat_cmp r e.0) (All-insert P es r v all.1 own)
   where
@@ -102,7 +102,7 @@ All-insert P (e ∷ es) r v all own = by (nat_cmp r e.0) (All-insert P es r v al
     by Equal rest = all
     by Greater rest = (all.0, rest)
 
-ordered-insert : {X : Type 0} (es : List (ℕ × X)) (r : ℕ) (v : X) → IsStrictlySortedBy nat_cmp (keys_of es) → IsStrictlySortedBy nat_cmp (keys_of (insert_entry nat_cmp es r v))
+pub ordered-insert : {X : Type 0} (es : List (ℕ × X)) (r : ℕ) (v : X) → IsStrictlySortedBy nat_cmp (keys_of es) → IsStrictlySortedBy nat_cmp (keys_of (insert_entry nat_cmp es r v))
 unfolding IsStrictlySortedBy
 ordered-insert [] r v h = (tt, tt)
 ordered-insert (e ∷ es) r v h = by (nat_cmp r e.0) refl (ordered-insert es r v h.1)

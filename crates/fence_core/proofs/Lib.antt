@@ -1,5 +1,6 @@
 pub mod Causes
 pub mod Firing
+pub mod Gathered
 pub mod Held
 pub mod Once
 pub mod Pending

@@ -171,7 +171,7 @@ registered-changed cookie o places other changed q = ap registration_at (changed
 greater : (made r : ℕ) → r < made → nat_cmp made r ≡ Greater
 greater made r low = grind (arith, nat_tests)
 
-pub insert_entry-last : (es : List (ℕ × Watch)) (made : ℕ) (w : Watch) → AllByRecursion (λ r. r < made) (keys_of es) → insert_entry nat_cmp es made w ≡ es ++ (made, w) ∷ []
+pub insert_entry-last : {X : Type 0} (es : List (ℕ × X)) (made : ℕ) (w : X) → AllByRecursion (λ r. r < made) (keys_of es) → insert_entry nat_cmp es made w ≡ es ++ (made, w) ∷ []
 insert_entry-last [] made w low = refl
 insert_entry-last (e ∷ es) made w low =
     ap (λ o. match_ordering o ((made, w) ∷ e ∷ es) ((e.0, w) ∷ es) (e ∷ insert_entry nat_cmp es made w)) (greater made e.0 low.0)

@@ -1,5 +1,6 @@
 pub mod Callbacks
 pub mod Fence
+pub mod Gathered
 pub mod Pending
 pub mod PointIndex
 pub mod Registered

@@ -1,12 +1,10 @@
 -- The watches that a rise fires, by registration.
-use Rattle.std.specs.Prelude.{◌≡◌, ℕ, Bool, true, false, if◌then◌else◌, List, [], ◌∷◌, Option, None, Some}
+use Rattle.std.specs.Prelude.{◌≡◌, ℕ, true, if◌then◌else◌, List, Option, None, Some}
 use Rattle.std.specs.Map.{lookup}
 use Rattle.std.specs.BTreeMap.{is_at}
 use Rattle.std.specs.Ordering.{nat_cmp}
 use Rattle.fence_core.specs.Watch.{Watch}
 use Rattle.fence_core.specs.Watches.{fires}
-use Rattle.fence_core.specs.declared.watches.point_index.single_rise.Fired.{Fired}
-use Rattle.fence_core.specs.declared.watches.point_index.single_rise.Fired.TheVariants.{Nothing, One, Several}
 
 -- what stands at the number
 abbrev pub at : {X : Type 0} → List (ℕ × X) → ℕ → Option X
@@ -32,14 +30,3 @@ pub record Fires (es : List (ℕ × Watch)) (reach : List ℕ) : Type 0 where
   pub watch : Watch
   pub pending : at es registration ≡ Some watch
   pub fires : fires reach watch ≡ true
-
--- the watch that is reported if there is at most one, with its cookie
-abbrev pub reported_of : Fired → List (ℕ × ℕ)
-reported_of Nothing = []
-reported_of (One registration cookie) = (registration, cookie) ∷ []
-reported_of Several = []
-
-abbrev pub is_one_at_most : Fired → Bool
-is_one_at_most Nothing = true
-is_one_at_most (One registration cookie) = true
-is_one_at_most Several = false

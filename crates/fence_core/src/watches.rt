@@ -1,5 +1,5 @@
 // Callbacks that wait for fences.
-ghost use Rattle.std.specs.Prelude.{◌≡◌, ◌↔◌, ◌≤◌, [], ◌∷◌, Ok, Err, IfOk, IfErr, OnOk, OnErr, IsOk, MatchOption, IsTrue, false, replicate};
+ghost use Rattle.std.specs.Prelude.{◌≡◌, ◌↔◌, ◌≤◌, [], Ok, Err, IfOk, IfErr, OnOk, OnErr, IsOk, MatchOption, IsTrue, false, replicate};
 ghost use Rattle.point_core.specs.declared.context.TheConstants.{CONTEXTS};
 ghost use Rattle.std.specs.List.{list_any};
 ghost use Rattle.std.specs.Map.{values_of};
@@ -19,7 +19,7 @@ mod registration;
 
 use self::pending::{PendingWatch, PendingWatches};
 use self::places::Places;
-use self::point_index::{Fired, PointIndex, WaitingPoint};
+use self::point_index::{PointIndex, WaitingPoint};
 use self::registration::Registration;
 use crate::fence::{Fence, first_above};
 use point_core::{LimitKind, Point, Reach, Refusal};
@@ -253,16 +253,12 @@ impl Watches {
         if !self.is_settled {
             return self.fired(reach);
         }
-        match self
+        let found = self
             .index
-            .fired_by_one_context(&self.pending, point.ctx, reach)
-        {
-            Fired::Nothing => Ok(Vec::new(self.alloc)),
-            Fired::One {
-                registration: _,
-                cookie,
-            } => one_listed(self.alloc, cookie),
-            Fired::Several => self.fired(reach),
+            .fired_by_one_context(self.alloc, &self.pending, point.ctx, reach)?;
+        match found {
+            Some(cookies) => Ok(cookies),
+            None => self.fired(reach),
         }
     }
 
@@ -320,16 +316,6 @@ fn follow(kept: &mut Reach, is_settled: bool, reach: &Reach) -> bool
     }
     kept.copy_from(reach);
     false
-}
-
-/// The cookie of the one watch that fires.
-fn one_listed(alloc: Global, cookie: u64) -> Result<Vec<u64>, Refusal>
-    ensures listed { IfOk result (λ cookies. cookies.items ≡ cookie ∷ []) }
-    ensures memory { IfErr result (λ e. e ≡ Memory) }
-{
-    let mut cookies = Vec::new(alloc);
-    cookies.push(cookie).map_err(|_| Refusal::Memory)?;
-    Ok(cookies)
 }
 
 /// The cookies, by registration.

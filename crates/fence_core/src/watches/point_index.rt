@@ -8,7 +8,8 @@ ghost use Rattle.point_core.specs.declared.refusal.Refusal.TheVariants.{Memory};
 ghost use Rattle.fence_core.specs.declared.watches.point_index.WaitingPoint.{WaitingPoint as Waiting};
 ghost use Rattle.fence_core.specs.PointIndex.{waiting, is_same, holds, is_due, number_due, AreWaiting};
 ghost use Rattle.fence_core.specs.Registered.{registered, IsIndexed, NoneFires};
-ghost use Rattle.fence_core.specs.Reported.{IsReported, AreOnlyFiring, Fires, reported_of, is_one_at_most};
+ghost use Rattle.fence_core.specs.Reported.{IsReported, AreOnlyFiring, Fires};
+ghost use Rattle.fence_core.specs.Gathered.{AreFiredIn};
 ghost use Rattle.point_core.specs.Reach.{value_at};
 ghost use Rattle.point_core.specs.declared.context.TheConstants.{CONTEXTS};
 
@@ -16,7 +17,6 @@ mod firing;
 mod single_rise;
 
 use self::firing::report_reached;
-pub(super) use self::single_rise::Fired;
 use self::single_rise::fired_by_one_context;
 use super::due_floor::DueFloor;
 use super::pending::PendingWatches;
@@ -316,19 +316,22 @@ impl PointIndex {
         Ok(fired)
     }
 
-    /// Of the watches that stand in the context at or below its value, those that fire at the reach.
+    /// The cookies of the watches that stand in the context at or below its value and fire, by registration; or none, if
+    /// these watches don't stand by registration there.
     pub(super) fn fired_by_one_context(
         &self,
+        alloc: Global,
         pending: &PendingWatches,
         ctx: Context,
         reach: &Reach,
-    ) -> Fired
+    ) -> Result<Option<Vec<u64>>, Refusal>
         ensures waiting { AreWaiting self.now }
-        ensures only_firing { AreOnlyFiring pending.now.entries reach.now (reported_of result) }
-        ensures reported { is_one_at_most result ≡ true → (k : Waiting) → is_due ctx (value_at reach.now ctx) k ≡ true →
-            holds self.now k ≡ true → IsReported pending.now.entries reach.now (reported_of result) k.registration }
+        ensures fired { IfOk result (λ found. IfSome found (λ cookies.
+            AreFiredIn ctx self.now pending.now.entries reach.now cookies.items)) }
+        ensures memory { IfErr result (λ e. e ≡ Memory) }
+        ensures some_fires { OnErr result (Fires pending.now.entries reach.now) }
     {
-        fired_by_one_context(&self.points, pending, ctx, reach)
+        fired_by_one_context(alloc, &self.points, pending, ctx, reach)
     }
 }
 

@@ -1,79 +1,92 @@
-// Which watch fires when one context rises.
-ghost use Rattle.std.specs.Prelude.{◌≡◌, ℕ, true};
-ghost use Rattle.point_core.specs.Reach.{value_at};
-ghost use Rattle.fence_core.specs.declared.watches.point_index.WaitingPoint.{WaitingPoint as Waiting};
-ghost use Rattle.fence_core.specs.PointIndex.{holds, is_due, AreWaiting};
-ghost use Rattle.fence_core.specs.Reported.{IsReported, AreOnlyFiring, reported_of, is_one_at_most};
+// Which watches fire when one context rises.
+ghost use Rattle.std.specs.Prelude.{◌≡◌, ◌↔◌, ℕ, List, true, IsTrue, IfOk, IfErr, IfSome, OnErr};
+ghost use Rattle.point_core.specs.declared.refusal.Refusal.TheVariants.{Memory};
+ghost use Rattle.fence_core.specs.PointIndex.{AreWaiting};
+ghost use Rattle.fence_core.specs.Gathered.{IsAfter, AreGathered, HasGathered, AreFiredIn};
+ghost use Rattle.fence_core.specs.Reported.{Fires};
 
 use super::WaitingPoint;
 use crate::watches::pending::PendingWatches;
 use crate::watches::registration::Registration;
-use point_core::{Context, Reach};
+use point_core::{Context, Reach, Refusal};
+use std::alloc::Global;
 use std::collections::BTreeSet;
 
-/// The watches that fire: none, one of that registration and cookie, or maybe more than one.
-#[derive(Clone, Copy, Debug)]
-pub(in crate::watches) enum Fired {
-    Nothing,
-    One {
-        registration: Registration,
-        cookie: u64,
-    },
-    Several,
-}
-
-/// Of the watches that stand in the context at or below its value, those that fire.
+/// The cookies of the watches that stand in the context at or below its value and fire, by registration; or none, if these
+/// watches don't stand by registration there.
 #[inline(never)]
 pub(super) fn fired_by_one_context(
+    alloc: Global,
     points: &BTreeSet<WaitingPoint>,
     pending: &PendingWatches,
     ctx: Context,
     reach: &Reach,
-) -> Fired
+) -> Result<Option<Vec<u64>>, Refusal>
     requires waiting { AreWaiting points.now.keys }
-    ensures only_firing { AreOnlyFiring pending.now.entries reach.now (reported_of result) }
-    ensures reported { is_one_at_most result ≡ true → (k : Waiting) → is_due ctx (value_at reach.now ctx) k ≡ true →
-        holds points.now.keys k ≡ true → IsReported pending.now.entries reach.now (reported_of result) k.registration }
+    ensures fired { IfOk result (λ found. IfSome found (λ cookies.
+        AreFiredIn ctx points.now.keys pending.now.entries reach.now cookies.items)) }
+    ensures memory { IfErr result (λ e. e ≡ Memory) }
+    ensures some_fires { OnErr result (Fires pending.now.entries reach.now) }
 {
     let value = reach.get(ctx);
     let (first, last) = (WaitingPoint::first(ctx), WaitingPoint::last(ctx, value));
-    let mut fired = Fired::Nothing;
+    let mut fired = Gathered {
+        cookies: Vec::new(alloc),
+        last: None,
+    };
     for due in points.range(first..=last) {
-        fired = with_watch(fired, due.registration, pending, reach);
+        let in_order = fired.put(due.registration, pending, reach)?;
+        if !in_order {
+            return Ok(None);
+        }
     }
-    fired
+    Ok(Some(fired.cookies))
 }
 
-/// The same with one more watch, if it fires.
-fn with_watch(
-    fired: Fired,
-    registration: Registration,
-    pending: &PendingWatches,
-    reach: &Reach,
-) -> Fired
-    requires only_firing { AreOnlyFiring pending.now.entries reach.now (reported_of fired) }
-    ensures only_firing { AreOnlyFiring pending.now.entries reach.now (reported_of result) }
-    ensures before { is_one_at_most result ≡ true → is_one_at_most fired ≡ true }
-    ensures still { is_one_at_most result ≡ true → (r : ℕ) →
-        IsReported pending.now.entries reach.now (reported_of fired) r →
-        IsReported pending.now.entries reach.now (reported_of result) r }
-    ensures reported { is_one_at_most result ≡ true →
-        IsReported pending.now.entries reach.now (reported_of result) registration }
-{
-    if let Fired::Several = fired {
-        return fired;
+/// The cookies of fired watches, and the last one's registration, which is the greatest.
+#[derive(Drop)]
+struct Gathered {
+    cookies: Vec<u64>,
+    last: Option<Registration>,
+}
+
+impl Gathered {
+    /// Adds the watch of the registration if it fires. Says whether the watches still stand by registration.
+    fn put(
+        &mut self,
+        registration: Registration,
+        pending: &PendingWatches,
+        reach: &Reach,
+    ) -> Result<bool, Refusal>
+        ensures put { IfOk result (λ in_order. in_order ≡ true → (fired : List (ℕ × ℕ)) →
+            AreGathered pending.now.entries reach.now fired self.old.cookies.items self.old.last →
+            HasGathered pending.now.entries reach.now registration fired self.new.cookies.items self.new.last) }
+        ensures memory { IfErr result (λ e. e ≡ Memory) }
+        ensures some_fires { OnErr result (Fires pending.now.entries reach.now) }
+    {
+        let Some(watch) = pending.get(&registration) else {
+            return Ok(true);
+        };
+        if !watch.fence.is_signalled(reach) {
+            return Ok(true);
+        }
+        if !self.precedes(registration) {
+            return Ok(false);
+        }
+        self.cookies
+            .push(watch.cookie)
+            .map_err(|_| Refusal::Memory)?;
+        self.last = Some(registration);
+        Ok(true)
     }
-    let Some(watch) = pending.get(&registration) else {
-        return fired;
-    };
-    if !watch.fence.is_signalled(reach) {
-        return fired;
-    }
-    match fired {
-        Fired::Nothing => Fired::One {
-            registration,
-            cookie: watch.cookie,
-        },
-        Fired::One { .. } | Fired::Several => Fired::Several,
+
+    /// Whether the registration comes after the last one.
+    fn precedes(&self, registration: Registration) -> bool
+        ensures { IsTrue result ↔ IsAfter self.now.last registration }
+    {
+        match self.last {
+            Some(last) => last.0 < registration.0,
+            None => true,
+        }
     }
 }

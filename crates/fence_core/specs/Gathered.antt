@@ -1,0 +1,37 @@
+-- The cookies of watches that fire, gathered by registration.
+use Rattle.std.specs.Prelude.{◌≡◌, ℕ, ◌<◌, true, List, Option, None, Some, ⊤}
+use Rattle.std.specs.List.{AllByRecursion}
+use Rattle.std.specs.List.Sorted.{IsStrictlySortedBy}
+use Rattle.std.specs.Map.{keys_of, values_of}
+use Rattle.std.specs.Ordering.{nat_cmp}
+use Rattle.point_core.specs.Reach.{value_at}
+use Rattle.fence_core.specs.Watch.{Watch}
+use Rattle.fence_core.specs.PointIndex.{holds, is_due}
+use Rattle.fence_core.specs.Reported.{IsReported, AreOnlyFiring}
+use Rattle.fence_core.specs.declared.watches.point_index.WaitingPoint.{WaitingPoint}
+
+-- the registration comes after the last one
+abbrev pub IsAfter : Option ℕ → ℕ → Type 0
+IsAfter None registration = ⊤
+IsAfter (Some last) registration = last < registration
+
+-- the cookies are those of fired watches, whose registrations rise to the last
+pub record AreGathered (es : List (ℕ × Watch)) (reach : List ℕ) (fired : List (ℕ × ℕ)) (cookies : List ℕ) (last : Option ℕ) : Type 0 where
+  pub values : values_of fired ≡ cookies
+  pub ordered : IsStrictlySortedBy nat_cmp (keys_of fired)
+  pub before : (registration : ℕ) → IsAfter last registration → AllByRecursion (λ r. r < registration) (keys_of fired)
+  pub only_firing : AreOnlyFiring es reach fired
+
+-- the same once one more watch was looked at
+pub record HasGathered (es : List (ℕ × Watch)) (reach : List ℕ) (registration : ℕ) (fired : List (ℕ × ℕ)) (cookies : List ℕ) (last : Option ℕ) : Type 0 where
+  pub more : List (ℕ × ℕ)
+  pub gathered : AreGathered es reach more cookies last
+  pub still : (r : ℕ) → IsReported es reach fired r → IsReported es reach more r
+  pub reported : IsReported es reach more registration
+
+-- the cookies are those of the watches that stand in the context at or below its value and fire, by registration
+pub record AreFiredIn (ctx : ℕ) (index : List WaitingPoint) (es : List (ℕ × Watch)) (reach : List ℕ) (cookies : List ℕ) : Type 0 where
+  pub fired : List (ℕ × ℕ)
+  pub last : Option ℕ
+  pub gathered : AreGathered es reach fired cookies last
+  pub all : (k : WaitingPoint) → is_due ctx (value_at reach ctx) k ≡ true → holds index k ≡ true → IsReported es reach fired k.registration
