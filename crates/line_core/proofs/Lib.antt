@@ -9,5 +9,6 @@ pub mod Inputs
 pub mod Keyed
 pub mod LineLemmas
 pub mod Lowest
+pub mod Notes
 pub mod Numbers
 pub mod Runs

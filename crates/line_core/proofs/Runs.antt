@@ -83,6 +83,19 @@ module _ (p : ℕ → Bool) where
       let other : p (get_or xs (start xs) 0) ≡ false = fails (get_or xs (start xs) 0) (passes_at_first (λ x. not (p x)) xs 0 at.0) in
       (omega (arith, length-drop i xs), ap p (get_or-drop i xs 0 0 ∙ ap (λ k. get_or xs k 0) (add-zero i ∙ sym at.1)) ∙ other)
 
+  front_case : (xs : List ℕ) (n : ℕ) (b : Bool) → 0 < position_or_len p xs → 0 < length xs → unwrap_or (cond b (Some (position_or_len p xs)) None) (length xs) ≡ n → 0 < n
+  front_case xs n true h l e = subst (λ k. 0 < k) e h
+  front_case xs n false h l e = subst (λ k. 0 < k) e l
+
+  first_of_front : (xs : List ℕ) (n : ℕ) → 0 < length xs → 0 < n → take 1 (take n xs) ≡ take 1 xs
+  first_of_front [] n l h = absurd (omega arith)
+  first_of_front (x ∷ xs) zero l h = absurd (omega arith)
+  first_of_front (x ∷ xs) (suc n) l h = refl
+
+  -- the first run begins as the elements do
+  pub runs-front_first : (xs : List ℕ) (n : ℕ) → 0 < length xs → p (get_or xs 0 0) ≡ false → unwrap_or (position p xs) (length xs) ≡ n → take 1 (take n xs) ≡ take 1 xs
+  runs-front_first xs n l f e = first_of_front xs n l (front_case xs n (nat_lt (position_or_len p xs) (length xs)) (begins xs l f) l e)
+
   front_below : (xs : List ℕ) (n : ℕ) (b : Bool) → nat_lt (position_or_len p xs) (length xs) ≡ b → unwrap_or (cond b (Some (position_or_len p xs)) None) (length xs) ≡ n → n ≤ position_or_len p xs
   front_below xs n true is e = omega (arith, e)
   front_below xs n false is e = omega (arith, e, ltb-false _ _ is)

@@ -188,6 +188,7 @@ fn report(rest: &Words<'_>) -> Option<Command>
     }
 }
 
+#[inline(always)]
 fn one_name(rest: &Words<'_>) -> Option<Name>
     ensures words { result ≡ one_name rest.now }
 {

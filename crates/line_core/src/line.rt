@@ -1,6 +1,7 @@
 // One line of a script.
-ghost use Rattle.std.specs.Prelude.{◌≡◌};
-ghost use Rattle.line_core.specs.Line.{body_of};
+ghost use Rattle.std.specs.Prelude.{◌≡◌, IsTrue, None};
+ghost use Rattle.line_core.specs.Line.{body_from, body_of};
+ghost use Rattle.line_core.specs.Words.{words_of};
 
 use crate::command::command;
 use crate::words::Words;
@@ -37,6 +38,9 @@ pub fn body_of(line: &[u8]) -> Option<Body>
     if line.len() > LINE_BYTES {
         return Some(Body::Bad(Refusal::LongLine));
     }
+    if begins_as_note(line) {
+        return None;
+    }
     let (word, rest) = Words::of(line).first()?;
     if word.starts_with(b"#") {
         return None;
@@ -45,4 +49,11 @@ pub fn body_of(line: &[u8]) -> Option<Body>
         Some(command) => Some(Body::Cmd(command)),
         None => Some(Body::Bad(Refusal::Syntax)),
     }
+}
+
+/// Whether the line begins with `#`, as most notes do. Then its words need not be found.
+fn begins_as_note(line: &[u8]) -> bool
+    ensures note { IsTrue result → body_from (words_of line.now) ≡ None }
+{
+    line.starts_with(b"#")
 }

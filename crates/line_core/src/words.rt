@@ -158,6 +158,7 @@ pub(crate) fn are_none(words: &Words<'_>) -> bool
 }
 
 /// The word, if there is exactly one.
+#[inline(always)]
 pub(crate) fn one<'a>(words: &Words<'a>) -> Option<&'a [u8]>
     ensures words { option_map (λ w. w.now) result ≡ one_of words.now }
 {
@@ -169,6 +170,7 @@ pub(crate) fn one<'a>(words: &Words<'a>) -> Option<&'a [u8]>
 }
 
 /// The words, if there are exactly two.
+#[inline(always)]
 pub(crate) fn two<'a>(words: &Words<'a>) -> Option<(&'a [u8], &'a [u8])>
     ensures words { option_map (λ w. (w.0.now, w.1.now)) result ≡ two_of words.now }
 {
