@@ -13,8 +13,8 @@ use Rattle.fence_core.proofs.Registered.{is_some-registration_of, at-registratio
 use Rattle.fence_core.proofs.Indexed.{IsIndexed-remove}
 use Rattle.fence_core.proofs.watches.Watches.remove.Goals as goal
 
-pub returns-in_default-clause-told : goal.returns-in_default-clause-told
-returns-in_default-clause-told c =
+pub returns-in_default-clause-found : goal.returns-in_default-clause-found
+returns-in_default-clause-found c =
     ap is_some (ap registration_at c.in_default.ensures.value ∙ c.self.invariant.0.by_cookie c.args.cookie)
     ∙ is_some-registration_of c.args.cookie c.self.inside.pending.entries
     ∙ ap (λ (r : Registry). list_any (is_for c.args.cookie) r.pending) c.self.view_is
@@ -30,8 +30,8 @@ invariant_of-self-in_default-remove c =
     let found = at-registration_of c.args.cookie c.in-Some.place.registration c.self.inside.pending.entries c.self.invariant.0.ordered (sym (ap registration_at c.in-Some.ensures.value ∙ c.self.invariant.0.by_cookie c.args.cookie)) in
     absurd (none-some found.0 (c.in_default-remove.ensures.value ∙ found.1))
 
-pub returns-in_default-remove-clause-told : goal.returns-in_default-remove-clause-told
-returns-in_default-remove-clause-told c =
+pub returns-in_default-remove-clause-found : goal.returns-in_default-remove-clause-found
+returns-in_default-remove-clause-found c =
     let found = at-registration_of c.args.cookie c.in-Some.place.registration c.self.inside.pending.entries c.self.invariant.0.ordered (sym (ap registration_at c.in-Some.ensures.value ∙ c.self.invariant.0.by_cookie c.args.cookie)) in
     absurd (none-some found.0 (c.in_default-remove.ensures.value ∙ found.1))
 
@@ -54,8 +54,8 @@ invariant_of-self-2 c =
           (λ k there. (and_parts (not (is_same place k)) (holds c.self.inside.index k) (sym (c.take.ensures.taken k) ∙ there)).1),
     )
 
-pub returns-clause-told : goal.returns-clause-told
-returns-clause-told c =
+pub returns-clause-found : goal.returns-clause-found
+returns-clause-found c =
     ap is_some (ap registration_at c.in-Some.ensures.value ∙ c.self.invariant.0.by_cookie c.args.cookie)
     ∙ is_some-registration_of c.args.cookie c.self.inside.pending.entries
     ∙ ap (λ (r : Registry). list_any (is_for c.args.cookie) r.pending) c.self.view_is
