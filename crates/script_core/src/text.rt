@@ -14,7 +14,9 @@ ghost use Rattle.script_core.specs.declared.text.TheConstants.{DRIVER_BYTES};
 use desk_core::{Answer, FenceRow, Info, Maker, Report, ShowRow};
 use itoa::Buffer;
 use point_core::{Refusal, Status};
-use report_core::{NUMBER_WIDTH, STATUS_BYTES, TEXT_LINE_BYTES, TextLine, status_text, timelines_text};
+use report_core::{
+    NUMBER_WIDTH, STATUS_BYTES, TEXT_LINE_BYTES, TextLine, status_text, timelines_text,
+};
 
 /// The most bytes of a driver's name, those of `sw_sync`.
 const DRIVER_BYTES: usize = 7;
