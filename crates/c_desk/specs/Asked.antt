@@ -77,7 +77,8 @@ abbrev pub asked_buffer : List ℕ → Asked
 asked_buffer b = of_one command.Buffer b
 
 abbrev pub asked_add : List ℕ → List ℕ → ℕ → ℤ → Asked
-asked_add b t p usage = then_of (name_of b) (λ b. then_of (name_of t) (λ t. then_of (usage_of usage) (λ u. Ok (command.Add b t p u))))
+asked_add b t p usage =
+    then_of (name_of b) (λ b. then_of (name_of t) (λ t. then_of (usage_of usage) (λ u. Ok (command.Add b t p u))))
 
 abbrev pub asked_import : List ℕ → List ℕ → ℕ → Asked
 asked_import b f flags = of_two (λ b f. command.Import b f flags) b f

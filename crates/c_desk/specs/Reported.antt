@@ -34,7 +34,8 @@ driver_text SwSync = filled_to DRIVER_ROOM (codes "sw_sync")
 driver_text Stub = filled_to DRIVER_ROOM (codes "stub")
 
 abbrev pub fence_info : FenceRow → FenceInfo
-fence_info r = record { timeline = filled r.timeline; point = r.point; driver = driver_text r.driver; status = status_number r.status }
+fence_info r =
+    record { timeline = filled r.timeline; point = r.point; driver = driver_text r.driver; status = status_number r.status }
 
 abbrev pub buffer_row : ShowRow → BufferRow
 buffer_row r = record { usage = pos (usage_number r.usage); timeline = filled r.timeline; point = r.point }
@@ -69,7 +70,8 @@ table_or (answer.Report report) made old = old
 table_or (answer.Refused r) made old = old
 
 -- a file's status, the number of its fences, and as many of them as there is room for
-pub record StoresInfo (given : Answer) (old_status new_status : ℤ) (old_rows new_rows : List FenceInfo) (old_count new_count : ℕ) : Type 0 where
+pub record StoresInfo (given : Answer) (old_status new_status : ℤ) (old_rows new_rows : List FenceInfo)
+    (old_count new_count : ℕ) : Type 0 where
   pub status : new_status ≡ info_or given (λ i. status_number i.status) old_status
   pub rows : new_rows ≡ info_or given (λ i. over (map fence_info i.fences) old_rows) old_rows
   pub count : new_count ≡ info_or given (λ i. length i.fences) old_count

@@ -17,7 +17,8 @@ strip_prefix bytes front = if starts_with nat_eq bytes front then Some (drop (le
 
 -- A note whose first word begins with `#=` expects a line of output: its text is what follows, but for one space.
 abbrev pub expected_text : List ℕ → Option (List ℕ)
-expected_text line = option_map (λ text. unwrap_or (strip_prefix text (codes " ")) text) (strip_prefix (drop_spaces line) (codes "#="))
+expected_text line =
+    option_map (λ text. unwrap_or (strip_prefix text (codes " ")) text) (strip_prefix (drop_spaces line) (codes "#="))
 
 -- what the notes expect that stand before the next line with an answer
 abbrev pub expected_after : List (List ℕ) → List (List ℕ)

@@ -81,4 +81,5 @@ pub record HasStopped (puts : Puts) (exports : Exports) (done acts : List Act) (
   pub acts_are : acts ≡ accepted ++ act ∷ rest
   pub middle : ClientModel
   pub acted : HaveActed puts exports done accepted before middle
-  pub stopped : ((refusal ≡ TimedOut) × (after ≡ middle)) ⊎ HasActed puts exports (done ++ accepted) act middle after (Err refusal)
+  pub stopped : ((refusal ≡ TimedOut) × (after ≡ middle))
+      ⊎ HasActed puts exports (done ++ accepted) act middle after (Err refusal)

@@ -99,7 +99,8 @@ pub record HasLooked (words : WordsModel) (buffer : ℕ) (level : Usage) (before
 
 -- the seat has raised the entry's place to its point or a later one
 abbrev pub IsRaisedBy : WordsModel → ℕ → SeatModel → Entry → Type 0
-IsRaisedBy words buffer seat e = (e.point.ctx ≤ words.contexts) × (e.point.value ≤ raised_to seat (word_at words buffer (place_of e)))
+IsRaisedBy words buffer seat e =
+    (e.point.ctx ≤ words.contexts) × (e.point.value ≤ raised_to seat (word_at words buffer (place_of e)))
 
 -- the tables have these entries too
 pub record TakesIn (entries : List Entry) (old new : Tops) : Type 0 where

@@ -55,7 +55,8 @@ pub record IsWorkerAt {T : Type 0} (table : T) (plans : List (List Act)) (index 
 -- each of these is the worker of the plan at its place
 abbrev pub AreWorkers : {T : Type 0} → T → List (List Act) → List (PromisedHandle Ended (Loan T)) → Type 0
 AreWorkers {T} table plans workers =
-    (index : ℕ) (worker : PromisedHandle Ended (Loan T)) → slice_get workers index ≡ Some worker → IsWorkerAt table plans index worker
+    (index : ℕ) (worker : PromisedHandle Ended (Loan T)) →
+    slice_get workers index ≡ Some worker → IsWorkerAt table plans index worker
 
 -- the plan that it was promised for was worked off
 abbrev pub HasWorkedOff : {T : Type 0} → (T → Puts) → (T → Exports) → PromisedHandle Ended (Loan T) → Type 0

@@ -115,7 +115,8 @@ fn act_round<R: Wait, T: SharedTable, G: Gate>(
     requires driver { IsDriving shared.now.words.now driver.old }
     requires rounds { IsRepeatable round.now.acts.now round.now.times }
     requires number { (1 ≤ number) × (number ≤ round.now.times) }
-    requires within { All (IsWithin shared.now.words.now.contexts shared.now.words.now.buffers) (round_of round.now.acts.now number) }
+    requires within { All (IsWithin shared.now.words.now.contexts shared.now.words.now.buffers)
+        (round_of round.now.acts.now number) }
     requires fits { driver.old.value + increments_of (round_of round.now.acts.now number) < 2 ^ 64 }
     requires buffers { length own.old ≡ shared.now.words.now.buffers }
     ensures seats { IsSinglePart shared.now.words.now seat.new × IsDriving shared.now.words.now driver.new }

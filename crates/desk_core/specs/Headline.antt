@@ -146,7 +146,8 @@ pub record ReportsWhatFires (desk : DeskState) (history : List Command) : Type 0
 pub record ReportsEachWatch (desk : DeskState) (commands : List Command) (given : List Answer) : Type 0 where
   -- of each cookie: how often it was registered, and what became of that
   pub each : (cookie : ℕ)
-      → times_registered cookie commands given ≡ times_fired cookie given + times_removed cookie commands given + times_pending cookie desk
+      → times_registered cookie commands given
+          ≡ times_fired cookie given + times_removed cookie commands given + times_pending cookie desk
   -- so it is reported at most as often as it was registered
   pub fired : (cookie : ℕ) → times_fired cookie given ≤ times_registered cookie commands given
   -- and is pending at most once

@@ -42,7 +42,8 @@ pub record OnlyChanges (name : List ℕ) (old new : List Buffer) : Type 0 where
 
 -- why no buffer of that name may be made
 abbrev pub cause_to_refuse : List Buffer → List ℕ → Option Refusal
-cause_to_refuse bs name = if has_buffer bs name then Some Exists else if nat_lt (length bs) BUFFERS then None else Some (Limit BuffersKind)
+cause_to_refuse bs name =
+    if has_buffer bs name then Some Exists else if nat_lt (length bs) BUFFERS then None else Some (Limit BuffersKind)
 
 -- why a call on the buffer of that name is refused
 abbrev pub cause_without : List Buffer → List ℕ → Option Refusal

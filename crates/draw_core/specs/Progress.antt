@@ -50,7 +50,8 @@ pub record AreBarsOf (w : World) (column : ℕ) (bars : List Bar) : Type 0 where
 
 -- The lines `done` are run: each has its answer, and each that is in the window its column. Before the first column the bars are
 -- not yet asked, and no line of the window was run.
-pub record HasDrawn (window : Window) (done : List Line) (desk : DeskState) (columns : List Column) (bars : List Bar) : Type 0 where
+pub record HasDrawn (window : Window) (done : List Line) (desk : DeskState) (columns : List Column)
+    (bars : List Bar) : Type 0 where
   pub given : List Answer
   pub answers : AreLineAnswers [] (lines_run window done) given
   pub stands : HasHistory desk (history_along [] (lines_run window done) given)
@@ -59,7 +60,8 @@ pub record HasDrawn (window : Window) (done : List Line) (desk : DeskState) (col
   pub early : length columns ≡ 0 → All (λ (l : Line). l.number < window.first) (lines_run window done)
   pub unasked : length columns ≡ 0 → All (λ (b : Bar). b.settled ≡ None) bars
   pub last : 0 < length columns → world_shown window done given columns (length columns) ≡ last_world window done given
-  pub shown : 0 < length columns → (column : ℕ) → column ≤ length columns → ShowFiles (world_shown window done given columns column) column bars
+  pub shown : 0 < length columns → (column : ℕ) → column ≤ length columns
+      → ShowFiles (world_shown window done given columns column) column bars
 
 -- what a bar that is neither settled nor closed waits for, by its file's points
 pub record IsWaitBy (desk : DeskState) (bars : List Bar) (wait : BarWait) : Type 0 where

@@ -93,7 +93,8 @@ pub record IsWaitIn (w : World) (bars : List Bar) (wait : BarWait) : Type 0 wher
 
 -- A picture shows the run of the lines: they have answers so that each column shows the files of the history up to its line, and
 -- each text at the end what is to go after the last line that was run.
-pub record ShowsRun (window : Window) (lines : List Line) (columns : List Column) (bars : List Bar) (waits : List BarWait) : Type 0 where
+pub record ShowsRun (window : Window) (lines : List Line) (columns : List Column) (bars : List Bar)
+    (waits : List BarWait) : Type 0 where
   pub given : List Answer
   pub answers : AreLineAnswers [] (lines_run window lines) given
   pub files : (column : ℕ) → column ≤ length columns → ShowFiles (world_shown window lines given columns column) column bars

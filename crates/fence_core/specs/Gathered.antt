@@ -1,4 +1,4 @@
--- The cookies of watches that fire, gathered by registration.
+-- The cookies of watches that fire, gathered in order of registration.
 use Rattle.std.specs.Prelude.{◌≡◌, ℕ, ◌<◌, true, List, Option, None, Some, ⊤}
 use Rattle.std.specs.List.{AllByRecursion}
 use Rattle.std.specs.List.Sorted.{IsStrictlySortedBy}
@@ -16,22 +16,26 @@ IsAfter None registration = ⊤
 IsAfter (Some last) registration = last < registration
 
 -- the cookies are those of fired watches, whose registrations rise to the last
-pub record AreGathered (es : List (ℕ × Watch)) (reach : List ℕ) (fired : List (ℕ × ℕ)) (cookies : List ℕ) (last : Option ℕ) : Type 0 where
+pub record AreGathered (es : List (ℕ × Watch)) (reach : List ℕ) (fired : List (ℕ × ℕ)) (cookies : List ℕ)
+    (last : Option ℕ) : Type 0 where
   pub values : values_of fired ≡ cookies
   pub ordered : IsStrictlySortedBy nat_cmp (keys_of fired)
   pub before : (registration : ℕ) → IsAfter last registration → AllByRecursion (λ r. r < registration) (keys_of fired)
   pub only_firing : AreOnlyFiring es reach fired
 
 -- the same once one more watch was looked at
-pub record HasGathered (es : List (ℕ × Watch)) (reach : List ℕ) (registration : ℕ) (fired : List (ℕ × ℕ)) (cookies : List ℕ) (last : Option ℕ) : Type 0 where
+pub record HasGathered (es : List (ℕ × Watch)) (reach : List ℕ) (registration : ℕ) (fired : List (ℕ × ℕ))
+    (cookies : List ℕ) (last : Option ℕ) : Type 0 where
   pub more : List (ℕ × ℕ)
   pub gathered : AreGathered es reach more cookies last
   pub still : (r : ℕ) → IsReported es reach fired r → IsReported es reach more r
   pub reported : IsReported es reach more registration
 
--- the cookies are those of the watches that stand in the context at or below its value and fire, by registration
-pub record AreFiredIn (ctx : ℕ) (index : List WaitingPoint) (es : List (ℕ × Watch)) (reach : List ℕ) (cookies : List ℕ) : Type 0 where
+-- the cookies are those of the watches that stand in the context at or below its value and fire, in order of registration
+pub record AreFiredIn (ctx : ℕ) (index : List WaitingPoint) (es : List (ℕ × Watch)) (reach : List ℕ)
+    (cookies : List ℕ) : Type 0 where
   pub fired : List (ℕ × ℕ)
   pub last : Option ℕ
   pub gathered : AreGathered es reach fired cookies last
-  pub all : (k : WaitingPoint) → is_due ctx (value_at reach ctx) k ≡ true → holds index k ≡ true → IsReported es reach fired k.registration
+  pub all : (k : WaitingPoint) → is_due ctx (value_at reach ctx) k ≡ true → holds index k ≡ true
+      → IsReported es reach fired k.registration

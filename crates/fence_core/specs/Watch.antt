@@ -37,6 +37,7 @@ pub record ArePending (ws : List Watch) : Type 0 where
 
 -- of things that have a cookie and a put set: the watch has the thing's cookie, and its points agree above the reach with
 -- the put set
-pub record IsWatchOf {X : Type 0} (cookie_of : X → ℕ) (put_of : X → List Entry) (reach : List ℕ) (w : Watch) (x : X) : Type 0 where
+pub record IsWatchOf {X : Type 0} (cookie_of : X → ℕ) (put_of : X → List Entry) (reach : List ℕ)
+    (w : Watch) (x : X) : Type 0 where
   pub cookie : w.cookie ≡ cookie_of x
   pub agrees : AgreesAbove reach (as_entries w.points) (put_of x)

@@ -27,7 +27,8 @@ without_watch ws cookie = registry_of (filter (λ w. not (is_for cookie w)) ws.p
 
 -- all but those of the cookies
 abbrev pub without_watches : Registry → List ℕ → Registry
-without_watches ws cookies = registry_of (filter (λ (w : Watch). not (list_any (nat_eq w.cookie) cookies)) ws.pending) ws.made ws.reach
+without_watches ws cookies =
+    registry_of (filter (λ (w : Watch). not (list_any (nat_eq w.cookie) cookies)) ws.pending) ws.made ws.reach
 
 -- all of its points are reached
 abbrev pub fires : List ℕ → Watch → Bool

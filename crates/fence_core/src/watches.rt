@@ -102,8 +102,10 @@ impl Watches {
         self.register(cookie, fence.members(), reach)
     }
 
-    /// Registers a callback on the fence of these points, as `add` does. The points are copied once, and only when nothing
-    /// but `Memory` is left to refuse it for.
+    /// Registers a callback on the fence of these points, which rise by context. They are copied once, after every cause of
+    /// refusal but `Memory` is excluded.
+    ///
+    /// Fails as `add` does, and then leaves all as it was.
     pub fn register(&mut self, cookie: u64, points: &[Point], reach: &Reach) -> Result<(), Refusal>
         requires rising { HasRisingContexts points.now }
         requires rises { IsAtLeast reach.now self.old.reach }
@@ -302,7 +304,7 @@ impl Watches {
     }
 }
 
-/// Raises the kept reach to the other. Says whether what was above the one, if it was, is above the other too.
+/// Raises the kept reach to the other. Reports whether what was known to be above the kept reach is above the other too.
 fn follow(kept: &mut Reach, is_settled: bool, reach: &Reach) -> bool
     requires rises { IsAtLeast reach.now kept.old }
     ensures values { kept.new ≡ reach.now }

@@ -104,7 +104,8 @@ limit_tokens None = []
 limit_tokens (Some kind) = text (codes "limit") (refusal.limit_word kind)
 
 abbrev pub refusal_tokens : Refusal → List Token
-refusal_tokens r = key (codes "ok") ∷ boolean false ∷ key (codes "error") ∷ object (count (codes "number") (refusal.refusal_number r)
+refusal_tokens r =
+    key (codes "ok") ∷ boolean false ∷ key (codes "error") ∷ object (count (codes "number") (refusal.refusal_number r)
     ++ text (codes "name") (refusal.refusal_name r) ++ limit_tokens (limit_of r))
 
 abbrev pub answer_tokens : Answer → List Token

@@ -63,7 +63,8 @@ pub(crate) fn put_report(writer: &mut Writer, report: &Report) -> Result<(), All
 }
 
 fn put_timelines(writer: &mut Writer, timelines: &[TimelineRow]) -> Result<(), AllocError>
-    ensures added { OnOk result (Adds writer.old writer.new (array (codes "timelines") (flat_map timeline_tokens timelines.now))) }
+    ensures added { OnOk result (Adds writer.old writer.new
+        (array (codes "timelines") (flat_map timeline_tokens timelines.now))) }
 {
     put_all(writer, &[Part::Key("timelines"), Part::BeginArray])?;
     put_each_timeline(writer, timelines)?;

@@ -18,7 +18,8 @@ pub record IsLatest (latest reach : List ℕ) (es : List Entry) (usage : ℕ) : 
 
 -- the table's point of the context, if it is above the reach
 abbrev pub point_above : List ℕ → List ℕ → ℕ → Option Point
-point_above latest reach ctx = if nat_lt (value_at reach ctx) (value_at latest ctx) then Some (point_of ctx (value_at latest ctx)) else None
+point_above latest reach ctx =
+    if nat_lt (value_at reach ctx) (value_at latest ctx) then Some (point_of ctx (value_at latest ctx)) else None
 
 -- the table's points that are above the reach, by rising context
 abbrev pub points_above : List ℕ → List ℕ → List Point

@@ -29,7 +29,8 @@ pub(crate) fn push_columns(
     number: u64,
     last: u8,
 ) -> Result<(), Refusal>
-    ensures ok { OnOk result (out.new.items ≡ out.old.items ++ (columns kind (subject_text subject.entry) (decimal number) ++ last ∷ [])) }
+    ensures ok { OnOk result (out.new.items ≡
+        out.old.items ++ (columns kind (subject_text subject.entry) (decimal number) ++ last ∷ [])) }
     ensures err { OnErr result ((result ≡ Err Memory) × (out.new.items ≡ out.old.items)) }
 {
     let mut row = [b' '; ROW_BYTES];
@@ -52,7 +53,8 @@ pub(crate) fn push_text_columns(
     last: u8,
 ) -> Result<(), Refusal>
     requires narrow { length text.now ≤ NUMBER_WIDTH }
-    ensures ok { OnOk result (out.new.items ≡ out.old.items ++ (columns kind (subject_text subject.entry) text.now ++ last ∷ [])) }
+    ensures ok { OnOk result (out.new.items ≡
+        out.old.items ++ (columns kind (subject_text subject.entry) text.now ++ last ∷ [])) }
     ensures err { OnErr result ((result ≡ Err Memory) × (out.new.items ≡ out.old.items)) }
 {
     let mut row = [b' '; ROW_BYTES];

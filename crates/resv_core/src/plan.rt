@@ -19,7 +19,7 @@ pub enum Act {
 }
 
 impl Act {
-    /// The act as it is in the round of that number, from 1: a point that it puts is as many times as late.
+    /// The act in the round of that number, from 1: a point that it puts is multiplied by the number.
     pub fn in_round(&self, number: u32) -> Act
         requires { IsInRange number self.now }
         ensures { result ≡ in_round number self.now }

@@ -1,5 +1,5 @@
 // The reservation of a buffer.
-ghost use Rattle.std.specs.Prelude.{◌≡◌, ◌+◌, ◌-◌, ◌<◌, ◌≤◌, ◌↔◌, ◌⊎◌, ◌++◌, ◌&&◌, [], Ok, if◌then◌else◌, length, vec_len, IfErr, IfOk, IsTrue, OnErr, OnOk};
+ghost use Rattle.std.specs.Prelude.{◌≡◌, ◌+◌, ◌-◌, ◌<◌, ◌≤◌, ◌↔◌, ◌⊎◌, ◌++◌, ◌&&◌, [], Ok, if◌then◌else◌, length, vec_len, IfErr, IfOk, IsOk, IsTrue, OnErr, OnOk};
 ghost use Rattle.std.specs.List.{list_any};
 ghost use Rattle.std.specs.Vec.{vec_capacity};
 ghost use Rattle.point_core.specs.declared.context.TheConstants.{CONTEXTS};
@@ -29,7 +29,8 @@ const _: () = prove!(PLACES_PER_CONTEXT == 5);
 
 const _: () = prove!(PLACES == 1_280);
 
-/// `make_room` trims a table of so many times the entries that the last trim left, or `SCANNED` where it left fewer.
+/// `make_room` trims a table that has so many times the entries that its last trim left, and at least so many times
+/// `SCANNED`.
 pub const GROWTH: usize = 2;
 
 const _: () = prove!(GROWTH == 2);
@@ -113,6 +114,7 @@ impl Resv {
         ensures table { IsTable self.new }
         ensures room { OnOk result (n ≤ self.new.room) }
         ensures agrees { Leaves Reserve reach.now self.old.entries self.new.entries }
+        ensures enough { n ≤ self.old.room → IsOk result }
         ensures trimmed { (self.new ≡ self.old) ⊎ IsTrimmed reach.now self.new.entries }
         ensures nothing { n ≡ 0 → self.new ≡ self.old }
         ensures memory { IfErr result (λ e. e ≡ Refusal.Memory) }

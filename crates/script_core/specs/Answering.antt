@@ -22,7 +22,8 @@ history_along history (l ∷ ls) [] = history
 history_along history (l ∷ ls) (a ∷ rest) = history_along (history_after_line history l.body a) ls rest
 
 -- the lines `done` are answered: their texts are written but for those that stand in `out`
-pub record Progress (done : List Line) (desk : DeskState) (out : List ℕ) (totals : Totals) (old new : Option (List ℕ)) : Type 0 where
+pub record Progress (done : List Line) (desk : DeskState) (out : List ℕ) (totals : Totals)
+    (old new : Option (List ℕ)) : Type 0 where
   pub given : List Answer
   pub each : AreLineAnswers [] done given
   pub stands : HasHistory desk (history_along [] done given)
@@ -43,7 +44,8 @@ HasAnswered done s old new = Progress done s.desk s.out s.totals old new
 
 -- One line was answered: the text of its answer was put after what was not yet written, and the answer is that refusal, or
 -- none.
-pub record AnswersLine (l : Line) (refused : Option Refusal) (before after : AnswersState) (old new : Option (List ℕ)) : Type 0 where
+pub record AnswersLine (l : Line) (refused : Option Refusal) (before after : AnswersState)
+    (old new : Option (List ℕ)) : Type 0 where
   pub given : Answer
   pub is : (history : List Command) → HasHistory before.desk history → IsLineAnswer history l.body given
   pub stands : (history : List Command) → HasHistory before.desk history

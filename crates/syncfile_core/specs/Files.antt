@@ -41,7 +41,8 @@ HasStanding fs name set = MatchOption (file_at fs name) ⊥ (λ f. StandsFor f s
 
 -- why no file of that name may be made
 abbrev pub cause_to_refuse : List File → List ℕ → Option Refusal
-cause_to_refuse fs name = if has_file fs name then Some Exists else if nat_lt (length fs) FILES then None else Some (Limit FilesKind)
+cause_to_refuse fs name =
+    if has_file fs name then Some Exists else if nat_lt (length fs) FILES then None else Some (Limit FilesKind)
 
 -- the number of an entry's making
 abbrev pub number_of : List ℕ × Made → ℕ

@@ -13,7 +13,8 @@ use Rattle.words_core.specs.Seat.{SeatModel}
 use Rattle.syncfile_core.specs.declared.running.Found.{Found}
 use Rattle.syncfile_core.specs.SyncFile.{File}
 
--- words of so many contexts that have these values bear the file out: its floor is nowhere above them, and they have each point's context
+-- words of so many contexts that have these values bear the file out: its floor is nowhere above them, and they have each
+-- point's context
 pub record IsBorneOutAt (reach : List ℕ) (made : ℕ) (f : File) : Type 0 where
   pub floor : IsAtLeast reach f.floor
   pub points : All (λ (p : Point). p.ctx ≤ made) f.points
@@ -41,7 +42,8 @@ pub record HasPolled (f : File) (tries : ℕ) (before after : SeatModel) : Type 
   pub active : HasRunOut f count before seat
   pub last : HasLoadedClocks seat after (clocks_seen after)
 
--- of a list of points, those of the first n contexts have this status together by these clocks, and these others are of later ones
+-- of a list of points, those of the first n contexts have this status together by these clocks, and these others are of
+-- later ones
 pub record HasPassedTo (clocks : List Clock) (points : List Point) (n : ℕ) (status : Status) (rest : List Point) : Type 0 where
   pub passed : List Point
   pub parts : points ≡ passed ++ rest
@@ -52,5 +54,6 @@ pub record HasPassedTo (clocks : List Clock) (points : List Point) (n : ℕ) (st
 
 -- the same of a file's points, and whether its floor is nowhere above the first n of these clocks
 pub record HasFoundTo (clocks : List Clock) (f : File) (n : ℕ) (found : Found) : Type 0 where
-  pub floor : IsTrue found.borne_out ↔ ((ctx : ℕ) → 1 ≤ ctx → ctx ≤ n → value_at f.floor ctx ≤ reached_by (clock_at clocks ctx))
+  pub floor : IsTrue found.borne_out
+      ↔ ((ctx : ℕ) → 1 ≤ ctx → ctx ≤ n → value_at f.floor ctx ≤ reached_by (clock_at clocks ctx))
   pub points : HasPassedTo clocks f.points n found.status found.rest.now

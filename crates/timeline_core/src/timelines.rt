@@ -64,7 +64,8 @@ impl Timelines {
         ensures exists { (result ≡ Err Refusal.Exists) ↔ IsTrue (has_timeline self.old name) }
         ensures limit { (result ≡ Err (Refusal.Limit LimitKind.Timelines)) ↔
             ((has_timeline self.old name ≡ false) × (length self.old ≡ CONTEXTS)) }
-        ensures memory { IfErr result (λ e. has_timeline self.old name ≡ false → length self.old < CONTEXTS → e ≡ Refusal.Memory) }
+        ensures memory { IfErr result (λ e.
+            has_timeline self.old name ≡ false → length self.old < CONTEXTS → e ≡ Refusal.Memory) }
         ensures err { OnErr result (self.new ≡ self.old) }
         ensures timelines { AreTimelines self.new }
     {

@@ -34,7 +34,9 @@ after_dash bytes = or_blanks (after bytes (codes "-")) bytes
 
 unfoldable pub thread : List ℕ → Option (ℕ × List ℕ)
 thread bytes =
-    option_and_then (λ pid. option_map (λ rest. (pid.0, rest)) (after_blanks pid.1)) (option_and_then (number_at (2 ^ 32)) (after_dash bytes))
+    option_and_then
+    (λ pid. option_map (λ rest. (pid.0, rest)) (after_blanks pid.1))
+    (option_and_then (number_at (2 ^ 32)) (after_dash bytes))
 
 abbrev pub group_or : Option (List ℕ) → List ℕ → Option (List ℕ)
 group_or None bytes = Some bytes

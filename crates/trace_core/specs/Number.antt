@@ -19,7 +19,9 @@ numeral limit word = if is_numeral limit word then Some (digits_value 10 word) e
 -- the number that the bytes begin with, and what follows its digits
 unfoldable pub number_at : ℕ → List ℕ → Option (ℕ × List ℕ)
 number_at limit bytes =
-    option_map (λ n. (n, drop (prefix_len is_ascii_digit bytes) bytes)) (numeral limit (take (prefix_len is_ascii_digit bytes) bytes))
+    option_map
+    (λ n. (n, drop (prefix_len is_ascii_digit bytes) bytes))
+    (numeral limit (take (prefix_len is_ascii_digit bytes) bytes))
 
 -- where the digits at the end begin
 abbrev pub end_digits : List ℕ → ℕ
@@ -45,9 +47,13 @@ time_of seconds decimals =
 -- the time of these seconds, and what follows the decimals
 abbrev pub with_decimals : ℕ → List ℕ → Option (ℕ × List ℕ)
 with_decimals seconds bytes =
-    option_map (λ time. (time, drop (prefix_len is_ascii_digit bytes) bytes)) (time_of seconds (take (prefix_len is_ascii_digit bytes) bytes))
+    option_map
+    (λ time. (time, drop (prefix_len is_ascii_digit bytes) bytes))
+    (time_of seconds (take (prefix_len is_ascii_digit bytes) bytes))
 
 -- the time that the bytes begin with, and what follows it
 unfoldable pub time_at : List ℕ → Option (ℕ × List ℕ)
 time_at bytes =
-    option_and_then (λ seconds. option_and_then (with_decimals seconds.0) (after seconds.1 (codes "."))) (number_at (2 ^ 64) bytes)
+    option_and_then
+    (λ seconds. option_and_then (with_decimals seconds.0) (after seconds.1 (codes ".")))
+    (number_at (2 ^ 64) bytes)

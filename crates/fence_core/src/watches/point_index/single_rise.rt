@@ -12,8 +12,8 @@ use point_core::{Context, Reach, Refusal};
 use std::alloc::Global;
 use std::collections::BTreeSet;
 
-/// The cookies of the watches that stand in the context at or below its value and fire, by registration; or none, if these
-/// watches don't stand by registration there.
+/// The cookies of the watches that stand in the context at or below its value and fire, in order of registration; or none,
+/// if they are found in another order.
 #[inline(never)]
 pub(super) fn fired_by_one_context(
     alloc: Global,
@@ -51,7 +51,7 @@ struct Gathered {
 }
 
 impl Gathered {
-    /// Adds the watch of the registration if it fires. Says whether the watches still stand by registration.
+    /// Adds the watch of the registration if it fires. Reports whether those so far are in order of registration.
     fn put(
         &mut self,
         registration: Registration,
