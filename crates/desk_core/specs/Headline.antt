@@ -147,7 +147,7 @@ pub record ReportsEachWatch (desk : DeskState) (commands : List Command) (given 
   -- of each cookie: how often it was registered, and what became of that
   pub each : (cookie : ℕ)
       → times_registered cookie commands given
-          ≡ times_fired cookie given + times_removed cookie commands given + times_pending cookie desk
+      ≡ times_fired cookie given + times_removed cookie commands given + times_pending cookie desk
   -- so it is reported at most as often as it was registered
   pub fired : (cookie : ℕ) → times_fired cookie given ≤ times_registered cookie commands given
   -- and is pending at most once
