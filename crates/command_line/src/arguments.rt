@@ -78,9 +78,9 @@ A refused line is answered `err NUMBER NAME`, and changes nothing:
   2 NoEntry   there is none of that name     8 TimedOut   the file is not signalled
   3 Exists    there is one of that name     12 LongLine   it has more than 256 bytes
   4 Overflow  the value would be too great  15 Cancelled  its timeline is closed
-  6 Limit     there are as many as can be   16 Memory     memory was refused
+  6 Limit     a limit is reached            16 Memory     memory was refused
 
-The script language is documented in docs/SCRIPT.md.
+The script language is documented in docs/SCRIPT.md, and in the manual page fencectl-script.
 
 After a command a note `#= TEXT` expects TEXT as a line of its answer. `fencectl check` compares
 these in files and in the *.fence files below folders, and reports each answer that differs on
@@ -101,9 +101,9 @@ buffer the points that are pending.
 
 Exit status:
   0  every line was accepted; of a check: every script passes; of clients: they settled;
-     of a trace: nothing hangs
+     of a report of a trace: nothing hangs, and no rule is broken
   1  a line was refused; of a check: an answer differs, or a script expects nothing;
-     of a trace: a fence hangs, or a rule is broken
+     of a report of a trace: a fence hangs, or a rule is broken
   2  wrong usage, or a fault of reading, writing, memory or threads
 
 Examples:

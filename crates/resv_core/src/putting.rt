@@ -8,8 +8,8 @@ use crate::adding::{SCANNED, entry_of};
 use crate::resv::gives_way;
 use point_core::{CONTEXTS, Entry, Point, Reach, Usage, covers};
 
-/// Puts each point in the place of an entry that it covers, or after the others, unless an entry covers it. Of each context one
-/// entry is looked at. Takes no memory.
+/// Puts each point after the others, unless the one entry that it is compared with covers it, or gives way to it, which then
+/// loses its place to it. Takes no memory.
 pub(crate) fn put_all(entries: &mut Vec<Entry>, points: &[Point], usage: Usage, reach: &Reach)
     requires places { vec_len entries.old + length points.now ≤ vec_capacity entries.old }
     requires contexts { HasContexts entries.old.items }

@@ -192,9 +192,10 @@ impl Resv {
         }
     }
 
-    /// Puts fences of one usage together, once there is room for all of them. A fence stays out where an entry covers it, and
-    /// takes the place of one that gives way to it; it is compared with one entry alone, the last of its context at its usage or a
-    /// stronger one. The others take free places. So what they cover may stay until the table is trimmed. Without fences nothing
+    /// Puts fences of one usage together, once there is room for all of them. Each fence is compared with one entry: it stays
+    /// out if that covers it, takes its place if that gives way to it, and else takes a free place. So what it covers may stay
+    /// until the table is trimmed. If the table has fewer than `SCANNED` entries, or there are at least so many fences, that
+    /// entry is the last of the context at the usage or a stronger one, else the first of the table. Without fences nothing
     /// changes. Takes no memory.
     ///
     /// The kernel adds the fences of an imported sync file one after another.

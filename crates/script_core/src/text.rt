@@ -4,6 +4,7 @@ ghost use Rattle.std.specs.List.{flat_map};
 ghost use Rattle.std.specs.Io.{StartsWith};
 ghost use Rattle.point_core.specs.declared.refusal.Refusal.TheVariants.{Memory};
 ghost use Rattle.command_core.specs.Tables.{row_count};
+ghost use Rattle.report_core.specs.Status.{status_text};
 ghost use Rattle.report_core.specs.Tables.{timeline_text};
 ghost use Rattle.script_core.specs.Text.{line_text, fired_text, raised_text, fence_text, info_line, info_text, show_text};
 ghost use Rattle.script_core.specs.Text.{report_text, refusal_text, details, value_line, driver_of, text_of};
@@ -12,8 +13,10 @@ ghost use Rattle.script_core.specs.declared.text.TheConstants.{DRIVER_BYTES};
 
 use desk_core::{Answer, FenceRow, Info, Maker, Report, ShowRow};
 use itoa::Buffer;
-use point_core::Refusal;
-use report_core::{NUMBER_WIDTH, TEXT_LINE_BYTES, TextLine, status_text, timelines_text};
+use point_core::{Refusal, Status};
+use report_core::{
+    NUMBER_WIDTH, STATUS_BYTES, TEXT_LINE_BYTES, TextLine, status_text, timelines_text,
+};
 
 /// The most bytes of a driver's name, those of `sw_sync`.
 const DRIVER_BYTES: usize = 7;
@@ -170,7 +173,7 @@ fn push_info_line(info: &Info, out: &mut Vec<u8>) -> Result<(), Refusal>
 {
     let mut line = TextLine::new();
     put_number(&mut line, info.fences.as_slice().len() as u64);
-    put_word(&mut line, status_text(info.status));
+    put_status(&mut line, info.status);
     put_word(&mut line, info.name.as_bytes());
     line.put_text(b"ok");
     line.push_to(out)
@@ -182,12 +185,26 @@ fn push_fence(fence: &FenceRow, out: &mut Vec<u8>) -> Result<(), Refusal>
     ensures err { OnErr result ((result ≡ Err Memory) × StartsWith out.new.items out.old.items) }
 {
     let mut line = TextLine::new();
-    put_word(&mut line, status_text(fence.status));
+    put_status(&mut line, fence.status);
     put_number(&mut line, fence.point);
     put_driver(&mut line, fence.driver);
     put_word(&mut line, fence.timeline.as_bytes());
     line.put_text(b"fence");
     line.push_to(out)
+}
+
+/// Puts a space and the status before the line. Each arm copies a text of a length that the compiler knows.
+#[inline(always)]
+fn put_status(line: &mut TextLine, status: Status)
+    requires { length line.old + 1 + STATUS_BYTES ≤ TEXT_LINE_BYTES }
+    ensures text { line.new ≡ 32 ∷ status_text status ++ line.old }
+    ensures len { length line.new ≤ length line.old + 1 + STATUS_BYTES }
+{
+    match status {
+        Status::Active => put_word(line, status_text(Status::Active)),
+        Status::Signalled => put_word(line, status_text(Status::Signalled)),
+        Status::Cancelled => put_word(line, status_text(Status::Cancelled)),
+    }
 }
 
 /// Puts a space and the driver's name before the line.
