@@ -42,7 +42,7 @@ enum bim_refusal {
     BIM_EXISTS = 3,     /* the name, cookie or driver is there already; an open handle where one is to be opened */
     BIM_OVERFLOW = 4,   /* the value would pass UINT64_MAX: values don't wrap */
     BIM_FLAGS = 5,      /* a number that is no usage, or no flags */
-    BIM_LIMIT = 6,      /* there are as many as there can be */
+    BIM_LIMIT = 6,      /* a limit is reached */
     BIM_SIGNALLED = 7,  /* the file is signalled already: nothing is left to watch */
     BIM_TIMED_OUT = 8,  /* the file is still active */
     BIM_FOREIGN = 9,    /* the file was not made by these words */
@@ -167,11 +167,11 @@ int bim_buffer(bim_desk *desk, const char *buffer);
 int bim_add(bim_desk *desk, const char *buffer, const char *timeline, uint64_t point, int usage);
 
 /* Adds a file's fences to a buffer, for the accesses that the flags say (a bim_sync). Refused with BIM_SYNTAX,
- * BIM_FLAGS, BIM_NO_ENTRY and BIM_MEMORY. DMA_BUF_IOCTL_IMPORT_SYNC_FILE. */
+ * BIM_NO_ENTRY, BIM_FLAGS and BIM_MEMORY. DMA_BUF_IOCTL_IMPORT_SYNC_FILE. */
 int bim_import(bim_desk *desk, const char *buffer, const char *file, uint32_t flags);
 
 /* Makes a file of what an access to a buffer has to wait for (flags are a bim_sync). Refused with BIM_SYNTAX,
- * BIM_FLAGS, BIM_NO_ENTRY, BIM_EXISTS, BIM_LIMIT and BIM_MEMORY. DMA_BUF_IOCTL_EXPORT_SYNC_FILE. */
+ * BIM_NO_ENTRY, BIM_FLAGS, BIM_EXISTS, BIM_LIMIT and BIM_MEMORY. DMA_BUF_IOCTL_EXPORT_SYNC_FILE. */
 int bim_export(bim_desk *desk, const char *file, const char *buffer, uint32_t flags);
 
 /* Stores 1 where each fence of a buffer of the usage or a stronger one is signalled or cancelled, else 0. Refused with
@@ -246,8 +246,8 @@ int bim_report(bim_desk *desk, bim_timeline_row *timelines, size_t timelines_roo
  * Cookies that the line fires are not in the text. They wait for bim_take_fired, as those of every other call do.
  *
  * Nothing is lost for want of room. Every text but those of `info`, `show` and `report` fits into BIM_ANSWER_ROOM, and
- * a smaller room is refused with BIM_LIMIT. Where length >= room these three have changed nothing, and can be asked
- * again with more. Where the room is too small or the desk closed (BIM_NO_ENTRY), nothing is done or stored. */
+ * a smaller room is refused with BIM_LIMIT. If length >= room, these three have changed nothing, and can be asked
+ * again with more. If the room is too small or the desk is closed (BIM_NO_ENTRY), nothing is done or stored. */
 int bim_line(bim_desk *desk, const char *line, size_t line_length, char *out, size_t room, size_t *length);
 
 /* The same calls with each name as a pointer and a length, for callers whose strings end with no NUL. The rows of
@@ -281,8 +281,8 @@ int bim_report_n(bim_desk *desk, bim_timeline_row *timelines, size_t timelines_r
 /* ---- Words: timelines, flags and buffers by number, shared by threads without a lock --------------------------------
  *
  * Words have timelines with contexts from 1, and flags and buffers from 0. A seat is what one thread steps with: it is
- * used by one thread at a time, and each thread has its own. The words go with their last seat. No call waits for
- * another thread.
+ * used by one thread at a time, and each thread has its own. The words are freed with their last seat. No call waits
+ * for another thread.
  */
 typedef struct bim_seat {
     void *at;
@@ -293,9 +293,9 @@ typedef struct bim_seat {
  * their first seat. Refused with BIM_EXISTS, BIM_LIMIT and BIM_MEMORY. */
 int bim_words_open(bim_seat *seat, size_t contexts, size_t flags, size_t buffers);
 
-/* Opens another seat of the same words, for another thread. The first seat can be parted a thousand times, a seat
- * that was parted from it some ten times, and others not at all. Refused with BIM_NO_ENTRY, BIM_EXISTS, BIM_NOT_ALL
- * (the seat can't be parted any more) and BIM_MEMORY. */
+/* Opens another seat of the same words, for another thread. The first seat can be parted some 4,800 times, an early
+ * seat that was parted from it at least ten times, and one that was parted from that not at all. Refused with
+ * BIM_NO_ENTRY, BIM_EXISTS, BIM_NOT_ALL (the seat can't be parted any more) and BIM_MEMORY. */
 int bim_seat_part(bim_seat *seat, bim_seat *other);
 
 /* Closes a seat; the timeline that it drives stays at its value, for good. The handle is closed then. Does nothing
@@ -323,13 +323,13 @@ int bim_seat_load(bim_seat *seat, uint32_t context, uint64_t *value);
 int bim_seat_set_once(bim_seat *seat, size_t flag, int *first);
 
 /* A sync file by itself: once it is made nothing changes it. A handle is used by one thread at a time; bim_file_copy
- * gives another thread one of its own. The file goes with its last handle. */
+ * gives another thread one of its own. The file is freed with its last handle. */
 typedef struct bim_file {
     void *at;
 } bim_file;
 #define BIM_FILE_INIT { 0 }
 
-/* Makes a file of a point on a timeline. Refused with BIM_EXISTS, BIM_NO_ENTRY (no context, 1 to BIM_CONTEXTS) and
+/* Makes a file of a point on a timeline. Refused with BIM_EXISTS, BIM_NO_ENTRY (contexts are 1 to BIM_CONTEXTS) and
  * BIM_MEMORY. sw_sync_fence_create. */
 int bim_file_plain(bim_file *file, uint32_t context, uint64_t point);
 
