@@ -46,7 +46,7 @@ enum bim_refusal {
     BIM_SIGNALLED = 7,  /* the file is signalled already: nothing is left to watch */
     BIM_TIMED_OUT = 8,  /* the file is still active */
     BIM_FOREIGN = 9,    /* the file was not made by these words */
-    BIM_TORN = 10,      /* not of a call here */
+    BIM_TORN = 10,      /* no call here returns it */
     BIM_NOT_ALL = 11,   /* the seat can't be parted any more */
     BIM_LONG_LINE = 12, /* a line of more than BIM_LINE_BYTES */
     BIM_CANCELLED = 15, /* the timeline is closed */

@@ -60,6 +60,7 @@ int main(void)
     while ((line_length = getline(&line, &line_room, stdin)) >= 0) {
         answer(&desk, line, (size_t)line_length, &text);
         tell_fired(&desk);
+        fflush(stdout);
     }
     free(line);
     free(text.bytes);

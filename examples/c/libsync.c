@@ -3,9 +3,9 @@
  *
  * cc -pthread test.c libsync.c $(pkg-config --cflags --libs bimphlai)
  *
- * A descriptor is an index into a table. The desk's timelines and files have its number as their names, with a
- * letter before it and, since a closed timeline keeps its name, the number of timelines so far after it. The desk
- * is closed with the last descriptor, so that tests which come one after another don't use up its timelines.
+ * A descriptor is an index into a table, and its timeline or file on the desk is named after it: "f7", or "t7.2"
+ * for the third timeline made, because a closed timeline keeps its name. The desk closes with the last descriptor,
+ * so one test after another doesn't use up its timelines.
  */
 #include "libsync.h"
 
@@ -183,13 +183,18 @@ static bool wait_for_raise(int timeout, const struct timespec *end)
 static int wait_for(int fence, int timeout)
 {
     struct timespec end = after(timeout > 0 ? timeout : 0);
+    bool in_time = true;
     int refusal;
 
-    do {
+    /* The last look comes when the time is over. */
+    for (;;) {
         if (!is_open(fence, FENCE))
             return bad_descriptor();
         refusal = bim_wait(&desk, table[fence].name);
-    } while (refusal == BIM_TIMED_OUT && wait_for_raise(timeout, &end));
+        if (refusal != BIM_TIMED_OUT || !in_time)
+            break;
+        in_time = wait_for_raise(timeout, &end);
+    }
     return refusal == BIM_TIMED_OUT ? 0 : answer(refusal, 1);
 }
 
@@ -221,6 +226,7 @@ static void close_fence(int fence)
     if (!is_open(fence, FENCE))
         return;
     bim_close(&desk, table[fence].name);
+    pthread_cond_broadcast(&raised);
     release(fence);
 }
 

@@ -716,6 +716,27 @@ static void other_words(void)
     bim_seat_close(&strange);
 }
 
+/* A seat can be parted as often as the header says. */
+static void partings(void)
+{
+    enum { OF_FIRST = 1000, OF_NEXT = 10 };
+    static bim_seat next[OF_FIRST], last[OF_NEXT];
+    bim_seat first = BIM_SEAT_INIT, none = BIM_SEAT_INIT;
+
+    EXPECT(bim_words_open(&first, 1, 0, 0), BIM_OK);
+    for (int i = 0; i < OF_FIRST; i++)
+        EXPECT(bim_seat_part(&first, &next[i]), BIM_OK);
+    for (int i = 0; i < OF_NEXT; i++)
+        EXPECT(bim_seat_part(&next[OF_FIRST - 1], &last[i]), BIM_OK);
+    EXPECT(bim_seat_part(&last[0], &none), BIM_NOT_ALL);
+    HOLDS(none.at == NULL);
+    for (int i = 0; i < OF_FIRST; i++)
+        bim_seat_close(&next[i]);
+    for (int i = 0; i < OF_NEXT; i++)
+        bim_seat_close(&last[i]);
+    bim_seat_close(&first);
+}
+
 int main(void)
 {
     texts();
@@ -729,5 +750,6 @@ int main(void)
     words_limits();
     words();
     other_words();
+    partings();
     return report("calls");
 }

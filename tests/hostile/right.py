@@ -22,7 +22,7 @@ def text_of(lines):
 
 def number_of(line):
     """Returns the number of the line that an explanation or a difference is about."""
-    return int(re.match(rb"(?:line |\S*:)(\d+): ", line)[1])
+    return int(re.match(rb"(?:line |.*?:)(\d+): ", line)[1])
 
 
 def with_lines(text, more):
@@ -154,7 +154,7 @@ class Differences(Answers):
         if not refused:
             return run
         more = [self.difference(number) for number in refused]
-        differences, counts = re.fullmatch(rb"((?:\S*:\d+: .*\n)*)(?:.*\n)?(files: .*)\n", run.errors).groups()
+        differences, counts = re.fullmatch(rb"((?:.*?:\d+: .*\n)*)(?:.*\n)?(files: .*)\n", run.errors).groups()
         answers, expectations, differing = (int(count) + len(refused) for count in re.findall(rb"\d+", counts)[1:])
         ends = [
             b"%s: differs in %d of %d answers" % (self.path, differing, expectations),

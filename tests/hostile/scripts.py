@@ -5,14 +5,15 @@ import re
 
 
 def constant(name, crate="*_core"):
-    """Returns a number of a crate, or of any, by the name of its constant."""
+    """Returns a number of a crate, or of the one that has it, by the name of its constant."""
     top = os.path.dirname(os.path.dirname(os.path.dirname(os.path.realpath(__file__))))
+    pattern, found = re.compile(rf"^(?:pub(?:\(crate\))? )?const {name}: \w+ = ([\d_]+);$", re.MULTILINE), []
     for path in glob.glob(f"{top}/crates/{crate}/src/*.rt"):
         with open(path, encoding="utf-8") as source:
-            found = re.search(rf"^(?:pub(?:\(crate\))? )?const {name}: \w+ = ([\d_]+);$", source.read(), re.MULTILINE)
-        if found:
-            return int(found[1])
-    raise LookupError(name)
+            found += pattern.findall(source.read())
+    if len(found) != 1:
+        raise LookupError(f"{len(found)} constants are named {name}")
+    return int(found[0])
 
 
 LINE_BYTES = constant("LINE_BYTES")
