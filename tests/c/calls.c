@@ -103,9 +103,6 @@ static void timelines(bim_desk *desk)
 /* The desk has timeline a at 5. */
 static void files(bim_desk *desk)
 {
-    bim_fence_info rows[3];
-    int32_t status = KEPT;
-    size_t count = KEPT;
     uint64_t number;
 
     EXPECT(bim_timeline(desk, "b", &number), BIM_OK);
@@ -122,6 +119,15 @@ static void files(bim_desk *desk)
     EXPECT(bim_merge(desk, "n", "f", "h?"), BIM_SYNTAX);
     EXPECT(bim_merge(desk, "n", "", "g"), BIM_SYNTAX);
     EXPECT(bim_merge(desk, TOO_LONG, "f", "g"), BIM_SYNTAX);
+}
+
+/* The desk has timelines a at 5 and b at 0, and file m of points 6 of a and 3 of b. */
+static void file_infos(bim_desk *desk)
+{
+    bim_fence_info rows[3];
+    int32_t status = KEPT;
+    size_t count = KEPT;
+    uint64_t number;
 
     memset(rows, KEPT, sizeof rows);
     EXPECT(bim_info(desk, "none", &status, rows, 3, &count), BIM_NO_ENTRY);
@@ -144,6 +150,14 @@ static void files(bim_desk *desk)
     EXPECT(rows[0].status, BIM_IS_ACTIVE);
     EXPECT(rows[1].status, BIM_IS_SIGNALLED);
     HOLDS(rows[2].timeline[0] == KEPT);
+}
+
+/* The same desk, where b is at 3, so that its file g is signalled. */
+static void waits_and_closes(bim_desk *desk)
+{
+    bim_fence_info rows[3];
+    int32_t status = KEPT;
+    size_t count = KEPT;
 
     EXPECT(bim_wait(desk, "m"), BIM_TIMED_OUT);
     EXPECT(bim_wait(desk, "none"), BIM_NO_ENTRY);
@@ -162,10 +176,6 @@ static void files(bim_desk *desk)
 /* The desk has timelines a at 5 and b at 3, and file m of points 6 of a and 3 of b. */
 static void buffers(bim_desk *desk)
 {
-    bim_row rows[5];
-    size_t count = KEPT;
-    int flag = KEPT;
-
     EXPECT(bim_buffer(desk, ""), BIM_SYNTAX);
     EXPECT(bim_buffer(desk, "B"), BIM_OK);
     EXPECT(bim_buffer(desk, "B"), BIM_EXISTS);
@@ -183,6 +193,12 @@ static void buffers(bim_desk *desk)
     EXPECT(bim_import(desk, "none", "m", BIM_SYNC_RW), BIM_NO_ENTRY);
     EXPECT(bim_import(desk, "B", "?", BIM_SYNC_RW), BIM_SYNTAX);
     EXPECT(bim_import(desk, "?", "m", BIM_SYNC_RW), BIM_SYNTAX);
+}
+
+/* The same desk with buffer B, into which m was imported for writing. */
+static void buffer_tests(bim_desk *desk)
+{
+    int flag = KEPT;
 
     EXPECT(bim_test(desk, "B", BIM_WRITE, &flag), BIM_OK);
     EXPECT(flag, 0);
@@ -193,7 +209,10 @@ static void buffers(bim_desk *desk)
     EXPECT(bim_test(desk, "C", BIM_READ, &flag), BIM_NO_ENTRY);
     EXPECT(bim_test(desk, "?", BIM_READ, &flag), BIM_SYNTAX);
     EXPECT(flag, KEPT);
+}
 
+static void exports(bim_desk *desk)
+{
     EXPECT(bim_export(desk, "x", "B", BIM_SYNC_READ), BIM_OK);
     EXPECT(bim_wait(desk, "x"), BIM_TIMED_OUT);
     EXPECT(bim_export(desk, "x", "B", BIM_SYNC_READ), BIM_EXISTS);
@@ -201,6 +220,12 @@ static void buffers(bim_desk *desk)
     EXPECT(bim_export(desk, "y", "C", BIM_SYNC_RW), BIM_NO_ENTRY);
     EXPECT(bim_export(desk, "y", "?", BIM_SYNC_RW), BIM_SYNTAX);
     EXPECT(bim_export(desk, "?", "B", BIM_SYNC_RW), BIM_SYNTAX);
+}
+
+static void shows(bim_desk *desk)
+{
+    bim_row rows[5];
+    size_t count = KEPT;
 
     memset(rows, KEPT, sizeof rows);
     EXPECT(bim_show(desk, "C", rows, 5, &count), BIM_NO_ENTRY);
@@ -456,7 +481,12 @@ static void desks(void)
     HOLDS(desk.at == moved.at);
     timelines(&desk);
     files(&desk);
+    file_infos(&desk);
+    waits_and_closes(&desk);
     buffers(&desk);
+    buffer_tests(&desk);
+    exports(&desk);
+    shows(&desk);
     watches(&desk);
     names_with_lengths(&desk);
     bim_desk_close(&desk);
@@ -554,12 +584,10 @@ static void drivers(bim_seat *seat, bim_seat *other)
 }
 
 /* Timeline 1 is at 5, and timeline 2 at 0. */
-static void running_files(bim_seat *seat, bim_seat *other)
+static void running_files(bim_seat *seat)
 {
     bim_file a = BIM_FILE_INIT, b = BIM_FILE_INIT, both = BIM_FILE_INIT, none = BIM_FILE_INIT, far = BIM_FILE_INIT;
-    bim_file same = BIM_FILE_INIT;
     int32_t status = KEPT;
-    uint64_t number;
 
     EXPECT(bim_file_plain(&a, 0, 1), BIM_NO_ENTRY);
     EXPECT(bim_file_plain(&a, BIM_CONTEXTS + 1, 1), BIM_NO_ENTRY);
@@ -572,19 +600,32 @@ static void running_files(bim_seat *seat, bim_seat *other)
 
     EXPECT(bim_file_merge(&both, &a, &none, seat), BIM_NO_ENTRY);
     EXPECT(bim_file_merge(&both, &none, &b, seat), BIM_NO_ENTRY);
+    EXPECT(bim_file_merge(&b, &a, &far, seat), BIM_EXISTS);
+    EXPECT(bim_file_merge(&both, &a, &far, seat), BIM_FOREIGN);
     EXPECT(bim_file_copy(&none, &both), BIM_NO_ENTRY);
     EXPECT(bim_file_copy(&a, &b), BIM_EXISTS);
-    EXPECT(bim_file_copy(&a, &same), BIM_OK);
-    EXPECT(bim_file_merge(&b, &a, &same, seat), BIM_EXISTS);
-    EXPECT(bim_file_merge(&both, &a, &far, seat), BIM_FOREIGN);
     EXPECT(bim_file_poll(&far, seat, &status), BIM_FOREIGN);
     EXPECT(bim_file_poll(&none, seat, &status), BIM_NO_ENTRY);
     EXPECT(bim_file_wait(&far, seat, 1), BIM_FOREIGN);
     EXPECT(bim_file_wait(&none, seat, 1), BIM_NO_ENTRY);
     HOLDS(both.at == NULL && none.at == NULL);
     EXPECT(status, KEPT);
-    EXPECT(bim_file_merge(&both, &a, &b, seat), BIM_OK);
+    bim_file_close(&a);
+    bim_file_close(&b);
+    bim_file_close(&far);
+}
 
+/* The same, by the drivers of both. */
+static void running_waits(bim_seat *seat, bim_seat *other)
+{
+    bim_file a = BIM_FILE_INIT, b = BIM_FILE_INIT, both = BIM_FILE_INIT, same = BIM_FILE_INIT;
+    int32_t status = KEPT;
+    uint64_t number;
+
+    EXPECT(bim_file_plain(&a, 1, 6), BIM_OK);
+    EXPECT(bim_file_plain(&b, 2, 2), BIM_OK);
+    EXPECT(bim_file_copy(&a, &same), BIM_OK);
+    EXPECT(bim_file_merge(&both, &a, &b, seat), BIM_OK);
     EXPECT(bim_file_poll(&both, other, &status), BIM_OK);
     EXPECT(status, BIM_IS_ACTIVE);
     EXPECT(bim_file_wait(&both, other, 0), BIM_TIMED_OUT);
@@ -601,7 +642,6 @@ static void running_files(bim_seat *seat, bim_seat *other)
     EXPECT(bim_file_wait(&same, seat, 1), BIM_OK);
     bim_file_close(&same);
     bim_file_close(&b);
-    bim_file_close(&far);
     bim_file_close(&both);
     EXPECT(bim_file_poll(&both, seat, &status), BIM_NO_ENTRY);
 }
@@ -683,7 +723,8 @@ static void words(void)
     EXPECT(bim_seat_part(&seat, &other), BIM_OK);
     EXPECT(bim_seat_part(&seat, &other), BIM_EXISTS);
     drivers(&seat, &other);
-    running_files(&seat, &other);
+    running_files(&seat);
+    running_waits(&seat, &other);
     closings(&seat, &other);
     boards(&seat, &other);
     bim_seat_close(&seat);
