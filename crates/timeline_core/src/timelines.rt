@@ -33,7 +33,8 @@ impl Model for Timelines {
 
 impl Timelines {
     ghost use Rattle.timeline_core.specs.Timeline.{timeline_of, new_timeline, has_timeline, timeline_at, context_of};
-    ghost use Rattle.timeline_core.specs.Timeline.{name_at, names_of, clocks_of, reach_of, value_of, is_closed, raised, shut, rows_of, AreTimelines};
+    ghost use Rattle.timeline_core.specs.Timeline.{name_at, names_of, clocks_of, reach_of, value_of, is_closed, rows_of};
+    ghost use Rattle.timeline_core.specs.Timeline.{raised, shut, AreTimelines};
     ghost use Rattle.timeline_core.specs.Run.{Leaves, Create, Inc, Shut, RaiseTo};
     ghost use Rattle.point_core.specs.Reach.{GREATEST, with_value, reaching, IsAtLeast};
     ghost use Rattle.point_core.specs.Clocks.{clock_of, clock_at};
