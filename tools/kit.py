@@ -1,7 +1,13 @@
-"""The Rattle kit's own command, rt, as a module: its list of crates, its scheduler and its reading of edits."""
+"""The Rattle kit's own command, rt, as a module: its list of crates, its scheduler and its reading of edits.
+
+rt may change with every kit. So the tables below have each name of it that the tools use, and load() compares them with the
+rt that is there. A tool that it doesn't fit goes on by rt's plain commands (tools/plain.py), or says which name is missing.
+"""
 import importlib.machinery
 import importlib.util
+import inspect
 import os
+import re
 import shutil
 import sys
 import tempfile
@@ -9,16 +15,130 @@ import tempfile
 TOP = os.path.dirname(os.path.dirname(os.path.realpath(__file__)))
 
 
-def load():
-    """Returns the module of the rt that is on the PATH, or ends the program where there is none."""
+# Functions are given by their parameters: "name=" has a default, and "*name" takes all that follow. Anything else is given by its
+# type. First what all tools use, then what some replace or call beside that.
+CRATES = {
+    "rtlib.guarded": "",
+    "rtlib.crates_below": "top",
+    "rtlib.files_of": "folder",
+    "rtlib.text_of": "file",
+    "rtlib.lock": "crates",
+    "rtlib.KIT": str,
+    "rtlib.RATTLE": str,
+    "rtlib.Crate.below": "self",
+    "rtlib.Crate.stamp": "crate made=",
+    "rtlib.Crate.makes_rlib": "self",
+    "rtlib.Crate.is_built": "self",
+    "rtlib.Crate.has_kept": "self",
+    "rtlib.Crate.call": "self *words",
+    "rtlib.Crate.words": "self flags tests= keeps= as_source=",
+}
+# What a crate itself has.
+OF_CRATE = ("name", "folder", "rlib", "deps", "out", "is_static", "is_program")
+
+GATE = {
+    "ci": "anew names=",
+    "where_disk_lasts": "call *given",
+    "Crate.ci": "self flags tests",
+    "Crate.prove": "self *commands",
+    "Crate.cuts_libraries": bool,
+    "Crate.has_tests": "self",
+    "Kept.give": "self crate tests key",
+    "checked": "crate texts flags kept",
+    "edits_of": "crate",
+    "add_edits": "tasks crate edits first waits is_well kept start= in_ci=",
+    "seeded": "crate flags start=",
+    "linked": "folder to",
+    "SEEDS": list,
+}
+
+PROOFS = {
+    "in_lanes": "tasks",
+    "processors": "",
+    "free": "",
+    "need": "crate",
+    "rtlib.Crate.prove": "self *commands",
+    "rtlib.Crate.build_rlib": "self flags anew",
+    "rtlib.Crate.build_static": "self flags",
+}
+
+TRIES = {
+    "in_lanes": "tasks",
+    "need": "crate",
+    "OVER": float,
+    "read_edit": "edit folder",
+    "checked": "crate texts flags kept",
+    "unread": "line changed",
+    "must_fail": "crate edit flags kept=",
+    "REFUSED": str,
+    "AT_LIMIT": str,
+    "linked": "folder to",
+    "listing": "folder",
+    "SEEDS": list,
+    "rtlib.STALE": re.Pattern,
+    "rtlib.Crate.build_rlib": "self flags anew",
+}
+
+
+class Unfit(Exception):
+    """Why a tool can't use the insides of the rt that is there, in a few words."""
+
+
+def parameters_of(function):
+    """Returns a function's parameters as the tables have them."""
+    words = []
+    for it in inspect.signature(function).parameters.values():
+        stars = {it.VAR_POSITIONAL: "*", it.VAR_KEYWORD: "**"}.get(it.kind, "")
+        words.append(stars + it.name + ("" if it.default is it.empty else "="))
+    return " ".join(words)
+
+
+def misfit(rt, name, wanted):
+    """Returns how what rt has under a name differs from what a table says of it, or None."""
+    found = rt
+    for part in name.split("."):
+        if not hasattr(found, part):
+            return f"rt has no {name}"
+        found = getattr(found, part)
+    if isinstance(wanted, type):
+        return None if isinstance(found, wanted) else f"rt's {name} is of the type {type(found).__name__}, and not {wanted.__name__}"
+    if not callable(found):
+        return f"rt's {name} can't be called"
+    given = parameters_of(found)
+    return None if given == wanted else f"rt's {name} takes ({given}), and not ({wanted})"
+
+
+def compare(rt, tables):
+    """Raises Unfit where rt differs from a table."""
+    for name, wanted in ((name, wanted) for table in tables for name, wanted in table.items()):
+        fault = misfit(rt, name, wanted)
+        if fault:
+            raise Unfit(fault)
+    for name in OF_CRATE:
+        if name not in rt.rtlib.Crate.__init__.__code__.co_names:
+            raise Unfit(f"rt's crates have no {name}")
+
+
+def module_of(file):
+    """Returns a file as a Python module, or raises Unfit."""
+    sys.dont_write_bytecode = True
+    loader = importlib.machinery.SourceFileLoader("rt", file)
+    rt = importlib.util.module_from_spec(importlib.util.spec_from_loader("rt", loader))
+    try:
+        loader.exec_module(rt)
+    except (Exception, SystemExit) as error:
+        raise Unfit(f"rt isn't the Python module that it was ({type(error).__name__})") from error
+    return rt
+
+
+def load(*tables):
+    """Returns the module of the rt that is on the PATH, which these tables fit. Raises Unfit where they don't, and ends the program
+    where there is no rt."""
     found = shutil.which("rt")
     if not found:
         sys.exit("rt, the Rattle kit's command, is not on the PATH")
-    sys.dont_write_bytecode = True
-    loader = importlib.machinery.SourceFileLoader("rt", os.path.realpath(found))
-    spec = importlib.util.spec_from_loader("rt", loader)
-    rt = importlib.util.module_from_spec(spec)
-    loader.exec_module(rt)
+    rt = module_of(os.path.realpath(found))
+    compare(rt, [CRATES, *tables])
     # Its first call sets a signal's handler, which only the main thread may.
     rt.rtlib.guarded()
     return rt
@@ -98,5 +218,5 @@ def compile_checked(rt, crate, words, checked, made):
 
 
 def is_refused(rt, verdict):
-    """Returns whether rt's verdict on an edit is that the prover refuses it: some kits give a truth value, others a name."""
-    return verdict in [getattr(rt, it, True) for it in ("REFUSED", "AT_LIMIT")]
+    """Returns whether rt's verdict on an edit is that the prover refuses it."""
+    return verdict in (rt.REFUSED, rt.AT_LIMIT)

@@ -1,0 +1,73 @@
+"""Where what the program is built of was proved: here, or elsewhere, from where tools/share has brought it."""
+import collections
+import fcntl
+import glob
+import json
+import os
+import shutil
+import socket
+import subprocess
+import time
+
+import kit
+
+
+def said_by(*words):
+    """Returns what a command prints, in one line, or "unknown" where it fails."""
+    how = {"stdin": subprocess.DEVNULL, "stdout": subprocess.PIPE, "stderr": subprocess.DEVNULL, "errors": "replace"}
+    try:
+        ran = subprocess.run(words, cwd=kit.TOP, **how)
+    except OSError:
+        return "unknown"
+    return " ".join(ran.stdout.split()) if ran.returncode == 0 else "unknown"
+
+
+def commit():
+    """Returns the commit that is checked out, with a + where the crates differ from it."""
+    is_changed = said_by("git", "status", "--porcelain", "--", "crates", "crates.txt") not in ("", "unknown")
+    return said_by("git", "rev-parse", "--short=12", "HEAD") + "+" * is_changed
+
+
+def here(seconds):
+    """Returns the origin of what is proved here, at a time in seconds."""
+    when = time.strftime("%Y-%m-%d %H:%M UTC", time.gmtime(seconds))
+    return {"host": socket.gethostname(), "time": when, "commit": commit(), "kit": said_by("rt", "version")}
+
+
+def told(origin):
+    return f"on {origin['host']}, {origin['time']}, commit {origin['commit']}, {origin['kit']}"
+
+
+def file_of(crate):
+    """Returns the file with the origin of an imported library, which whatever proves it here removes with the library."""
+    return f"{os.path.dirname(crate.rlib)}/origin"
+
+
+def imported(crate):
+    """Returns the origin of an imported library, or None where it was proved here."""
+    if not os.path.exists(file_of(crate)):
+        return None
+    with open(file_of(crate), encoding="utf-8") as file:
+        return json.load(file)
+
+
+def note(libraries, program, say):
+    """Says where a program that was built just now is proved, and when, and notes it beside the program."""
+    found = collections.Counter(told(it) for it in map(imported, libraries) if it)
+    parts = [f"{number} of its {len(libraries) + 1} crates are imported, and were proved {origin}" for origin, number in found.items()]
+    text = "; ".join([*parts, f"{'the others ' if parts else ''}proved here: {told(here(time.time()))}"])
+    say(text)
+    with open(f"{program.folder}/out/{program.name}.proved", "w", encoding="utf-8") as file:
+        file.write(f"{text}\n")
+
+
+def remove_imports():
+    """Removes all that was imported, once no other command works with it: it is no part of a gate, whatever rt ci removes."""
+    for file in sorted(glob.glob(f"{kit.TOP}/crates/*/out/statements/origin")):
+        crate = os.open(file.removesuffix("/out/statements/origin"), os.O_RDONLY)
+        try:
+            # As rt locks the crates that it works on.
+            fcntl.flock(crate, fcntl.LOCK_EX)
+            shutil.rmtree(os.path.dirname(file), ignore_errors=True)
+        finally:
+            os.close(crate)
