@@ -51,13 +51,13 @@ def imported(crate):
         return json.load(file)
 
 
-def note(libraries, program, say):
-    """Says where a program that was built just now is proved, and when, and notes it beside the program."""
-    found = collections.Counter(told(it) for it in map(imported, libraries) if it)
-    parts = [f"{number} of its {len(libraries) + 1} crates are imported, and were proved {origin}" for origin, number in found.items()]
+def note(crates, made, say):
+    """Says where what was built of these crates just now is proved, and when, and notes it beside what was built."""
+    found = collections.Counter(told(it) for it in map(imported, crates) if it)
+    parts = [f"{number} of its {len(crates)} crates are imported, and were proved {origin}" for origin, number in found.items()]
     text = "; ".join([*parts, f"{'the others ' if parts else ''}proved here: {told(here(time.time()))}"])
     say(text)
-    with open(f"{program.folder}/out/{program.name}.proved", "w", encoding="utf-8") as file:
+    with open(f"{made}.proved", "w", encoding="utf-8") as file:
         file.write(f"{text}\n")
 
 
