@@ -2,11 +2,11 @@
 ghost use Rattle.std.specs.Prelude.{◌≡◌, OnOk, OnErr};
 ghost use Rattle.std.specs.Io.KnownBytes.{Appends};
 ghost use Rattle.report_core.specs.Bytes.{AppendsFront};
-ghost use Rattle.command_line.specs.Fault.{fault_text};
+ghost use Rattle.run_core.specs.Fault.{fault_text};
 
 use itoa::Buffer;
 use point_core::Refusal;
-use report_core::write_whole;
+use script_core::write_whole;
 use std::io::Write;
 
 /// The status of a fault: the command line was wrong, or reading, writing or memory failed.

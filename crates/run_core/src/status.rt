@@ -1,17 +1,16 @@
-// The exit status of a run and of a check.
+// The exit status of a run.
 ghost use Rattle.std.specs.Prelude.{◌≡◌, ◌==◌, if◌then◌else◌};
-ghost use Rattle.fencectl.specs.Ends.{ReportsFault, check_status, run_status};
+ghost use Rattle.run_core.specs.Ends.{ReportsFault, run_status};
 
-use check_core::Verdict;
-use command_line::{FAULT, report_fault};
+use crate::fault::report_fault;
 use point_core::Refusal;
 use script_core::Totals;
 use std::io::Write;
 
 /// Every line was accepted, every answer was as expected, the clients settled, or nothing hangs.
-pub(crate) const ACCEPTED: u8 = 0;
+pub const ACCEPTED: u8 = 0;
 /// A line was refused, an answer differs, or something hangs.
-pub(crate) const REFUSED: u8 = 1;
+pub const REFUSED: u8 = 1;
 
 /// The status of a script that was answered to its end: 0 if every line was accepted, 1 if one was refused.
 fn status_of_totals(totals: Totals) -> u8
@@ -25,23 +24,12 @@ fn status_of_totals(totals: Totals) -> u8
 }
 
 /// The status of a run, by how it ended. A fault is reported to the writer, and its status is 2.
-pub(crate) fn status_of_run<W: Write>(ended: Result<Totals, Refusal>, writer: &mut W) -> u8
+pub fn status_of_run<W: Write>(ended: Result<Totals, Refusal>, writer: &mut W) -> u8
     ensures status { result ≡ run_status ended }
     ensures reported { ReportsFault ended (W.contents writer.old) (W.contents writer.new) }
 {
     match ended {
         Ok(totals) => status_of_totals(totals),
         Err(refusal) => report_fault(&refusal, writer),
-    }
-}
-
-/// The status of a check: 0 if every script passes, 1 if one does not, and 2 if one could not be checked to its end.
-pub(crate) fn status_of_verdict(verdict: Verdict) -> u8
-    ensures status { result ≡ check_status verdict }
-{
-    match verdict {
-        Verdict::Passed => ACCEPTED,
-        Verdict::Differs => REFUSED,
-        Verdict::Failed => FAULT,
     }
 }

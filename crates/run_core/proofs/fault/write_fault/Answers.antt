@@ -4,8 +4,8 @@ use Rattle.std.specs.Prelude.{decimal}
 use Rattle.std.proofs.KnownBytes.{Appends-trans}
 use Rattle.std.proofs.lemmas.Result.{err_from_is_err_and}
 use Rattle.point_core.specs.Refusal.{refusal_number, refusal_name}
-use Rattle.command_line.proofs.Fronts.{AppendsFront-more, AppendsFront-behind}
-use Rattle.command_line.proofs.fault.write_fault.Goals as goal
+use Rattle.run_core.proofs.Fronts.{AppendsFront-more, AppendsFront-behind}
+use Rattle.run_core.proofs.fault.write_fault.Goals as goal
 
 pub returns-in_err-write_whole-clause-err : goal.returns-in_err-write_whole-clause-err
 returns-in_err-write_whole-clause-err g c =

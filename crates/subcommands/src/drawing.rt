@@ -1,12 +1,12 @@
 // Pictures and graphs of a script's run.
 
-use crate::status::{ACCEPTED, REFUSED};
-use command_line::{Draw, FAULT};
+use command_line::Draw;
 use draw_core::{COLUMNS, Drawing, Run, Window, count_lines};
 use line_core::SCRIPT_BYTES;
 use picture_core::{History, dot_text};
 use point_core::Refusal;
 use report_core::write_whole;
+use run_core::{ACCEPTED, FAULT, REFUSED};
 use source_core::{Script, Source, put_file, reported};
 use std::io::{Read, Write};
 

@@ -1,5 +1,5 @@
 -- What ended is the whole of it.
-use Rattle.fencectl.proofs.scripts.json_script.Goals as goal
+use Rattle.subcommands.proofs.scripts.json_script.Goals as goal
 
 pub returns : goal.returns
 returns g c = record {

@@ -1,4 +1,4 @@
--- How runs and checks of a script end, and with which status.
+-- How the run of a script ends, and with which status.
 use Rattle.std.specs.Prelude.{ℕ, List, Option, Result, Ok, Err, ◌≡◌, ◌==◌, if◌then◌else◌, IfOk, OnErr, MatchResult}
 use Rattle.std.specs.Io.KnownBytes.{Keeps}
 use Rattle.point_core.specs.declared.refusal.Refusal.{Refusal}
@@ -7,10 +7,8 @@ use Rattle.line_core.specs.Reading.{IsInput}
 use Rattle.line_core.specs.Script.{script_of}
 use Rattle.script_core.specs.Output.{WritesPrefix, AnswersScript, AnswersEndedLines}
 use Rattle.script_core.specs.declared.totals.Totals.{Totals}
-use Rattle.check_core.specs.declared.outcome.Verdict.{Verdict}
-use Rattle.check_core.specs.declared.outcome.Verdict.TheVariants.{Passed, Differs, Failed}
-use Rattle.script_core.specs.Bytes.{AppendsFront}
-use Rattle.command_line.specs.Fault.{fault_text}
+use Rattle.report_core.specs.Bytes.{AppendsFront}
+use Rattle.run_core.specs.Fault.{fault_text}
 
 -- of the script that is unread before it, and the answers that are written
 pub record EndsRun (ended : Result Totals Refusal) (unread left before after : Option (List ℕ)) : Type 0 where
@@ -22,12 +20,6 @@ pub record EndsRun (ended : Result Totals Refusal) (unread left before after : O
 abbrev pub run_status : Result Totals Refusal → ℕ
 run_status (Ok totals) = if totals.refused == 0 then 0 else 1
 run_status (Err refusal) = 2
-
--- 0 if each script passes, 1 if one does not, and 2 if one could not be checked to its end
-abbrev pub check_status : Verdict → ℕ
-check_status Passed = 0
-check_status Differs = 1
-check_status Failed = 2
 
 -- the line of a fault is reported, or a prefix of it, and nothing else
 abbrev pub ReportsFault : {T : Type 0} → Result T Refusal → Option (List ℕ) → Option (List ℕ) → Type 0

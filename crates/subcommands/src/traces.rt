@@ -1,8 +1,8 @@
 // Reports of traces, and what happened in them as scripts and pictures, each with its exit status.
 use crate::drawing::{draw_trace, report_mistake, write_output};
-use crate::status::{ACCEPTED, REFUSED};
-use command_line::{FAULT, Trace};
+use command_line::Trace;
 use point_core::Refusal;
+use run_core::{ACCEPTED, FAULT, REFUSED};
 use source_core::Source;
 use trace_report::{Form, Outcome, report_trace};
 use trace_script::{Scripted, Span, script_of_trace};
