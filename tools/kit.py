@@ -97,10 +97,10 @@ def leave_empty_contracts_out(rt):
         rt.rtlib.help_of = lambda verb: plain(verb).replace("--empty-contracts", "")
 
 
-def compile_checked(rt, crate, words, checked, made, backend="llvm"):
+def compile_checked(rt, crate, words, checked, made):
     """Compiles what a check with these words has written down as proved. Returns the status."""
     words = [*without(words, "--logic-built", "--jobs"), "--crate-checked", checked]
-    words += ["--toolchain", f"{rt.rtlib.KIT}/toolchain", "--backend", backend, "-o", made]
+    words += ["--toolchain", f"{rt.rtlib.KIT}/toolchain", "--backend", "llvm", "-o", made]
     return crate.call(rt.rtlib.RATTLE, "build", *words)
 
 

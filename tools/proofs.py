@@ -154,7 +154,7 @@ class Statements:
                 file.write(self.stamps[crate.name])
         return status == 0
 
-    def compile(self, crate, flags, made, backend="llvm"):
+    def compile(self, crate, flags, made):
         """Proves a program or a static library, and compiles what was proved. Returns whether that went well."""
         words = crate.words(flags, keeps=False)
         # A run that is stopped leaves it there, and the next one removes it.
@@ -162,12 +162,12 @@ class Statements:
             checked = f"{room}/checked"
             if crate.prove(["check", *words, "-o", checked]):
                 return False
-            return kit.compile_checked(self.rt, crate, words, checked, made, backend) == 0
+            return kit.compile_checked(self.rt, crate, words, checked, made) == 0
 
-    def build(self, crate, cpu, jobs, backend):
+    def build(self, crate, cpu, jobs):
         """Proves the program, and builds it. Returns whether it is built."""
         of_kit, program = self.rt.rtlib.KIT, f"out/{crate.name}"
-        if not self.compile(crate, ["--jobs", str(jobs), f"--cpu={cpu}"], f"{program}.o", backend):
+        if not self.compile(crate, ["--jobs", str(jobs), f"--cpu={cpu}"], f"{program}.o"):
             return False
         words = ["--target", "x86_64-unknown-linux-gnu", "--toolchain", f"{of_kit}/toolchain", "-o", program, f"{program}.o"]
         words += [f"{of_kit}/c/{it}" for it in ("libos_c.a", "liblibc_c.a")]
@@ -191,9 +191,9 @@ class KeptWork:
         return (crate.build_static(flags) if crate.is_static else crate.build_rlib(flags, anew=False)) == 0
 
     @staticmethod
-    def build(crate, cpu, jobs, backend):
+    def build(crate, cpu, jobs):
         # Without words a program answers an empty script.
-        words = ["rt", "run", f"--cpu={cpu}", f"--jobs={jobs}", f"--backend={backend}"]
+        words = ["rt", "run", f"--cpu={cpu}", f"--jobs={jobs}"]
         how = {"stdin": subprocess.DEVNULL, "stdout": crate.out, "stderr": subprocess.STDOUT}
         return subprocess.run(words, cwd=crate.folder, **how).returncode == 0
 
