@@ -1,5 +1,6 @@
 """Proofs of crates side by side, for what is built of them."""
 import copy
+import functools
 import os
 import shutil
 import subprocess
@@ -7,20 +8,25 @@ import sys
 import tempfile
 import threading
 import time
+from concurrent.futures import FIRST_COMPLETED, ThreadPoolExecutor, wait
 
 import kit
 
-# The most processors that one proof makes use of.
+# The most processors that one proof makes use of, and how many a proof takes that all others wait for. Several cost more in all.
 MOST_JOBS = 4
+URGENT_JOBS = 3
 
-# A crate is of a longest chain where the longest chain through it has at least this part of the seconds of the longest.
+# A proof is urgent where its way ahead has at least this part of the longest one.
 NEARLY = 0.96
 
-# How much nicer to others the proof of a crate is for the part that its longest chain lacks, and at most.
+# How much nicer to others a proof is for the part of the longest way ahead that its own lacks, and at most.
 NICER, NICEST = 30, 15
 
-# How many proofs may share a processor: those of the longest chains don't wait for others to end.
+# How many proofs may share a processor: the urgent ones don't wait for others to end.
 SHARING = 2
+
+# The part of the free memory that proofs may take, and the part of its own memory that a proof takes for each job more.
+OF_FREE, OF_MORE = 0.85, 0.6
 
 
 class Progress:
@@ -51,39 +57,44 @@ class Progress:
             self.say(f"proved {name}: {self.done} of {self.all} crates{self.estimate() if self.left else ''}")
 
 
-class Chains:
-    """The crates, lowest first, and of each the part that the longest chain through it has of the longest of all, in seconds."""
+class Schedule:
+    """Which proofs run, and with how many processors and how nicely: first those with the longest way ahead, which is the time that
+    they and those that wait for them take one after another."""
 
-    def __init__(self, crates, seconds, processors):
-        down, up = {}, {}
-        for it in crates:
-            down[it.name] = seconds[it.name] + max((down[low.name] for low in it.below()), default=0)
-        for it in reversed(crates):
-            above = [up[high.name] for high in crates if it.name in {low.name for low in high.below()}]
-            up[it.name] = seconds[it.name] + max(above, default=0)
-        through = {it.name: down[it.name] + up[it.name] - seconds[it.name] for it in crates}
-        self.crates, self.processors = crates, processors
-        self.parts = {name: it / max(through.values()) for name, it in through.items()}
+    def __init__(self, rt, crates, of_memory):
+        self.rt, self.of_memory, self.processors = rt, of_memory, rt.processors()
+        self.memory, self.ahead, self.running = OF_FREE * rt.free(), {}, {}
+        seconds = kit.seconds(crates)
+        for it in sorted(crates, key=lambda it: -len(it.below())):
+            above = [self.ahead[high.name] for high in crates if it.name in {low.name for low in high.below()}]
+            self.ahead[it.name] = seconds[it.name] + max(above, default=0)
 
-    def is_longest(self, crate):
-        return self.parts[crate.name] >= NEARLY
+    def first(self, crates):
+        """Returns the crates by their ways ahead, the longest first."""
+        return sorted(crates, key=lambda it: -self.ahead[it.name])
 
-    def is_one_of_several(self, crate):
-        """Returns whether another crate of the longest chains may be proved beside this one."""
-        names = {it.name for it in crate.below()}
-        others = [it for it in self.crates if self.is_longest(it) and it.name != crate.name]
-        return any(it.name not in names and crate.name not in {low.name for low in it.below()} for it in others)
+    def need(self, crate, jobs):
+        return self.of_memory * self.rt.need(crate) * (1 + OF_MORE * (jobs - 1))
 
-    def jobs(self, rt, crate, running):
-        """Returns how many processors a proof takes, one of so many that run. Several cost more in all, so only a longest chain gets them."""
-        if not self.is_longest(crate):
-            return 1
-        most = max(self.processors // running, 1 if self.is_one_of_several(crate) else 2)
-        # Half of the free memory has to hold it.
-        return max(1, min(most, self.processors, MOST_JOBS, 1 + int((0.5 * rt.free() / rt.need(crate) - 1) / 0.6)))
+    def start(self, crate, ready):
+        """Returns with how many processors and how nicely the proof of one of the crates that are ready starts, or None where it has to
+        wait for room."""
+        taken, room = [sum(it) for it in zip(*self.running.values())] or (0, 0), self.memory
+        idle, room = self.processors - taken[0], room - taken[1]
+        longest = max(self.ahead[it] for it in [*self.running, *(it.name for it in ready)])
+        part = self.ahead[crate.name] / longest
+        jobs = max(URGENT_JOBS if part >= NEARLY else 1, idle // len(ready))
+        jobs = min(jobs, self.processors, MOST_JOBS)
+        while jobs > 1 and self.need(crate, jobs) > room:
+            jobs -= 1
+        has_room = taken[0] < SHARING * self.processors and self.need(crate, jobs) <= room
+        if self.running and not has_room:
+            return None
+        self.running[crate.name] = jobs, self.need(crate, jobs)
+        return jobs, min(round(NICER * (1 - part)), NICEST)
 
-    def niceness(self, crate):
-        return min(round(NICER * (1 - self.parts[crate.name])), NICEST)
+    def end(self, crate):
+        del self.running[crate.name]
 
 
 def nicely(niceness, call):
@@ -181,7 +192,8 @@ class KeptWork:
 
     @staticmethod
     def build(crate, cpu, jobs):
-        words = ["rt", "run", f"--cpu={cpu}", f"--jobs={jobs}", "--", "--version"]
+        # Without words a program answers an empty script.
+        words = ["rt", "run", f"--cpu={cpu}", f"--jobs={jobs}"]
         how = {"stdin": subprocess.DEVNULL, "stdout": crate.out, "stderr": subprocess.STDOUT}
         return subprocess.run(words, cwd=crate.folder, **how).returncode == 0
 
@@ -189,6 +201,7 @@ class KeptWork:
 def proofs_of(rt, crates):
     """Returns how these crates are proved: in a working copy whose checks have kept work, the proofs go on from that."""
     is_of_gate = all(kit.is_of_gate(it) for it in crates if it.makes_rlib())
+    kit.leave_empty_contracts_out(rt)
     return KeptWork() if any(it.has_kept() for it in crates) and not is_of_gate else Statements(rt, crates)
 
 
@@ -211,25 +224,31 @@ def prove(proofs, crate, jobs, log, progress, printing):
 
 def prove_all(rt, proofs, crates, left, log, progress):
     """Proves those crates that are left of all of them, side by side. Returns whether each is proved."""
-    seconds, processors = kit.seconds(crates), rt.processors
-    chains = Chains(crates, seconds, processors())
-    printing, names, running = threading.Lock(), {it.name for it in left}, set()
+    schedule, printing = Schedule(rt, crates, proofs.of_memory), threading.Lock()
+    waiting, names, running = schedule.first(left), {it.name for it in left}, {}
+    missing = {it.name: names & {low.name for low in it.below()} for it in left}
 
-    def run(crate):
-        running.add(crate.name)
-        jobs = chains.jobs(rt, crate, len(running))
-        is_proved = nicely(chains.niceness(crate), lambda: prove(proofs, crate, jobs, log, progress, printing))
-        running.remove(crate.name)
-        return is_proved
+    def start(pool):
+        ready = [it for it in waiting if not missing[it.name]]
+        while ready:
+            crate, given = ready[0], schedule.start(ready[0], ready)
+            if not given:
+                break
+            jobs, niceness = given
+            call = functools.partial(prove, proofs, crate, jobs, log, progress, printing)
+            running[pool.submit(nicely, niceness, call)] = crate
+            waiting.remove(ready.pop(0))
 
-    def task(crate):
-        # Those below that were proved before are no tasks.
-        below = [(it.name, "crate") for it in crate.below() if it.name in names]
-        call = lambda given, _jobs: all(given[it] for it in below) and run(crate)
-        return below, seconds[crate.name], proofs.of_memory * rt.need(crate), call
-
-    rt.processors = lambda: SHARING * processors()
-    # The scheduler would count a task named "proof" as several, by the processors that it gives it, and keep others waiting.
-    given = rt.in_lanes({(it.name, "crate"): task(it) for it in left})
-    rt.processors = processors
-    return all(given.values())
+    # Once a proof has failed, those that wait for it are never ready.
+    with ThreadPoolExecutor(max(len(left), 1)) as pool:
+        start(pool)
+        while running:
+            for it in wait(running, return_when=FIRST_COMPLETED).done:
+                crate, is_proved = running.pop(it), it.result()
+                schedule.end(crate)
+                if is_proved:
+                    names.remove(crate.name)
+                    for others in missing.values():
+                        others.discard(crate.name)
+            start(pool)
+    return not names

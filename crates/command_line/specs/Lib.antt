@@ -1,5 +1,4 @@
 pub mod Asked
 pub mod Clients
 pub mod Color
-pub mod Fault
 pub mod Words

@@ -1,5 +1,4 @@
-//! The command line of `fencectl`, and what of the program needs no script: a run of clients, what a fault prints, and what
-//! wrong usage answers.
+//! The command line of `fencectl`, and what of the program needs no script: a run of clients, and what wrong usage answers.
 #![tactic(auto)]
 
 mod action;
@@ -7,12 +6,10 @@ mod arguments;
 mod asked;
 mod clients;
 mod color;
-mod fault;
 mod paint;
 mod usage;
 
 pub use action::{Action, Check, Clients, Draw, Report, Table, Trace};
 pub use clients::clients_report;
 pub use color::{ColorChoice, Colors, take_color};
-pub use fault::{FAULT, report_fault};
-pub use usage::{action_of, report_unread_word};
+pub use usage::action_of;

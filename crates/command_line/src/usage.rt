@@ -9,7 +9,6 @@ use crate::action::Action;
 use crate::arguments::matches_of;
 use crate::asked::action_by;
 use crate::color::Colors;
-use crate::fault::FAULT;
 use crate::paint::painted;
 use clap::Error;
 use clap::error::ErrorKind;
@@ -17,7 +16,7 @@ use point_core::Refusal;
 use source_core::Script;
 use std::alloc::Global;
 use std::rt::Files;
-use std::{fs, io};
+use std::fs;
 
 /// What the words of the command line ask for; the first of them is the program's own. A lone word that is no subcommand asks to
 /// run the script of that file, if there is one. Help and the version are printed here, and wrong usage is reported.
@@ -116,17 +115,4 @@ fn print_error(
         _ => error.print(rt),
     };
     printed.map_err(|_| Refusal::Write)
-}
-
-/// Reports that the words of the command line could not be read, which is wrong usage if one is not UTF-8.
-///
-/// Fails with `Memory` if there was no memory for them, and with `Write` if the report could not be printed.
-pub fn report_unread_word(rt: &impl Eprint, error: io::Error) -> Result<u8, Refusal> {
-    if error.kind() == io::ErrorKind::OutOfMemory {
-        return Err(Refusal::Memory);
-    }
-    eprintln!(rt;
-        "error: a command-line argument is not valid UTF-8\n\nFor more information, try '--help'."
-    ).map_err(|_| Refusal::Write)?;
-    Ok(FAULT)
 }

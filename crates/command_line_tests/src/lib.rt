@@ -1,4 +1,4 @@
-//! Tests of what the program prints besides the answers of a script: the line of a fault, and what clients settle.
+//! Tests of what clients settle, as the program prints it.
 #![tactic(auto)]
 
 #[cfg(test)]

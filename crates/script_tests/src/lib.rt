@@ -1,4 +1,5 @@
-//! Tests of what no script of a program shows: totals, flushes, readers and writers that fail, and the calls of a desk.
+//! Tests of what no script of a program shows: totals, flushes, readers and writers that fail, the lines of faults, and the calls
+//! of a desk.
 #![tactic(auto)]
 
 #[cfg(test)]
@@ -7,6 +8,8 @@ mod answering;
 mod checking;
 #[cfg(test)]
 mod explaining;
+#[cfg(test)]
+mod faults;
 #[cfg(test)]
 mod lines;
 #[cfg(test)]

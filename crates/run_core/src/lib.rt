@@ -1,0 +1,12 @@
+//! A script's run and its exit status, and what faults print: what `fencectl run` does, and `script_runner`.
+#![tactic(auto)]
+
+mod fault;
+mod run;
+mod status;
+mod unread_word;
+
+pub use fault::{FAULT, report_fault};
+pub use run::run_script;
+pub use status::{ACCEPTED, REFUSED, status_of_run};
+pub use unread_word::report_unread_word;

@@ -1,0 +1,35 @@
+// The exit status of a run.
+ghost use Rattle.std.specs.Prelude.{◌≡◌, ◌==◌, if◌then◌else◌};
+ghost use Rattle.run_core.specs.Ends.{ReportsFault, run_status};
+
+use crate::fault::report_fault;
+use point_core::Refusal;
+use script_core::Totals;
+use std::io::Write;
+
+/// Every line was accepted, every answer was as expected, the clients settled, or nothing hangs.
+pub const ACCEPTED: u8 = 0;
+/// A line was refused, an answer differs, or something hangs.
+pub const REFUSED: u8 = 1;
+
+/// The status of a script that was answered to its end: 0 if every line was accepted, 1 if one was refused.
+fn status_of_totals(totals: Totals) -> u8
+    ensures { result ≡ (if totals.refused == 0 then 0 else 1) }
+{
+    if totals.refused == 0 {
+        ACCEPTED
+    } else {
+        REFUSED
+    }
+}
+
+/// The status of a run, by how it ended. A fault is reported to the writer, and its status is 2.
+pub fn status_of_run<W: Write>(ended: Result<Totals, Refusal>, writer: &mut W) -> u8
+    ensures status { result ≡ run_status ended }
+    ensures reported { ReportsFault ended (W.contents writer.old) (W.contents writer.new) }
+{
+    match ended {
+        Ok(totals) => status_of_totals(totals),
+        Err(refusal) => report_fault(&refusal, writer),
+    }
+}

@@ -1,0 +1,17 @@
+// What is reported of words that can't be read.
+use crate::fault::FAULT;
+use point_core::Refusal;
+use std::io;
+
+/// Reports that the words of the command line could not be read, which is wrong usage if one is not UTF-8.
+///
+/// Fails with `Memory` if there was no memory for them, and with `Write` if the report could not be printed.
+pub fn report_unread_word(rt: &impl Eprint, error: io::Error) -> Result<u8, Refusal> {
+    if error.kind() == io::ErrorKind::OutOfMemory {
+        return Err(Refusal::Memory);
+    }
+    eprintln!(rt;
+        "error: a command-line argument is not valid UTF-8\n\nFor more information, try '--help'."
+    ).map_err(|_| Refusal::Write)?;
+    Ok(FAULT)
+}

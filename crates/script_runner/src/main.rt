@@ -1,0 +1,48 @@
+//! `script_runner`: runs the script of a file, or that of standard input, as `fencectl run` does. It is built first, and the
+//! launcher uses it until `fencectl` is there.
+#![tactic(auto)]
+
+use point_core::Refusal;
+use run_core::{FAULT, report_fault, report_unread_word, run_script};
+use source_core::{Script, Source};
+use std::env;
+use std::process::ExitCode;
+
+fn main(rt: HostRuntime) -> ExitCode {
+    let status = start(&rt).unwrap_or_else(|refusal| report_fault(&refusal, &mut rt.stderr()));
+    ExitCode::from(status)
+}
+
+/// Reads the words of the command line, and runs the script. Gives the exit status.
+fn start(rt: &HostRuntime) -> Result<u8, Refusal> {
+    match env::args(rt) {
+        Ok(words) => {
+            let words: Vec<String> = words.collect(rt.alloc())?;
+            match script_of(words.as_slice()) {
+                Some(script) => run(rt, script),
+                None => report_usage(rt),
+            }
+        }
+        Err(error) => report_unread_word(rt, error),
+    }
+}
+
+/// By the words of the command line, of which the first is the program's own: the script of standard input, or that of the file
+/// that one word names.
+fn script_of(words: &[String]) -> Option<Script<'_>> {
+    match words {
+        [_] => Some(Script::StandardInput),
+        [_, name] => Some(Script::named(name.as_str())),
+        _ => None,
+    }
+}
+
+fn run(rt: &HostRuntime, script: Script<'_>) -> Result<u8, Refusal> {
+    let mut source = Source::open(rt, script, rt.stdin())?;
+    Ok(run_script(rt.alloc(), &mut source, &mut rt.stdout(), &mut rt.stderr()))
+}
+
+fn report_usage(rt: &HostRuntime) -> Result<u8, Refusal> {
+    eprintln!(rt; "usage: script_runner [FILE]").map_err(|_| Refusal::Write)?;
+    Ok(FAULT)
+}

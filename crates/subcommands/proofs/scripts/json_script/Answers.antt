@@ -1,0 +1,11 @@
+-- What ended is the whole of it.
+use Rattle.subcommands.proofs.scripts.json_script.Goals as goal
+
+pub returns : goal.returns
+returns g c = record {
+  ended = (
+    c.run_json-ended.result,
+    c.status_of_run.ensures.status,
+    c.status_of_run.ensures.reported,
+  );
+}
