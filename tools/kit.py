@@ -102,9 +102,10 @@ def misfit(rt, name, wanted):
         found = getattr(found, part)
     if isinstance(wanted, type):
         return None if isinstance(found, wanted) else f"rt's {name} is of the type {type(found).__name__}, and not {wanted.__name__}"
-    if not callable(found):
-        return f"rt's {name} can't be called"
-    given = parameters_of(found)
+    try:
+        given = parameters_of(found)
+    except (TypeError, ValueError):
+        return f"rt's {name} is no function"
     return None if given == wanted else f"rt's {name} takes ({given}), and not ({wanted})"
 
 
@@ -114,8 +115,9 @@ def compare(rt, tables):
         fault = misfit(rt, name, wanted)
         if fault:
             raise Unfit(fault)
+    code = getattr(rt.rtlib.Crate.__init__, "__code__", None)
     for name in OF_CRATE:
-        if name not in rt.rtlib.Crate.__init__.__code__.co_names:
+        if not code or name not in code.co_names:
             raise Unfit(f"rt's crates have no {name}")
 
 
