@@ -15,8 +15,8 @@ import tempfile
 TOP = os.path.dirname(os.path.dirname(os.path.realpath(__file__)))
 
 
-# Functions are given by their parameters: "name=" has a default, and "*name" takes all that follow. Anything else is given by its
-# type. First what all tools use, then what some replace or call beside that.
+# Functions are given by their parameters: "name=" has a default, "*name" takes all that follow, and "--name" is given by its name.
+# Anything else is given by its type. First what all tools use, then what some replace or call beside that.
 CRATES = {
     "rtlib.guarded": "",
     "rtlib.crates_below": "top",
@@ -88,8 +88,8 @@ def parameters_of(function):
     """Returns a function's parameters as the tables have them."""
     words = []
     for it in inspect.signature(function).parameters.values():
-        stars = {it.VAR_POSITIONAL: "*", it.VAR_KEYWORD: "**"}.get(it.kind, "")
-        words.append(stars + it.name + ("" if it.default is it.empty else "="))
+        mark = {it.VAR_POSITIONAL: "*", it.VAR_KEYWORD: "**", it.KEYWORD_ONLY: "--"}.get(it.kind, "")
+        words.append(mark + it.name + ("" if it.default is it.empty else "="))
     return " ".join(words)
 
 
