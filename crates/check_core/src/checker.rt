@@ -40,20 +40,19 @@ pub(crate) struct Checker<'a> {
 impl<'a> Checker<'a> {
     ghost use Rattle.check_core.specs.Check.{IsFresh, differences_of, IsQuiet, Expects, IsAnswered, IsTaken, IsOpened, IsJudgedAt, IsEnded};
 
-    pub(crate) fn new(alloc: Global, place: &Place<'a>) -> Result<Checker<'a>, Refusal>
-        ensures fresh { IfOk result IsFresh }
-        ensures refusals { IfErr result (λ refusal. refusal ≡ Memory) }
+    pub(crate) fn new(alloc: Global, place: &Place<'a>) -> Checker<'a>
+        ensures fresh { IsFresh result }
     {
-        Ok(Checker {
+        Checker {
             alloc,
             place: *place,
-            desk: Desk::new(alloc)?,
+            desk: Desk::new(alloc).unwrap(),
             tally: Tally::new(),
             number: 0,
             bytes: Vec::new(alloc),
             text: Vec::new(alloc),
             stage: Stage::Unasked,
-        })
+        }
     }
 
     /// Takes the next line: it is answered if it has an answer, or else what it expects is compared with the last answer. Of

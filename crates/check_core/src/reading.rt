@@ -50,8 +50,11 @@ pub fn check<R: Read, W: Write>(
     ensures refusals { IfErr result (λ refusal.
         (refusal ≡ ReadFault) ⊎ (refusal ≡ Limit Script) ⊎ (refusal ≡ WriteFault) ⊎ (refusal ≡ Memory)) }
 {
-    let mut checker = Checker::new(alloc, place)?;
-    check_script(&mut checker, reader, writer)
+    let mut checker = Checker::new(alloc, place);
+    let checked = check_script(&mut checker, reader, writer);
+    // For the proof: what a call drops is taken apart once, and not here.
+    drop(checker);
+    checked
 }
 
 /// Checks a script from its first line on.

@@ -25,15 +25,15 @@ pub(crate) struct Rewriter {
 }
 
 impl Rewriter {
-    pub(crate) fn new(alloc: Global, fills: bool) -> Result<Rewriter, Refusal> {
-        Ok(Rewriter {
-            desk: Desk::new(alloc)?,
+    pub(crate) fn new(alloc: Global, fills: bool) -> Rewriter {
+        Rewriter {
+            desk: Desk::new(alloc).unwrap(),
             fills,
             answer: Vec::new(alloc),
             expected: 0,
             is_asked: false,
             notes: Page::new(alloc),
-        })
+        }
     }
 
     /// Takes the next line, and writes what is known by then.
@@ -62,10 +62,7 @@ impl Rewriter {
         self.expected = 0;
         self.answer.clear();
         let answer = answer_line(&mut self.desk, body);
-        if let Answer::Refused(Refusal::Memory) = answer {
-            return Err(Refusal::Memory);
-        }
-        print(page.lines, &answer, &mut self.answer)
+        print_known(page.lines, &answer, &mut self.answer)
     }
 
     fn note(&mut self, line: &[u8], page: &mut Page) -> Result<(), AllocError> {
@@ -94,6 +91,14 @@ impl Rewriter {
             self.expect(FRONT, page)?;
         }
         Ok(())
+    }
+}
+
+/// Writes an answer to `text`, unless memory was refused to its command.
+fn print_known(number: u32, answer: &Answer, text: &mut Vec<u8>) -> Result<(), Refusal> {
+    match answer {
+        Answer::Refused(Refusal::Memory) => Err(Refusal::Memory),
+        _ => print(number, answer, text),
     }
 }
 

@@ -33,8 +33,11 @@ pub fn updated(alloc: Global, script: &[u8]) -> Result<Vec<u8>, Refusal>
 }
 
 fn rewrite(alloc: Global, script: &[u8], page: &mut Page) -> Result<(), Refusal> {
-    let mut rewriter = Rewriter::new(alloc, !expects(script))?;
-    rewrite_lines(&mut rewriter, script, page)
+    let mut rewriter = Rewriter::new(alloc, !expects(script));
+    let rewritten = rewrite_lines(&mut rewriter, script, page);
+    // For the proof: what a call drops is taken apart once, and not here.
+    drop(rewriter);
+    rewritten
 }
 
 /// Writes the new script to an empty page. Its last line lacks its line feed if that of the script does.

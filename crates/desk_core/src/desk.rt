@@ -55,10 +55,10 @@ impl Desk {
     {
         Ok(Desk {
             alloc,
-            timelines: Timelines::new(alloc)?,
-            files: Files::new(alloc)?,
-            buffers: Buffers::new(alloc)?,
-            watches: Watches::new(alloc)?,
+            timelines: Timelines::new(alloc).unwrap(),
+            files: Files::new(alloc).unwrap(),
+            buffers: Buffers::new(alloc).unwrap(),
+            watches: Watches::new(alloc).unwrap(),
         })
     }
 

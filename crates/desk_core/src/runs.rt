@@ -1,5 +1,5 @@
 // A run over a list of commands.
-ghost use Rattle.std.specs.Prelude.{◌≡◌, [], IfOk, IfErr};
+ghost use Rattle.std.specs.Prelude.{◌≡◌, [], IfOk, IfErr, length, vec_len, vec_capacity};
 ghost use Rattle.desk_core.specs.History.{history_of, AreAnswers};
 ghost use Rattle.desk_core.specs.Desk.{HasHistory};
 ghost use Rattle.desk_core.specs.Headline.{ReportsSums, ReportsWhatWasPut, ReportsWhatIsInBuffers, ReportsWhatFires, ReportsEachWatch};
@@ -22,10 +22,21 @@ pub fn run(alloc: Global, commands: &[Command]) -> Result<(Desk, Vec<Answer>), R
     ensures each_watch { IfOk result (λ r. ReportsEachWatch r.0 commands.now r.1.items) }
     ensures memory { IfErr result (λ e. e ≡ Refusal.Memory) }
 {
-    let mut desk = Desk::new(alloc)?;
     let mut answers = Vec::with_capacity(alloc, commands.len())?;
+    let mut desk = Desk::new(alloc).unwrap();
+    answer_each(&mut desk, commands, &mut answers);
+    Ok((desk, answers))
+}
+
+/// Runs the commands over a desk that no command has changed yet, and lists their answers, for which there is room.
+fn answer_each(desk: &mut Desk, commands: &[Command], answers: &mut Vec<Answer>)
+    requires empty { HasHistory desk.old [] }
+    requires none { answers.old.items ≡ [] }
+    requires room { (vec_len answers.old ≡ 0) × (vec_capacity answers.old ≡ length commands.now) }
+    ensures answers { AreAnswers [] commands.now answers.new.items }
+    ensures stands { HasHistory desk.new (history_of [] commands.now answers.new.items) }
+{
     for command in commands {
         answers.push_reserved(desk.step(*command));
     }
-    Ok((desk, answers))
 }

@@ -10,7 +10,7 @@ use crate::history::{
 use crate::list::push;
 use command_core::{Answer, Command};
 use point_core::{Name, Point, Refusal};
-use std::alloc::Global;
+use std::alloc::{AllocError, Global};
 
 impl History {
     /// Enters what an accepted command did, in its column; in 0 where it is not drawn. Of a watch, `points` are those of its
@@ -34,12 +34,12 @@ impl History {
         if column == 0 {
             return Ok(());
         }
-        self.lanes.link_all(column, command, self.bars.as_slice())
+        Ok(self.lanes.link_all(column, command, self.bars.as_slice())?)
     }
 }
 
 /// The bars after a command, which makes a file, closes one, or neither.
-fn enter_file(bars: &mut Vec<Bar>, column: usize, command: &Command) -> Result<(), Refusal>
+fn enter_file(bars: &mut Vec<Bar>, column: usize, command: &Command) -> Result<(), AllocError>
     ensures { OnOk result (bars.new.items ≡ bars_after column command.now bars.old.items) }
 {
     match command {
@@ -68,7 +68,7 @@ fn enter_file(bars: &mut Vec<Bar>, column: usize, command: &Command) -> Result<(
     }
 }
 
-fn push_bar(bars: &mut Vec<Bar>, column: usize, name: &Name) -> Result<(), Refusal>
+fn push_bar(bars: &mut Vec<Bar>, column: usize, name: &Name) -> Result<(), AllocError>
     ensures { OnOk result (bars.new.items ≡ bars.old.items ++ bar_of name.now column ∷ []) }
 {
     push(bars, Bar::of(name, column))
@@ -101,7 +101,7 @@ impl Lanes {
         command: &Command,
         answer: &Answer,
         points: &[Point],
-    ) -> Result<(), Refusal> {
+    ) -> Result<(), AllocError> {
         match command {
             Command::Timeline(name) => push_timeline(&mut self.timelines, alloc, column, name),
             Command::Inc(name, _) => self.raise(column, name, answer),
@@ -131,7 +131,7 @@ impl Lanes {
     }
 
     /// The new value of a timeline, and the watches that fired.
-    fn raise(&mut self, column: usize, name: &Name, answer: &Answer) -> Result<(), Refusal> {
+    fn raise(&mut self, column: usize, name: &Name, answer: &Answer) -> Result<(), AllocError> {
         let Answer::Raised(value, fired) = answer else {
             return Ok(());
         };
@@ -143,13 +143,13 @@ impl Lanes {
         push_step(self.timelines.as_mut_slice(), name, step)
     }
 
-    fn shut(&mut self, column: usize, name: &Name, answer: &Answer) -> Result<(), Refusal> {
+    fn shut(&mut self, column: usize, name: &Name, answer: &Answer) -> Result<(), AllocError> {
         self.raise(column, name, answer)?;
         close_timeline(self.timelines.as_mut_slice(), column, name);
         Ok(())
     }
 
-    fn access(&mut self, column: usize, name: &Name, access: Access) -> Result<(), Refusal> {
+    fn access(&mut self, column: usize, name: &Name, access: Access) -> Result<(), AllocError> {
         if column == 0 {
             return Ok(());
         }
@@ -167,7 +167,12 @@ impl Lanes {
     }
 
     /// From what the command used to what it made or changed.
-    fn link_all(&mut self, column: usize, command: &Command, bars: &[Bar]) -> Result<(), Refusal> {
+    fn link_all(
+        &mut self,
+        column: usize,
+        command: &Command,
+        bars: &[Bar],
+    ) -> Result<(), AllocError> {
         match command {
             Command::Fence(name, timeline, _) => {
                 self.link(column, self.timeline_lane(timeline), bar_lane(bars, name))
@@ -204,7 +209,12 @@ impl Lanes {
         }
     }
 
-    fn link(&mut self, column: usize, from: Option<Lane>, to: Option<Lane>) -> Result<(), Refusal> {
+    fn link(
+        &mut self,
+        column: usize,
+        from: Option<Lane>,
+        to: Option<Lane>,
+    ) -> Result<(), AllocError> {
         let Some(from) = from else {
             return Ok(());
         };
@@ -250,7 +260,7 @@ fn push_timeline(
     alloc: Global,
     column: usize,
     name: &Name,
-) -> Result<(), Refusal> {
+) -> Result<(), AllocError> {
     let mut steps = Vec::new(alloc);
     push(&mut steps, ValueStep { column, value: 0 })?;
     push(
@@ -263,7 +273,7 @@ fn push_timeline(
     )
 }
 
-fn push_step(lanes: &mut [TimelineLane], name: &Name, step: ValueStep) -> Result<(), Refusal> {
+fn push_step(lanes: &mut [TimelineLane], name: &Name, step: ValueStep) -> Result<(), AllocError> {
     for lane in lanes.iter_mut() {
         if lane.name == *name {
             return set_step(&mut lane.steps, step);
@@ -273,7 +283,7 @@ fn push_step(lanes: &mut [TimelineLane], name: &Name, step: ValueStep) -> Result
 }
 
 /// One step more. Two of one column are one.
-fn set_step(steps: &mut Vec<ValueStep>, step: ValueStep) -> Result<(), Refusal> {
+fn set_step(steps: &mut Vec<ValueStep>, step: ValueStep) -> Result<(), AllocError> {
     if let Some(last) = steps.last_mut() {
         if last.column == step.column {
             *last = step;
@@ -291,7 +301,11 @@ fn close_timeline(lanes: &mut [TimelineLane], column: usize, name: &Name) {
     }
 }
 
-fn push_buffer(buffers: &mut Vec<BufferLane>, column: usize, name: &Name) -> Result<(), Refusal> {
+fn push_buffer(
+    buffers: &mut Vec<BufferLane>,
+    column: usize,
+    name: &Name,
+) -> Result<(), AllocError> {
     push(
         buffers,
         BufferLane {
@@ -307,7 +321,7 @@ fn push_watch(
     column: usize,
     cookie: u64,
     points: &[Point],
-) -> Result<(), Refusal> {
+) -> Result<(), AllocError> {
     let points = Vec::from_slice(alloc, points)?;
     push(
         watches,

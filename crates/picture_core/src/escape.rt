@@ -19,7 +19,8 @@ pub fn push_escaped(text: &[u8], out: &mut Vec<u8>) -> Result<(), AllocError>
     Ok(())
 }
 
-fn push_byte(byte: u8, out: &mut Vec<u8>) -> Result<(), AllocError>
+/// A byte of such a text.
+pub(crate) fn push_byte(byte: u8, out: &mut Vec<u8>) -> Result<(), AllocError>
     ensures ok { OnOk result (out.new.items ≡ out.old.items ++ escaped_byte byte) }
 {
     if is_plain(byte) {

@@ -66,7 +66,7 @@ impl Graph {
     ///
     /// Fails with `Memory` alone.
     pub fn add_node(&mut self, node: Node) -> Result<(), Refusal> {
-        push(&mut self.nodes, node)
+        Ok(push(&mut self.nodes, node)?)
     }
 
     /// One edge more, to a point, which becomes a node where it is none yet.
@@ -81,13 +81,11 @@ impl Graph {
         if new {
             push(&mut self.nodes, Node::Point(*waiting))?;
         }
-        push(
-            &mut self.edges,
-            Edge {
-                waiter: *waiter,
-                timeline: waiting.timeline,
-                point: waiting.point,
-            },
-        )
+        let edge = Edge {
+            waiter: *waiter,
+            timeline: waiting.timeline,
+            point: waiting.point,
+        };
+        Ok(push(&mut self.edges, edge)?)
     }
 }

@@ -167,7 +167,7 @@ impl History {
         ensures bars { self.new.bars ≡ self.old.bars }
         ensures waits { self.new.waits ≡ self.old.waits }
     {
-        push(&mut self.columns, column)
+        Ok(push(&mut self.columns, column)?)
     }
 
     /// One point more that the file of a bar waits for.
@@ -178,6 +178,6 @@ impl History {
         ensures bars { self.new.bars ≡ self.old.bars }
         ensures waits { OnOk result (self.new.waits.items ≡ self.old.waits.items ++ wait ∷ []) }
     {
-        push(&mut self.waits, wait)
+        Ok(push(&mut self.waits, wait)?)
     }
 }

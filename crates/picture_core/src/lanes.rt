@@ -1,6 +1,5 @@
 // The lanes of timelines, files, buffers and watches.
-ghost use Rattle.std.specs.Prelude.{◌≡◌, ◌++◌, true, IfErr, OnOk, None};
-ghost use Rattle.point_core.specs.declared.refusal.Refusal.TheVariants.{Memory};
+ghost use Rattle.std.specs.Prelude.{◌≡◌, ◌++◌, true, OnOk, None};
 ghost use Rattle.picture_core.specs.Shapes.{bars_on, end_of, fill_of, is_bar_fill, part_of, parts_of, shapes_of, shapes_of_all, waiting_in, waitings, waits_on};
 ghost use Rattle.picture_core.specs.Sheet.{height_of_bar, middle_of};
 
@@ -11,7 +10,8 @@ use crate::history::{
 };
 use crate::shapes::{Canvas, Face, Fill, Label, Mark, Spot, Stroke};
 use crate::sheet::{LINE, PAD, Sheet};
-use point_core::{Refusal, Status};
+use point_core::Status;
+use std::alloc::AllocError;
 
 /// How far a timeline's value rises, and where it begins in its lane. Above it is room for the mark of a closing, below the
 /// numbers.
@@ -32,19 +32,22 @@ fn push_level(
     right: u64,
     y: u64,
     canvas: &mut Canvas,
-) -> Result<(), Refusal>
+) -> Result<(), AllocError>
     ensures bars { bars_on canvas.new ≡ bars_on canvas.old }
     ensures waits { waits_on canvas.new ≡ waits_on canvas.old }
-    ensures memory { IfErr result (λ e. e ≡ Memory) }
 {
     canvas.line(stroke, &Spot { x: left, y }, &Spot { x: right, y })
 }
 
 /// The name of a lane, in its middle.
-fn push_name(sheet: &Sheet, lane: Lane, label: &Label, canvas: &mut Canvas) -> Result<(), Refusal>
+fn push_name(
+    sheet: &Sheet,
+    lane: Lane,
+    label: &Label,
+    canvas: &mut Canvas,
+) -> Result<(), AllocError>
     ensures bars { bars_on canvas.new ≡ bars_on canvas.old }
     ensures waits { waiting_in label.now ≡ None → waits_on canvas.new ≡ waits_on canvas.old }
-    ensures memory { IfErr result (λ e. e ≡ Memory) }
 {
     let y = sheet.middle_of(lane).saturating_add(FOOT);
     canvas.text(Face::Name, PAD, y, label)
@@ -54,10 +57,9 @@ pub(crate) fn push_timelines(
     history: &History,
     sheet: &Sheet,
     canvas: &mut Canvas,
-) -> Result<(), Refusal>
+) -> Result<(), AllocError>
     ensures bars { bars_on canvas.new ≡ bars_on canvas.old }
     ensures waits { waits_on canvas.new ≡ waits_on canvas.old }
-    ensures memory { IfErr result (λ e. e ≡ Memory) }
 {
     for (place, lane) in history.lanes.timelines.iter().enumerate() {
         let here = Lane::Timeline(place);
@@ -69,10 +71,14 @@ pub(crate) fn push_timelines(
 }
 
 /// What links begin at.
-fn push_axis(sheet: &Sheet, y: u64, lane: &TimelineLane, canvas: &mut Canvas) -> Result<(), Refusal>
+fn push_axis(
+    sheet: &Sheet,
+    y: u64,
+    lane: &TimelineLane,
+    canvas: &mut Canvas,
+) -> Result<(), AllocError>
     ensures bars { bars_on canvas.new ≡ bars_on canvas.old }
     ensures waits { waits_on canvas.new ≡ waits_on canvas.old }
-    ensures memory { IfErr result (λ e. e ≡ Memory) }
 {
     match lane.steps.first() {
         Some(first) => push_level(
@@ -92,10 +98,9 @@ fn push_values(
     top: u64,
     lane: &TimelineLane,
     canvas: &mut Canvas,
-) -> Result<(), Refusal>
+) -> Result<(), AllocError>
     ensures bars { bars_on canvas.new ≡ bars_on canvas.old }
     ensures waits { waits_on canvas.new ≡ waits_on canvas.old }
-    ensures memory { IfErr result (λ e. e ≡ Memory) }
 {
     let greatest = lane.steps.last().map_or(0, |step| step.value);
     let mut last: Option<Spot> = None;
@@ -124,10 +129,9 @@ fn rise(value: u64, greatest: u64) -> u64 {
     u64::try_from(scaled).unwrap_or(RISE)
 }
 
-fn push_step(before: &Spot, next: &Spot, canvas: &mut Canvas) -> Result<(), Refusal>
+fn push_step(before: &Spot, next: &Spot, canvas: &mut Canvas) -> Result<(), AllocError>
     ensures bars { bars_on canvas.new ≡ bars_on canvas.old }
     ensures waits { waits_on canvas.new ≡ waits_on canvas.old }
-    ensures memory { IfErr result (λ e. e ≡ Memory) }
 {
     push_level(Stroke::Value, before.x, next.x, before.y, canvas)?;
     let corner = Spot {
@@ -137,10 +141,14 @@ fn push_step(before: &Spot, next: &Spot, canvas: &mut Canvas) -> Result<(), Refu
     canvas.line(Stroke::Value, &corner, next)
 }
 
-fn push_value(sheet: &Sheet, top: u64, step: &ValueStep, canvas: &mut Canvas) -> Result<(), Refusal>
+fn push_value(
+    sheet: &Sheet,
+    top: u64,
+    step: &ValueStep,
+    canvas: &mut Canvas,
+) -> Result<(), AllocError>
     ensures bars { bars_on canvas.new ≡ bars_on canvas.old }
     ensures waits { waits_on canvas.new ≡ waits_on canvas.old }
-    ensures memory { IfErr result (λ e. e ≡ Memory) }
 {
     let x = sheet.text_middle(step.column);
     let y = top.saturating_add(VALUES);
@@ -153,10 +161,9 @@ fn push_end(
     lane: &TimelineLane,
     last: &Spot,
     canvas: &mut Canvas,
-) -> Result<(), Refusal>
+) -> Result<(), AllocError>
     ensures bars { bars_on canvas.new ≡ bars_on canvas.old }
     ensures waits { waits_on canvas.new ≡ waits_on canvas.old }
-    ensures memory { IfErr result (λ e. e ≡ Memory) }
 {
     let Some(closed) = lane.closed else {
         return push_level(Stroke::Value, last.x, sheet.end, last.y, canvas);
@@ -171,21 +178,19 @@ pub(crate) fn push_bars(
     history: &History,
     sheet: &Sheet,
     canvas: &mut Canvas,
-) -> Result<(), Refusal>
+) -> Result<(), AllocError>
     ensures bars { OnOk result (bars_on canvas.new ≡ bars_on canvas.old
         ++ shapes_of_all (middle_of sheet.now) sheet.now.end (height_of_bar sheet.now) history.now.bars.items) }
     ensures waits { OnOk result (waits_on canvas.new ≡ waits_on canvas.old ++ waitings history.now.waits.items) }
-    ensures memory { IfErr result (λ e. e ≡ Memory) }
 {
     push_lanes(history.bars.as_slice(), sheet, canvas)?;
     push_waits(history.waits.as_slice(), sheet, canvas)
 }
 
-fn push_lanes(bars: &[Bar], sheet: &Sheet, canvas: &mut Canvas) -> Result<(), Refusal>
+fn push_lanes(bars: &[Bar], sheet: &Sheet, canvas: &mut Canvas) -> Result<(), AllocError>
     ensures bars { OnOk result (bars_on canvas.new ≡ bars_on canvas.old
         ++ shapes_of_all (middle_of sheet.now) sheet.now.end (height_of_bar sheet.now) bars.now) }
     ensures waits { waits_on canvas.new ≡ waits_on canvas.old }
-    ensures memory { IfErr result (λ e. e ≡ Memory) }
 {
     for (place, bar) in bars.iter().enumerate() {
         push_lane(sheet, place, bar, canvas)?;
@@ -194,21 +199,19 @@ fn push_lanes(bars: &[Bar], sheet: &Sheet, canvas: &mut Canvas) -> Result<(), Re
 }
 
 /// The name of a file, and its bar.
-fn push_lane(sheet: &Sheet, place: usize, bar: &Bar, canvas: &mut Canvas) -> Result<(), Refusal>
+fn push_lane(sheet: &Sheet, place: usize, bar: &Bar, canvas: &mut Canvas) -> Result<(), AllocError>
     ensures bars { OnOk result (bars_on canvas.new ≡ bars_on canvas.old
         ++ shapes_of (middle_of sheet.now) sheet.now.end (height_of_bar sheet.now place) bar.now) }
     ensures waits { waits_on canvas.new ≡ waits_on canvas.old }
-    ensures memory { IfErr result (λ e. e ≡ Memory) }
 {
     push_name(sheet, Lane::Bar(place), &Label::Name(bar.name), canvas)?;
     push_bar(sheet, sheet.height_of_bar(place), bar, canvas)
 }
 
-fn push_bar(sheet: &Sheet, middle: u64, bar: &Bar, canvas: &mut Canvas) -> Result<(), Refusal>
+fn push_bar(sheet: &Sheet, middle: u64, bar: &Bar, canvas: &mut Canvas) -> Result<(), AllocError>
     ensures bars { OnOk result (bars_on canvas.new ≡ bars_on canvas.old
         ++ shapes_of (middle_of sheet.now) sheet.now.end middle bar.now) }
     ensures waits { waits_on canvas.new ≡ waits_on canvas.old }
-    ensures memory { IfErr result (λ e. e ≡ Memory) }
 {
     let left = sheet.middle(bar.made);
     let right = end_of(sheet, bar.closed);
@@ -237,11 +240,10 @@ fn push_parts(
     right: u64,
     y: u64,
     canvas: &mut Canvas,
-) -> Result<(), Refusal>
+) -> Result<(), AllocError>
     ensures bars { OnOk result (bars_on canvas.new ≡ bars_on canvas.old
         ++ parts_of (middle_of sheet.now) left right y settled) }
     ensures waits { waits_on canvas.new ≡ waits_on canvas.old }
-    ensures memory { IfErr result (λ e. e ≡ Memory) }
 {
     let Some(settled) = settled else {
         return push_part(Fill::Pending, left, right, y, canvas);
@@ -251,11 +253,16 @@ fn push_parts(
     push_part(fill_of(settled.status), turn, right, y, canvas)
 }
 
-fn push_part(fill: Fill, left: u64, right: u64, y: u64, canvas: &mut Canvas) -> Result<(), Refusal>
+fn push_part(
+    fill: Fill,
+    left: u64,
+    right: u64,
+    y: u64,
+    canvas: &mut Canvas,
+) -> Result<(), AllocError>
     ensures bars { is_bar_fill fill ≡ true →
         OnOk result (bars_on canvas.new ≡ bars_on canvas.old ++ part_of fill left right y) }
     ensures waits { waits_on canvas.new ≡ waits_on canvas.old }
-    ensures memory { IfErr result (λ e. e ≡ Memory) }
 {
     if left >= right {
         return Ok(());
@@ -275,10 +282,9 @@ fn fill_of(status: Status) -> Fill
     }
 }
 
-fn push_bar_end(bar: &Bar, right: u64, middle: u64, canvas: &mut Canvas) -> Result<(), Refusal>
+fn push_bar_end(bar: &Bar, right: u64, middle: u64, canvas: &mut Canvas) -> Result<(), AllocError>
     ensures bars { bars_on canvas.new ≡ bars_on canvas.old }
     ensures waits { waits_on canvas.new ≡ waits_on canvas.old }
-    ensures memory { IfErr result (λ e. e ≡ Memory) }
 {
     if bar.goes_on() {
         return canvas.mark(Mark::GoesOn, right, middle);
@@ -290,10 +296,9 @@ fn push_bar_end(bar: &Bar, right: u64, middle: u64, canvas: &mut Canvas) -> Resu
 }
 
 /// What bars wait for, a line of text each, right of the columns.
-fn push_waits(waits: &[BarWait], sheet: &Sheet, canvas: &mut Canvas) -> Result<(), Refusal>
+fn push_waits(waits: &[BarWait], sheet: &Sheet, canvas: &mut Canvas) -> Result<(), AllocError>
     ensures bars { bars_on canvas.new ≡ bars_on canvas.old }
     ensures waits { OnOk result (waits_on canvas.new ≡ waits_on canvas.old ++ waitings waits.now) }
-    ensures memory { IfErr result (λ e. e ≡ Memory) }
 {
     let x = sheet.end.saturating_add(PAD * 2);
     let mut bar = usize::MAX;
@@ -314,10 +319,9 @@ pub(crate) fn push_buffers(
     history: &History,
     sheet: &Sheet,
     canvas: &mut Canvas,
-) -> Result<(), Refusal>
+) -> Result<(), AllocError>
     ensures bars { bars_on canvas.new ≡ bars_on canvas.old }
     ensures waits { waits_on canvas.new ≡ waits_on canvas.old }
-    ensures memory { IfErr result (λ e. e ≡ Memory) }
 {
     push_buffer_lanes(history.lanes.buffers.as_slice(), sheet, canvas)?;
     push_accesses(history.lanes.marks.as_slice(), sheet, canvas)
@@ -327,10 +331,9 @@ fn push_buffer_lanes(
     lanes: &[BufferLane],
     sheet: &Sheet,
     canvas: &mut Canvas,
-) -> Result<(), Refusal>
+) -> Result<(), AllocError>
     ensures bars { bars_on canvas.new ≡ bars_on canvas.old }
     ensures waits { waits_on canvas.new ≡ waits_on canvas.old }
-    ensures memory { IfErr result (λ e. e ≡ Memory) }
 {
     for (place, lane) in lanes.iter().enumerate() {
         push_buffer(sheet, Lane::Buffer(place), lane, canvas)?;
@@ -338,10 +341,9 @@ fn push_buffer_lanes(
     Ok(())
 }
 
-fn push_accesses(marks: &[BufferMark], sheet: &Sheet, canvas: &mut Canvas) -> Result<(), Refusal>
+fn push_accesses(marks: &[BufferMark], sheet: &Sheet, canvas: &mut Canvas) -> Result<(), AllocError>
     ensures bars { bars_on canvas.new ≡ bars_on canvas.old }
     ensures waits { waits_on canvas.new ≡ waits_on canvas.old }
-    ensures memory { IfErr result (λ e. e ≡ Memory) }
 {
     for mark in marks {
         push_access(sheet, mark, canvas)?;
@@ -354,10 +356,9 @@ fn push_buffer(
     here: Lane,
     lane: &BufferLane,
     canvas: &mut Canvas,
-) -> Result<(), Refusal>
+) -> Result<(), AllocError>
     ensures bars { bars_on canvas.new ≡ bars_on canvas.old }
     ensures waits { waits_on canvas.new ≡ waits_on canvas.old }
-    ensures memory { IfErr result (λ e. e ≡ Memory) }
 {
     push_name(sheet, here, &Label::Name(lane.name), canvas)?;
     let left = sheet.middle(lane.made);
@@ -365,10 +366,9 @@ fn push_buffer(
     push_level(Stroke::Lane, left, sheet.end, y, canvas)
 }
 
-fn push_access(sheet: &Sheet, access: &BufferMark, canvas: &mut Canvas) -> Result<(), Refusal>
+fn push_access(sheet: &Sheet, access: &BufferMark, canvas: &mut Canvas) -> Result<(), AllocError>
     ensures bars { bars_on canvas.new ≡ bars_on canvas.old }
     ensures waits { waits_on canvas.new ≡ waits_on canvas.old }
-    ensures memory { IfErr result (λ e. e ≡ Memory) }
 {
     let x = sheet.middle(access.column);
     let y = sheet.height_of(Lane::Buffer(access.buffer));
@@ -390,10 +390,9 @@ pub(crate) fn push_watches(
     history: &History,
     sheet: &Sheet,
     canvas: &mut Canvas,
-) -> Result<(), Refusal>
+) -> Result<(), AllocError>
     ensures bars { bars_on canvas.new ≡ bars_on canvas.old }
     ensures waits { waits_on canvas.new ≡ waits_on canvas.old }
-    ensures memory { IfErr result (λ e. e ≡ Memory) }
 {
     for (place, lane) in history.lanes.watches.iter().enumerate() {
         push_watch(sheet, Lane::Watch(place), lane, canvas)?;
@@ -406,10 +405,9 @@ fn push_watch(
     here: Lane,
     lane: &WatchLane,
     canvas: &mut Canvas,
-) -> Result<(), Refusal>
+) -> Result<(), AllocError>
     ensures bars { bars_on canvas.new ≡ bars_on canvas.old }
     ensures waits { waits_on canvas.new ≡ waits_on canvas.old }
-    ensures memory { IfErr result (λ e. e ≡ Memory) }
 {
     push_name(sheet, here, &Label::Watch(lane.cookie), canvas)?;
     let left = sheet.middle(lane.made);

@@ -1,6 +1,5 @@
 // What the signs of a picture mean.
-ghost use Rattle.std.specs.Prelude.{◌≡◌, ◌-◌, ◌∷◌, [], true, flat_map, IfErr, OnOk};
-ghost use Rattle.point_core.specs.declared.refusal.Refusal.TheVariants.{Memory};
+ghost use Rattle.std.specs.Prelude.{◌≡◌, ◌-◌, ◌∷◌, [], true, flat_map, OnOk};
 ghost use Rattle.picture_core.specs.Legend.{AddsSamples, fills_of_legend, sample_of, top_of_samples};
 ghost use Rattle.picture_core.specs.Shapes.{bars_on, is_bar_fill, waits_on};
 
@@ -9,7 +8,8 @@ use crate::measure::text_width;
 use crate::shapes::{Canvas, Face, Fill, Label, Mark, Meaning, Spot};
 use crate::sheet::PAD;
 use crate::word::words_of;
-use point_core::{Refusal, Usage};
+use point_core::Usage;
+use std::alloc::AllocError;
 
 /// What the legend takes.
 pub(crate) const LEGEND_WIDTH: u64 = 860;
@@ -30,13 +30,10 @@ const MIDDLE: u64 = SIGN / 2 - 4;
 const BESIDE: u64 = 22;
 
 /// The legend, below what lies there.
-///
-/// Fails with `Memory` alone.
-pub(crate) fn push_legend(top: u64, canvas: &mut Canvas) -> Result<(), Refusal>
+pub(crate) fn push_legend(top: u64, canvas: &mut Canvas) -> Result<(), AllocError>
     ensures bars { OnOk result (AddsSamples (top_of_samples top) fills_of_legend
         (bars_on canvas.old) (bars_on canvas.new)) }
     ensures waits { waits_on canvas.new ≡ waits_on canvas.old }
-    ensures memory { IfErr result (λ e. e ≡ Memory) }
 {
     let first = [
         Meaning::Pending,
@@ -58,11 +55,10 @@ pub(crate) fn push_legend(top: u64, canvas: &mut Canvas) -> Result<(), Refusal>
     push_meanings(top.saturating_add(SECOND), &second, canvas)
 }
 
-fn push_meanings(y: u64, meanings: &[Meaning], canvas: &mut Canvas) -> Result<(), Refusal>
+fn push_meanings(y: u64, meanings: &[Meaning], canvas: &mut Canvas) -> Result<(), AllocError>
     ensures bars { OnOk result (AddsSamples (y - HALF_SAMPLE) (flat_map sample_of meanings.now)
         (bars_on canvas.old) (bars_on canvas.new)) }
     ensures waits { waits_on canvas.new ≡ waits_on canvas.old }
-    ensures memory { IfErr result (λ e. e ≡ Memory) }
 {
     let mut x = PAD;
     for meaning in meanings {
@@ -80,11 +76,10 @@ fn push_meanings(y: u64, meanings: &[Meaning], canvas: &mut Canvas) -> Result<()
     Ok(())
 }
 
-fn push_sign(meaning: Meaning, x: u64, y: u64, canvas: &mut Canvas) -> Result<(), Refusal>
+fn push_sign(meaning: Meaning, x: u64, y: u64, canvas: &mut Canvas) -> Result<(), AllocError>
     ensures bars { OnOk result (AddsSamples (y - HALF_SAMPLE) (sample_of meaning)
         (bars_on canvas.old) (bars_on canvas.new)) }
     ensures waits { waits_on canvas.new ≡ waits_on canvas.old }
-    ensures memory { IfErr result (λ e. e ≡ Memory) }
 {
     match meaning {
         Meaning::Pending => push_sample(Fill::Pending, x, y, canvas),
@@ -102,19 +97,17 @@ fn push_sign(meaning: Meaning, x: u64, y: u64, canvas: &mut Canvas) -> Result<()
     }
 }
 
-fn push_mark(mark: Mark, x: u64, y: u64, canvas: &mut Canvas) -> Result<(), Refusal>
+fn push_mark(mark: Mark, x: u64, y: u64, canvas: &mut Canvas) -> Result<(), AllocError>
     ensures bars { bars_on canvas.new ≡ bars_on canvas.old }
     ensures waits { waits_on canvas.new ≡ waits_on canvas.old }
-    ensures memory { IfErr result (λ e. e ≡ Memory) }
 {
     canvas.mark(mark, x.saturating_add(MIDDLE), y)
 }
 
 /// A letter stands in a mark for the usage or the access.
-fn push_letters(x: u64, y: u64, canvas: &mut Canvas) -> Result<(), Refusal>
+fn push_letters(x: u64, y: u64, canvas: &mut Canvas) -> Result<(), AllocError>
     ensures bars { bars_on canvas.new ≡ bars_on canvas.old }
     ensures waits { waits_on canvas.new ≡ waits_on canvas.old }
-    ensures memory { IfErr result (λ e. e ≡ Memory) }
 {
     push_mark(Mark::Add, x, y, canvas)?;
     let kernel = Label::Access(Access::Add(Usage::Kernel));
@@ -126,11 +119,10 @@ fn push_letters(x: u64, y: u64, canvas: &mut Canvas) -> Result<(), Refusal>
     )
 }
 
-fn push_sample(fill: Fill, x: u64, y: u64, canvas: &mut Canvas) -> Result<(), Refusal>
+fn push_sample(fill: Fill, x: u64, y: u64, canvas: &mut Canvas) -> Result<(), AllocError>
     ensures bars { is_bar_fill fill ≡ true →
         OnOk result (AddsSamples (y - HALF_SAMPLE) (fill ∷ []) (bars_on canvas.old) (bars_on canvas.new)) }
     ensures waits { waits_on canvas.new ≡ waits_on canvas.old }
-    ensures memory { IfErr result (λ e. e ≡ Memory) }
 {
     let at = Spot {
         x,

@@ -1,21 +1,19 @@
 // From what commands used to what they made or changed.
-ghost use Rattle.std.specs.Prelude.{◌≡◌, IfErr};
-ghost use Rattle.point_core.specs.declared.refusal.Refusal.TheVariants.{Memory};
+ghost use Rattle.std.specs.Prelude.{◌≡◌};
 ghost use Rattle.picture_core.specs.Shapes.{bars_on, waits_on};
 
 use crate::history::{History, Lane, Link};
 use crate::shapes::{Canvas, Mark, Spot, Stroke};
 use crate::sheet::Sheet;
-use point_core::Refusal;
+use std::alloc::AllocError;
 
 pub(crate) fn push_links(
     history: &History,
     sheet: &Sheet,
     canvas: &mut Canvas,
-) -> Result<(), Refusal>
+) -> Result<(), AllocError>
     ensures bars { bars_on canvas.new ≡ bars_on canvas.old }
     ensures waits { waits_on canvas.new ≡ waits_on canvas.old }
-    ensures memory { IfErr result (λ e. e ≡ Memory) }
 {
     for link in &history.lanes.links {
         push_link(sheet, link, canvas)?;
@@ -24,10 +22,9 @@ pub(crate) fn push_links(
 }
 
 /// From the middle of one lane to the edge of what stands on the other.
-fn push_link(sheet: &Sheet, link: &Link, canvas: &mut Canvas) -> Result<(), Refusal>
+fn push_link(sheet: &Sheet, link: &Link, canvas: &mut Canvas) -> Result<(), AllocError>
     ensures bars { bars_on canvas.new ≡ bars_on canvas.old }
     ensures waits { waits_on canvas.new ≡ waits_on canvas.old }
-    ensures memory { IfErr result (λ e. e ≡ Memory) }
 {
     let x = sheet.middle(link.column);
     let from = sheet.height_of(link.from);

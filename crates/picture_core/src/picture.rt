@@ -10,11 +10,10 @@ use crate::history::{Column, History, Lane};
 use crate::lanes::{push_bars, push_buffers, push_timelines, push_watches};
 use crate::legend::{LEGEND_HEIGHT, LEGEND_WIDTH, push_legend};
 use crate::links::push_links;
-use crate::list::push;
 use crate::shapes::{Canvas, ColumnArea, Face, Fill, Heading, Label, Mark, Picture, Spot};
 use crate::sheet::{HEADING, PAD, Sheet};
 use point_core::Refusal;
-use std::alloc::Global;
+use std::alloc::{AllocError, Global};
 
 /// The heights of the lines' numbers, their words, and the marks of those that were refused.
 const NUMBERS: u64 = 16;
@@ -61,9 +60,8 @@ fn push_all(
     sheet: &Sheet,
     width: u64,
     canvas: &mut Canvas,
-) -> Result<(), Refusal>
+) -> Result<(), AllocError>
     ensures ok { OnOk result (AddsAll sheet.now history.now canvas.old canvas.new) }
-    ensures memory { IfErr result (λ e. e ≡ Memory) }
 {
     push_stripes(history, sheet, width, canvas)?;
     push_headings(history, sheet, canvas)?;
@@ -101,10 +99,9 @@ fn push_stripes(
     sheet: &Sheet,
     width: u64,
     canvas: &mut Canvas,
-) -> Result<(), Refusal>
+) -> Result<(), AllocError>
     ensures bars { bars_on canvas.new ≡ bars_on canvas.old }
     ensures waits { waits_on canvas.new ≡ waits_on canvas.old }
-    ensures memory { IfErr result (λ e. e ≡ Memory) }
 {
     for (kind, count) in kinds_of(history) {
         push_stripes_of(sheet, width, kind, count, canvas)?;
@@ -118,10 +115,9 @@ fn push_stripes_of(
     kind: Heading,
     count: usize,
     canvas: &mut Canvas,
-) -> Result<(), Refusal>
+) -> Result<(), AllocError>
     ensures bars { bars_on canvas.new ≡ bars_on canvas.old }
     ensures waits { waits_on canvas.new ≡ waits_on canvas.old }
-    ensures memory { IfErr result (λ e. e ≡ Memory) }
 {
     for place in 0..count {
         if place % 2 == 0 {
@@ -131,10 +127,9 @@ fn push_stripes_of(
     Ok(())
 }
 
-fn push_stripe(sheet: &Sheet, width: u64, lane: Lane, canvas: &mut Canvas) -> Result<(), Refusal>
+fn push_stripe(sheet: &Sheet, width: u64, lane: Lane, canvas: &mut Canvas) -> Result<(), AllocError>
     ensures bars { bars_on canvas.new ≡ bars_on canvas.old }
     ensures waits { waits_on canvas.new ≡ waits_on canvas.old }
-    ensures memory { IfErr result (λ e. e ≡ Memory) }
 {
     let at = Spot {
         x: 0,
@@ -143,10 +138,9 @@ fn push_stripe(sheet: &Sheet, width: u64, lane: Lane, canvas: &mut Canvas) -> Re
     canvas.area(Fill::Stripe, &at, width, sheet.lane_height(lane))
 }
 
-fn push_headings(history: &History, sheet: &Sheet, canvas: &mut Canvas) -> Result<(), Refusal>
+fn push_headings(history: &History, sheet: &Sheet, canvas: &mut Canvas) -> Result<(), AllocError>
     ensures bars { bars_on canvas.new ≡ bars_on canvas.old }
     ensures waits { waits_on canvas.new ≡ waits_on canvas.old }
-    ensures memory { IfErr result (λ e. e ≡ Memory) }
 {
     for (kind, count) in kinds_of(history) {
         if count > 0 {
@@ -156,20 +150,18 @@ fn push_headings(history: &History, sheet: &Sheet, canvas: &mut Canvas) -> Resul
     Ok(())
 }
 
-fn push_heading(sheet: &Sheet, kind: Heading, canvas: &mut Canvas) -> Result<(), Refusal>
+fn push_heading(sheet: &Sheet, kind: Heading, canvas: &mut Canvas) -> Result<(), AllocError>
     ensures bars { bars_on canvas.new ≡ bars_on canvas.old }
     ensures waits { waits_on canvas.new ≡ waits_on canvas.old }
-    ensures memory { IfErr result (λ e. e ≡ Memory) }
 {
     let y = sheet.top(lane_of(kind, 0)).saturating_sub(HEADING / 3);
     canvas.text(Face::Heading, PAD, y, &Label::Heading(kind))
 }
 
 /// The head of each column: its line's number and word, and whether that was refused.
-fn push_heads(history: &History, sheet: &Sheet, canvas: &mut Canvas) -> Result<(), Refusal>
+fn push_heads(history: &History, sheet: &Sheet, canvas: &mut Canvas) -> Result<(), AllocError>
     ensures bars { bars_on canvas.new ≡ bars_on canvas.old }
     ensures waits { waits_on canvas.new ≡ waits_on canvas.old }
-    ensures memory { IfErr result (λ e. e ≡ Memory) }
 {
     for (place, column) in history.columns.iter().enumerate() {
         push_head(sheet, place, column, canvas)?;
@@ -182,10 +174,9 @@ fn push_head(
     place: usize,
     column: &Column,
     canvas: &mut Canvas,
-) -> Result<(), Refusal>
+) -> Result<(), AllocError>
     ensures bars { bars_on canvas.new ≡ bars_on canvas.old }
     ensures waits { waits_on canvas.new ≡ waits_on canvas.old }
-    ensures memory { IfErr result (λ e. e ≡ Memory) }
 {
     let number = place.saturating_add(1);
     let x = sheet.middle(number);
@@ -202,10 +193,9 @@ fn push_head(
     canvas.text(face, x, WORDS, &Label::Command(place))
 }
 
-fn push_refusal(sheet: &Sheet, number: usize, canvas: &mut Canvas) -> Result<(), Refusal>
+fn push_refusal(sheet: &Sheet, number: usize, canvas: &mut Canvas) -> Result<(), AllocError>
     ensures bars { bars_on canvas.new ≡ bars_on canvas.old }
     ensures waits { waits_on canvas.new ≡ waits_on canvas.old }
-    ensures memory { IfErr result (λ e. e ≡ Memory) }
 {
     let left = sheet.left(number);
     let width = sheet.right(number).saturating_sub(left);
@@ -213,13 +203,16 @@ fn push_refusal(sheet: &Sheet, number: usize, canvas: &mut Canvas) -> Result<(),
     canvas.mark(Mark::Refused, sheet.middle(number), REFUSALS)
 }
 
-fn column_areas(alloc: Global, history: &History, sheet: &Sheet) -> Result<Vec<ColumnArea>, Refusal>
+fn column_areas(
+    alloc: Global,
+    history: &History,
+    sheet: &Sheet,
+) -> Result<Vec<ColumnArea>, AllocError>
     ensures ok { IfOk result (λ areas. areas.items ≡ areas_of_columns sheet.now (length history.now.columns.items)) }
-    ensures memory { IfErr result (λ e. e ≡ Memory) }
 {
     let mut areas = Vec::with_capacity(alloc, history.columns.len())?;
     for column in 0..history.columns.len() {
-        push(&mut areas, area_of_column(sheet, column))?;
+        areas.push_reserved(area_of_column(sheet, column));
     }
     Ok(areas)
 }

@@ -1,13 +1,12 @@
 // The shapes that a picture is made of.
-ghost use Rattle.std.specs.Prelude.{◌≡◌, ◌∷◌, ◌++◌, [], true, false, IfErr, OnOk, OnErr, None, option_to_list};
-ghost use Rattle.point_core.specs.declared.refusal.Refusal.TheVariants.{Memory};
+ghost use Rattle.std.specs.Prelude.{◌≡◌, ◌∷◌, ◌++◌, [], true, false, OnOk, OnErr, None, option_to_list};
 ghost use Rattle.picture_core.specs.Shapes.{bars_on, is_bar_fill, waiting_in, waits_on};
 
 use crate::history::Access;
 use crate::list::push;
 use crate::waiting::Waiting;
-use point_core::{Name, Refusal};
-use std::alloc::Global;
+use point_core::Name;
+use std::alloc::{AllocError, Global};
 
 /// A place, in pixels from the left and from the top.
 #[derive(Clone, Copy)]
@@ -159,7 +158,7 @@ pub enum Shape {
     },
 }
 
-/// Shapes that are put one over another, and texts over them. Each call fails with `Memory` alone.
+/// Shapes that are put one over another, and texts over them. Each call fails only if memory is refused.
 #[derive(Drop)]
 pub(crate) struct Canvas {
     pub(crate) shapes: Vec<Shape>,
@@ -183,7 +182,7 @@ impl Canvas {
         at: &Spot,
         width: u64,
         height: u64,
-    ) -> Result<(), Refusal>
+    ) -> Result<(), AllocError>
         ensures ok { OnOk result (self.new.shapes.items ≡ self.old.shapes.items
             ++ Shape.Area fill at.now width height ∷ []) }
         ensures err { OnErr result (self.new.shapes.items ≡ self.old.shapes.items) }
@@ -192,7 +191,6 @@ impl Canvas {
             OnOk result (bars_on self.new ≡ bars_on self.old ++ Shape.Area fill at.now width height ∷ []) }
         ensures other { is_bar_fill fill ≡ false → bars_on self.new ≡ bars_on self.old }
         ensures waits { waits_on self.new ≡ waits_on self.old }
-        ensures memory { IfErr result (λ e. e ≡ Memory) }
     {
         push(
             &mut self.shapes,
@@ -211,14 +209,13 @@ impl Canvas {
         width: u64,
         height: u64,
         is_open: bool,
-    ) -> Result<(), Refusal>
+    ) -> Result<(), AllocError>
         ensures ok { OnOk result (self.new.shapes.items ≡ self.old.shapes.items
             ++ Shape.Edge at.now width height is_open ∷ []) }
         ensures err { OnErr result (self.new.shapes.items ≡ self.old.shapes.items) }
         ensures texts { self.new.texts ≡ self.old.texts }
         ensures bar { OnOk result (bars_on self.new ≡ bars_on self.old ++ Shape.Edge at.now width height is_open ∷ []) }
         ensures waits { waits_on self.new ≡ waits_on self.old }
-        ensures memory { IfErr result (λ e. e ≡ Memory) }
     {
         push(
             &mut self.shapes,
@@ -231,14 +228,13 @@ impl Canvas {
         )
     }
 
-    pub(crate) fn line(&mut self, stroke: Stroke, from: &Spot, to: &Spot) -> Result<(), Refusal>
+    pub(crate) fn line(&mut self, stroke: Stroke, from: &Spot, to: &Spot) -> Result<(), AllocError>
         ensures ok { OnOk result (self.new.shapes.items ≡ self.old.shapes.items
             ++ Shape.Line stroke from.now to.now ∷ []) }
         ensures err { OnErr result (self.new.shapes.items ≡ self.old.shapes.items) }
         ensures texts { self.new.texts ≡ self.old.texts }
         ensures bars { bars_on self.new ≡ bars_on self.old }
         ensures waits { waits_on self.new ≡ waits_on self.old }
-        ensures memory { IfErr result (λ e. e ≡ Memory) }
     {
         push(
             &mut self.shapes,
@@ -250,14 +246,13 @@ impl Canvas {
         )
     }
 
-    pub(crate) fn mark(&mut self, mark: Mark, x: u64, y: u64) -> Result<(), Refusal>
+    pub(crate) fn mark(&mut self, mark: Mark, x: u64, y: u64) -> Result<(), AllocError>
         ensures ok { OnOk result (self.new.shapes.items ≡ self.old.shapes.items
             ++ Shape.Mark mark (record { x = x; y = y }) ∷ []) }
         ensures err { OnErr result (self.new.shapes.items ≡ self.old.shapes.items) }
         ensures texts { self.new.texts ≡ self.old.texts }
         ensures bars { bars_on self.new ≡ bars_on self.old }
         ensures waits { waits_on self.new ≡ waits_on self.old }
-        ensures memory { IfErr result (λ e. e ≡ Memory) }
     {
         push(
             &mut self.shapes,
@@ -268,7 +263,13 @@ impl Canvas {
         )
     }
 
-    pub(crate) fn text(&mut self, face: Face, x: u64, y: u64, label: &Label) -> Result<(), Refusal>
+    pub(crate) fn text(
+        &mut self,
+        face: Face,
+        x: u64,
+        y: u64,
+        label: &Label,
+    ) -> Result<(), AllocError>
         ensures ok { OnOk result (self.new.texts.items ≡ self.old.texts.items
             ++ record { face = face; at = record { x = x; y = y }; label = label.now } ∷ []) }
         ensures err { OnErr result (self.new.texts.items ≡ self.old.texts.items) }
@@ -276,7 +277,6 @@ impl Canvas {
         ensures wait { OnOk result (waits_on self.new ≡ waits_on self.old ++ option_to_list (waiting_in label.now)) }
         ensures other { waiting_in label.now ≡ None → waits_on self.new ≡ waits_on self.old }
         ensures bars { bars_on self.new ≡ bars_on self.old }
-        ensures memory { IfErr result (λ e. e ≡ Memory) }
     {
         push(
             &mut self.texts,

@@ -7,7 +7,7 @@ use crate::history::{BarWait, Column, History, Lane, ValueStep, WatchLane};
 use crate::list::push;
 use crate::measure::{digits, name_length, text_width, waiting_length};
 use point_core::Refusal;
-use std::alloc::Global;
+use std::alloc::{AllocError, Global};
 
 /// The height of the lines' numbers and words.
 pub(crate) const HEAD: u64 = 50;
@@ -193,25 +193,13 @@ fn bars_of(alloc: Global, history: &History, top: u64) -> Result<(Vec<u64>, u64)
 }
 
 /// How high the lane of each bar is.
-fn heights_of(alloc: Global, history: &History) -> Result<Vec<u64>, Refusal>
+fn heights_of(alloc: Global, history: &History) -> Result<Vec<u64>, AllocError>
     ensures count { IfOk result (λ heights. length heights.items ≡ length history.now.bars.items) }
     ensures least { IfOk result (λ heights. All (λ height. BAR ≤ height) heights.items) }
-    ensures memory { IfErr result (λ e. e ≡ Memory) }
 {
-    let mut heights = low_lanes(alloc, history.bars.len())?;
+    let mut heights = vec![in alloc; BAR.saturating_sub(LINE); history.bars.len()]?;
     add_lines(heights.as_mut_slice(), history.waits.as_slice());
     raise_all(heights.as_mut_slice());
-    Ok(heights)
-}
-
-fn low_lanes(alloc: Global, count: usize) -> Result<Vec<u64>, Refusal>
-    ensures count { IfOk result (λ heights. length heights.items ≡ count) }
-    ensures memory { IfErr result (λ e. e ≡ Memory) }
-{
-    let mut heights = Vec::with_capacity(alloc, count)?;
-    for _ in 0..count {
-        push(&mut heights, BAR.saturating_sub(LINE))?;
-    }
     Ok(heights)
 }
 
@@ -244,10 +232,9 @@ fn edges_of(alloc: Global, history: &History) -> Result<(Vec<u64>, u64), Refusal
 }
 
 /// The width of each column, from column 0 on.
-fn widths_of(alloc: Global, history: &History) -> Result<Vec<u64>, Refusal>
+fn widths_of(alloc: Global, history: &History) -> Result<Vec<u64>, AllocError>
     ensures count { IfOk result (λ widths. length widths.items ≡ length history.now.columns.items + 1) }
     ensures least { IfOk result (λ widths. All (λ width. 1 ≤ width) widths.items) }
-    ensures memory { IfErr result (λ e. e ≡ Memory) }
 {
     let mut widths = word_widths(alloc, history.columns.as_slice())?;
     for lane in &history.lanes.timelines {
@@ -256,15 +243,14 @@ fn widths_of(alloc: Global, history: &History) -> Result<Vec<u64>, Refusal>
     Ok(widths)
 }
 
-fn word_widths(alloc: Global, columns: &[Column]) -> Result<Vec<u64>, Refusal>
+fn word_widths(alloc: Global, columns: &[Column]) -> Result<Vec<u64>, AllocError>
     ensures count { IfOk result (λ widths. length widths.items ≡ length columns.now + 1) }
     ensures least { IfOk result (λ widths. All (λ width. 1 ≤ width) widths.items) }
-    ensures memory { IfErr result (λ e. e ≡ Memory) }
 {
-    let mut widths = Vec::new(alloc);
-    push(&mut widths, PAD)?;
+    let mut widths = Vec::with_capacity(alloc, columns.len() + 1)?;
+    widths.push_reserved(PAD);
     for column in columns {
-        push(&mut widths, width_of(column))?;
+        widths.push_reserved(width_of(column));
     }
     Ok(widths)
 }

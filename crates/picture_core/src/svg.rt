@@ -1,5 +1,6 @@
 // SVG.
 
+use crate::escape::push_byte;
 use crate::history::{Column, History};
 use crate::measure::{digits, name_length, text_width, waiting_length};
 use crate::part::{Part, push_parts};
@@ -8,7 +9,7 @@ use crate::style::style;
 use crate::waiting::Waiting;
 use crate::word::{letter_of, word_of_heading, words_of};
 use point_core::{Name, Refusal};
-use std::alloc::Global;
+use std::alloc::{AllocError, Global};
 
 /// The picture of a history as a document of SVG, which stands alone.
 ///
@@ -73,11 +74,11 @@ fn push_note(
 }
 
 /// A text whose line feeds are line feeds.
-fn push_lines(text: &[u8], out: &mut Vec<u8>) -> Result<(), Refusal> {
-    for line in text.split_inclusive(|byte| *byte == b'\n') {
-        match line.strip_suffix(b"\n") {
-            Some(line) => push_parts(&[Part::Text(line), Part::Own("\n")], out)?,
-            None => push_parts(&[Part::Text(line)], out)?,
+fn push_lines(text: &[u8], out: &mut Vec<u8>) -> Result<(), AllocError> {
+    for byte in text {
+        match *byte {
+            b'\n' => out.push(b'\n')?,
+            other => push_byte(other, out)?,
         }
     }
     Ok(())

@@ -10,7 +10,12 @@ loop-column-preserved c =
     let area = area_of_column c.args.sheet.now in
     let k = c.loop-column.column in
     let areas = map area (range_with_len 0 k) in
-    c.in_ok-push.ensures.ok
-    ∙ ap (λ xs. xs ++ c.area_of_column.result ∷ []) c.loop-column.invariant
-    ∙ ap (λ (a : ColumnArea). areas ++ a ∷ []) c.area_of_column.ensures
-    ∙ sym (map-range_with_len_more area 0 k k (omega arith))
+    record {
+      areas =
+          c.push_reserved.ensures.items
+          ∙ ap (λ xs. xs ++ c.area_of_column.result ∷ []) c.loop-column.invariant.areas
+          ∙ ap (λ (a : ColumnArea). areas ++ a ∷ []) c.area_of_column.ensures
+          ∙ sym (map-range_with_len_more area 0 k k (omega arith));
+      len = omega (arith, c.push_reserved.ensures.len, c.loop-column.invariant.len);
+      room = c.push_reserved.ensures.capacity ∙ c.loop-column.invariant.room;
+    }

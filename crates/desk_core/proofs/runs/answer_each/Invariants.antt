@@ -1,6 +1,6 @@
 use Rattle.std.proofs.Common.{◌≡◌, ◌≤◌, length, take, vec_len, vec_capacity}
 use Rattle.desk_core.proofs.Answering.{HasRun}
-use Rattle.desk_core.proofs.runs.run.Given as goal
+use Rattle.desk_core.proofs.runs.answer_each.Given as goal
 
 abbrev pub invariant-loop-command : goal.invariant-loop-command
 invariant-loop-command l =
