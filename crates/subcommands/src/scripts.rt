@@ -3,6 +3,7 @@ ghost use Rattle.std.specs.Prelude.{◌≡◌, Result};
 ghost use Rattle.point_core.specs.declared.refusal.Refusal.{Refusal};
 ghost use Rattle.script_core.specs.declared.totals.Totals.{Totals};
 ghost use Rattle.run_core.specs.Ends.{EndsRun, ReportsFault, run_status};
+ghost use Rattle.subcommands.specs.Json.{EndsJson};
 
 use explain_core::{Look, explain};
 use json_core::run_json;
@@ -18,6 +19,7 @@ pub(crate) fn json_script<R: Read, W: Write, E: Write>(
     errors: &mut E,
 ) -> u8
     ensures ended { (ended : Result Totals Refusal) × (result ≡ run_status ended)
+        × EndsJson ended (R.remaining reader.old) (R.remaining reader.new) (W.contents writer.old) (W.contents writer.new)
         × ReportsFault ended (E.contents errors.old) (E.contents errors.new) }
 {
     let ended = run_json(alloc, reader, writer);

@@ -6,6 +6,11 @@ returns g c = record {
   ended = (
     c.run_json-ended.result,
     c.status_of_run.ensures.status,
+    record {
+      ok = c.run_json-ended.ensures.ok;
+      read = c.run_json-ended.ensures.read;
+      err = c.run_json-ended.ensures.err;
+    },
     c.status_of_run.ensures.reported,
   );
 }
