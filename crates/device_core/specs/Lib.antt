@@ -1,0 +1,4 @@
+pub mod Wrapping
+pub mod Fences
+pub mod State
+pub mod Woken
