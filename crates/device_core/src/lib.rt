@@ -2,19 +2,28 @@
 //! given twice, and memory follows what is alive.
 #![tactic(auto)]
 
+mod buffer;
+mod buffer_fence;
 mod device;
 mod fence;
 mod file;
+mod info;
 pub mod laws;
 mod merging;
+mod naming;
 mod refusal;
 mod signalling;
+mod sync_flags;
+mod text;
 mod waiting;
 mod woken;
 mod wrapping;
 
+pub use buffer::Buffer;
 pub use device::Device;
 pub use fence::{Fence, Signal, Text, Timeline};
 pub use file::File;
+pub use info::{Driver, FenceInfo, FileInfo};
 pub use refusal::Refusal;
+pub use text::TEXT_BYTES;
 pub use wrapping::unwrapped;
