@@ -1,10 +1,10 @@
 -- The fences of a buffer, each with what it is for.
-use Rattle.std.specs.Prelude.{◌≡◌, ℕ, ◌==◌, ◌≤◌, ◌%◌, ◌^◌, Bool, false, not, ◌||◌, nat_le, nat_lt, if◌then◌else◌, List, [], map, fold, Option, None, Some, Contains, Result, Ok, Err}
-use Rattle.std.specs.List.{filter_map, list_all}
+use Rattle.std.specs.Prelude.{◌≡◌, ℕ, ◌==◌, ◌≤◌, ◌<◌, ◌%◌, ◌^◌, Bool, false, not, ◌||◌, nat_le, nat_lt, if◌then◌else◌, List, [], map, filter, Option, None, Some, All, Contains, Result, Ok, Err}
+use Rattle.std.specs.List.{list_all}
 use Rattle.point_core.specs.declared.entry.Entry.{Entry}
 use Rattle.point_core.specs.declared.entry.Usage.{Usage}
 use Rattle.point_core.specs.declared.entry.Usage.TheVariants.{Write, Read}
-use Rattle.point_core.specs.Agreement.{point_of}
+use Rattle.point_core.specs.Agreement.{as_entry, point_of}
 use Rattle.point_core.specs.Reach.{value_at}
 use Rattle.point_core.specs.Usage.{usage_number}
 use Rattle.device_core.specs.declared.fence.Fence.{Fence}
@@ -12,7 +12,7 @@ use Rattle.device_core.specs.declared.fence.Timeline.{Timeline}
 use Rattle.device_core.specs.declared.buffer_fence.BufferFence.{BufferFence}
 use Rattle.device_core.specs.declared.refusal.Refusal.{Refusal}
 use Rattle.device_core.specs.declared.refusal.Refusal.TheVariants.{Invalid}
-use Rattle.device_core.specs.Fences.{fence_of, pending_of, with_fence}
+use Rattle.device_core.specs.Fences.{fence_of, pending_of}
 use Rattle.device_core.specs.State.{at}
 
 -- a buffer: its fences, how many of them the last trim left, and the time of the stub of an idle buffer
@@ -60,21 +60,34 @@ put_as usage f = record { timeline = f.timeline; value = f.value; usage = usage 
 abbrev pub imported : Usage → List Fence → List BufferFence
 imported usage fs = map (put_as usage) (pending_of fs)
 
+-- it is of the usage or a stronger one
+abbrev pub is_within : Usage → Entry → Bool
+is_within usage e = nat_le (usage_number e.usage) (usage_number usage)
+
+-- what is put into a file that is exported at a usage from a buffer into which the entries were put
+abbrev pub at_usage : Usage → List Entry → List Entry
+at_usage usage es = map (λ (e : Entry). as_entry e.point) (filter (is_within usage) es)
+
 -- nothing of the usage or a stronger one is waiting
 abbrev pub none_waits : List (ℕ × Timeline) → Usage → List BufferFence → Bool
 none_waits timelines usage hs =
-    list_all (λ h. not (nat_le (usage_number h.usage) (usage_number usage)) || not (is_waiting timelines h)) hs
+    list_all (λ h. not (is_within usage (entry_of h)) || not (is_waiting timelines h)) hs
 
 -- the pending fence of a point: the timeline has its name, and the point of 32 bits is the low half
 abbrev pub fence_waiting : ℕ → ℕ → Option Timeline → Option Fence
 fence_waiting number value None = None
-fence_waiting number value (Some t) = if nat_lt t.value value then Some (fence_of number t.name (value % 2 ^ 32) value None) else None
+fence_waiting number value (Some t) =
+    if nat_lt t.value value then Some (fence_of number t.name (value % 2 ^ 32) value None) else None
 
 -- of a fence of the usage or a stronger one
 abbrev pub waiting_fence : List (ℕ × Timeline) → Usage → BufferFence → Option Fence
 waiting_fence timelines usage h =
-    if nat_le (usage_number h.usage) (usage_number usage) then fence_waiting h.timeline h.value (at timelines h.timeline) else None
+    if is_within usage (entry_of h) then fence_waiting h.timeline h.value (at timelines h.timeline) else None
 
--- what an export gives: what is waiting, the latest of each timeline, by rising timeline
-abbrev pub exported : List (ℕ × Timeline) → Usage → List BufferFence → List Fence
-exported timelines usage hs = fold with_fence [] (filter_map (waiting_fence timelines usage) hs)
+-- it is the pending fence of a point of an open timeline
+abbrev pub IsWaitingAt : Fence → Option Timeline → Type 0
+IsWaitingAt f None = ⊥
+IsWaitingAt f (Some t) = (t.value < f.value) × (f ≡ fence_of f.timeline t.name (f.value % 2 ^ 32) f.value None)
+
+abbrev pub AreWaiting : List (ℕ × Timeline) → List Fence → Type 0
+AreWaiting timelines fs = All (λ (f : Fence). IsWaitingAt f (at timelines f.timeline)) fs

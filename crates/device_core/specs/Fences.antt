@@ -1,5 +1,5 @@
 -- The fences of a file: what they report, what signals them, and what a merge keeps of them.
-use Rattle.std.specs.Prelude.{ℕ, suc, insert, slice_get, slice_set, nat_eq, nat_lt, nat_le, max, Bool, not, ◌&&◌, if◌then◌else◌, List, [], ◌∷◌, map, filter, fold, Option, None, Some, is_some}
+use Rattle.std.specs.Prelude.{◌≡◌, ℕ, ◌≤◌, false, suc, insert, slice_get, slice_set, nat_eq, nat_lt, nat_le, max, Bool, not, ◌&&◌, if◌then◌else◌, List, [], ◌∷◌, map, filter, fold, Option, None, Some, is_some}
 use Rattle.std.specs.List.{list_any, list_all}
 use Rattle.std.specs.List.Sorted.{IsStrictlyIncreasing}
 use Rattle.point_core.specs.declared.entry.Point.{Point}
@@ -7,6 +7,7 @@ use Rattle.point_core.specs.declared.entry.Entry.{Entry}
 use Rattle.point_core.specs.declared.status.Status.{Status}
 use Rattle.point_core.specs.declared.status.Status.TheVariants.{Active, Signalled, Cancelled}
 use Rattle.point_core.specs.Agreement.{as_entries, point_of}
+use Rattle.point_core.specs.Reach.{value_at}
 use Rattle.device_core.specs.declared.fence.Text.{Text}
 use Rattle.device_core.specs.declared.fence.Signal.{Signal}
 use Rattle.device_core.specs.declared.fence.Fence.{Fence}
@@ -98,3 +99,7 @@ waiting file f = record { timeline = f.timeline; value = f.value; file = file }
 -- some pending fence is at that point
 abbrev pub waits_at : Waiting → List Fence → Bool
 waits_at k fs = list_any (λ f. is_pending f && (nat_eq f.timeline k.timeline && nat_eq f.value k.value)) fs
+
+-- a fence that has signalled is reached
+abbrev pub IsReachedUnlessPending : List ℕ → Fence → Type 0
+IsReachedUnlessPending reach f = is_pending f ≡ false → f.value ≤ value_at reach f.timeline

@@ -39,6 +39,18 @@ timeline_at d number = at d.timelines number
 abbrev pub file_at : DeviceState → ℕ → Option FileState
 file_at d number = at d.files number
 
+-- the next number, and what each number stands for: what a device holds, as definitions speak of it
+pub record Objects : Type 0 where
+  pub next : ℕ
+  pub timelines : ℕ → Option Timeline
+  pub files : ℕ → Option FileState
+
+abbrev pub no_objects : Objects
+no_objects = record { next = 1; timelines = λ _. None; files = λ _. None }
+
+abbrev pub objects_of : DeviceState → Objects
+objects_of d = record { next = d.next; timelines = timeline_at d; files = file_at d }
+
 abbrev pub new_timeline : Text → Timeline
 new_timeline name = record { name = name; value = 0 }
 

@@ -1,12 +1,13 @@
 // A buffer.
-ghost use Rattle.std.specs.Prelude.{◌≡◌, ℕ, ◌+◌, ◌*◌, ◌≤◌, ◌<◌, ◌++◌, ◌∷◌, [], List, true, Ok, fold, max, length, count_by, option_to_list, vec_len, IfErr, IfOk, OnErr, OnOk};
+ghost use Rattle.std.specs.Prelude.{◌≡◌, ℕ, ◌+◌, ◌*◌, ◌≤◌, ◌<◌, ◌↔◌, ◌++◌, ◌∷◌, [], List, true, Ok, fold, max, length, count_by, option_to_list, vec_len, IfErr, IfOk, IsTrue, OnErr, OnOk};
 ghost use Rattle.std.specs.List.{filter_map};
 ghost use Rattle.std.specs.Vec.{vec_capacity};
-ghost use Rattle.point_core.specs.Agreement.{AgreesAbove};
+ghost use Rattle.point_core.specs.Agreement.{AgreesAbove, IsReached};
+ghost use Rattle.point_core.specs.Usage.{usage_number};
 ghost use Rattle.device_core.specs.declared.refusal.Refusal.TheVariants.{NoMemory};
 ghost use Rattle.device_core.specs.declared.buffer.TheConstants.{GROWTH, UNTRIMMED};
-ghost use Rattle.device_core.specs.Fences.{are_signalled, with_fence};
-ghost use Rattle.device_core.specs.Buffers.{IsReachOf, empty_buffer, entries_of, exported, imported, is_waiting, none_waits as none_waits_of, waiting_fence};
+ghost use Rattle.device_core.specs.Fences.{HasRisingTimelines, are_signalled, entries_in, with_fence};
+ghost use Rattle.device_core.specs.Buffers.{AreWaiting, IsReachOf, at_usage, empty_buffer, entries_of, imported, is_waiting, none_waits as none_waits_of, waiting_fence};
 
 use crate::buffer_fence::BufferFence;
 use crate::fence::{Fence, Timeline};
@@ -99,7 +100,10 @@ impl Buffer {
         timelines: &HashMap<u64, Timeline>,
         usage: Usage,
     ) -> Result<Vec<Fence>, Refusal>
-        ensures exported { IfOk result (λ fs. fs.items ≡ exported timelines.now.entries usage self.now.fences) }
+        ensures agrees { IfOk result (λ fs. (reach : List ℕ) → IsReachOf timelines.now.entries self.now.fences reach →
+            AgreesAbove reach (entries_in fs.items) (at_usage usage (entries_of self.now.fences))) }
+        ensures waiting { IfOk result (λ fs. AreWaiting timelines.now.entries fs.items) }
+        ensures rising { IfOk result (λ fs. HasRisingTimelines fs.items) }
         ensures memory { IfErr result (λ e. e ≡ NoMemory) }
     {
         let mut listed = Vec::new(alloc);
@@ -109,7 +113,9 @@ impl Buffer {
 
     /// Whether every fence of the usage or a stronger one has signalled, as Linux's `dma_resv_test_signaled`. Takes no memory.
     pub(crate) fn test(&self, timelines: &HashMap<u64, Timeline>, usage: Usage) -> bool
-        ensures { result ≡ none_waits_of timelines.now.entries usage self.now.fences }
+        ensures waiting { result ≡ none_waits_of timelines.now.entries usage self.now.fences }
+        ensures reached { (reach : List ℕ) → IsReachOf timelines.now.entries self.now.fences reach →
+            (IsTrue result ↔ IsReached (entries_of self.now.fences) (usage_number usage) reach) }
     {
         none_waits(self.fences.as_slice(), timelines, usage)
     }
