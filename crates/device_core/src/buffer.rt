@@ -87,6 +87,8 @@ impl Buffer {
         };
         self.left = trim_grown(&mut self.fences, self.left, timelines);
         put_pending(&mut self.fences, fences, usage);
+        let most = GROWTH.saturating_mul(self.fences.len().max(UNTRIMMED));
+        self.fences.shrink_to(most);
         Ok(())
     }
 

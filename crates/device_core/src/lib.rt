@@ -4,6 +4,7 @@
 
 mod buffer;
 mod buffer_fence;
+pub mod buffer_laws;
 mod device;
 mod fence;
 mod file;
