@@ -39,8 +39,8 @@ waits_in (Some t) value = nat_lt t.value value
 abbrev pub is_waiting : List (ℕ × Timeline) → BufferFence → Bool
 is_waiting timelines h = waits_in (at timelines h.timeline) h.value
 
--- the reach is that of the timelines, as far as these fences go: an open one has its value, and what is of no open one is
--- reached
+-- the reach is that of the timelines, as far as these fences go: an open one has its value, and what is of no open one
+-- is reached
 pub record IsReachOf (timelines : List (ℕ × Timeline)) (hs : List BufferFence) (reach : List ℕ) : Type 0 where
   pub values : (n : ℕ) (t : Timeline) → at timelines n ≡ Some t → value_at reach n ≡ t.value
   pub closed : (h : BufferFence) → Contains hs h → at timelines h.timeline ≡ None → h.value ≤ value_at reach h.timeline

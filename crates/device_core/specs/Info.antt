@@ -16,7 +16,8 @@ driver_name Stub = codes "stub"
 
 -- of a fence: its timeline's name, its own status, and when it signalled, or 0
 abbrev pub fence_info : Fence → FenceInfo
-fence_info f = record { timeline = f.name; driver = SwSync; status = status_before f.signal Signalled; at = time_of f.signal }
+fence_info f =
+    record { timeline = f.name; driver = SwSync; status = status_before f.signal Signalled; at = time_of f.signal }
 
 -- of the stub, which has signalled
 abbrev pub stub_info : ℕ → FenceInfo

@@ -26,7 +26,8 @@ as_text bytes = record { bytes = padded (cut bytes) }
 
 -- the kernel's "%s-%s%llu-%lld": a driver, the name of a timeline with its number, and a point
 abbrev pub kernel_name : List ℕ → List ℕ → ℕ → ℕ → List ℕ
-kernel_name driver timeline context point = driver ++ codes "-" ++ timeline ++ decimal context ++ codes "-" ++ decimal point
+kernel_name driver timeline context point =
+    driver ++ codes "-" ++ timeline ++ decimal context ++ codes "-" ++ decimal point
 
 -- of a fence: its point is the one of 32 bits that was asked for
 abbrev pub fence_name : Fence → List ℕ

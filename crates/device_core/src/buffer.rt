@@ -29,8 +29,8 @@ const _: () = prove!(GROWTH == 2);
 
 const _: () = prove!(UNTRIMMED == 8);
 
-/// The fences of a buffer, each with the usage that it was put with, as Linux's `struct dma_resv`. What its timelines have
-/// reached is asked at each call, so their rises and closings leave it as it is.
+/// The fences of a buffer, each with the usage that it was put with, as Linux's `struct dma_resv`. What its timelines
+/// have reached is asked at each call, so their rises and closings leave it as it is.
 #[derive(Drop)]
 pub struct Buffer {
     fences: Vec<BufferFence>,
@@ -58,9 +58,9 @@ impl Buffer {
         }
     }
 
-    /// Puts the pending fences of a file with that usage, as Linux's `DMA_BUF_IOCTL_IMPORT_SYNC_FILE`. Each takes the place of
-    /// the first fence that it covers, as in `dma_resv_add_fence`; the kernel's also takes that of one that has signalled, which
-    /// stays here until the next trim.
+    /// Puts the pending fences of a file with that usage, as Linux's `DMA_BUF_IOCTL_IMPORT_SYNC_FILE`. Each takes the
+    /// place of the first fence that it covers, as in `dma_resv_add_fence`; the kernel's also takes that of one that
+    /// has signalled, which stays here until the next trim.
     ///
     /// Fails with `NoMemory` alone, and then leaves all as it was.
     pub(crate) fn import(
@@ -70,7 +70,8 @@ impl Buffer {
         usage: Usage,
     ) -> Result<(), Refusal>
         ensures agrees { OnOk result ((reach : List ℕ) → IsReachOf timelines.now.entries self.old.fences reach →
-            AgreesAbove reach (entries_of self.new.fences) (entries_of (self.old.fences ++ imported usage fences.now))) }
+            AgreesAbove reach (entries_of self.new.fences)
+            (entries_of (self.old.fences ++ imported usage fences.now))) }
         ensures nothing { are_signalled fences.now ≡ true → (result ≡ Ok tt) × (self.new ≡ self.old) }
         ensures few { length self.new.fences ≤
             max (length self.old.fences) (GROWTH * max self.new.left UNTRIMMED + length fences.now) }
@@ -113,7 +114,8 @@ impl Buffer {
         Ok(listed)
     }
 
-    /// Whether every fence of the usage or a stronger one has signalled, as Linux's `dma_resv_test_signaled`. Takes no memory.
+    /// Whether every fence of the usage or a stronger one has signalled, as Linux's `dma_resv_test_signaled`. Takes no
+    /// memory.
     pub(crate) fn test(&self, timelines: &HashMap<u64, Timeline>, usage: Usage) -> bool
         ensures waiting { result ≡ none_waits_of timelines.now.entries usage self.now.fences }
         ensures reached { (reach : List ℕ) → IsReachOf timelines.now.entries self.now.fences reach →
@@ -122,8 +124,8 @@ impl Buffer {
         none_waits(self.fences.as_slice(), timelines, usage)
     }
 
-    /// The time of the stub that an export of an idle buffer gives: that of its making. The kernel's is that of the stub's first
-    /// use since the start of the machine.
+    /// The time of the stub that an export of an idle buffer gives: that of its making. The kernel's is that of the
+    /// stub's first use since the start of the machine.
     pub(crate) fn stub_at(&self) -> u64
         ensures { result ≡ self.now.stub_at }
     {
@@ -168,7 +170,8 @@ fn put_option(listed: &mut Vec<Fence>, fence: Option<Fence>) -> Result<(), Refus
     }
 }
 
-/// Drops what no longer waits if the table has grown so much since its last trim, and gives how many its last trim left.
+/// Drops what no longer waits if the table has grown so much since its last trim, and gives how many its last trim
+/// left.
 fn trim_grown(
     fences: &mut Vec<BufferFence>,
     left: usize,
@@ -202,7 +205,8 @@ fn put_pending(fences: &mut Vec<BufferFence>, put: &[Fence], usage: Usage)
 fn put_if_pending(fences: &mut Vec<BufferFence>, fence: &Fence, usage: Usage)
     requires room { vec_len fences.old < vec_capacity fences.old }
     ensures agrees { (reach : List ℕ) →
-        AgreesAbove reach (entries_of fences.new.items) (entries_of (fences.old.items ++ imported usage (fence.now ∷ []))) }
+        AgreesAbove reach (entries_of fences.new.items)
+        (entries_of (fences.old.items ++ imported usage (fence.now ∷ []))) }
     ensures few { vec_len fences.new ≤ vec_len fences.old + 1 }
     ensures places { vec_capacity fences.new ≡ vec_capacity fences.old }
 {
@@ -214,7 +218,8 @@ fn put_if_pending(fences: &mut Vec<BufferFence>, fence: &Fence, usage: Usage)
 /// Puts a fence in the place of the first that it covers, or after the others.
 fn put(fences: &mut Vec<BufferFence>, new: BufferFence)
     requires room { vec_len fences.old < vec_capacity fences.old }
-    ensures agrees { (reach : List ℕ) → AgreesAbove reach (entries_of fences.new.items) (entries_of (fences.old.items ++ new ∷ [])) }
+    ensures agrees { (reach : List ℕ) →
+        AgreesAbove reach (entries_of fences.new.items) (entries_of (fences.old.items ++ new ∷ [])) }
     ensures few { vec_len fences.new ≤ vec_len fences.old + 1 }
     ensures places { vec_capacity fences.new ≡ vec_capacity fences.old }
 {

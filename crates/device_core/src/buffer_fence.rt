@@ -7,8 +7,8 @@ use crate::fence::{Fence, Timeline};
 use point_core::Usage;
 use std::collections::HashMap;
 
-/// A fence that was put into a buffer: its timeline, its point, and what it is for. It has signalled once the timeline has
-/// reached the point, or is closed.
+/// A fence that was put into a buffer: its timeline, its point, and what it is for. It has signalled once the timeline
+/// has reached the point, or is closed.
 #[derive(Clone, Copy, Debug, PartialEq, Eq)]
 pub(crate) struct BufferFence {
     pub(crate) timeline: u64,
@@ -28,8 +28,8 @@ impl BufferFence {
         }
     }
 
-    /// Whether it makes the other needless, as in Linux's `dma_resv_add_fence`: the same timeline, a usage at least as strong, a
-    /// point at least as late.
+    /// Whether it makes the other needless, as in Linux's `dma_resv_add_fence`: the same timeline, a usage at least as
+    /// strong, a point at least as late.
     pub(crate) fn covers(&self, other: &BufferFence) -> bool
         ensures { result ≡ covers (entry_of self.now) (entry_of other.now) }
     {

@@ -12,8 +12,9 @@ pub fn exports_show_agreement()
         AgreesAbove reach es fs → AgreesAbove reach (at_usage usage es) (at_usage usage fs) }
 {}
 
-/// A pending point of 32 bits is the low half of the point of 64 that it stands for, so an exported fence has the point that
-/// was asked for.
+/// A pending point of 32 bits is the low half of the point of 64 that it stands for, so an exported fence has the point
+/// that was asked for.
 pub fn a_pending_point_is_the_low_half()
-    ensures { (value point : ℕ) → point < 2 ^ 32 → value < unwrapped value point → unwrapped value point % 2 ^ 32 ≡ point }
+    ensures { (value point : ℕ) →
+        point < 2 ^ 32 → value < unwrapped value point → unwrapped value point % 2 ^ 32 ≡ point }
 {}

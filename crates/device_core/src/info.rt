@@ -31,8 +31,8 @@ impl Driver {
     }
 }
 
-/// What is reported of a fence, as Linux's `struct sync_fence_info`: the name of its timeline, its driver and its status, and
-/// the time in nanoseconds at which it signalled, or 0.
+/// What is reported of a fence, as Linux's `struct sync_fence_info`: the name of its timeline, its driver and its
+/// status, and the time in nanoseconds at which it signalled, or 0.
 #[derive(Clone, Copy, Debug, PartialEq, Eq)]
 pub struct FenceInfo {
     pub timeline: Text,
@@ -41,8 +41,8 @@ pub struct FenceInfo {
     pub at: u64,
 }
 
-/// What is reported of a file, as Linux's `struct sync_file_info`: its name and its status, and what is reported of each of its
-/// fences. A file without fences has one that has signalled, a stub.
+/// What is reported of a file, as Linux's `struct sync_file_info`: its name and its status, and what is reported of
+/// each of its fences. A file without fences has one that has signalled, a stub.
 #[derive(Drop)]
 pub struct FileInfo {
     pub name: Text,

@@ -90,7 +90,8 @@ fn kernel_name(driver: &[u8], timeline: &[u8], context: u64, point: u64) -> Text
 }
 
 /// The name of a file of that number: the one that it was given, or if that is empty that of its fence, as Linux's
-/// `sync_file_get_name`. Several fences are an array; its context, which the kernel counts on, is the number of the file here.
+/// `sync_file_get_name`. Several fences are an array; its context, which the kernel counts on, is the number of the
+/// file here.
 pub(crate) fn name_of(number: u64, file: &File) -> Text
     ensures { result ≡ as_text (file_name number file.now) }
 {

@@ -16,7 +16,8 @@ const READ_WRITE: u32 = READ | WRITE;
 
 const _: () = prove!(READ_WRITE == 3);
 
-/// The weakest usage that an access with these flags waits for: a reader waits for writers, and a writer for readers too.
+/// The weakest usage that an access with these flags waits for: a reader waits for writers, and a writer for readers
+/// too.
 ///
 /// Fails with `Invalid` for every other number, as Linux's `DMA_BUF_IOCTL_EXPORT_SYNC_FILE`.
 pub(crate) fn export_usage(flags: u32) -> Result<Usage, Refusal>

@@ -10,7 +10,8 @@ pub const TEXT_BYTES: usize = 32;
 const _: () = prove!(TEXT_BYTES == 32);
 
 impl Text {
-    /// The text of these bytes, cut at one less than `TEXT_BYTES` as Linux's `snprintf` and `strscpy` cut it. Zeros follow.
+    /// The text of these bytes, cut at one less than `TEXT_BYTES` as Linux's `snprintf` and `strscpy` cut it. Zeros
+    /// follow.
     pub fn of(bytes: &[u8]) -> Text
         ensures { result ≡ text_as bytes.now }
     {
