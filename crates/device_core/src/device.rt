@@ -1,10 +1,12 @@
 // The device.
-ghost use Rattle.std.specs.Prelude.{◌≡◌, ◌⊎◌, ℕ, ◌+◌, ◌^◌, ◌≤◌, nat_eq, if◌then◌else◌, Some, None, IsSome, IfSome, IfNone, OnOk, OnErr, IfOk, IfErr, MatchOption, Ok, Err, true, false};
+ghost use Rattle.std.specs.Prelude.{◌≡◌, ◌⊎◌, ℕ, ◌+◌, ◌^◌, ◌≤◌, nat_eq, if◌then◌else◌, Some, None, IsSome, IfSome, IfNone, OnOk, OnErr, IfOk, IfErr, MatchOption, Ok, Err, true, false, ◌<◌, ◌↔◌, Contains};
+ghost use Rattle.std.specs.List.Sorted.{IsStrictlyIncreasing};
 ghost use Rattle.device_core.specs.declared.refusal.Refusal.TheVariants.{NoEntry, NoMemory, Overflow};
 ghost use Rattle.device_core.specs.declared.fence.Text.{Text as Name};
 ghost use Rattle.point_core.specs.Reach.{GREATEST};
 ghost use Rattle.device_core.specs.Fences.{are_signalled, signal_at, status_of};
-ghost use Rattle.device_core.specs.Woken.{file_wakes, has};
+ghost use Rattle.device_core.specs.Woken.{file_wakes};
+ghost use Rattle.device_core.specs.Wrapping.{unwrapped as unwrapped_of};
 ghost use Rattle.device_core.specs.State.{nothing, at, timeline_at, file_at, file_of, new_timeline, raised, merged_files, one_fence_file, why_no_timeline, why_no_file, AreSignalled};
 
 use crate::fence::{Fence, Signal, Text, Timeline, one_fence};
@@ -15,7 +17,7 @@ use crate::signalling::signal_due;
 use crate::waiting::WaitingFiles;
 use point_core::Status;
 use std::alloc::Global;
-use std::collections::{BTreeSet, HashMap};
+use std::collections::HashMap;
 use std::marker::Model;
 
 /// Timelines and sync files by number. Numbers rise from 1, and none is given twice.
@@ -90,6 +92,10 @@ impl Device {
             ≡ (if nat_eq n q then Some (one_fence_file timeline t point now) else file_at self.old q))) }
         ensures timelines { self.new.timelines ≡ self.old.timelines }
         ensures refused { IfNone (timeline_at self.old timeline) (result ≡ Err (why_no_timeline self.old timeline)) }
+        ensures last { IfSome (timeline_at self.old timeline) (λ t. IfErr result (λ e.
+            ((e ≡ NoMemory) × (unwrapped_of t.value point < 2 ^ 64))
+            ⊎ ((e ≡ Overflow) × (2 ^ 64 ≤ unwrapped_of t.value point)))) }
+        ensures fits { OnOk result (IfSome (timeline_at self.old timeline) (λ t. unwrapped_of t.value point < 2 ^ 64)) }
         ensures unchanged { OnErr result (self.new ≡ self.old) }
     {
         let known = self.timeline(timeline)?;
@@ -103,9 +109,10 @@ impl Device {
     ///
     /// Fails with `NoEntry`, or with `WrongKind` at a file, then with `Overflow`, then with `NoMemory`; nothing has
     /// changed then.
-    pub fn inc(&mut self, timeline: u64, n: u32, now: u64) -> Result<BTreeSet<u64>, Refusal>
+    pub fn inc(&mut self, timeline: u64, n: u32, now: u64) -> Result<Vec<u64>, Refusal>
         ensures woken { IfOk result (λ found. IfSome (timeline_at self.old timeline) (λ t. (f : ℕ) →
-            has found.keys f ≡ file_wakes timeline (t.value + n) (file_at self.old f))) }
+            (Contains found.items f ↔ (file_wakes timeline (t.value + n) (file_at self.old f) ≡ true)))) }
+        ensures rising { IfOk result (λ found. IsStrictlyIncreasing found.items) }
         ensures raised { OnOk result (IfSome (timeline_at self.old timeline) (λ t. (q : ℕ) →
             timeline_at self.new q ≡ (if nat_eq timeline q then Some (raised t n) else timeline_at self.old q))) }
         ensures signalled { OnOk result (IfSome (timeline_at self.old timeline) (λ t.
@@ -114,7 +121,8 @@ impl Device {
         ensures known { OnOk result (IsSome (timeline_at self.old timeline)) }
         ensures refused { IfNone (timeline_at self.old timeline) (result ≡ Err (why_no_timeline self.old timeline)) }
         ensures last { IfSome (timeline_at self.old timeline) (λ t. IfErr result (λ e.
-            (e ≡ NoMemory) ⊎ ((e ≡ Overflow) × (2 ^ 64 ≤ t.value + n)))) }
+            ((e ≡ NoMemory) × (t.value + n < 2 ^ 64)) ⊎ ((e ≡ Overflow) × (2 ^ 64 ≤ t.value + n)))) }
+        ensures fits { OnOk result (IfSome (timeline_at self.old timeline) (λ t. t.value + n < 2 ^ 64)) }
         ensures unchanged { OnErr result (self.new ≡ self.old) }
     {
         let known = self.timeline(timeline)?;
@@ -137,9 +145,10 @@ impl Device {
     /// never used again. Gives the files that signal by it, by rising number.
     ///
     /// Fails with `NoEntry`, or with `WrongKind` at a file, then with `NoMemory`; nothing has changed then.
-    pub fn close_timeline(&mut self, timeline: u64, now: u64) -> Result<BTreeSet<u64>, Refusal>
+    pub fn close_timeline(&mut self, timeline: u64, now: u64) -> Result<Vec<u64>, Refusal>
         ensures woken { IfOk result (λ found. (f : ℕ) →
-            has found.keys f ≡ file_wakes timeline GREATEST (file_at self.old f)) }
+            (Contains found.items f ↔ (file_wakes timeline GREATEST (file_at self.old f) ≡ true))) }
+        ensures rising { IfOk result (λ found. IsStrictlyIncreasing found.items) }
         ensures closed { OnOk result ((q : ℕ) →
             timeline_at self.new q ≡ (if nat_eq timeline q then None else timeline_at self.old q)) }
         ensures signalled { OnOk result

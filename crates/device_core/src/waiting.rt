@@ -1,9 +1,10 @@
 // The files that wait, by the points that they wait for.
-ghost use Rattle.std.specs.Prelude.{◌≡◌, ℕ, ◌≤◌, None, IfOk, ◌+◌, ◌-◌, ◌^◌, length, not, ◌&&◌, ◌||◌, [], ◌∷◌, true, false, OnOk, OnErr, IfErr, IfSome, IfNone};
+ghost use Rattle.std.specs.Prelude.{◌≡◌, ℕ, ◌≤◌, None, IfOk, ◌+◌, ◌-◌, ◌^◌, length, not, ◌&&◌, ◌||◌, [], ◌∷◌, true, false, OnOk, OnErr, IfErr, IfSome, IfNone, ◌↔◌, Contains};
+ghost use Rattle.std.specs.List.Sorted.{IsStrictlyIncreasing};
 ghost use Rattle.device_core.specs.declared.waiting.Waiting.{Waiting as Key};
 ghost use Rattle.device_core.specs.declared.refusal.Refusal.TheVariants.{NoMemory};
 ghost use Rattle.device_core.specs.State.{is_same, holds, is_due_at, waits_of, IsIndexed, at};
-ghost use Rattle.device_core.specs.Woken.{file_wakes, has};
+ghost use Rattle.device_core.specs.Woken.{file_wakes};
 ghost use Rattle.device_core.specs.Fences.{waiting};
 
 use crate::fence::Fence;
@@ -116,11 +117,12 @@ impl WaitingFiles {
         files: &HashMap<u64, File>,
         timeline: u64,
         value: u64,
-    ) -> Result<BTreeSet<u64>, Refusal>
+    ) -> Result<Vec<u64>, Refusal>
         requires indexed { IsIndexed self.now files.now.entries }
         requires below { (n : ℕ) → 2 ^ 64 ≤ n → at files.now.entries n ≡ None }
         ensures woken { IfOk result (λ found. (n : ℕ) →
-            has found.keys n ≡ file_wakes timeline value (at files.now.entries n)) }
+            (Contains found.items n ↔ (file_wakes timeline value (at files.now.entries n) ≡ true))) }
+        ensures rising { IfOk result (λ found. IsStrictlyIncreasing found.items) }
         ensures memory { IfErr result (λ e. e ≡ NoMemory) }
     {
         woken_by(alloc, &self.points, files, timeline, value)

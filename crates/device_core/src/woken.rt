@@ -1,9 +1,10 @@
 // The files that signal by a request.
-ghost use Rattle.std.specs.Prelude.{◌≡◌, ℕ, ◌^◌, ◌≤◌, nat_eq, ◌&&◌, ◌||◌, None, OnOk, IfOk, IfErr};
+ghost use Rattle.std.specs.Prelude.{◌≡◌, ℕ, ◌^◌, ◌≤◌, nat_eq, ◌&&◌, ◌||◌, ◌↔◌, true, None, OnOk, IfOk, IfErr, Contains};
 ghost use Rattle.device_core.specs.declared.refusal.Refusal.TheVariants.{NoMemory};
 ghost use Rattle.device_core.specs.State.{IsIndexed, at};
 ghost use Rattle.device_core.specs.Woken.{file_wakes, has, is_settled_by, wakes as wakes_of};
 ghost use Rattle.std.specs.List.{list_all};
+ghost use Rattle.std.specs.List.Sorted.{IsStrictlyIncreasing};
 
 use crate::fence::Fence;
 use crate::file::{File, all_signalled};
@@ -22,16 +23,44 @@ pub(crate) fn woken_by(
     files: &HashMap<u64, File>,
     timeline: u64,
     value: u64,
-) -> Result<BTreeSet<u64>, Refusal>
+) -> Result<Vec<u64>, Refusal>
     requires indexed { IsIndexed points.now.keys files.now.entries }
     requires below { (n : ℕ) → 2 ^ 64 ≤ n → at files.now.entries n ≡ None }
     ensures woken { IfOk result (λ found. (n : ℕ) →
-        has found.keys n ≡ file_wakes timeline value (at files.now.entries n)) }
+        (Contains found.items n ↔ (file_wakes timeline value (at files.now.entries n) ≡ true))) }
+    ensures rising { IfOk result (λ found. IsStrictlyIncreasing found.items) }
+    ensures memory { IfErr result (λ e. e ≡ NoMemory) }
+{
+    let mut woken = gathered(alloc, points, files, timeline, value)?;
+    put_in_order(&mut woken);
+    Ok(woken)
+}
+
+// By rising number, each once.
+fn put_in_order(numbers: &mut Vec<u64>)
+    ensures rising { IsStrictlyIncreasing numbers.new.items }
+    ensures kept { (n : ℕ) → (Contains numbers.new.items n ↔ Contains numbers.old.items n) }
+{
+    numbers.sort_unstable();
+    numbers.dedup();
+}
+
+fn gathered(
+    alloc: Global,
+    points: &BTreeSet<Waiting>,
+    files: &HashMap<u64, File>,
+    timeline: u64,
+    value: u64,
+) -> Result<Vec<u64>, Refusal>
+    requires indexed { IsIndexed points.now.keys files.now.entries }
+    requires below { (n : ℕ) → 2 ^ 64 ≤ n → at files.now.entries n ≡ None }
+    ensures woken { IfOk result (λ found. (n : ℕ) →
+        has found.items n ≡ file_wakes timeline value (at files.now.entries n)) }
     ensures memory { IfErr result (λ e. e ≡ NoMemory) }
 {
     let first = Waiting::first(timeline);
     let last = Waiting::last(timeline, value);
-    let mut woken = BTreeSet::new(alloc);
+    let mut woken = Vec::new(alloc);
     for due in points.range(first..=last) {
         put_if_woken(&mut woken, files, due.file, timeline, value)?;
     }
@@ -39,14 +68,14 @@ pub(crate) fn woken_by(
 }
 
 fn put_if_woken(
-    woken: &mut BTreeSet<u64>,
+    woken: &mut Vec<u64>,
     files: &HashMap<u64, File>,
     number: u64,
     timeline: u64,
     value: u64,
 ) -> Result<(), Refusal>
-    ensures put { OnOk result ((n : ℕ) → has woken.new.keys n ≡
-        ((nat_eq number n && file_wakes timeline value (at files.now.entries number)) || has woken.old.keys n)) }
+    ensures put { OnOk result ((n : ℕ) → has woken.new.items n ≡
+        ((nat_eq number n && file_wakes timeline value (at files.now.entries number)) || has woken.old.items n)) }
     ensures memory { IfErr result (λ e. e ≡ NoMemory) }
 {
     if !file_wakes_at(files, number, timeline, value) {
@@ -55,11 +84,11 @@ fn put_if_woken(
     put(woken, number)
 }
 
-fn put(woken: &mut BTreeSet<u64>, number: u64) -> Result<(), Refusal>
-    ensures put { OnOk result ((n : ℕ) → has woken.new.keys n ≡ (nat_eq number n || has woken.old.keys n)) }
+fn put(woken: &mut Vec<u64>, number: u64) -> Result<(), Refusal>
+    ensures put { OnOk result ((n : ℕ) → has woken.new.items n ≡ (nat_eq number n || has woken.old.items n)) }
     ensures memory { IfErr result (λ e. e ≡ NoMemory) }
 {
-    let Ok(_added) = woken.insert(number) else {
+    let Ok(_done) = woken.push(number) else {
         return Err(Refusal::NoMemory);
     };
     Ok(())
