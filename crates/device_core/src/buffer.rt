@@ -1,13 +1,11 @@
 // A buffer.
-ghost use Rattle.std.specs.Prelude.{◌≡◌, ℕ, ◌+◌, ◌*◌, ◌≤◌, ◌<◌, ◌↔◌, ◌++◌, ◌∷◌, [], List, true, Ok, fold, max, length, count_by, option_to_list, vec_len, IfErr, IfOk, IsTrue, OnErr, OnOk};
+ghost use Rattle.std.specs.Prelude.{◌≡◌, ℕ, ◌+◌, ◌≤◌, ◌<◌, ◌∷◌, [], fold, length, option_to_list, vec_len, IfErr, IfOk, OnErr, OnOk};
 ghost use Rattle.std.specs.List.{filter_map};
 ghost use Rattle.std.specs.Vec.{vec_capacity};
-ghost use Rattle.point_core.specs.Agreement.{AgreesAbove, IsReached};
-ghost use Rattle.point_core.specs.Usage.{usage_number};
 ghost use Rattle.device_core.specs.declared.refusal.Refusal.TheVariants.{NoMemory};
-ghost use Rattle.device_core.specs.declared.buffer.TheConstants.{GROWTH, UNTRIMMED};
-ghost use Rattle.device_core.specs.Fences.{HasRisingTimelines, are_signalled, entries_in, with_fence};
-ghost use Rattle.device_core.specs.Buffers.{AreWaiting, IsReachOf, at_usage, empty_buffer, entries_of, imported, is_waiting, none_waits as none_waits_of, waiting_fence};
+ghost use Rattle.device_core.specs.Fences.{with_fence};
+ghost use Rattle.device_core.specs.Buffers.{empty_buffer, exported, import_into, imported, none_waits as none_waits_of, state_of, trimmed as trimmed_of, waiting_fence, with_buffer_fence};
+ghost use Rattle.device_core.specs.State.{at};
 
 use crate::buffer_fence::BufferFence;
 use crate::fence::{Fence, Timeline};
@@ -39,11 +37,11 @@ pub struct Buffer {
 }
 
 impl Model for Buffer {
-    ghost use Rattle.device_core.specs.Buffers.{BufferState};
+    ghost use Rattle.device_core.specs.Buffers.{BufferState, state_of};
 
     ghost Value = { BufferState };
 
-    ghost view = { λ b. record { fences = b.fences.items; left = b.left; stub_at = b.stub_at } };
+    ghost view = { λ b. state_of b.fences.items b.left b.stub_at };
 }
 
 impl Buffer {
@@ -69,14 +67,7 @@ impl Buffer {
         fences: &[Fence],
         usage: Usage,
     ) -> Result<(), Refusal>
-        ensures agrees { OnOk result ((reach : List ℕ) → IsReachOf timelines.now.entries self.old.fences reach →
-            AgreesAbove reach (entries_of self.new.fences)
-            (entries_of (self.old.fences ++ imported usage fences.now))) }
-        ensures nothing { are_signalled fences.now ≡ true → (result ≡ Ok tt) × (self.new ≡ self.old) }
-        ensures few { length self.new.fences ≤
-            max (length self.old.fences) (GROWTH * max self.new.left UNTRIMMED + length fences.now) }
-        ensures left { self.new.left ≤ max self.old.left (count_by (is_waiting timelines.now.entries) self.old.fences) }
-        ensures stub { self.new.stub_at ≡ self.old.stub_at }
+        ensures imported { OnOk result (self.new ≡ import_into (at timelines.now.entries) usage fences.now self.old) }
         ensures memory { IfErr result (λ e. e ≡ NoMemory) }
         ensures unchanged { OnErr result (self.new ≡ self.old) }
     {
@@ -103,10 +94,7 @@ impl Buffer {
         timelines: &HashMap<u64, Timeline>,
         usage: Usage,
     ) -> Result<Vec<Fence>, Refusal>
-        ensures agrees { IfOk result (λ fs. (reach : List ℕ) → IsReachOf timelines.now.entries self.now.fences reach →
-            AgreesAbove reach (entries_in fs.items) (at_usage usage (entries_of self.now.fences))) }
-        ensures waiting { IfOk result (λ fs. AreWaiting timelines.now.entries fs.items) }
-        ensures rising { IfOk result (λ fs. HasRisingTimelines fs.items) }
+        ensures exported { IfOk result (λ fs. fs.items ≡ exported (at timelines.now.entries) usage self.now.fences) }
         ensures memory { IfErr result (λ e. e ≡ NoMemory) }
     {
         let mut listed = Vec::new(alloc);
@@ -117,9 +105,7 @@ impl Buffer {
     /// Whether every fence of the usage or a stronger one has signalled, as Linux's `dma_resv_test_signaled`. Takes no
     /// memory.
     pub(crate) fn test(&self, timelines: &HashMap<u64, Timeline>, usage: Usage) -> bool
-        ensures waiting { result ≡ none_waits_of timelines.now.entries usage self.now.fences }
-        ensures reached { (reach : List ℕ) → IsReachOf timelines.now.entries self.now.fences reach →
-            (IsTrue result ↔ IsReached (entries_of self.now.fences) (usage_number usage) reach) }
+        ensures { result ≡ none_waits_of (at timelines.now.entries) usage self.now.fences }
     {
         none_waits(self.fences.as_slice(), timelines, usage)
     }
@@ -134,7 +120,7 @@ impl Buffer {
 }
 
 fn none_waits(fences: &[BufferFence], timelines: &HashMap<u64, Timeline>, usage: Usage) -> bool
-    ensures { result ≡ none_waits_of timelines.now.entries usage fences.now }
+    ensures { result ≡ none_waits_of (at timelines.now.entries) usage fences.now }
 {
     for fence in fences {
         if fence.usage.number() <= usage.number() && fence.is_waiting(timelines) {
@@ -151,7 +137,7 @@ fn list_waiting(
     usage: Usage,
 ) -> Result<(), Refusal>
     ensures listed { OnOk result (listed.new.items ≡
-        fold with_fence listed.old.items (filter_map (waiting_fence timelines.now.entries usage) fences.now)) }
+        fold with_fence listed.old.items (filter_map (waiting_fence (at timelines.now.entries) usage) fences.now)) }
     ensures memory { IfErr result (λ e. e ≡ NoMemory) }
 {
     for fence in fences {
@@ -170,17 +156,14 @@ fn put_option(listed: &mut Vec<Fence>, fence: Option<Fence>) -> Result<(), Refus
     }
 }
 
-/// Drops what no longer waits if the table has grown so much since its last trim, and gives how many its last trim
-/// left.
+/// Drops what no longer waits if the table has grown so much since its last trim, and gives how many its last trim left.
 fn trim_grown(
     fences: &mut Vec<BufferFence>,
     left: usize,
     timelines: &HashMap<u64, Timeline>,
 ) -> usize
-    ensures agrees { (reach : List ℕ) → IsReachOf timelines.now.entries fences.old.items reach →
-        AgreesAbove reach (entries_of fences.new.items) (entries_of fences.old.items) }
-    ensures few { vec_len fences.new ≤ GROWTH * max result UNTRIMMED }
-    ensures left { result ≤ max left (count_by (is_waiting timelines.now.entries) fences.old.items) }
+    ensures trimmed { (stub_at : ℕ) → state_of fences.new.items result stub_at ≡
+        trimmed_of (at timelines.now.entries) (state_of fences.old.items left stub_at) }
     ensures fewer { vec_len fences.new ≤ vec_len fences.old }
     ensures places { vec_capacity fences.new ≡ vec_capacity fences.old }
 {
@@ -193,9 +176,7 @@ fn trim_grown(
 
 fn put_pending(fences: &mut Vec<BufferFence>, put: &[Fence], usage: Usage)
     requires room { vec_len fences.old + length put.now ≤ vec_capacity fences.old }
-    ensures agrees { (reach : List ℕ) →
-        AgreesAbove reach (entries_of fences.new.items) (entries_of (fences.old.items ++ imported usage put.now)) }
-    ensures few { vec_len fences.new ≤ vec_len fences.old + length put.now }
+    ensures put { fences.new.items ≡ fold with_buffer_fence fences.old.items (imported usage put.now) }
 {
     for fence in put {
         put_if_pending(fences, fence, usage);
@@ -204,9 +185,7 @@ fn put_pending(fences: &mut Vec<BufferFence>, put: &[Fence], usage: Usage)
 
 fn put_if_pending(fences: &mut Vec<BufferFence>, fence: &Fence, usage: Usage)
     requires room { vec_len fences.old < vec_capacity fences.old }
-    ensures agrees { (reach : List ℕ) →
-        AgreesAbove reach (entries_of fences.new.items)
-        (entries_of (fences.old.items ++ imported usage (fence.now ∷ []))) }
+    ensures put { fences.new.items ≡ fold with_buffer_fence fences.old.items (imported usage (fence.now ∷ [])) }
     ensures few { vec_len fences.new ≤ vec_len fences.old + 1 }
     ensures places { vec_capacity fences.new ≡ vec_capacity fences.old }
 {
@@ -218,8 +197,7 @@ fn put_if_pending(fences: &mut Vec<BufferFence>, fence: &Fence, usage: Usage)
 /// Puts a fence in the place of the first that it covers, or after the others.
 fn put(fences: &mut Vec<BufferFence>, new: BufferFence)
     requires room { vec_len fences.old < vec_capacity fences.old }
-    ensures agrees { (reach : List ℕ) →
-        AgreesAbove reach (entries_of fences.new.items) (entries_of (fences.old.items ++ new ∷ [])) }
+    ensures put { fences.new.items ≡ with_buffer_fence fences.old.items new }
     ensures few { vec_len fences.new ≤ vec_len fences.old + 1 }
     ensures places { vec_capacity fences.new ≡ vec_capacity fences.old }
 {

@@ -2,6 +2,7 @@
 ghost use Rattle.std.specs.Prelude.{◌≡◌, Some};
 ghost use Rattle.point_core.specs.Agreement.{covers};
 ghost use Rattle.device_core.specs.Buffers.{entry_of, fence_waiting, is_waiting, put_as, waiting_fence};
+ghost use Rattle.device_core.specs.State.{at};
 
 use crate::fence::{Fence, Timeline};
 use point_core::Usage;
@@ -40,7 +41,7 @@ impl BufferFence {
 
     /// Whether its timeline is open, and has not reached the point.
     pub(crate) fn is_waiting(&self, timelines: &HashMap<u64, Timeline>) -> bool
-        ensures { result ≡ is_waiting timelines.now.entries self.now }
+        ensures { result ≡ is_waiting (at timelines.now.entries) self.now }
     {
         match timelines.get(&self.timeline) {
             Some(timeline) => timeline.value < self.value,
@@ -50,7 +51,7 @@ impl BufferFence {
 
     /// The fence of a file that it is, if it waits and is of the usage or a stronger one.
     pub(crate) fn waiting(&self, timelines: &HashMap<u64, Timeline>, usage: Usage) -> Option<Fence>
-        ensures { result ≡ waiting_fence timelines.now.entries usage self.now }
+        ensures { result ≡ waiting_fence (at timelines.now.entries) usage self.now }
     {
         if self.usage.number() > usage.number() {
             return None;

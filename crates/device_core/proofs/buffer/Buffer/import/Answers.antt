@@ -1,17 +1,17 @@
-use Rattle.std.proofs.Common.{◌≡◌, ◌∙◌, ◌++◌, ap, subst, sym}
-use Rattle.point_core.specs.Agreement.{AgreesAbove}
-use Rattle.device_core.specs.Buffers.{BufferState, IsReachOf, entries_of, imported}
-use Rattle.device_core.proofs.Putting.{AgreesAbove-none, AgreesAbove-put_after}
+use Rattle.std.proofs.Common.{◌≡◌, ◌∙◌, ap, sym}
+use Rattle.device_core.specs.Buffers.{import_into, state_of}
+use Rattle.device_core.specs.State.{at}
+use Rattle.device_core.proofs.Putting.{import-none, import-is}
 use Rattle.device_core.proofs.buffer.Buffer.import.Goals as goal
 
-pub returns-then-all_signalled-clause-agrees : goal.returns-then-all_signalled-clause-agrees
-returns-then-all_signalled-clause-agrees c = λ reach of.
-    AgreesAbove-none reach c.args.usage c.args.self.now.fences c.args.fences.now (sym c.all_signalled.ensures ∙ c.if-all_signalled.true)
+pub returns-then-all_signalled-clause-imported : goal.returns-then-all_signalled-clause-imported
+returns-then-all_signalled-clause-imported c =
+    import-none (at c.args.timelines.now.entries) c.args.usage c.args.fences.now c.args.self.now (sym c.all_signalled.ensures ∙ c.if-all_signalled.true)
 
-pub returns-clause-agrees : goal.returns-clause-agrees
-returns-clause-agrees c = λ reach of.
-    let same : c.reserve.new.self.items ≡ c.args.self.now.fences = c.reserve.ensures.items ∙ ap (λ (b : BufferState). b.fences) c.self.view_is in
-    let trimmed = c.trim_grown-self-inside.new.fences.items in
-    let trim = subst (λ hs. IsReachOf c.args.timelines.now.entries hs reach → AgreesAbove reach (entries_of trimmed) (entries_of hs)) same (c.trim_grown-self-inside.ensures.agrees reach) of in
-    let put = AgreesAbove-put_after reach c.args.self.now.fences trimmed c.put_pending.new.fences.items (imported c.args.usage c.args.fences.now) trim (c.put_pending.ensures.agrees reach) in
-    subst (λ hs. AgreesAbove reach (entries_of hs) (entries_of (c.args.self.now.fences ++ imported c.args.usage c.args.fences.now))) (sym c.shrink_to.ensures.items) put
+pub returns-clause-imported : goal.returns-clause-imported
+returns-clause-imported c =
+    let timelines = at c.args.timelines.now.entries in
+    let inside = state_of c.self.inside.fences.items c.self.inside.left c.self.inside.stub_at in
+    import-is timelines c.args.usage c.args.fences.now inside c.reserve.new.self.items c.trim_grown-self-inside.new.fences.items c.shrink_to.new.self.items c.trim_grown-self-inside.result
+    (sym c.all_signalled.ensures ∙ c.if-all_signalled.false) c.reserve.ensures.items (c.trim_grown-self-inside.ensures.trimmed c.self.inside.stub_at) (c.shrink_to.ensures.items ∙ c.put_pending.ensures.put)
+    ∙ ap (import_into timelines c.args.usage c.args.fences.now) c.self.view_is
