@@ -24,14 +24,14 @@ use Rattle.device_core.proofs.Signalled.{entries-signalled}
 use Rattle.device_core.proofs.Placed.{Rising-is, Rising-from, merged-All, merged-Rising, merged-agrees}
 use Rattle.device_core.proofs.Sound.{with_at-same, with_at-other, reach-rises, fences-kept, fences-signalled, fences-reached}
 
-same_Some : {X : Type 0} {x y : X} → Some x ≡ Some y → x ≡ y
+pub same_Some : {X : Type 0} {x y : X} → Some x ≡ Some y → x ≡ y
 same_Some {X} {x} e = ap (got x) e
   where
     got : X → Option X → X
     got d None = d
     got d (Some z) = z
 
-None≢Some : {X : Type 0} {P : Type 0} (x : X) → None ≡ Some x → P
+pub None≢Some : {X : Type 0} {P : Type 0} (x : X) → None ≡ Some x → P
 None≢Some {X} {P} x e = absurd (subst (told) e tt)
   where
     told : Option X → Type 0

@@ -1,13 +1,9 @@
 -- What a device reports of all that was put into its files, and of its timelines.
-use Rattle.std.specs.Prelude.{◌≡◌, ◌↔◌, ℕ, ◌+◌, ◌-◌, ◌≤◌, nat_eq, true, List, [], ◌∷◌, count_by, Some, Contains, Result, Ok, Err}
-use Rattle.std.specs.List.{flat_map, range_with_len}
+use Rattle.std.specs.Prelude.{◌≡◌, ◌↔◌, ℕ, true, List, Some, Contains}
 use Rattle.point_core.specs.declared.entry.Entry.{Entry}
 use Rattle.point_core.specs.Agreement.{AgreesAbove, IsReached}
 use Rattle.device_core.specs.declared.fence.Timeline.{Timeline}
-use Rattle.device_core.specs.declared.refusal.Refusal.{Refusal}
 use Rattle.device_core.specs.declared.request.Request.{Request}
-use Rattle.device_core.specs.declared.request.Answer.{Answer}
-use Rattle.device_core.specs.declared.request.Answer.TheVariants as answer
 use Rattle.device_core.specs.Fences.{are_signalled, entries_in, HasRisingTimelines}
 use Rattle.device_core.specs.State.{FileState, DeviceState, file_at, timeline_at}
 use Rattle.device_core.specs.History.{world_of, reach_of, sum_of}

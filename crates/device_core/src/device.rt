@@ -7,7 +7,9 @@ ghost use Rattle.point_core.specs.Reach.{GREATEST};
 ghost use Rattle.device_core.specs.Fences.{are_signalled, signal_at, status_of};
 ghost use Rattle.device_core.specs.Woken.{file_wakes};
 ghost use Rattle.device_core.specs.Wrapping.{unwrapped as unwrapped_of};
-ghost use Rattle.device_core.specs.State.{nothing, at, timeline_at, file_at, file_of, new_timeline, raised, merged_files, one_fence_file, why_no_timeline, why_no_file, AreSignalled};
+ghost use Rattle.device_core.specs.State.{nothing, at, timeline_at, file_at, file_of, new_timeline, raised, merged_files, one_fence_file, why_no_timeline, why_no_file, objects_of, AreSignalled};
+ghost use Rattle.device_core.specs.declared.request.Request.TheVariants as request;
+ghost use Rattle.device_core.specs.Request.{AreWoken, IsCause, cause_of, closed, takes_memory};
 
 use crate::fence::{Fence, Signal, Text, Timeline, one_fence};
 use crate::file::File;
@@ -141,11 +143,31 @@ impl Device {
         Ok(woken)
     }
 
-    /// Closes a timeline, as the release of `sync/sw_sync` does: what is pending of it is cancelled now. Its number is
-    /// never used again. Gives the files that signal by it, by rising number.
+    /// Closes a timeline or a file; its number is never used again.
     ///
-    /// Fails with `NoEntry`, or with `WrongKind` at a file, then with `NoMemory`; nothing has changed then.
-    pub fn close_timeline(&mut self, timeline: u64, now: u64) -> Result<Vec<u64>, Refusal>
+    /// What is pending of a timeline is cancelled now, as the release of `sync/sw_sync` does. Gives the files that signal
+    /// by it, by rising number. Nothing waits for a closed file any more.
+    ///
+    /// Fails with `NoEntry`, then at a timeline with `NoMemory`; nothing has changed then.
+    pub fn close(&mut self, number: u64, now: u64) -> Result<Vec<u64>, Refusal>
+        ensures woken { IfOk result (λ found. AreWoken (objects_of self.old) (objects_of self.new) found.items) }
+        ensures closed { OnOk result (objects_of self.new ≡ closed (objects_of self.old) number now) }
+        ensures known { OnOk result (cause_of (objects_of self.old) (request.Close number now) ≡ None) }
+        ensures refused { IfErr result (λ e. IsCause (cause_of (objects_of self.old) (request.Close number now))
+            (takes_memory (objects_of self.old) (request.Close number now)) e) }
+        ensures unchanged { OnErr result (self.new ≡ self.old) }
+    {
+        if self.timelines.contains_key(&number) {
+            return self.close_timeline(number, now);
+        }
+        match self.close_file(number) {
+            Ok(_done) => Ok(Vec::new(self.alloc)),
+            Err(refusal) => Err(refusal),
+        }
+    }
+
+    // Fails with `NoEntry`, or with `WrongKind` at a file, then with `NoMemory`; nothing has changed then.
+    fn close_timeline(&mut self, timeline: u64, now: u64) -> Result<Vec<u64>, Refusal>
         ensures woken { IfOk result (λ found. (f : ℕ) →
             (Contains found.items f ↔ (file_wakes timeline GREATEST (file_at self.old f) ≡ true))) }
         ensures rising { IfOk result (λ found. IsStrictlyIncreasing found.items) }
@@ -178,16 +200,14 @@ impl Device {
         Ok(woken)
     }
 
-    /// Closes a file. Its number is never used again, and nothing waits for it any more.
-    ///
-    /// Fails with `NoEntry`, or with `WrongKind` at a timeline; nothing has changed then. Takes no memory.
-    pub fn close_file(&mut self, file: u64) -> Result<(), Refusal>
+    // Fails with `NoEntry`, or with `WrongKind` at a timeline; nothing has changed then. Takes no memory.
+    fn close_file(&mut self, file: u64) -> Result<(), Refusal>
         ensures closed { OnOk result ((q : ℕ) →
             file_at self.new q ≡ (if nat_eq file q then None else file_at self.old q)) }
         ensures timelines { self.new.timelines ≡ self.old.timelines }
         ensures next { self.new.next ≡ self.old.next }
         ensures known { OnOk result (IsSome (file_at self.old file)) }
-        ensures refused { IfErr result (λ e. e ≡ why_no_file self.old file) }
+        ensures refused { IfErr result (λ e. (e ≡ why_no_file self.old file) × (file_at self.old file ≡ None)) }
         ensures unchanged { OnErr result (self.new ≡ self.old) }
     {
         let Some(closed) = self.files.remove(&file) else {
