@@ -1,0 +1,89 @@
+-- Who is woken, and what the closing of a timeline leaves.
+use Rattle.std.proofs.Common.{◌≡◌, ℕ, ◌+◌, ◌^◌, ◌<◌, nat_eq, ◌↔◌, inl, inr, Bool, true, false, not, cond, ◌&&◌, ◌||◌, refl, sym, ap, ◌∙◌, List, [], ◌∷◌, Option, None, Some, is_some, option_map, Contains, IsSome, IfSome, IfOk, OnOk, Result, Vec, Global, Ok, Err}
+use Rattle.std.specs.List.{list_all}
+use Rattle.std.specs.List.Sorted.{IsStrictlyIncreasing}
+use Rattle.std.proofs.lemmas.Bool.{cases_Bool, and_parts, and_from, or_right, lt-leb, false≢true}
+use Rattle.point_core.specs.Reach.{GREATEST}
+use Rattle.device_core.specs.declared.fence.Signal.{Signal}
+use Rattle.device_core.specs.declared.fence.Fence.{Fence}
+use Rattle.device_core.specs.declared.fence.Timeline.{Timeline}
+use Rattle.device_core.specs.declared.refusal.Refusal.{Refusal}
+use Rattle.device_core.specs.declared.refusal.Refusal.TheVariants.{Overflow}
+use Rattle.device_core.specs.Fences.{is_pending, is_due, signal_at, are_signalled, signalled_by, all_signalled_by}
+use Rattle.device_core.specs.State.{FileState, DeviceState, timeline_at, file_at, objects_of, raised, file_signalled, AreSignalled}
+use Rattle.device_core.specs.Woken.{is_settled_by, file_wakes}
+use Rattle.device_core.specs.Request.{value_in, with_signals, closed_timeline, closed_file, closed, risen, overflow, is_waiting, has_signalled, AreWoken}
+
+-- what a device holds once a timeline is closed
+objects-with_signals : (d e : DeviceState) (t : ℕ) (new : Option Timeline) (v : ℕ) (s : Signal) → e.next ≡ d.next → ((q : ℕ) → timeline_at e q ≡ cond (nat_eq t q) new (timeline_at d q)) → AreSignalled t v s d.files e.files → objects_of e ≡ with_signals (objects_of d) t new v s
+objects-with_signals d e t new v s next timelines signalled = λ i. record {
+  next = next i;
+  timelines = λ q. timelines q i;
+  files = λ q. signalled q i;
+}
+
+closed-timeline : (d : DeviceState) (n now : ℕ) → is_some (timeline_at d n) ≡ true → closed_timeline (objects_of d) n now ≡ closed (objects_of d) n now
+closed-timeline d n now there = sym (ap (λ b. cond b (closed_timeline (objects_of d) n now) (closed_file (objects_of d) n)) there)
+
+-- who is woken
+one_settled : (t v : ℕ) (s : Signal) (f : Fence) → not (is_pending (signalled_by t v s f)) ≡ is_settled_by t v f
+one_settled t v s f = elim (cases_Bool (is_due t v f)) [
+  | inl due ↦ ap (λ b. not (is_pending (cond b (record f { signal = Some s }) f))) due ∙ sym (or_right (not (is_pending f)) (is_due t v f) due)
+  | inr not_due ↦ ap (λ b. not (is_pending (cond b (record f { signal = Some s }) f))) not_due ∙ sym (ap (λ b. not (is_pending f) || b) not_due ∙ or_false (not (is_pending f)))
+]
+  where
+    or_false : (b : Bool) → (b || false) ≡ b
+    or_false true = refl
+    or_false false = refl
+
+all_settled : (t v : ℕ) (s : Signal) (fs : List Fence) → are_signalled (all_signalled_by t v s fs) ≡ list_all (is_settled_by t v) fs
+all_settled t v s [] = refl
+all_settled t v s (f ∷ fs) = ap (λ b. b && are_signalled (all_signalled_by t v s fs)) (one_settled t v s f) ∙ ap (λ b. is_settled_by t v f && b) (all_settled t v s fs)
+
+wakes-is : (t v : ℕ) (s : Signal) (o : Option FileState) → (file_wakes t v o ≡ true) ↔ ((is_waiting o ≡ true) × (has_signalled (option_map (file_signalled t v s) o) ≡ true))
+wakes-is t v s None = (λ is. absurd (false≢true is), λ both. absurd (false≢true both.0))
+wakes-is t v s (Some f) = (
+  λ is. let parts = and_parts (not (are_signalled f.fences)) (list_all (is_settled_by t v) f.fences) is in (parts.0, all_settled t v s f.fences ∙ parts.1),
+  λ both. and_from (not (are_signalled f.fences)) (list_all (is_settled_by t v) f.fences) both.0 (sym (all_settled t v s f.fences) ∙ both.1),
+)
+
+pub woken-signalled : (d e : DeviceState) (t v : ℕ) (s : Signal) (found : List ℕ) → AreSignalled t v s d.files e.files → ((n : ℕ) → Contains found n ↔ (file_wakes t v (file_at d n) ≡ true)) → IsStrictlyIncreasing found → AreWoken (objects_of d) (objects_of e) found
+woken-signalled d e t v s found signalled told rising = record {
+  all = λ n. (
+    λ among.
+        let both = (wakes-is t v s (file_at d n)).0 ((told n).0 among) in
+        (both.0, ap has_signalled (signalled n) ∙ both.1),
+    λ both. (told n).1 ((wakes-is t v s (file_at d n)).1 (both.0, sym (ap has_signalled (signalled n)) ∙ both.1)),
+  );
+  rising = rising;
+}
+
+pub woken-risen : (d e : DeviceState) (t n now : ℕ) (found : List ℕ) (o : Option Timeline) → IsSome o
+    → IfSome o (λ k. AreSignalled t (k.value + n) (signal_at now false) d.files e.files)
+    → IfSome o (λ k. (f : ℕ) → Contains found f ↔ (file_wakes t (k.value + n) (file_at d f) ≡ true))
+    → IsStrictlyIncreasing found → AreWoken (objects_of d) (objects_of e) found
+woken-risen d e t n now found None there signalled told rising = absurd (false≢true there)
+woken-risen d e t n now found (Some k) there signalled told rising = woken-signalled d e t (k.value + n) (signal_at now false) found signalled told rising
+
+-- a timeline that is closed
+pub closing-woken : (d e : DeviceState) (t now : ℕ) (r : Result (Vec ℕ Global) Refusal) → OnOk r (AreSignalled t GREATEST (signal_at now true) d.files e.files) → IfOk r (λ found. (f : ℕ) → Contains found.items f ↔ (file_wakes t GREATEST (file_at d f) ≡ true)) → IfOk r (λ found. IsStrictlyIncreasing found.items) → IfOk r (λ found. AreWoken (objects_of d) (objects_of e) found.items)
+closing-woken d e t now (Ok found) signalled told rising = woken-signalled d e t GREATEST (signal_at now true) found.items signalled told rising
+closing-woken d e t now (Err x) signalled told rising = tt
+
+pub closing-closed : (d e : DeviceState) (t now : ℕ) (r : Result (Vec ℕ Global) Refusal) → OnOk r (IsSome (timeline_at d t)) → e.next ≡ d.next → OnOk r ((q : ℕ) → timeline_at e q ≡ cond (nat_eq t q) None (timeline_at d q)) → OnOk r (AreSignalled t GREATEST (signal_at now true) d.files e.files) → OnOk r (objects_of e ≡ closed (objects_of d) t now)
+closing-closed d e t now (Ok found) there next timelines signalled = objects-with_signals d e t None GREATEST (signal_at now true) next timelines signalled ∙ closed-timeline d t now there
+closing-closed d e t now (Err x) there next timelines signalled = tt
+
+-- a timeline that is there rises
+pub objects-risen : (d e : DeviceState) (t n now : ℕ) (o : Option Timeline) → timeline_at d t ≡ o → IsSome o → e.next ≡ d.next
+    → IfSome o (λ k. (q : ℕ) → timeline_at e q ≡ cond (nat_eq t q) (Some (raised k n)) (timeline_at d q))
+    → IfSome o (λ k. AreSignalled t (k.value + n) (signal_at now false) d.files e.files)
+    → objects_of e ≡ risen (objects_of d) t n now
+objects-risen d e t n now None is there next timelines signalled = absurd (false≢true there)
+objects-risen d e t n now (Some k) is there next timelines signalled =
+    objects-with_signals d e t (Some (raised k n)) (k.value + n) (signal_at now false) next timelines signalled
+    ∙ ap (λ p. with_signals (objects_of d) t (option_map (λ j. raised j n) p) (value_in p + n) (signal_at now false)) (sym is)
+
+pub no_cause-timeline : (o : Option Timeline) (why : Refusal) (f : ℕ → ℕ) → IsSome o → IfSome o (λ k. f k.value < 2 ^ 64) → cond (is_some o) (overflow (f (value_in o))) (Some why) ≡ None
+no_cause-timeline None why f there fits = absurd (false≢true there)
+no_cause-timeline (Some k) why f there fits = ap (λ b. cond b (Some Overflow) None) (lt-leb (2 ^ 64) (f k.value) fits)

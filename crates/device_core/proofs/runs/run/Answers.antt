@@ -1,0 +1,23 @@
+use Rattle.std.proofs.Common.{[], get_or, arith}
+use Rattle.device_core.specs.declared.request.Request.TheVariants.{Open}
+use Rattle.std.proofs.lemmas.List.{take_more, take_all}
+use Rattle.device_core.proofs.Histories.{HasRun-push}
+use Rattle.device_core.proofs.Reporting.{ReportsSums-stands, ReportsWhatWasPut-stands}
+use Rattle.device_core.proofs.runs.run.Goals as goal
+
+pub returns-clause-sums : goal.returns-clause-sums
+returns-clause-sums c =
+    let all = take_all c.loop-request.request-index c.args.requests.now c.loop-request-test.false in
+    ReportsSums-stands _ _ (rw all at c.loop-request.invariant.0.stands)
+
+pub returns-clause-files : goal.returns-clause-files
+returns-clause-files c =
+    let all = take_all c.loop-request.request-index c.args.requests.now c.loop-request-test.false in
+    ReportsWhatWasPut-stands _ _ (rw all at c.loop-request.invariant.0.stands)
+
+pub loop-request-preserved : goal.loop-request-preserved
+loop-request-preserved c =
+    let first = Open (record { bytes = [] }) in
+    let more = take_more c.args.requests.now c.loop-request.request-index first c.loop-request-test.true in
+    rw (more, c.push_reserved.ensures.items)
+    (HasRun-push c.serve.new.self (get_or c.args.requests.now c.loop-request.request-index first) c.serve.result c.loop-request.invariant.0 c.serve.ensures.answer c.serve.ensures.stands, omega arith, omega arith)

@@ -1,0 +1,41 @@
+-- What a device reports of all that was put into its files, and of its timelines.
+use Rattle.std.specs.Prelude.{◌≡◌, ◌↔◌, ℕ, true, List, Some, Contains}
+use Rattle.point_core.specs.declared.entry.Entry.{Entry}
+use Rattle.point_core.specs.Agreement.{AgreesAbove, IsReached}
+use Rattle.device_core.specs.declared.fence.Timeline.{Timeline}
+use Rattle.device_core.specs.declared.request.Request.{Request}
+use Rattle.device_core.specs.Fences.{are_signalled, entries_in, HasRisingTimelines}
+use Rattle.device_core.specs.State.{FileState, DeviceState, file_at, timeline_at}
+use Rattle.device_core.specs.History.{world_of, reach_of, sum_of}
+
+-- both have the same entries, in whatever order and however often
+pub record HasSameEntries (es fs : List Entry) : Type 0 where
+  pub there : (e : Entry) → Contains es e → Contains fs e
+  pub back : (e : Entry) → Contains fs e → Contains es e
+
+-- what the timelines have reached after a history
+abbrev pub reach_after : List Request → List ℕ
+reach_after history = reach_of (world_of history).objects
+
+-- all that a history put into the file of that number
+abbrev pub put_into : List Request → ℕ → List Entry
+put_into history number = (world_of history).put number
+
+-- above the timelines' values a file says what was put into it
+pub record ReportsWhatWasPut (d : DeviceState) (history : List Request) : Type 0 where
+  -- each file agrees with the union of the points put into it
+  pub agrees : (n : ℕ) (f : FileState) → file_at d n ≡ Some f →
+      AgreesAbove (reach_after history) (entries_in f.fences) (put_into history n)
+  -- files with the same put points agree
+  pub same_put : (a b : ℕ) (f g : FileState) → file_at d a ≡ Some f → file_at d b ≡ Some g →
+      HasSameEntries (put_into history a) (put_into history b) →
+      AgreesAbove (reach_after history) (entries_in f.fences) (entries_in g.fences)
+  -- a file is signalled exactly when each point put in is reached, or its timeline is closed
+  pub signalled : (n : ℕ) (f : FileState) → file_at d n ≡ Some f →
+      ((are_signalled f.fences ≡ true) ↔ IsReached (put_into history n) 0 (reach_after history))
+  -- its fences are of rising timelines
+  pub rising : (n : ℕ) (f : FileState) → file_at d n ≡ Some f → HasRisingTimelines f.fences
+
+-- an open timeline is at the sum of its increments
+pub record ReportsSums (d : DeviceState) (history : List Request) : Type 0 where
+  pub values : (n : ℕ) (t : Timeline) → timeline_at d n ≡ Some t → t.value ≡ sum_of n history

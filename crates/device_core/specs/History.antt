@@ -1,0 +1,102 @@
+-- A history is the list of the accepted requests. What was put into a file is read off it, and a timeline is its number.
+use Rattle.std.specs.Prelude.{◌≡◌, ℕ, ◌+◌, ◌-◌, nat_eq, ⊤, if◌then◌else◌, List, [], ◌∷◌, ◌++◌, map, Option, None, Some, Result, Ok, Err}
+use Rattle.std.specs.List.{range_with_len}
+use Rattle.point_core.specs.declared.entry.Entry.{Entry}
+use Rattle.point_core.specs.Agreement.{as_entry, point_of}
+use Rattle.point_core.specs.Reach.{GREATEST}
+use Rattle.device_core.specs.declared.fence.Timeline.{Timeline}
+use Rattle.device_core.specs.declared.refusal.Refusal.{Refusal}
+use Rattle.device_core.specs.declared.request.Request.{Request}
+use Rattle.device_core.specs.declared.request.Request.TheVariants as request
+use Rattle.device_core.specs.declared.request.Answer.{Answer}
+use Rattle.device_core.specs.Wrapping.{unwrapped}
+use Rattle.device_core.specs.State.{DeviceState, Objects, no_objects, objects_of}
+use Rattle.device_core.specs.Request.{with_at, value_in, after, cause_of, IsAnswer}
+
+-- what the device holds, and all that was ever put into each file, by number. Nothing of that is dropped, by a close
+-- either
+pub record World : Type 0 where
+  pub objects : Objects
+  pub put : ℕ → List Entry
+
+abbrev pub empty_world : World
+empty_world = record { objects = no_objects; put = λ _. [] }
+
+-- the point that a point of 32 bits stands for
+abbrev pub asked : ℕ → Option Timeline → ℕ → List Entry
+asked number timeline point = as_entry (point_of number (unwrapped (value_in timeline) point)) ∷ []
+
+-- what a request puts into a new file
+abbrev pub put_after : World → Request → ℕ → List Entry
+put_after w (request.Open name) = w.put
+put_after w (request.Fence timeline point now) =
+    with_at w.put w.objects.next (asked timeline (w.objects.timelines timeline) point)
+put_after w (request.Inc timeline n now) = w.put
+put_after w (request.Merge a b name) = with_at w.put w.objects.next (w.put a ++ w.put b)
+put_after w (request.Status file) = w.put
+put_after w (request.IsSignalled file) = w.put
+put_after w (request.Close number now) = w.put
+
+abbrev pub world_after : World → Request → World
+world_after w r = record { objects = after w.objects r; put = put_after w r }
+
+abbrev pub world_from : World → List Request → World
+world_from w [] = w
+world_from w (r ∷ rs) = world_from (world_after w r) rs
+
+-- the world that a history means
+abbrev pub world_of : List Request → World
+world_of history = world_from empty_world history
+
+-- no request has a cause to be refused after those before it
+abbrev pub AreAccepted : World → List Request → Type 0
+AreAccepted w [] = ⊤
+AreAccepted w (r ∷ rs) = (cause_of w.objects r ≡ None) × AreAccepted (world_after w r) rs
+
+-- the list of requests is a history, and the device is what it makes
+pub record HasHistory (d : DeviceState) (history : List Request) : Type 0 where
+  pub accepted : AreAccepted empty_world history
+  pub is : objects_of d ≡ (world_of history).objects
+
+-- the history after a request that was answered so
+abbrev pub history_after : List Request → Request → Result Answer Refusal → List Request
+history_after history r (Ok given) = history ++ r ∷ []
+history_after history r (Err refusal) = history
+
+-- the history after requests that were answered so
+abbrev pub history_of : List Request → List Request → List (Result Answer Refusal) → List Request
+history_of history [] given = history
+history_of history (r ∷ rs) [] = history
+history_of history (r ∷ rs) (a ∷ rest) = history_of (history_after history r a) rs rest
+
+-- each request has its answer, one after another
+abbrev pub AreAnswers : List Request → List Request → List (Result Answer Refusal) → Type 0
+AreAnswers history [] [] = ⊤
+AreAnswers history [] (a ∷ rest) = ⊥
+AreAnswers history (r ∷ rs) [] = ⊥
+AreAnswers history (r ∷ rs) (a ∷ rest) =
+    IsAnswer (world_of history).objects r a × AreAnswers (history_after history r a) rs rest
+
+-- what a timeline has reached: its value, or everything once it is closed
+abbrev pub reached_by : Option Timeline → ℕ
+reached_by None = GREATEST
+reached_by (Some t) = t.value
+
+-- what every number that was given has reached. That of a file is never looked at, since no point is of a file
+abbrev pub reach_of : Objects → List ℕ
+reach_of d = map (λ n. reached_by (d.timelines n)) (range_with_len 1 (d.next - 1))
+
+-- what a request adds to the timeline of that number
+abbrev pub added_by : ℕ → Request → ℕ
+added_by number (request.Inc timeline n now) = if nat_eq timeline number then n else 0
+added_by number (request.Open name) = 0
+added_by number (request.Fence timeline point now) = 0
+added_by number (request.Merge a b name) = 0
+added_by number (request.Status file) = 0
+added_by number (request.IsSignalled file) = 0
+added_by number (request.Close other now) = 0
+
+-- the sum of a timeline's increments
+abbrev pub sum_of : ℕ → List Request → ℕ
+sum_of number [] = 0
+sum_of number (r ∷ rs) = added_by number r + sum_of number rs

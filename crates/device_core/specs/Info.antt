@@ -1,0 +1,28 @@
+-- What is reported of the fences of a file.
+use Rattle.std.specs.Prelude.{ℕ, ◌==◌, if◌then◌else◌, List, [], ◌∷◌, length, map, codes}
+use Rattle.point_core.specs.declared.status.Status.TheVariants.{Signalled}
+use Rattle.device_core.specs.declared.fence.Fence.{Fence}
+use Rattle.device_core.specs.declared.info.Driver.{Driver}
+use Rattle.device_core.specs.declared.info.Driver.TheVariants.{SwSync, Stub}
+use Rattle.device_core.specs.declared.info.FenceInfo.{FenceInfo}
+use Rattle.device_core.specs.Fences.{status_before, time_of}
+use Rattle.device_core.specs.Names.{as_text}
+use Rattle.device_core.specs.State.{FileState}
+
+-- the kernel's name of a driver
+abbrev pub driver_name : Driver → List ℕ
+driver_name SwSync = codes "sw_sync"
+driver_name Stub = codes "stub"
+
+-- of a fence: its timeline's name, its own status, and when it signalled, or 0
+abbrev pub fence_info : Fence → FenceInfo
+fence_info f =
+    record { timeline = f.name; driver = SwSync; status = status_before f.signal Signalled; at = time_of f.signal }
+
+-- of the stub, which has signalled
+abbrev pub stub_info : ℕ → FenceInfo
+stub_info at = record { timeline = as_text (codes "stub"); driver = Stub; status = Signalled; at = at }
+
+-- of each fence in order, or of the stub that stands for none
+abbrev pub fence_infos : FileState → List FenceInfo
+fence_infos f = if length f.fences == 0 then stub_info f.stub_at ∷ [] else map fence_info f.fences

@@ -1,0 +1,152 @@
+-- What a device is after an accepted request, why a request is refused, and what is answered.
+use Rattle.std.specs.Prelude.{◌≡◌, ◌↔◌, ℕ, ◌+◌, ◌^◌, nat_eq, nat_le, Bool, true, false, not, ◌||◌, if◌then◌else◌, List, Option, None, Some, is_some, option_map, Contains, Result, Ok, Err}
+use Rattle.std.specs.List.Sorted.{IsStrictlyIncreasing}
+use Rattle.point_core.specs.Reach.{GREATEST}
+use Rattle.device_core.specs.declared.fence.Text.{Text}
+use Rattle.device_core.specs.declared.fence.Signal.{Signal}
+use Rattle.device_core.specs.declared.fence.Timeline.{Timeline}
+use Rattle.device_core.specs.declared.refusal.Refusal.{Refusal}
+use Rattle.device_core.specs.declared.refusal.Refusal.TheVariants.{NoEntry, NoMemory, WrongKind, Overflow}
+use Rattle.device_core.specs.declared.request.Request.{Request}
+use Rattle.device_core.specs.declared.request.Request.TheVariants as request
+use Rattle.device_core.specs.declared.request.Answer.{Answer}
+use Rattle.device_core.specs.declared.request.Answer.TheVariants as answer
+use Rattle.device_core.specs.Wrapping.{unwrapped}
+use Rattle.device_core.specs.Fences.{signal_at, are_signalled, status_of}
+use Rattle.device_core.specs.State.{FileState, Objects, new_timeline, raised, one_fence_file, merged_files, file_signalled}
+
+-- what is kept by number, with one number changed
+abbrev pub with_at : {X : Type 0} → (ℕ → X) → ℕ → X → ℕ → X
+with_at kept number x q = if nat_eq number q then x else kept q
+
+-- the value of a timeline; of none it is never looked at
+abbrev pub value_in : Option Timeline → ℕ
+value_in None = 0
+value_in (Some t) = t.value
+
+abbrev pub opened : Objects → Text → Objects
+opened d name = record d { next = d.next + 1; timelines = with_at d.timelines d.next (Some (new_timeline name)) }
+
+abbrev pub with_file : Objects → Option FileState → Objects
+with_file d file = record d { next = d.next + 1; files = with_at d.files d.next file }
+
+-- a timeline is another, or no longer there, and what is pending of it up to the value is signalled
+abbrev pub with_signals : Objects → ℕ → Option Timeline → ℕ → Signal → Objects
+with_signals d timeline new value signal = record d {
+  timelines = with_at d.timelines timeline new;
+  files = λ q. option_map (file_signalled timeline value signal) (d.files q);
+}
+
+-- a timeline that is there rises by n
+abbrev pub risen : Objects → ℕ → ℕ → ℕ → Objects
+risen d timeline n now =
+    with_signals d timeline (option_map (λ t. raised t n) (d.timelines timeline)) (value_in (d.timelines timeline) + n)
+    (signal_at now false)
+
+abbrev pub closed_timeline : Objects → ℕ → ℕ → Objects
+closed_timeline d timeline now = with_signals d timeline None GREATEST (signal_at now true)
+
+abbrev pub closed_file : Objects → ℕ → Objects
+closed_file d file = record d { files = with_at d.files file None }
+
+abbrev pub closed : Objects → ℕ → ℕ → Objects
+closed d number now = if is_some (d.timelines number) then closed_timeline d number now else closed_file d number
+
+-- the device after an accepted request
+abbrev pub after : Objects → Request → Objects
+after d (request.Open name) = opened d name
+after d (request.Fence timeline point now) =
+    with_file d (option_map (λ t. one_fence_file timeline t point now) (d.timelines timeline))
+after d (request.Inc timeline n now) = risen d timeline n now
+after d (request.Merge a b name) = with_file d (merged_files name (d.files a) (d.files b))
+after d (request.Status file) = d
+after d (request.IsSignalled file) = d
+after d (request.Close number now) = closed d number now
+
+-- why there is no timeline of that number, and no file
+abbrev pub missing_timeline : Objects → ℕ → Refusal
+missing_timeline d number = if is_some (d.files number) then WrongKind else NoEntry
+
+abbrev pub missing_file : Objects → ℕ → Refusal
+missing_file d number = if is_some (d.timelines number) then WrongKind else NoEntry
+
+-- it does not fit 64 bits
+abbrev pub overflow : ℕ → Option Refusal
+overflow value = if nat_le (2 ^ 64) value then Some Overflow else None
+
+-- the cause at a timeline that is there, or why there is none
+abbrev pub cause_at_timeline : Objects → ℕ → Option Refusal → Option Refusal
+cause_at_timeline d number cause = if is_some (d.timelines number) then cause else Some (missing_timeline d number)
+
+-- the same at a file
+abbrev pub cause_at_file : Objects → ℕ → Option Refusal → Option Refusal
+cause_at_file d number cause = if is_some (d.files number) then cause else Some (missing_file d number)
+
+-- the first cause to refuse a request, but for memory
+abbrev pub cause_of : Objects → Request → Option Refusal
+cause_of d (request.Open name) = None
+cause_of d (request.Fence timeline point now) =
+    cause_at_timeline d timeline (overflow (unwrapped (value_in (d.timelines timeline)) point))
+cause_of d (request.Inc timeline n now) = cause_at_timeline d timeline (overflow (value_in (d.timelines timeline) + n))
+cause_of d (request.Merge a b name) = cause_at_file d a (if is_some (d.files b) then None else Some NoEntry)
+cause_of d (request.Status file) = cause_at_file d file None
+cause_of d (request.IsSignalled file) = cause_at_file d file None
+cause_of d (request.Close number now) =
+    if is_some (d.timelines number) || is_some (d.files number) then None else Some NoEntry
+
+-- a look at a file takes no memory, nor does the closing of one
+abbrev pub takes_memory : Objects → Request → Bool
+takes_memory d (request.Open name) = true
+takes_memory d (request.Fence timeline point now) = true
+takes_memory d (request.Inc timeline n now) = true
+takes_memory d (request.Merge a b name) = true
+takes_memory d (request.Status file) = false
+takes_memory d (request.IsSignalled file) = false
+takes_memory d (request.Close number now) = is_some (d.timelines number)
+
+-- a file that is there and has not signalled, and one that has
+abbrev pub is_waiting : Option FileState → Bool
+is_waiting None = false
+is_waiting (Some f) = not (are_signalled f.fences)
+
+abbrev pub has_signalled : Option FileState → Bool
+has_signalled None = false
+has_signalled (Some f) = are_signalled f.fences
+
+-- the files that waited and have signalled, each once, by rising number: there is one such list
+pub record AreWoken (old new : Objects) (woken : List ℕ) : Type 0 where
+  pub all : (n : ℕ) → (Contains woken n ↔ ((is_waiting (old.files n) ≡ true) × (has_signalled (new.files n) ≡ true)))
+  pub rising : IsStrictlyIncreasing woken
+
+-- the answer has such a list
+abbrev pub OnWoken : (List ℕ → Type 0) → Answer → Type 0
+OnWoken such (answer.Number n) = ⊥
+OnWoken such (answer.Woken woken) = such woken.items
+OnWoken such (answer.Status status) = ⊥
+OnWoken such (answer.Signalled signalled) = ⊥
+
+-- the answer is that of a file that is there
+abbrev pub OnFile : Option FileState → (FileState → Answer) → Answer → Type 0
+OnFile None told given = ⊥
+OnFile (Some f) told given = given ≡ told f
+
+-- what is answered to an accepted request
+abbrev pub Reports : Objects → Request → Answer → Type 0
+Reports d (request.Open name) given = given ≡ answer.Number d.next
+Reports d (request.Fence timeline point now) given = given ≡ answer.Number d.next
+Reports d (request.Inc timeline n now) given = OnWoken (AreWoken d (risen d timeline n now)) given
+Reports d (request.Merge a b name) given = given ≡ answer.Number d.next
+Reports d (request.Status file) given = OnFile (d.files file) (λ f. answer.Status (status_of f.fences)) given
+Reports d (request.IsSignalled file) given =
+    OnFile (d.files file) (λ f. answer.Signalled (are_signalled f.fences)) given
+Reports d (request.Close number now) given = OnWoken (AreWoken d (closed d number now)) given
+
+-- it is the first cause, or that memory is short where there is none
+abbrev pub IsCause : Option Refusal → Bool → Refusal → Type 0
+IsCause (Some cause) takes given = given ≡ cause
+IsCause None takes given = (given ≡ NoMemory) × (takes ≡ true)
+
+-- the answer of a device to a request
+abbrev pub IsAnswer : Objects → Request → Result Answer Refusal → Type 0
+IsAnswer d asked (Ok given) = (cause_of d asked ≡ None) × Reports d asked given
+IsAnswer d asked (Err refusal) = IsCause (cause_of d asked) (takes_memory d asked) refusal

@@ -1,0 +1,135 @@
+-- A device, as contracts see it.
+use Rattle.std.specs.Prelude.{◌≡◌, ℕ, ◌+◌, ◌≤◌, ◌==◌, length, max, replicate, nat_eq, nat_le, Bool, true, false, ◌&&◌, if◌then◌else◌, List, [], ◌∷◌, Option, None, Some, is_some, option_map}
+use Rattle.std.specs.List.{list_any}
+use Rattle.std.specs.Map.{lookup}
+use Rattle.device_core.specs.declared.fence.Text.{Text}
+use Rattle.device_core.specs.declared.fence.Signal.{Signal}
+use Rattle.device_core.specs.declared.fence.Fence.{Fence}
+use Rattle.device_core.specs.declared.fence.Timeline.{Timeline}
+use Rattle.device_core.specs.declared.waiting.Waiting.{Waiting}
+use Rattle.device_core.specs.declared.refusal.Refusal.{Refusal}
+use Rattle.device_core.specs.declared.refusal.Refusal.TheVariants.{NoEntry, WrongKind}
+use Rattle.device_core.specs.Wrapping.{unwrapped}
+use Rattle.device_core.specs.Fences.{latest_time, merged, waits_at, all_signalled_by, fence_of, signal_at}
+
+-- a file: the name that it was given, its fences by rising timeline, and the time of its stub if it has none
+pub record FileState : Type 0 where
+  pub name : Text
+  pub fences : List Fence
+  pub stub_at : ℕ
+
+abbrev pub file_of : Text → List Fence → ℕ → FileState
+file_of name fences stub_at = record { name = name; fences = fences; stub_at = stub_at }
+
+-- the next number, and what is alive, by number, in no order that means anything
+pub record DeviceState : Type 0 where
+  pub next : ℕ
+  pub timelines : List (ℕ × Timeline)
+  pub files : List (ℕ × FileState)
+
+abbrev pub nothing : DeviceState
+nothing = record { next = 1; timelines = []; files = [] }
+
+abbrev pub at : {X : Type 0} → List (ℕ × X) → ℕ → Option X
+at es number = lookup (nat_eq number) es
+
+abbrev pub timeline_at : DeviceState → ℕ → Option Timeline
+timeline_at d number = at d.timelines number
+
+abbrev pub file_at : DeviceState → ℕ → Option FileState
+file_at d number = at d.files number
+
+-- the next number, and what each number stands for: what a device holds, as definitions speak of it
+pub record Objects : Type 0 where
+  pub next : ℕ
+  pub timelines : ℕ → Option Timeline
+  pub files : ℕ → Option FileState
+
+abbrev pub no_objects : Objects
+no_objects = record { next = 1; timelines = λ _. None; files = λ _. None }
+
+abbrev pub objects_of : DeviceState → Objects
+objects_of d = record { next = d.next; timelines = timeline_at d; files = file_at d }
+
+abbrev pub new_timeline : Text → Timeline
+new_timeline name = record { name = name; value = 0 }
+
+-- the timeline, raised by n
+abbrev pub raised : Timeline → ℕ → Timeline
+raised t n = record t { value = t.value + n }
+
+-- the fence of a point that is asked for: signalled now if the timeline has reached it
+abbrev pub fence_at : ℕ → Timeline → ℕ → ℕ → Fence
+fence_at number t point now =
+    let value = unwrapped t.value point in
+    fence_of number t.name point value (if nat_le value t.value then Some (signal_at now false) else None)
+
+abbrev pub empty_text : Text
+empty_text = record { bytes = replicate 32 0 }
+
+abbrev pub one_fence_file : ℕ → Timeline → ℕ → ℕ → FileState
+one_fence_file number t point now = file_of empty_text (fence_at number t point now ∷ []) 0
+
+-- the time of a stub that stands for both files: the latest at which any of their fences signalled
+abbrev pub merged_time : FileState → FileState → ℕ
+merged_time a b = latest_time (latest_time (max a.stub_at b.stub_at) a.fences) b.fences
+
+-- the merge of two files: a stub if nothing of them is pending
+abbrev pub merged_file : Text → FileState → FileState → FileState
+merged_file name a b =
+    let fences = merged a.fences b.fences in
+    file_of name fences (if length fences == 0 then merged_time a b else 0)
+
+-- the merge of two that are there
+abbrev pub merged_files : Text → Option FileState → Option FileState → Option FileState
+merged_files name None o = None
+merged_files name (Some a) None = None
+merged_files name (Some a) (Some b) = Some (merged_file name a b)
+
+-- why there is no timeline of that number, and no file
+abbrev pub why_no_timeline : DeviceState → ℕ → Refusal
+why_no_timeline d number = if is_some (file_at d number) then WrongKind else NoEntry
+
+abbrev pub why_no_file : DeviceState → ℕ → Refusal
+why_no_file d number = if is_some (timeline_at d number) then WrongKind else NoEntry
+
+-- the file, once a timeline signals all that is pending up to the value
+abbrev pub file_signalled : ℕ → ℕ → Signal → FileState → FileState
+file_signalled timeline value signal f = record f { fences = all_signalled_by timeline value signal f.fences }
+
+abbrev pub is_same : Waiting → Waiting → Bool
+is_same a b = nat_eq a.timeline b.timeline && (nat_eq a.value b.value && nat_eq a.file b.file)
+
+abbrev pub holds : List Waiting → Waiting → Bool
+holds ks k = list_any (is_same k) ks
+
+-- it is of that timeline, at or below the value
+abbrev pub is_due_at : ℕ → ℕ → Waiting → Bool
+is_due_at timeline value k = nat_eq k.timeline timeline && nat_le k.value value
+
+-- a file of these fences waits at that point
+abbrev pub waits_of : ℕ → List Fence → Waiting → Bool
+waits_of file fs k = nat_eq k.file file && waits_at k fs
+
+-- a file that is there waits at that point
+abbrev pub file_waits : Waiting → Option FileState → Bool
+file_waits k None = false
+file_waits k (Some f) = waits_at k f.fences
+
+-- the index holds the pending points of the files that are there, and no others
+abbrev pub IsIndexed : List Waiting → List (ℕ × FileState) → Type 0
+IsIndexed index files = (k : Waiting) → holds index k ≡ file_waits k (at files k.file)
+
+-- the files, once a timeline signals all that is pending up to the value
+abbrev pub AreSignalled : ℕ → ℕ → Signal → List (ℕ × FileState) → List (ℕ × FileState) → Type 0
+AreSignalled timeline value signal old new =
+    (q : ℕ) → at new q ≡ option_map (file_signalled timeline value signal) (at old q)
+
+-- what is kept: nothing has a number that was not given, no number is of two objects, and the index is that of the files
+pub record IsKept (next : ℕ) (timelines : List (ℕ × Timeline)) (files : List (ℕ × FileState)) (index : List Waiting)
+    : Type 0 where
+  pub first : 1 ≤ next
+  pub timelines_given : (n : ℕ) → next ≤ n → at timelines n ≡ None
+  pub files_given : (n : ℕ) → next ≤ n → at files n ≡ None
+  pub one_kind : (n : ℕ) → is_some (at files n) ≡ true → at timelines n ≡ None
+  pub indexed : IsIndexed index files

@@ -1,0 +1,22 @@
+-- The files that signal by a request.
+use Rattle.std.specs.Prelude.{nat_eq, ℕ, Bool, false, not, ◌&&◌, ◌||◌, List, Option, None, Some}
+use Rattle.std.specs.List.{list_any, list_all}
+use Rattle.device_core.specs.declared.fence.Fence.{Fence}
+use Rattle.device_core.specs.Fences.{is_pending, is_due, are_signalled}
+use Rattle.device_core.specs.State.{FileState}
+
+-- it has signalled, or it is due
+abbrev pub is_settled_by : ℕ → ℕ → Fence → Bool
+is_settled_by timeline value f = not (is_pending f) || is_due timeline value f
+
+-- they have not all signalled, and they have once the timeline signals up to the value
+abbrev pub wakes : ℕ → ℕ → List Fence → Bool
+wakes timeline value fs = not (are_signalled fs) && list_all (is_settled_by timeline value) fs
+
+abbrev pub file_wakes : ℕ → ℕ → Option FileState → Bool
+file_wakes timeline value None = false
+file_wakes timeline value (Some f) = wakes timeline value f.fences
+
+-- the number is among these
+abbrev pub has : List ℕ → ℕ → Bool
+has numbers n = list_any (nat_eq n) numbers

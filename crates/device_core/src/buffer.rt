@@ -1,0 +1,208 @@
+// A buffer.
+ghost use Rattle.std.specs.Prelude.{◌≡◌, ℕ, ◌+◌, ◌≤◌, ◌<◌, ◌∷◌, [], fold, length, option_to_list, vec_len, IfErr, IfOk, OnErr, OnOk};
+ghost use Rattle.std.specs.List.{filter_map};
+ghost use Rattle.std.specs.Vec.{vec_capacity};
+ghost use Rattle.device_core.specs.declared.refusal.Refusal.TheVariants.{NoMemory};
+ghost use Rattle.device_core.specs.Fences.{with_fence};
+ghost use Rattle.device_core.specs.Buffers.{empty_buffer, exported, import_into, imported, none_waits as none_waits_of, state_of, trimmed as trimmed_of, waiting_fence, with_buffer_fence};
+ghost use Rattle.device_core.specs.State.{at};
+
+use crate::buffer_fence::BufferFence;
+use crate::fence::{Fence, Timeline};
+use crate::file::all_signalled;
+use crate::merging::put as put_later;
+use crate::refusal::Refusal;
+use point_core::Usage;
+use std::alloc::Global;
+use std::collections::HashMap;
+use std::marker::Model;
+
+/// A table is trimmed when it has so many times the fences that its last trim left.
+const GROWTH: usize = 2;
+
+/// A table of fewer than `GROWTH` times so many fences is not trimmed.
+const UNTRIMMED: usize = 8;
+
+const _: () = prove!(GROWTH == 2);
+
+const _: () = prove!(UNTRIMMED == 8);
+
+/// The fences of a buffer, each with the usage that it was put with, as Linux's `struct dma_resv`. What its timelines
+/// have reached is asked at each call, so their rises and closings leave it as it is.
+#[derive(Drop)]
+pub struct Buffer {
+    fences: Vec<BufferFence>,
+    left: usize,
+    stub_at: u64,
+}
+
+impl Model for Buffer {
+    ghost use Rattle.device_core.specs.Buffers.{BufferState, state_of};
+
+    ghost Value = { BufferState };
+
+    ghost view = { λ b. state_of b.fences.items b.left b.stub_at };
+}
+
+impl Buffer {
+    /// No fences. It takes no memory.
+    pub(crate) fn new(alloc: Global, now: u64) -> Buffer
+        ensures { result ≡ empty_buffer now }
+    {
+        Buffer {
+            fences: Vec::new(alloc),
+            left: 0,
+            stub_at: now,
+        }
+    }
+
+    /// Puts the pending fences of a file with that usage, as Linux's `DMA_BUF_IOCTL_IMPORT_SYNC_FILE`. Each takes the
+    /// place of the first fence that it covers, as in `dma_resv_add_fence`; the kernel's also takes that of one that
+    /// has signalled, which stays here until the next trim.
+    ///
+    /// Fails with `NoMemory` alone, and then leaves all as it was.
+    pub(crate) fn import(
+        &mut self,
+        timelines: &HashMap<u64, Timeline>,
+        fences: &[Fence],
+        usage: Usage,
+    ) -> Result<(), Refusal>
+        ensures imported { OnOk result (self.new ≡ import_into (at timelines.now.entries) usage fences.now self.old) }
+        ensures memory { IfErr result (λ e. e ≡ NoMemory) }
+        ensures unchanged { OnErr result (self.new ≡ self.old) }
+    {
+        if all_signalled(fences) {
+            return Ok(());
+        }
+        let Ok(_room) = self.fences.reserve(fences.len()) else {
+            return Err(Refusal::NoMemory);
+        };
+        self.left = trim_grown(&mut self.fences, self.left, timelines);
+        put_pending(&mut self.fences, fences, usage);
+        let most = GROWTH.saturating_mul(self.fences.len().max(UNTRIMMED));
+        self.fences.shrink_to(most);
+        Ok(())
+    }
+
+    /// The fences that wait at the usage or a stronger one, the latest of each timeline, by rising timeline. Linux's
+    /// `DMA_BUF_IOCTL_EXPORT_SYNC_FILE` gives each of them, by the table's order.
+    ///
+    /// Fails with `NoMemory` alone.
+    pub(crate) fn export(
+        &self,
+        alloc: Global,
+        timelines: &HashMap<u64, Timeline>,
+        usage: Usage,
+    ) -> Result<Vec<Fence>, Refusal>
+        ensures exported { IfOk result (λ fs. fs.items ≡ exported (at timelines.now.entries) usage self.now.fences) }
+        ensures memory { IfErr result (λ e. e ≡ NoMemory) }
+    {
+        let mut listed = Vec::new(alloc);
+        list_waiting(&mut listed, self.fences.as_slice(), timelines, usage)?;
+        Ok(listed)
+    }
+
+    /// Whether every fence of the usage or a stronger one has signalled, as Linux's `dma_resv_test_signaled`. Takes no
+    /// memory.
+    pub(crate) fn test(&self, timelines: &HashMap<u64, Timeline>, usage: Usage) -> bool
+        ensures { result ≡ none_waits_of (at timelines.now.entries) usage self.now.fences }
+    {
+        none_waits(self.fences.as_slice(), timelines, usage)
+    }
+
+    /// The time of the stub that an export of an idle buffer gives: that of its making. The kernel's is that of the
+    /// stub's first use since the start of the machine.
+    pub(crate) fn stub_at(&self) -> u64
+        ensures { result ≡ self.now.stub_at }
+    {
+        self.stub_at
+    }
+}
+
+fn none_waits(fences: &[BufferFence], timelines: &HashMap<u64, Timeline>, usage: Usage) -> bool
+    ensures { result ≡ none_waits_of (at timelines.now.entries) usage fences.now }
+{
+    for fence in fences {
+        if fence.usage.number() <= usage.number() && fence.is_waiting(timelines) {
+            return false;
+        }
+    }
+    true
+}
+
+fn list_waiting(
+    listed: &mut Vec<Fence>,
+    fences: &[BufferFence],
+    timelines: &HashMap<u64, Timeline>,
+    usage: Usage,
+) -> Result<(), Refusal>
+    ensures listed { OnOk result (listed.new.items ≡
+        fold with_fence listed.old.items (filter_map (waiting_fence (at timelines.now.entries) usage) fences.now)) }
+    ensures memory { IfErr result (λ e. e ≡ NoMemory) }
+{
+    for fence in fences {
+        put_option(listed, fence.waiting(timelines, usage))?;
+    }
+    Ok(())
+}
+
+fn put_option(listed: &mut Vec<Fence>, fence: Option<Fence>) -> Result<(), Refusal>
+    ensures put { OnOk result (listed.new.items ≡ fold with_fence listed.old.items (option_to_list fence)) }
+    ensures memory { IfErr result (λ e. e ≡ NoMemory) }
+{
+    match fence {
+        Some(fence) => put_later(listed, fence),
+        None => Ok(()),
+    }
+}
+
+/// Drops what no longer waits if the table has grown so much since its last trim, and gives how many its last trim left.
+fn trim_grown(
+    fences: &mut Vec<BufferFence>,
+    left: usize,
+    timelines: &HashMap<u64, Timeline>,
+) -> usize
+    ensures trimmed { (stub_at : ℕ) → state_of fences.new.items result stub_at ≡
+        trimmed_of (at timelines.now.entries) (state_of fences.old.items left stub_at) }
+    ensures fewer { vec_len fences.new ≤ vec_len fences.old }
+    ensures places { vec_capacity fences.new ≡ vec_capacity fences.old }
+{
+    if fences.len() / GROWTH < left.max(UNTRIMMED) {
+        return left;
+    }
+    fences.retain(|fence| fence.is_waiting(timelines));
+    fences.len()
+}
+
+fn put_pending(fences: &mut Vec<BufferFence>, put: &[Fence], usage: Usage)
+    requires room { vec_len fences.old + length put.now ≤ vec_capacity fences.old }
+    ensures put { fences.new.items ≡ fold with_buffer_fence fences.old.items (imported usage put.now) }
+{
+    for fence in put {
+        put_if_pending(fences, fence, usage);
+    }
+}
+
+fn put_if_pending(fences: &mut Vec<BufferFence>, fence: &Fence, usage: Usage)
+    requires room { vec_len fences.old < vec_capacity fences.old }
+    ensures put { fences.new.items ≡ fold with_buffer_fence fences.old.items (imported usage (fence.now ∷ [])) }
+    ensures few { vec_len fences.new ≤ vec_len fences.old + 1 }
+    ensures places { vec_capacity fences.new ≡ vec_capacity fences.old }
+{
+    if fence.signal.is_none() {
+        put(fences, BufferFence::of(fence, usage));
+    }
+}
+
+/// Puts a fence in the place of the first that it covers, or after the others.
+fn put(fences: &mut Vec<BufferFence>, new: BufferFence)
+    requires room { vec_len fences.old < vec_capacity fences.old }
+    ensures put { fences.new.items ≡ with_buffer_fence fences.old.items new }
+    ensures few { vec_len fences.new ≤ vec_len fences.old + 1 }
+    ensures places { vec_capacity fences.new ≡ vec_capacity fences.old }
+{
+    match fences.iter().position(|old| new.covers(old)) {
+        Some(place) => fences[place] = new,
+        None => fences.push_reserved(new),
+    }
+}

@@ -1,0 +1,53 @@
+//! What holds of all buffers: each law is the contract of a function with an empty body.
+ghost use Rattle.std.specs.Prelude.{◌≡◌, ℕ, ◌%◌, ◌^◌, ◌<◌, ◌↔◌, ◌++◌, true, List, Option};
+ghost use Rattle.point_core.specs.declared.entry.Entry.{Entry};
+ghost use Rattle.point_core.specs.declared.entry.Usage.{Usage};
+ghost use Rattle.point_core.specs.Agreement.{AgreesAbove, IsReached};
+ghost use Rattle.point_core.specs.Usage.{usage_number};
+ghost use Rattle.device_core.specs.declared.buffer_fence.BufferFence.{BufferFence};
+ghost use Rattle.device_core.specs.declared.fence.Fence.{Fence};
+ghost use Rattle.device_core.specs.declared.fence.Timeline.{Timeline};
+ghost use Rattle.device_core.specs.Buffers.{AreWaiting, BufferState, IsReachOf, at_usage, entries_of, exported, import_into, imported, none_waits};
+ghost use Rattle.device_core.specs.Fences.{HasRisingTimelines, entries_in};
+ghost use Rattle.device_core.specs.Wrapping.{unwrapped};
+
+/// At each usage a buffer agrees, above what its timelines have reached, with what was in it and the pending fences of the
+/// file that was imported.
+pub fn an_import_is_a_union()
+    ensures { (timelines : ℕ → Option Timeline) (usage : Usage) (fs : List Fence) (b : BufferState) (reach : List ℕ) →
+        IsReachOf timelines b.fences reach →
+        AgreesAbove reach (entries_of (import_into timelines usage fs b).fences)
+        (entries_of (b.fences ++ imported usage fs)) }
+{}
+
+/// An export has one fence of each timeline, by rising number, each of them pending, and agrees with what was put into the
+/// buffer at its usage or a stronger one.
+pub fn an_export_is_what_waits()
+    ensures agrees { (timelines : ℕ → Option Timeline) (usage : Usage) (hs : List BufferFence) (reach : List ℕ) →
+        IsReachOf timelines hs reach →
+        AgreesAbove reach (entries_in (exported timelines usage hs)) (at_usage usage (entries_of hs)) }
+    ensures waiting { (timelines : ℕ → Option Timeline) (usage : Usage) (hs : List BufferFence) →
+        AreWaiting timelines (exported timelines usage hs) }
+    ensures rising { (timelines : ℕ → Option Timeline) (usage : Usage) (hs : List BufferFence) →
+        HasRisingTimelines (exported timelines usage hs) }
+{}
+
+/// Nothing waits exactly if all that was put at the usage or a stronger one is reached.
+pub fn a_test_finds_what_is_reached()
+    ensures { (timelines : ℕ → Option Timeline) (usage : Usage) (hs : List BufferFence) (reach : List ℕ) →
+        IsReachOf timelines hs reach →
+        ((none_waits timelines usage hs ≡ true) ↔ IsReached (entries_of hs) (usage_number usage) reach) }
+{}
+
+/// Buffers that agree above a reach export alike.
+pub fn exports_show_agreement()
+    ensures { (reach : List ℕ) (usage : Usage) (es fs : List Entry) →
+        AgreesAbove reach es fs → AgreesAbove reach (at_usage usage es) (at_usage usage fs) }
+{}
+
+/// A pending point of 32 bits is the low half of the point of 64 that it stands for, so an exported fence has the point
+/// that was asked for.
+pub fn a_pending_point_is_the_low_half()
+    ensures { (value point : ℕ) →
+        point < 2 ^ 32 → value < unwrapped value point → unwrapped value point % 2 ^ 32 ≡ point }
+{}

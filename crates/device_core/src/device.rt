@@ -1,0 +1,369 @@
+// The device.
+ghost use Rattle.std.specs.Prelude.{◌≡◌, ◌⊎◌, ℕ, ◌+◌, ◌^◌, ◌≤◌, nat_eq, if◌then◌else◌, Some, None, IsSome, IfSome, IfNone, OnOk, OnErr, IfOk, IfErr, MatchOption, Ok, Err, true, false, ◌<◌, ◌↔◌, Contains};
+ghost use Rattle.std.specs.List.Sorted.{IsStrictlyIncreasing};
+ghost use Rattle.device_core.specs.declared.refusal.Refusal.TheVariants.{NoEntry, NoMemory, Overflow};
+ghost use Rattle.device_core.specs.declared.fence.Text.{Text as Name};
+ghost use Rattle.point_core.specs.Reach.{GREATEST};
+ghost use Rattle.device_core.specs.Fences.{are_signalled, signal_at, status_of};
+ghost use Rattle.device_core.specs.Woken.{file_wakes};
+ghost use Rattle.device_core.specs.Wrapping.{unwrapped as unwrapped_of};
+ghost use Rattle.device_core.specs.State.{nothing, at, timeline_at, file_at, file_of, new_timeline, raised, merged_files, one_fence_file, why_no_timeline, why_no_file, objects_of, AreSignalled};
+ghost use Rattle.device_core.specs.declared.request.Request.TheVariants as request;
+ghost use Rattle.device_core.specs.Request.{AreWoken, IsCause, cause_of, closed, takes_memory};
+
+use crate::fence::{Fence, Signal, Text, Timeline, one_fence};
+use crate::file::File;
+use crate::merging::{merged, merged_time};
+use crate::refusal::Refusal;
+use crate::signalling::signal_due;
+use crate::waiting::WaitingFiles;
+use point_core::Status;
+use std::alloc::Global;
+use std::collections::HashMap;
+use std::marker::Model;
+
+/// Timelines and sync files by number. Numbers rise from 1, and none is given twice.
+#[derive(Drop)]
+pub struct Device {
+    alloc: Global,
+    next: u64,
+    timelines: HashMap<u64, Timeline>,
+    files: HashMap<u64, File>,
+    waiting: WaitingFiles,
+}
+
+impl Model for Device {
+    ghost use Rattle.device_core.specs.State.{DeviceState, IsKept};
+
+    ghost Value = { DeviceState };
+
+    ghost view = { λ d. record { next = d.next; timelines = d.timelines.entries; files = d.files.entries } };
+
+    ghost invariant = { λ d. IsKept d.next d.timelines.entries d.files.entries d.waiting };
+}
+
+impl Device {
+    /// Nothing is open. It takes no memory.
+    pub fn new(alloc: Global) -> Device
+        ensures { result ≡ nothing }
+    {
+        Device {
+            alloc,
+            next: 1,
+            timelines: HashMap::new(alloc),
+            files: HashMap::new(alloc),
+            waiting: WaitingFiles::new(alloc),
+        }
+    }
+
+    /// Opens a timeline at 0, as opening `sync/sw_sync` does; the name is that of the task.
+    ///
+    /// Fails with `NoMemory` alone; nothing is opened then.
+    pub fn open(&mut self, name: Text) -> Result<u64, Refusal>
+        ensures number { IfOk result (λ n. (n ≡ self.old.next) × (self.new.next ≡ n + 1)) }
+        ensures opened { IfOk result (λ n. (q : ℕ) →
+            timeline_at self.new q ≡ (if nat_eq n q then Some (new_timeline name) else timeline_at self.old q)) }
+        ensures files { self.new.files ≡ self.old.files }
+        ensures memory { IfErr result (λ e. e ≡ NoMemory) }
+        ensures unchanged { OnErr result (self.new ≡ self.old) }
+    {
+        let number = self.next;
+        if number == u64::MAX {
+            return Err(Refusal::NoMemory);
+        }
+        let timeline = Timeline { name, value: 0 };
+        match self.timelines.insert(number, timeline) {
+            Ok(_) => {
+                self.next = number + 1;
+                Ok(number)
+            }
+            Err(_) => Err(Refusal::NoMemory),
+        }
+    }
+
+    /// Makes a file of one fence, as `SW_SYNC_IOC_CREATE_FENCE` does. A point that the timeline has reached is signalled
+    /// now.
+    ///
+    /// Fails with `NoEntry`, or with `WrongKind` at a file, then with `Overflow`, then with `NoMemory`; nothing is made
+    /// then.
+    pub fn fence(&mut self, timeline: u64, point: u32, now: u64) -> Result<u64, Refusal>
+        ensures known { OnOk result (IsSome (timeline_at self.old timeline)) }
+        ensures number { IfOk result (λ n. (n ≡ self.old.next) × (self.new.next ≡ n + 1)) }
+        ensures made { IfOk result (λ n. IfSome (timeline_at self.old timeline) (λ t. (q : ℕ) →
+            file_at self.new q
+            ≡ (if nat_eq n q then Some (one_fence_file timeline t point now) else file_at self.old q))) }
+        ensures timelines { self.new.timelines ≡ self.old.timelines }
+        ensures refused { IfNone (timeline_at self.old timeline) (result ≡ Err (why_no_timeline self.old timeline)) }
+        ensures last { IfSome (timeline_at self.old timeline) (λ t. IfErr result (λ e.
+            ((e ≡ NoMemory) × (unwrapped_of t.value point < 2 ^ 64))
+            ⊎ ((e ≡ Overflow) × (2 ^ 64 ≤ unwrapped_of t.value point)))) }
+        ensures fits { OnOk result (IfSome (timeline_at self.old timeline) (λ t. unwrapped_of t.value point < 2 ^ 64)) }
+        ensures unchanged { OnErr result (self.new ≡ self.old) }
+    {
+        let known = self.timeline(timeline)?;
+        let fence = Fence::at(timeline, &known, point, now)?;
+        let fences = one_fence(self.alloc, fence)?;
+        self.add_file(Text::EMPTY, fences, 0)
+    }
+
+    /// Raises a timeline, as `SW_SYNC_IOC_INC` does: what is pending at or below the new value is signalled now. Gives
+    /// the files that signal by it, by rising number.
+    ///
+    /// Fails with `NoEntry`, or with `WrongKind` at a file, then with `Overflow`, then with `NoMemory`; nothing has
+    /// changed then.
+    pub fn inc(&mut self, timeline: u64, n: u32, now: u64) -> Result<Vec<u64>, Refusal>
+        ensures woken { IfOk result (λ found. IfSome (timeline_at self.old timeline) (λ t. (f : ℕ) →
+            (Contains found.items f ↔ (file_wakes timeline (t.value + n) (file_at self.old f) ≡ true)))) }
+        ensures rising { IfOk result (λ found. IsStrictlyIncreasing found.items) }
+        ensures raised { OnOk result (IfSome (timeline_at self.old timeline) (λ t. (q : ℕ) →
+            timeline_at self.new q ≡ (if nat_eq timeline q then Some (raised t n) else timeline_at self.old q))) }
+        ensures signalled { OnOk result (IfSome (timeline_at self.old timeline) (λ t.
+            AreSignalled timeline (t.value + n) (signal_at now false) self.old.files self.new.files)) }
+        ensures next { self.new.next ≡ self.old.next }
+        ensures known { OnOk result (IsSome (timeline_at self.old timeline)) }
+        ensures refused { IfNone (timeline_at self.old timeline) (result ≡ Err (why_no_timeline self.old timeline)) }
+        ensures last { IfSome (timeline_at self.old timeline) (λ t. IfErr result (λ e.
+            ((e ≡ NoMemory) × (t.value + n < 2 ^ 64)) ⊎ ((e ≡ Overflow) × (2 ^ 64 ≤ t.value + n)))) }
+        ensures fits { OnOk result (IfSome (timeline_at self.old timeline) (λ t. t.value + n < 2 ^ 64)) }
+        ensures unchanged { OnErr result (self.new ≡ self.old) }
+    {
+        let known = self.timeline(timeline)?;
+        let Some(value) = known.value.checked_add(u64::from(n)) else {
+            return Err(Refusal::Overflow);
+        };
+        let woken = self
+            .waiting
+            .woken_by(self.alloc, &self.files, timeline, value)?;
+        set_value(&mut self.timelines, timeline, value);
+        let signal = Signal {
+            at: now,
+            is_cancelled: false,
+        };
+        signal_due(&mut self.waiting, &mut self.files, timeline, value, signal);
+        Ok(woken)
+    }
+
+    /// Closes a timeline or a file; its number is never used again.
+    ///
+    /// What is pending of a timeline is cancelled now, as the release of `sync/sw_sync` does. Gives the files that signal
+    /// by it, by rising number. Nothing waits for a closed file any more.
+    ///
+    /// Fails with `NoEntry`, then at a timeline with `NoMemory`; nothing has changed then.
+    pub fn close(&mut self, number: u64, now: u64) -> Result<Vec<u64>, Refusal>
+        ensures woken { IfOk result (λ found. AreWoken (objects_of self.old) (objects_of self.new) found.items) }
+        ensures closed { OnOk result (objects_of self.new ≡ closed (objects_of self.old) number now) }
+        ensures known { OnOk result (cause_of (objects_of self.old) (request.Close number now) ≡ None) }
+        ensures refused { IfErr result (λ e. IsCause (cause_of (objects_of self.old) (request.Close number now))
+            (takes_memory (objects_of self.old) (request.Close number now)) e) }
+        ensures unchanged { OnErr result (self.new ≡ self.old) }
+    {
+        if self.timelines.contains_key(&number) {
+            return self.close_timeline(number, now);
+        }
+        match self.close_file(number) {
+            Ok(_done) => Ok(Vec::new(self.alloc)),
+            Err(refusal) => Err(refusal),
+        }
+    }
+
+    // Fails with `NoEntry`, or with `WrongKind` at a file, then with `NoMemory`; nothing has changed then.
+    fn close_timeline(&mut self, timeline: u64, now: u64) -> Result<Vec<u64>, Refusal>
+        ensures woken { IfOk result (λ found. (f : ℕ) →
+            (Contains found.items f ↔ (file_wakes timeline GREATEST (file_at self.old f) ≡ true))) }
+        ensures rising { IfOk result (λ found. IsStrictlyIncreasing found.items) }
+        ensures closed { OnOk result ((q : ℕ) →
+            timeline_at self.new q ≡ (if nat_eq timeline q then None else timeline_at self.old q)) }
+        ensures signalled { OnOk result
+            (AreSignalled timeline GREATEST (signal_at now true) self.old.files self.new.files) }
+        ensures next { self.new.next ≡ self.old.next }
+        ensures known { OnOk result (IsSome (timeline_at self.old timeline)) }
+        ensures refused { IfNone (timeline_at self.old timeline) (result ≡ Err (why_no_timeline self.old timeline)) }
+        ensures last { IfSome (timeline_at self.old timeline) (λ _. IfErr result (λ e. e ≡ NoMemory)) }
+        ensures unchanged { OnErr result (self.new ≡ self.old) }
+    {
+        let _known = self.timeline(timeline)?;
+        let woken = self
+            .waiting
+            .woken_by(self.alloc, &self.files, timeline, u64::MAX)?;
+        self.timelines.remove(&timeline);
+        let signal = Signal {
+            at: now,
+            is_cancelled: true,
+        };
+        signal_due(
+            &mut self.waiting,
+            &mut self.files,
+            timeline,
+            u64::MAX,
+            signal,
+        );
+        Ok(woken)
+    }
+
+    // Fails with `NoEntry`, or with `WrongKind` at a timeline; nothing has changed then. Takes no memory.
+    fn close_file(&mut self, file: u64) -> Result<(), Refusal>
+        ensures closed { OnOk result ((q : ℕ) →
+            file_at self.new q ≡ (if nat_eq file q then None else file_at self.old q)) }
+        ensures timelines { self.new.timelines ≡ self.old.timelines }
+        ensures next { self.new.next ≡ self.old.next }
+        ensures known { OnOk result (IsSome (file_at self.old file)) }
+        ensures refused { IfErr result (λ e. (e ≡ why_no_file self.old file) × (file_at self.old file ≡ None)) }
+        ensures unchanged { OnErr result (self.new ≡ self.old) }
+    {
+        let Some(closed) = self.files.remove(&file) else {
+            return Err(self.unknown_file(file));
+        };
+        self.waiting.take_all(file, closed.fences.as_slice());
+        Ok(())
+    }
+
+    /// Merges two files, which both stay, as `SYNC_IOC_MERGE` does: the latest pending fence of each timeline. If nothing
+    /// is pending, the file is a stub, with the latest time at which any of them signalled.
+    ///
+    /// Fails with `NoEntry`, or with `WrongKind` at a timeline in place of the first, then with `NoEntry` if the second
+    /// is no file, then with `NoMemory`; nothing is made then.
+    pub fn merge(&mut self, a: u64, b: u64, name: Text) -> Result<u64, Refusal>
+        ensures number { IfOk result (λ n. (n ≡ self.old.next) × (self.new.next ≡ n + 1)) }
+        ensures made { IfOk result (λ n. (q : ℕ) → file_at self.new q ≡
+            (if nat_eq n q then merged_files name (file_at self.old a) (file_at self.old b) else file_at self.old q)) }
+        ensures known { OnOk result (IsSome (file_at self.old a) × IsSome (file_at self.old b)) }
+        ensures timelines { self.new.timelines ≡ self.old.timelines }
+        ensures first { IfNone (file_at self.old a) (result ≡ Err (why_no_file self.old a)) }
+        ensures second { IfSome (file_at self.old a) (λ _. IfNone (file_at self.old b) (result ≡ Err NoEntry)) }
+        ensures memory { IfSome (file_at self.old a) (λ _. IfSome (file_at self.old b) (λ _.
+            IfErr result (λ e. e ≡ NoMemory))) }
+        ensures unchanged { OnErr result (self.new ≡ self.old) }
+    {
+        let (fences, stub_at) = self.merge_of(a, b)?;
+        self.add_file(name, fences, stub_at)
+    }
+
+    fn merge_of(&self, a: u64, b: u64) -> Result<(Vec<Fence>, u64), Refusal>
+        ensures merged { IfOk result (λ r. (name : Name) →
+            Some (file_of name r.0.items r.1) ≡ merged_files name (file_at self.now a) (file_at self.now b)) }
+        ensures known { OnOk result (IsSome (file_at self.now a) × IsSome (file_at self.now b)) }
+        ensures first { IfNone (file_at self.now a) (result ≡ Err (why_no_file self.now a)) }
+        ensures second { IfSome (file_at self.now a) (λ _. IfNone (file_at self.now b) (result ≡ Err NoEntry)) }
+        ensures memory { IfSome (file_at self.now a) (λ _. IfSome (file_at self.now b) (λ _.
+            IfErr result (λ e. e ≡ NoMemory))) }
+    {
+        let Some(left) = self.files.get(&a) else {
+            return Err(self.unknown_file(a));
+        };
+        let Some(right) = self.files.get(&b) else {
+            return Err(Refusal::NoEntry);
+        };
+        let fences = merged(self.alloc, left.fences.as_slice(), right.fences.as_slice())?;
+        let stub_at = if fences.is_empty() {
+            merged_time(left, right)
+        } else {
+            0
+        };
+        Ok((fences, stub_at))
+    }
+
+    /// Whether each fence of a file has signalled.
+    ///
+    /// Fails with `NoEntry`, or with `WrongKind` at a timeline. Takes no memory.
+    pub fn is_signalled(&self, file: u64) -> Result<bool, Refusal>
+        ensures known { MatchOption (file_at self.now file)
+            (result ≡ Err (why_no_file self.now file))
+            (λ f. result ≡ Ok (are_signalled f.fences)) }
+    {
+        match self.files.get(&file) {
+            Some(known) => Ok(known.is_signalled()),
+            None => Err(self.unknown_file(file)),
+        }
+    }
+
+    /// The status of a file, in the kernel's order.
+    ///
+    /// Fails with `NoEntry`, or with `WrongKind` at a timeline. Takes no memory.
+    pub fn status(&self, file: u64) -> Result<Status, Refusal>
+        ensures known { MatchOption (file_at self.now file)
+            (result ≡ Err (why_no_file self.now file))
+            (λ f. result ≡ Ok (status_of f.fences)) }
+    {
+        match self.files.get(&file) {
+            Some(known) => Ok(known.status()),
+            None => Err(self.unknown_file(file)),
+        }
+    }
+
+    // The timeline of that number.
+    fn timeline(&self, number: u64) -> Result<Timeline, Refusal>
+        ensures found { IfOk result (λ t. timeline_at self.now number ≡ Some t) }
+        ensures refused { IfErr result (λ e.
+            (timeline_at self.now number ≡ None) × (e ≡ why_no_timeline self.now number)) }
+    {
+        match self.timelines.get(&number) {
+            Some(known) => Ok(*known),
+            None => Err(self.unknown_timeline(number)),
+        }
+    }
+
+    // Why there is no timeline of that number.
+    fn unknown_timeline(&self, number: u64) -> Refusal
+        ensures { result ≡ why_no_timeline self.now number }
+    {
+        if self.files.contains_key(&number) {
+            Refusal::WrongKind
+        } else {
+            Refusal::NoEntry
+        }
+    }
+
+    // Makes a file of fences that rise by timeline.
+    fn add_file(&mut self, name: Text, fences: Vec<Fence>, stub_at: u64) -> Result<u64, Refusal>
+        ensures number { IfOk result (λ n. (n ≡ self.old.next) × (self.new.next ≡ n + 1)) }
+        ensures made { IfOk result (λ n. (q : ℕ) →
+            file_at self.new q
+            ≡ (if nat_eq n q then Some (file_of name fences.items stub_at) else file_at self.old q)) }
+        ensures timelines { self.new.timelines ≡ self.old.timelines }
+        ensures memory { IfErr result (λ e. e ≡ NoMemory) }
+        ensures unchanged { OnErr result (self.new ≡ self.old) }
+    {
+        let number = self.next;
+        if number == u64::MAX {
+            return Err(Refusal::NoMemory);
+        }
+        self.waiting.put_all(number, fences.as_slice())?;
+        let file = File {
+            name,
+            fences,
+            stub_at,
+        };
+        match self.files.insert(number, file) {
+            Ok(_) => {
+                self.next = number + 1;
+                Ok(number)
+            }
+            Err(failed) => {
+                self.waiting
+                    .take_all(number, failed.value.1.fences.as_slice());
+                Err(Refusal::NoMemory)
+            }
+        }
+    }
+
+    // Why there is no file of that number.
+    fn unknown_file(&self, number: u64) -> Refusal
+        ensures { result ≡ why_no_file self.now number }
+    {
+        if self.timelines.contains_key(&number) {
+            Refusal::WrongKind
+        } else {
+            Refusal::NoEntry
+        }
+    }
+}
+
+fn set_value(timelines: &mut HashMap<u64, Timeline>, number: u64, value: u64)
+    ensures { IfSome (at timelines.old.entries number) (λ t. (q : ℕ) →
+        at timelines.new.entries q
+        ≡ (if nat_eq number q then Some (record t { value = value }) else at timelines.old.entries q)) }
+{
+    if let Some(timeline) = timelines.get_mut(&number) {
+        timeline.value = value;
+    }
+}

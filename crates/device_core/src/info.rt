@@ -1,0 +1,126 @@
+// What is reported of a file.
+ghost use Rattle.std.specs.Prelude.{◌≡◌, ◌∷◌, [], map, IfErr, IfOk};
+ghost use Rattle.device_core.specs.declared.refusal.Refusal.TheVariants.{NoMemory};
+ghost use Rattle.device_core.specs.Fences.{status_of};
+ghost use Rattle.device_core.specs.Info.{driver_name, fence_info as fence_info_of, fence_infos as fence_infos_of, stub_info as stub_info_of};
+ghost use Rattle.device_core.specs.Names.{as_text, file_name};
+
+use crate::fence::{Fence, Text};
+use crate::file::File;
+use crate::naming::name_of;
+use crate::refusal::Refusal;
+use point_core::Status;
+use std::alloc::Global;
+
+/// The driver of a fence.
+#[derive(Clone, Copy, Debug, PartialEq, Eq, Hash)]
+pub enum Driver {
+    SwSync,
+    Stub,
+}
+
+impl Driver {
+    /// Its name, as the kernel reports it.
+    pub fn name(self) -> &'static [u8]
+        ensures { result.now ≡ driver_name self }
+    {
+        match self {
+            Driver::SwSync => b"sw_sync",
+            Driver::Stub => b"stub",
+        }
+    }
+}
+
+/// What is reported of a fence, as Linux's `struct sync_fence_info`: the name of its timeline, its driver and its
+/// status, and the time in nanoseconds at which it signalled, or 0.
+#[derive(Clone, Copy, Debug, PartialEq, Eq)]
+pub struct FenceInfo {
+    pub timeline: Text,
+    pub driver: Driver,
+    pub status: Status,
+    pub at: u64,
+}
+
+/// What is reported of a file, as Linux's `struct sync_file_info`: its name and its status, and what is reported of
+/// each of its fences. A file without fences has one that has signalled, a stub.
+#[derive(Drop)]
+pub struct FileInfo {
+    pub name: Text,
+    pub status: Status,
+    pub fences: Vec<FenceInfo>,
+}
+
+/// What `SYNC_IOC_FILE_INFO` reports of a file of that number.
+///
+/// Fails with `NoMemory` alone.
+pub(crate) fn info(alloc: Global, number: u64, file: &File) -> Result<FileInfo, Refusal>
+    ensures name { IfOk result (λ info. info.name ≡ as_text (file_name number file.now)) }
+    ensures status { IfOk result (λ info. info.status ≡ status_of file.now.fences) }
+    ensures fences { IfOk result (λ info. info.fences.items ≡ fence_infos_of file.now) }
+    ensures memory { IfErr result (λ e. e ≡ NoMemory) }
+{
+    let fences = fence_infos(alloc, file)?;
+    Ok(FileInfo {
+        name: name_of(number, file),
+        status: file.status(),
+        fences,
+    })
+}
+
+fn fence_infos(alloc: Global, file: &File) -> Result<Vec<FenceInfo>, Refusal>
+    ensures fences { IfOk result (λ infos. infos.items ≡ fence_infos_of file.now) }
+    ensures memory { IfErr result (λ e. e ≡ NoMemory) }
+{
+    if file.fences.is_empty() {
+        return one(alloc, stub_info(file.stub_at));
+    }
+    each(alloc, file.fences.as_slice())
+}
+
+fn one(alloc: Global, info: FenceInfo) -> Result<Vec<FenceInfo>, Refusal>
+    ensures one { IfOk result (λ infos. infos.items ≡ info ∷ []) }
+    ensures memory { IfErr result (λ e. e ≡ NoMemory) }
+{
+    let Ok(mut infos) = Vec::with_capacity(alloc, 1) else {
+        return Err(Refusal::NoMemory);
+    };
+    infos.push_reserved(info);
+    Ok(infos)
+}
+
+fn each(alloc: Global, fences: &[Fence]) -> Result<Vec<FenceInfo>, Refusal>
+    ensures each { IfOk result (λ infos. infos.items ≡ map fence_info_of fences.now) }
+    ensures memory { IfErr result (λ e. e ≡ NoMemory) }
+{
+    let Ok(infos) = fences.iter().map(|fence| fence_info(fence)).collect(alloc) else {
+        return Err(Refusal::NoMemory);
+    };
+    Ok(infos)
+}
+
+fn fence_info(fence: &Fence) -> FenceInfo
+    ensures { result ≡ fence_info_of fence.now }
+{
+    let (status, at) = match fence.signal {
+        None => (Status::Active, 0),
+        Some(signal) if signal.is_cancelled => (Status::Cancelled, signal.at),
+        Some(signal) => (Status::Signalled, signal.at),
+    };
+    FenceInfo {
+        timeline: fence.name,
+        driver: Driver::SwSync,
+        status,
+        at,
+    }
+}
+
+fn stub_info(at: u64) -> FenceInfo
+    ensures { result ≡ stub_info_of at }
+{
+    FenceInfo {
+        timeline: Text::of(b"stub"),
+        driver: Driver::Stub,
+        status: Status::Signalled,
+        at,
+    }
+}

@@ -1,0 +1,43 @@
+//! What holds of all points, fences and values: each law is the contract of a function with an empty body.
+ghost use Rattle.std.specs.Prelude.{◌≡◌, ℕ, ◌+◌, ◌^◌, ◌<◌, ◌≤◌, ◌++◌, List, nat_lt, All};
+ghost use Rattle.point_core.specs.declared.entry.Entry.{Entry};
+ghost use Rattle.point_core.specs.Reach.{IsAtLeast};
+ghost use Rattle.point_core.specs.Agreement.{AgreesAbove};
+ghost use Rattle.device_core.specs.declared.fence.Fence.{Fence};
+ghost use Rattle.device_core.specs.declared.fence.Signal.{Signal};
+ghost use Rattle.device_core.specs.Fences.{all_signalled_by, entries_in, merged, HasRisingTimelines, IsReachedUnlessPending};
+ghost use Rattle.device_core.specs.declared.request.Request.{Request};
+ghost use Rattle.device_core.specs.History.{AreAccepted, empty_world, world_of};
+ghost use Rattle.device_core.specs.Sound.{IsSound};
+ghost use Rattle.device_core.specs.Wrapping.{is_later, unwrapped};
+
+/// The kernel's comparison of 32 bits says that a point is later than the value exactly when the point of 64 bits that
+/// it stands for is.
+pub fn points_wrap_as_the_kernel_compares()
+    ensures { (value point : ℕ) → is_later value point ≡ nat_lt value (unwrapped value point) }
+{}
+
+/// Signalling leaves the points of a file as they are, so what agreed with it does above every reach that is at least
+/// as high, however many timelines there are.
+pub fn signalling_keeps_agreement()
+    ensures points { (timeline value : ℕ) (s : Signal) (fs : List Fence) →
+        entries_in (all_signalled_by timeline value s fs) ≡ entries_in fs }
+    ensures kept { (timeline value : ℕ) (s : Signal) (reach later : List ℕ) (fs : List Fence) (put : List Entry) →
+        IsAtLeast later reach → AgreesAbove reach (entries_in fs) put →
+        AgreesAbove later (entries_in (all_signalled_by timeline value s fs)) put }
+{}
+
+/// A merge says what both files do above every reach that all signalled fences have reached, and keeps fences that rise by
+/// timeline.
+pub fn merge_is_a_union()
+    ensures agrees { (reach : List ℕ) (fs gs : List Fence) →
+        All (IsReachedUnlessPending reach) fs → All (IsReachedUnlessPending reach) gs →
+        AgreesAbove reach (entries_in (merged fs gs)) (entries_in fs ++ entries_in gs) }
+    ensures rising { (fs gs : List Fence) → HasRisingTimelines fs → HasRisingTimelines (merged fs gs) }
+{}
+
+/// The world of every history is sound: nothing has a number that was not given, each fence is pending exactly if its timeline
+/// is open and its point above the value, and each file agrees with what was put into it.
+pub fn a_history_makes_a_sound_world()
+    ensures { (history : List Request) → AreAccepted empty_world history → IsSound (world_of history) }
+{}

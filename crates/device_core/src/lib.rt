@@ -1,0 +1,35 @@
+//! Fences by number, with the lifetimes of the kernel's: timelines and sync files are numbers that rise and are never
+//! given twice, and memory follows what is alive.
+#![tactic(auto)]
+
+mod buffer;
+mod buffer_fence;
+pub mod buffer_laws;
+mod device;
+mod fence;
+mod file;
+mod info;
+pub mod laws;
+mod merging;
+mod naming;
+mod refusal;
+mod request;
+mod runs;
+mod serving;
+mod signalling;
+mod sync_flags;
+mod text;
+mod waiting;
+mod woken;
+mod wrapping;
+
+pub use buffer::Buffer;
+pub use device::Device;
+pub use fence::{Fence, Signal, Text, Timeline};
+pub use file::File;
+pub use info::{Driver, FenceInfo, FileInfo};
+pub use refusal::Refusal;
+pub use request::{Answer, Request};
+pub use runs::run;
+pub use text::TEXT_BYTES;
+pub use wrapping::unwrapped;

@@ -1,0 +1,110 @@
+// The name that the kernel gives to a file.
+ghost use Rattle.std.specs.Prelude.{◌≡◌, ◌++◌, ◌+◌, ◌≤◌, [], decimal, length};
+ghost use Rattle.device_core.specs.declared.naming.TheConstants.{DIGITS, LINE_BYTES};
+ghost use Rattle.device_core.specs.declared.text.TheConstants.{TEXT_BYTES};
+ghost use Rattle.device_core.specs.Names.{as_text, file_name, kernel_name as kernel_name_of};
+
+use crate::fence::Text;
+use crate::file::File;
+use crate::text::TEXT_BYTES;
+use itoa::write_digits;
+use std::marker::Model;
+
+/// The most digits of a number of 64 bits.
+const DIGITS: usize = 20;
+
+/// The most bytes of a name before it is cut: two texts and two numbers, with a byte between.
+const LINE_BYTES: usize = 2 * (TEXT_BYTES + 1) + 2 * DIGITS;
+
+const _: () = prove!(DIGITS == 20);
+
+const _: () = prove!(LINE_BYTES == 106);
+
+/// A name before it is cut. What is put into it goes before what is there.
+#[derive(Drop)]
+struct Line {
+    bytes: [u8; LINE_BYTES],
+    start: usize,
+}
+
+impl Model for Line {
+    ghost use Rattle.std.specs.Prelude.{◌≤◌, List, ℕ, drop};
+    ghost use Rattle.device_core.specs.declared.naming.TheConstants.{LINE_BYTES};
+
+    ghost Value = { List ℕ };
+
+    ghost view = { λ l. drop l.start l.bytes };
+
+    ghost invariant = { λ l. l.start ≤ LINE_BYTES };
+}
+
+impl Line {
+    fn new() -> Line
+        ensures { result ≡ [] }
+    {
+        Line {
+            bytes: [0; LINE_BYTES],
+            start: LINE_BYTES,
+        }
+    }
+
+    fn put_text(&mut self, text: &[u8])
+        requires { length self.old + length text.now ≤ LINE_BYTES }
+        ensures text { self.new ≡ text.now ++ self.old }
+        ensures len { length self.new ≡ length self.old + length text.now }
+    {
+        let start = self.start - text.len();
+        self.bytes[start..self.start].copy_from_slice(text);
+        self.start = start;
+    }
+
+    fn put_number(&mut self, number: u64)
+        requires { length self.old + DIGITS ≤ LINE_BYTES }
+        ensures text { self.new ≡ decimal number ++ self.old }
+        ensures len { length self.new ≤ length self.old + DIGITS }
+    {
+        self.start = write_digits(number, &mut self.bytes, self.start);
+    }
+
+    fn as_bytes(&self) -> &[u8]
+        ensures { result.now ≡ self.now }
+    {
+        &self.bytes[self.start..]
+    }
+}
+
+/// The name of a fence of that driver, as Linux's `sync_file_get_name` writes it.
+fn kernel_name(driver: &[u8], timeline: &[u8], context: u64, point: u64) -> Text
+    requires driver { length driver.now ≤ TEXT_BYTES }
+    requires timeline { length timeline.now ≤ TEXT_BYTES }
+    ensures { result ≡ as_text (kernel_name_of driver.now timeline.now context point) }
+{
+    let mut line = Line::new();
+    line.put_number(point);
+    line.put_text(b"-");
+    line.put_number(context);
+    line.put_text(timeline);
+    line.put_text(b"-");
+    line.put_text(driver);
+    Text::of(line.as_bytes())
+}
+
+/// The name of a file of that number: the one that it was given, or if that is empty that of its fence, as Linux's
+/// `sync_file_get_name`. Several fences are an array; its context, which the kernel counts on, is the number of the
+/// file here.
+pub(crate) fn name_of(number: u64, file: &File) -> Text
+    ensures { result ≡ as_text (file_name number file.now) }
+{
+    let given = file.name.as_bytes();
+    if !given.is_empty() {
+        return Text::of(given);
+    }
+    match file.fences.as_slice() {
+        [] => kernel_name(b"stub", b"stub", 0, 0),
+        [fence] => {
+            let point = u64::from(fence.point);
+            kernel_name(b"sw_sync", fence.name.as_bytes(), fence.timeline, point)
+        }
+        _ => kernel_name(b"dma_fence_array", b"unbound", number, 1),
+    }
+}

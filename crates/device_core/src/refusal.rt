@@ -1,0 +1,17 @@
+// Why a request is refused.
+use thiserror::Error;
+
+/// Why a request is refused, numbered as the errno that Linux gives. A refused request changes nothing.
+#[derive(Clone, Copy, Debug, PartialEq, Eq, Hash, Error)]
+pub enum Refusal {
+    #[error("no object has that number")]
+    NoEntry = 2,
+    #[error("out of memory")]
+    NoMemory = 12,
+    #[error("the call takes no such flags")]
+    Invalid = 22,
+    #[error("the object is of another kind")]
+    WrongKind = 25,
+    #[error("an increment past the greatest value")]
+    Overflow = 75,
+}

@@ -1,0 +1,33 @@
+// A run over a list of requests.
+ghost use Rattle.std.specs.Prelude.{◌≡◌, [], IfOk, IfErr};
+ghost use Rattle.device_core.specs.declared.refusal.Refusal.TheVariants.{NoMemory};
+ghost use Rattle.device_core.specs.History.{AreAnswers, HasHistory, history_of};
+ghost use Rattle.device_core.specs.Headline.{ReportsSums, ReportsWhatWasPut};
+
+use crate::device::Device;
+use crate::refusal::Refusal;
+use crate::request::{Answer, Request};
+use std::alloc::Global;
+
+/// Serves the requests one after another over a new device. Gives the device and one answer a request.
+///
+/// Fails with `NoMemory` alone, when there is none for the list of answers.
+pub fn run(
+    alloc: Global,
+    requests: &[Request],
+) -> Result<(Device, Vec<Result<Answer, Refusal>>), Refusal>
+    ensures answers { IfOk result (λ r. AreAnswers [] requests.now r.1.items) }
+    ensures stands { IfOk result (λ r. HasHistory r.0 (history_of [] requests.now r.1.items)) }
+    ensures sums { IfOk result (λ r. ReportsSums r.0 (history_of [] requests.now r.1.items)) }
+    ensures files { IfOk result (λ r. ReportsWhatWasPut r.0 (history_of [] requests.now r.1.items)) }
+    ensures memory { IfErr result (λ e. e ≡ NoMemory) }
+{
+    let Ok(mut answers) = Vec::with_capacity(alloc, requests.len()) else {
+        return Err(Refusal::NoMemory);
+    };
+    let mut device = Device::new(alloc);
+    for request in requests {
+        answers.push_reserved(device.serve(*request));
+    }
+    Ok((device, answers))
+}

@@ -1,0 +1,116 @@
+// One request in, one answer out.
+ghost use Rattle.std.specs.Prelude.{◌≡◌, List, None, Ok, Err, OnOk, OnErr, IfOk, IfErr};
+ghost use Rattle.device_core.specs.declared.request.Request.{Request as Asked};
+ghost use Rattle.device_core.specs.declared.request.Request.TheVariants as request;
+ghost use Rattle.device_core.specs.State.{objects_of};
+ghost use Rattle.device_core.specs.Request.{IsAnswer, after};
+ghost use Rattle.device_core.specs.History.{HasHistory, history_after};
+
+use crate::device::Device;
+use crate::fence::Text;
+use crate::refusal::Refusal;
+use crate::request::{Answer, Request};
+
+impl Device {
+    /// The answer to one request: the first refusal whose cause holds, else what the request gives. `NoMemory` comes last,
+    /// where a growth was really refused; a look at a file and the closing of one are never answered it. A refused request
+    /// changes nothing.
+    pub fn serve(&mut self, request: Request) -> Result<Answer, Refusal>
+        ensures answer { IsAnswer (objects_of self.old) request result }
+        ensures done { OnOk result (objects_of self.new ≡ after (objects_of self.old) request) }
+        ensures stands { (history : List Asked) →
+            HasHistory self.old history → HasHistory self.new (history_after history request result) }
+        ensures unchanged { OnErr result (self.new ≡ self.old) }
+    {
+        self.answer_to(request)
+    }
+
+    fn answer_to(&mut self, request: Request) -> Result<Answer, Refusal>
+        ensures answer { IsAnswer (objects_of self.old) request result }
+        ensures done { OnOk result (objects_of self.new ≡ after (objects_of self.old) request) }
+        ensures unchanged { OnErr result (self.new ≡ self.old) }
+    {
+        match request {
+            Request::Open(name) => self.serve_open(name),
+            Request::Fence(timeline, point, now) => self.serve_fence(timeline, point, now),
+            Request::Inc(timeline, n, now) => self.serve_inc(timeline, n, now),
+            Request::Merge(a, b, name) => self.serve_merge(a, b, name),
+            Request::Status(file) => self.serve_status(file),
+            Request::IsSignalled(file) => self.serve_is_signalled(file),
+            Request::Close(number, now) => self.serve_close(number, now),
+        }
+    }
+
+    fn serve_open(&mut self, name: Text) -> Result<Answer, Refusal>
+        ensures answer { IsAnswer (objects_of self.old) (request.Open name) result }
+        ensures done { OnOk result (objects_of self.new ≡ after (objects_of self.old) (request.Open name)) }
+        ensures unchanged { OnErr result (self.new ≡ self.old) }
+    {
+        match self.open(name) {
+            Ok(number) => Ok(Answer::Number(number)),
+            Err(refusal) => Err(refusal),
+        }
+    }
+
+    fn serve_fence(&mut self, timeline: u64, point: u32, now: u64) -> Result<Answer, Refusal>
+        ensures answer { IsAnswer (objects_of self.old) (request.Fence timeline point now) result }
+        ensures done { OnOk result (objects_of self.new ≡ after (objects_of self.old) (request.Fence timeline point now)) }
+        ensures unchanged { OnErr result (self.new ≡ self.old) }
+    {
+        match self.fence(timeline, point, now) {
+            Ok(number) => Ok(Answer::Number(number)),
+            Err(refusal) => Err(refusal),
+        }
+    }
+
+    fn serve_inc(&mut self, timeline: u64, n: u32, now: u64) -> Result<Answer, Refusal>
+        ensures answer { IsAnswer (objects_of self.old) (request.Inc timeline n now) result }
+        ensures done { OnOk result (objects_of self.new ≡ after (objects_of self.old) (request.Inc timeline n now)) }
+        ensures unchanged { OnErr result (self.new ≡ self.old) }
+    {
+        match self.inc(timeline, n, now) {
+            Ok(woken) => Ok(Answer::Woken(woken)),
+            Err(refusal) => Err(refusal),
+        }
+    }
+
+    fn serve_merge(&mut self, a: u64, b: u64, name: Text) -> Result<Answer, Refusal>
+        ensures answer { IsAnswer (objects_of self.old) (request.Merge a b name) result }
+        ensures done { OnOk result (objects_of self.new ≡ after (objects_of self.old) (request.Merge a b name)) }
+        ensures unchanged { OnErr result (self.new ≡ self.old) }
+    {
+        match self.merge(a, b, name) {
+            Ok(number) => Ok(Answer::Number(number)),
+            Err(refusal) => Err(refusal),
+        }
+    }
+
+    fn serve_status(&self, file: u64) -> Result<Answer, Refusal>
+        ensures { IsAnswer (objects_of self.now) (request.Status file) result }
+    {
+        match self.status(file) {
+            Ok(status) => Ok(Answer::Status(status)),
+            Err(refusal) => Err(refusal),
+        }
+    }
+
+    fn serve_is_signalled(&self, file: u64) -> Result<Answer, Refusal>
+        ensures { IsAnswer (objects_of self.now) (request.IsSignalled file) result }
+    {
+        match self.is_signalled(file) {
+            Ok(signalled) => Ok(Answer::Signalled(signalled)),
+            Err(refusal) => Err(refusal),
+        }
+    }
+
+    fn serve_close(&mut self, number: u64, now: u64) -> Result<Answer, Refusal>
+        ensures answer { IsAnswer (objects_of self.old) (request.Close number now) result }
+        ensures done { OnOk result (objects_of self.new ≡ after (objects_of self.old) (request.Close number now)) }
+        ensures unchanged { OnErr result (self.new ≡ self.old) }
+    {
+        match self.close(number, now) {
+            Ok(woken) => Ok(Answer::Woken(woken)),
+            Err(refusal) => Err(refusal),
+        }
+    }
+}

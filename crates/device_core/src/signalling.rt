@@ -1,0 +1,43 @@
+// What a timeline's rise or closing signals.
+ghost use Rattle.std.specs.Prelude.{◌≡◌, ℕ, nat_eq, if◌then◌else◌, option_map};
+ghost use Rattle.device_core.specs.State.{AreSignalled, IsIndexed, at, file_signalled};
+
+use crate::fence::Signal;
+use crate::file::File;
+use crate::waiting::WaitingFiles;
+use std::collections::HashMap;
+
+/// Signals what is pending of a timeline up to the value, in each file. Only the files that wait there are looked at.
+pub(crate) fn signal_due(
+    waiting: &mut WaitingFiles,
+    files: &mut HashMap<u64, File>,
+    timeline: u64,
+    value: u64,
+    signal: Signal,
+)
+    requires indexed { IsIndexed waiting.old files.old.entries }
+    ensures signalled { AreSignalled timeline value signal files.old.entries files.new.entries }
+    ensures indexed { IsIndexed waiting.new files.new.entries }
+{
+    while let Some(due) = waiting.first_due(timeline, value) {
+        waiting.take(due);
+        signal_file(files, due.file, timeline, value, signal);
+    }
+}
+
+fn signal_file(
+    files: &mut HashMap<u64, File>,
+    number: u64,
+    timeline: u64,
+    value: u64,
+    signal: Signal,
+)
+    ensures { (q : ℕ) → at files.new.entries q ≡
+        (if nat_eq number q
+        then option_map (file_signalled timeline value signal) (at files.old.entries q)
+        else at files.old.entries q) }
+{
+    if let Some(file) = files.get_mut(&number) {
+        file.signal(timeline, value, signal);
+    }
+}

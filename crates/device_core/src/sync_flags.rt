@@ -1,0 +1,44 @@
+// The sync flags of an export and an import.
+ghost use Rattle.std.specs.Prelude.{◌≡◌};
+ghost use Rattle.device_core.specs.Buffers.{export_usage as export_usage_of, import_usage as import_usage_of};
+
+use crate::refusal::Refusal;
+use point_core::Usage;
+
+/// Linux's `DMA_BUF_SYNC_READ`.
+const READ: u32 = 1;
+
+/// Linux's `DMA_BUF_SYNC_WRITE`.
+const WRITE: u32 = 2;
+
+/// Linux's `DMA_BUF_SYNC_RW`.
+const READ_WRITE: u32 = READ | WRITE;
+
+const _: () = prove!(READ_WRITE == 3);
+
+/// The weakest usage that an access with these flags waits for: a reader waits for writers, and a writer for readers
+/// too.
+///
+/// Fails with `Invalid` for every other number, as Linux's `DMA_BUF_IOCTL_EXPORT_SYNC_FILE`.
+pub(crate) fn export_usage(flags: u32) -> Result<Usage, Refusal>
+    ensures { result ≡ export_usage_of flags }
+{
+    match flags {
+        READ => Ok(Usage::Write),
+        WRITE | READ_WRITE => Ok(Usage::Read),
+        _ => Err(Refusal::Invalid),
+    }
+}
+
+/// The usage of the fences of such an access: a reader's if it only reads, else a writer's.
+///
+/// Fails with `Invalid` for every other number, as Linux's `DMA_BUF_IOCTL_IMPORT_SYNC_FILE`.
+pub(crate) fn import_usage(flags: u32) -> Result<Usage, Refusal>
+    ensures { result ≡ import_usage_of flags }
+{
+    match flags {
+        READ => Ok(Usage::Read),
+        WRITE | READ_WRITE => Ok(Usage::Write),
+        _ => Err(Refusal::Invalid),
+    }
+}

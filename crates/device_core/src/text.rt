@@ -1,0 +1,36 @@
+// The bytes of a text.
+ghost use Rattle.std.specs.Prelude.{◌≡◌, ◌≤◌, length};
+ghost use Rattle.device_core.specs.Names.{as_text as text_as, text_of};
+
+use crate::fence::Text;
+
+/// How many bytes a text has, with the 0 that ends it, as the names in Linux's `struct sync_file_info`.
+pub const TEXT_BYTES: usize = 32;
+
+const _: () = prove!(TEXT_BYTES == 32);
+
+impl Text {
+    /// The text of these bytes, cut at one less than `TEXT_BYTES` as Linux's `snprintf` and `strscpy` cut it. Zeros
+    /// follow.
+    pub fn of(bytes: &[u8]) -> Text
+        ensures { result ≡ text_as bytes.now }
+    {
+        let mut text = [0; TEXT_BYTES];
+        let end = bytes.len().min(TEXT_BYTES - 1);
+        text[..end].copy_from_slice(&bytes[..end]);
+        Text { bytes: text }
+    }
+
+    /// Its bytes, up to the first that is 0.
+    pub fn as_bytes(&self) -> &[u8]
+        ensures bytes { result.now ≡ text_of self.now }
+        ensures few { length result.now ≤ 32 }
+    {
+        for (end, byte) in self.bytes.iter().enumerate() {
+            if *byte == 0 {
+                return &self.bytes[..end];
+            }
+        }
+        &self.bytes
+    }
+}

@@ -1,0 +1,197 @@
+// The files that wait, by the points that they wait for.
+ghost use Rattle.std.specs.Prelude.{◌≡◌, ℕ, ◌≤◌, None, IfOk, ◌+◌, ◌-◌, ◌^◌, length, not, ◌&&◌, ◌||◌, [], ◌∷◌, true, false, OnOk, OnErr, IfErr, IfSome, IfNone, ◌↔◌, Contains};
+ghost use Rattle.std.specs.List.Sorted.{IsStrictlyIncreasing};
+ghost use Rattle.device_core.specs.declared.waiting.Waiting.{Waiting as Key};
+ghost use Rattle.device_core.specs.declared.refusal.Refusal.TheVariants.{NoMemory};
+ghost use Rattle.device_core.specs.State.{is_same, holds, is_due_at, waits_of, IsIndexed, at};
+ghost use Rattle.device_core.specs.Woken.{file_wakes};
+ghost use Rattle.device_core.specs.Fences.{waiting};
+
+use crate::fence::Fence;
+use crate::file::File;
+use crate::refusal::Refusal;
+use crate::woken::woken_by;
+use std::alloc::Global;
+use std::collections::{BTreeSet, HashMap};
+use std::marker::Model;
+
+/// A file, at a point that it waits for.
+#[derive(Clone, Copy, Debug, PartialEq, Eq, PartialOrd, Ord)]
+pub(crate) struct Waiting {
+    pub(crate) timeline: u64,
+    pub(crate) value: u64,
+    pub(crate) file: u64,
+}
+
+impl Waiting {
+    /// A file, at the point of one of its fences.
+    fn of(file: u64, fence: &Fence) -> Waiting
+        ensures { result ≡ waiting file fence.now }
+    {
+        Waiting {
+            timeline: fence.timeline,
+            value: fence.value,
+            file,
+        }
+    }
+
+    /// The greatest of a timeline at that value.
+    pub(crate) fn last(timeline: u64, value: u64) -> Waiting
+        ensures { result ≡ record { timeline = timeline; value = value; file = 2 ^ 64 - 1 } }
+    {
+        Waiting {
+            timeline,
+            value,
+            file: u64::MAX,
+        }
+    }
+
+    /// The least of a timeline.
+    pub(crate) fn first(timeline: u64) -> Waiting
+        ensures { result ≡ record { timeline = timeline; value = 0; file = 0 } }
+    {
+        Waiting {
+            timeline,
+            value: 0,
+            file: 0,
+        }
+    }
+
+    /// Itself, if it is of that timeline, at or below the value.
+    fn if_due(&self, timeline: u64, value: u64) -> Option<Waiting>
+        ensures due { IfSome result (λ k. (k ≡ self.now) × (is_due_at timeline value self.now ≡ true)) }
+        ensures past { IfNone result (is_due_at timeline value self.now ≡ false) }
+    {
+        if self.timeline != timeline || self.value > value {
+            return None;
+        }
+        Some(*self)
+    }
+}
+
+/// The pending points of all files, by timeline and value.
+#[derive(Drop)]
+pub(crate) struct WaitingFiles {
+    points: BTreeSet<Waiting>,
+}
+
+impl Model for WaitingFiles {
+    ghost use Rattle.std.specs.Prelude.{List};
+    ghost use Rattle.device_core.specs.declared.waiting.Waiting.{Waiting};
+
+    ghost Value = { List Waiting };
+
+    ghost view = { λ w. w.points.keys };
+}
+
+impl WaitingFiles {
+    /// None. It takes no memory.
+    pub(crate) fn new(alloc: Global) -> WaitingFiles
+        ensures { result ≡ [] }
+    {
+        WaitingFiles {
+            points: BTreeSet::new(alloc),
+        }
+    }
+
+    /// Puts one in.
+    ///
+    /// Fails with `NoMemory` alone, and then leaves all as it was.
+    pub(crate) fn put(&mut self, waiting: Waiting) -> Result<(), Refusal>
+        ensures put { OnOk result ((k : Key) → holds self.new k ≡ (is_same waiting k || holds self.old k)) }
+        ensures memory { IfErr result (λ e. e ≡ NoMemory) }
+        ensures unchanged { OnErr result (self.new ≡ self.old) }
+    {
+        let Ok(_added) = self.points.insert(waiting) else {
+            return Err(Refusal::NoMemory);
+        };
+        Ok(())
+    }
+
+    /// The files that signal once a timeline signals up to the value, by rising number.
+    ///
+    /// Fails with `NoMemory` alone.
+    pub(crate) fn woken_by(
+        &self,
+        alloc: Global,
+        files: &HashMap<u64, File>,
+        timeline: u64,
+        value: u64,
+    ) -> Result<Vec<u64>, Refusal>
+        requires indexed { IsIndexed self.now files.now.entries }
+        requires below { (n : ℕ) → 2 ^ 64 ≤ n → at files.now.entries n ≡ None }
+        ensures woken { IfOk result (λ found. (n : ℕ) →
+            (Contains found.items n ↔ (file_wakes timeline value (at files.now.entries n) ≡ true))) }
+        ensures rising { IfOk result (λ found. IsStrictlyIncreasing found.items) }
+        ensures memory { IfErr result (λ e. e ≡ NoMemory) }
+    {
+        woken_by(alloc, &self.points, files, timeline, value)
+    }
+
+    /// Puts a file in at each of its pending fences.
+    ///
+    /// Fails with `NoMemory` alone, and then leaves all as it was.
+    pub(crate) fn put_all(&mut self, file: u64, fences: &[Fence]) -> Result<(), Refusal>
+        requires new { (k : Key) → k.file ≡ file → holds self.old k ≡ false }
+        ensures put { OnOk result ((k : Key) → holds self.new k ≡ (waits_of file fences.now k || holds self.old k)) }
+        ensures memory { IfErr result (λ e. e ≡ NoMemory) }
+        ensures unchanged { OnErr result ((k : Key) → holds self.new k ≡ holds self.old k) }
+    {
+        for fence in fences {
+            let Ok(_done) = self.put_pending(file, fence) else {
+                self.take_all(file, fences);
+                return Err(Refusal::NoMemory);
+            };
+        }
+        Ok(())
+    }
+
+    // Fails with `NoMemory` alone, and then leaves all as it was.
+    fn put_pending(&mut self, file: u64, fence: &Fence) -> Result<(), Refusal>
+        ensures put { OnOk result ((k : Key) →
+            holds self.new k ≡ (waits_of file (fence.now ∷ []) k || holds self.old k)) }
+        ensures memory { IfErr result (λ e. e ≡ NoMemory) }
+        ensures unchanged { OnErr result ((k : Key) → holds self.new k ≡ holds self.old k) }
+    {
+        if fence.signal.is_some() {
+            return Ok(());
+        }
+        self.put(Waiting::of(file, fence))
+    }
+
+    fn take_pending(&mut self, file: u64, fence: &Fence)
+        ensures taken { (k : Key) → holds self.new k ≡ (not (waits_of file (fence.now ∷ []) k) && holds self.old k) }
+    {
+        if fence.signal.is_none() {
+            self.take(Waiting::of(file, fence));
+        }
+    }
+
+    /// Takes a file out at each of its pending fences.
+    pub(crate) fn take_all(&mut self, file: u64, fences: &[Fence])
+        ensures taken { (k : Key) → holds self.new k ≡ (not (waits_of file fences.now k) && holds self.old k) }
+    {
+        for fence in fences {
+            self.take_pending(file, fence);
+        }
+    }
+
+    /// Takes one out.
+    pub(crate) fn take(&mut self, waiting: Waiting)
+        ensures taken { (k : Key) → holds self.new k ≡ (not (is_same waiting k) && holds self.old k) }
+        ensures fewer { holds self.old waiting ≡ true → length self.new + 1 ≡ length self.old }
+    {
+        self.points.remove(&waiting);
+    }
+
+    /// The first of the timeline at or below the value.
+    pub(crate) fn first_due(&self, timeline: u64, value: u64) -> Option<Waiting>
+        ensures some { IfSome result (λ k. (is_due_at timeline value k ≡ true) × (holds self.now k ≡ true)) }
+        ensures none { IfNone result ((k : Key) → is_due_at timeline value k ≡ true → holds self.now k ≡ false) }
+    {
+        match self.points.range(Waiting::first(timeline)..).next() {
+            Some(first) => first.if_due(timeline, value),
+            None => None,
+        }
+    }
+}

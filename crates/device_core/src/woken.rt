@@ -1,0 +1,124 @@
+// The files that signal by a request.
+ghost use Rattle.std.specs.Prelude.{◌≡◌, ℕ, ◌^◌, ◌≤◌, nat_eq, ◌&&◌, ◌||◌, ◌↔◌, true, None, OnOk, IfOk, IfErr, Contains};
+ghost use Rattle.device_core.specs.declared.refusal.Refusal.TheVariants.{NoMemory};
+ghost use Rattle.device_core.specs.State.{IsIndexed, at};
+ghost use Rattle.device_core.specs.Woken.{file_wakes, has, is_settled_by, wakes as wakes_of};
+ghost use Rattle.std.specs.List.{list_all};
+ghost use Rattle.std.specs.List.Sorted.{IsStrictlyIncreasing};
+
+use crate::fence::Fence;
+use crate::file::{File, all_signalled};
+use crate::refusal::Refusal;
+use crate::waiting::Waiting;
+use std::alloc::Global;
+use std::collections::{BTreeSet, HashMap};
+
+/// The files that signal once a timeline signals up to the value, by rising number. Only the files that wait there are
+/// looked at.
+///
+/// Fails with `NoMemory` alone.
+pub(crate) fn woken_by(
+    alloc: Global,
+    points: &BTreeSet<Waiting>,
+    files: &HashMap<u64, File>,
+    timeline: u64,
+    value: u64,
+) -> Result<Vec<u64>, Refusal>
+    requires indexed { IsIndexed points.now.keys files.now.entries }
+    requires below { (n : ℕ) → 2 ^ 64 ≤ n → at files.now.entries n ≡ None }
+    ensures woken { IfOk result (λ found. (n : ℕ) →
+        (Contains found.items n ↔ (file_wakes timeline value (at files.now.entries n) ≡ true))) }
+    ensures rising { IfOk result (λ found. IsStrictlyIncreasing found.items) }
+    ensures memory { IfErr result (λ e. e ≡ NoMemory) }
+{
+    let mut woken = gathered(alloc, points, files, timeline, value)?;
+    put_in_order(&mut woken);
+    Ok(woken)
+}
+
+// By rising number, each once.
+fn put_in_order(numbers: &mut Vec<u64>)
+    ensures rising { IsStrictlyIncreasing numbers.new.items }
+    ensures kept { (n : ℕ) → (Contains numbers.new.items n ↔ Contains numbers.old.items n) }
+{
+    numbers.sort_unstable();
+    numbers.dedup();
+}
+
+fn gathered(
+    alloc: Global,
+    points: &BTreeSet<Waiting>,
+    files: &HashMap<u64, File>,
+    timeline: u64,
+    value: u64,
+) -> Result<Vec<u64>, Refusal>
+    requires indexed { IsIndexed points.now.keys files.now.entries }
+    requires below { (n : ℕ) → 2 ^ 64 ≤ n → at files.now.entries n ≡ None }
+    ensures woken { IfOk result (λ found. (n : ℕ) →
+        has found.items n ≡ file_wakes timeline value (at files.now.entries n)) }
+    ensures memory { IfErr result (λ e. e ≡ NoMemory) }
+{
+    let first = Waiting::first(timeline);
+    let last = Waiting::last(timeline, value);
+    let mut woken = Vec::new(alloc);
+    for due in points.range(first..=last) {
+        put_if_woken(&mut woken, files, due.file, timeline, value)?;
+    }
+    Ok(woken)
+}
+
+fn put_if_woken(
+    woken: &mut Vec<u64>,
+    files: &HashMap<u64, File>,
+    number: u64,
+    timeline: u64,
+    value: u64,
+) -> Result<(), Refusal>
+    ensures put { OnOk result ((n : ℕ) → has woken.new.items n ≡
+        ((nat_eq number n && file_wakes timeline value (at files.now.entries number)) || has woken.old.items n)) }
+    ensures memory { IfErr result (λ e. e ≡ NoMemory) }
+{
+    if !file_wakes_at(files, number, timeline, value) {
+        return Ok(());
+    }
+    put(woken, number)
+}
+
+fn put(woken: &mut Vec<u64>, number: u64) -> Result<(), Refusal>
+    ensures put { OnOk result ((n : ℕ) → has woken.new.items n ≡ (nat_eq number n || has woken.old.items n)) }
+    ensures memory { IfErr result (λ e. e ≡ NoMemory) }
+{
+    let Ok(_done) = woken.push(number) else {
+        return Err(Refusal::NoMemory);
+    };
+    Ok(())
+}
+
+fn file_wakes_at(files: &HashMap<u64, File>, number: u64, timeline: u64, value: u64) -> bool
+    ensures { result ≡ file_wakes timeline value (at files.now.entries number) }
+{
+    match files.get(&number) {
+        Some(file) => wakes(file.fences.as_slice(), timeline, value),
+        None => false,
+    }
+}
+
+fn wakes(fences: &[Fence], timeline: u64, value: u64) -> bool
+    ensures { result ≡ wakes_of timeline value fences.now }
+{
+    if all_signalled(fences) {
+        return false;
+    }
+    all_settled_by(fences, timeline, value)
+}
+
+fn all_settled_by(fences: &[Fence], timeline: u64, value: u64) -> bool
+    ensures { result ≡ list_all (is_settled_by timeline value) fences.now }
+{
+    for fence in fences {
+        if !fence.is_settled_by(timeline, value) {
+            return false;
+        }
+    }
+    true
+}
