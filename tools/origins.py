@@ -34,8 +34,11 @@ def here(seconds):
     return {"host": socket.gethostname(), "time": when, "commit": commit(), "kit": said_by("rt", "version")}
 
 
-def told(origin):
-    return f"on {origin['host']}, {origin['time']}, commit {origin['commit']}, {origin['kit']}"
+def told(origins):
+    """Returns where these proofs of one host, commit and kit were made, and when."""
+    one, times = origins[0], sorted({it["time"] for it in origins})
+    when = times[0] if len(times) == 1 else f"{times[0]} to {times[-1]}"
+    return f"on {one['host']}, {when}, commit {one['commit']}, {one['kit']}"
 
 
 def file_of(crate):
@@ -53,9 +56,11 @@ def imported(crate):
 
 def note(crates, made, say):
     """Says where what was built of these crates just now is proved, and when, and notes it beside what was built."""
-    found = collections.Counter(told(it) for it in map(imported, crates) if it)
-    parts = [f"{number} of its {len(crates)} crates are imported, and were proved {origin}" for origin, number in found.items()]
-    text = "; ".join([*parts, f"{'the others ' if parts else ''}proved here: {told(here(time.time()))}"])
+    found = collections.defaultdict(list)
+    for it in filter(None, map(imported, crates)):
+        found[it["host"], it["commit"], it["kit"]].append(it)
+    parts = [f"imported {len(it)} of its {len(crates)} crates, proved {told(it)}" for it in found.values()]
+    text = "; ".join([*parts, f"{'the others ' if parts else ''}proved here, {told([here(time.time())])}"])
     say(text)
     with open(f"{made}.proved", "w", encoding="utf-8") as file:
         file.write(f"{text}\n")
