@@ -9,6 +9,7 @@ mod clients;
 mod color;
 mod fault;
 mod paint;
+mod subcommands;
 mod usage;
 
 pub use action::{Action, Check, Clients, Draw, Report, Table, Trace};
