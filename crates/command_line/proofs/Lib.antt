@@ -1,3 +1,4 @@
+mod Adding
 mod Fronts
 mod Instead
 mod Matched

@@ -1,32 +1,13 @@
 // The command line.
-ghost use Rattle.std.specs.Prelude.{◌≡◌, IfErr, IfOk, codes, false, map, string_bytes, true};
+ghost use Rattle.std.specs.Prelude.{◌≡◌, IfErr, IfOk, false, map, pos, string_bytes, true};
+ghost use Rattle.clap.specs.declared.builder.value_parser.ValueParser.TheVariants as parser;
 ghost use Rattle.clap.specs.Words.{kind_of, rule_of, subcommand_of, subcommand_rows_of, takes};
-ghost use Rattle.clients_core.specs.declared.plans.TheConstants.{CLIENTS};
-ghost use Rattle.clients_core.specs.declared.rounds.TheConstants.{ROUNDS};
-ghost use Rattle.command_line.specs.Words.{
-  Adds,
-  IsApp,
-  check_app,
-  clients_app,
-  draw_app,
-  drawing_app,
-  fencectl,
-  file_rule,
-  flag_rule,
-  number_rule,
-  option_rule,
-  paths_rule,
-  program_app,
-  reports_app,
-  run_app,
-  script_app,
-  scripted_app,
-  trace_app,
-};
+ghost use Rattle.command_line.specs.Words.{IsApp, app_by, fencectl, program_app, rule_by};
 
+use crate::subcommands::{Argument, Form, Subcommand, subcommands};
+use clap::builder::ValueParser;
 use clap::error::ErrorKind;
 use clap::{Arg, ArgAction, ArgMatches, Command, Error, value_parser};
-use clients_core::{CLIENTS, ROUNDS};
 use source_core::STANDARD_INPUT;
 use std::alloc::{AllocError, Global};
 
@@ -114,76 +95,6 @@ Examples:
   fencectl clients 2 3
 ";
 
-pub(crate) const FILE: &str = "FILE";
-
-pub(crate) const PATH: &str = "PATH";
-
-const RUN: &str = "run";
-
-const RUN_ABOUT: &str =
-    "Runs the script of a file; without one that of standard input, as no word at all does";
-
-pub(crate) const CHECK: &str = "check";
-
-const CHECK_ABOUT: &str =
-    "Runs scripts, and compares their answers with those that their notes expect";
-
-/// Asks for JSON: answers, or a report of a trace.
-pub(crate) const JSON: &str = "json";
-
-/// The flags of a check.
-pub(crate) const QUIET: &str = "quiet";
-
-pub(crate) const TAP: &str = "tap";
-
-pub(crate) const ALLOW_EMPTY: &str = "allow-empty";
-
-pub(crate) const UPDATE: &str = "update";
-
-pub(crate) const EXPLAIN: &str = "explain";
-
-const EXPLAIN_ABOUT: &str = "Runs a script, and explains on standard error why lines were refused";
-
-pub(crate) const TRACE: &str = "trace";
-
-const TRACE_ABOUT: &str =
-    "Reads a trace of the kernel's dma_fence events, and reports what hangs and who waits";
-
-/// Asks for what happened in a trace, as a script.
-pub(crate) const SCRIPT: &str = "script";
-
-/// The window of a trace.
-pub(crate) const FROM: &str = "from";
-
-pub(crate) const TO: &str = "to";
-
-/// The word for drawing a script, and the flag for drawing what happened in a trace.
-pub(crate) const DRAW: &str = "draw";
-
-const DRAW_ABOUT: &str = "Draws what a script does as SVG, or what it leaves as a graph";
-
-/// The options of a drawing.
-pub(crate) const GRAPH: &str = "graph";
-
-pub(crate) const LINE: &str = "line";
-
-pub(crate) const LINES: &str = "lines";
-
-pub(crate) const OUTPUT: &str = "output";
-
-/// The word for a run of clients, and the numbers that follow it.
-pub(crate) const CLIENTS_WORD: &str = "clients";
-
-const CLIENTS_ABOUT: &str =
-    "Runs clients on threads against shared buffers, and prints what they settle";
-
-pub(crate) const COUNT: &str = "N";
-
-pub(crate) const ROUNDS_WORD: &str = "ROUNDS";
-
-/// Asks for buffers under locks.
-pub(crate) const LOCKS: &str = "locks";
-
 /// What the words of the command line match. The first of them is the program's own.
 ///
 /// The error says by its kind that memory was refused.
@@ -197,27 +108,15 @@ pub(crate) fn matches_of<'a>(alloc: Global, words: &'a [String]) -> Result<ArgMa
     command.try_get_matches_from(words)
 }
 
-/// The program's command line: `run`, `check`, `explain`, `trace` or `draw`, with a file or without, or nothing to run the
-/// script of standard input; or `clients` with two numbers.
+/// The program's command line: nothing, to run the script of standard input, or one of the subcommands.
 fn command<'a>(alloc: Global) -> Result<Command<'a>, AllocError>
     ensures { IfOk result (IsApp fencectl) }
 {
-    let command = with(program(alloc)?, run(alloc))?;
-    let command = with(command, check(alloc))?;
-    let command = with(command, explain(alloc))?;
-    let command = with(command, trace(alloc))?;
-    let command = with(command, draw(alloc))?;
-    with(command, clients(alloc))
-}
-
-/// The command with one subcommand more, if that could be made.
-fn with<'a>(
-    command: Command<'a>,
-    subcommand: Result<Command<'a>, AllocError>,
-) -> Result<Command<'a>, AllocError>
-    ensures { IfOk result (Adds command.entry subcommand.entry) }
-{
-    command.subcommand(subcommand?)
+    let mut command = program(alloc)?;
+    for form in subcommands() {
+        command = command.subcommand(subcommand(alloc, form)?)?;
+    }
+    Ok(command)
 }
 
 /// The program without its subcommands.
@@ -237,189 +136,38 @@ fn help() -> &'static str {
     HELP
 }
 
-fn run<'a>(alloc: Global) -> Result<Command<'a>, AllocError>
-    ensures { IfOk result (IsApp run_app) }
+/// A subcommand with its arguments.
+fn subcommand<'a>(alloc: Global, form: &Subcommand) -> Result<Command<'a>, AllocError>
+    ensures { IfOk result (IsApp (app_by form.now)) }
 {
-    let command = Command::new(alloc, RUN).about(RUN_ABOUT);
-    command.arg(file(alloc))?.arg(flag(
-        alloc,
-        JSON,
-        "Writes a JSON object for each answer, on a line of its own",
-    ))
+    let mut command = Command::new(alloc, form.word).about(form.about);
+    for argument in form.arguments {
+        command = command.arg(argument_of(alloc, argument))?;
+    }
+    Ok(command)
 }
 
-fn check<'a>(alloc: Global) -> Result<Command<'a>, AllocError>
-    ensures { IfOk result (IsApp check_app) }
-{
-    reports(alloc)?
-        .arg(flag(alloc, ALLOW_EMPTY, "Lets a file pass that expects nothing"))?
-        .arg(flag(
-            alloc,
-            UPDATE,
-            "Writes the answers that come into the files, as what they expect",
-        ))
-}
-
-/// `check`, its paths and what it reports.
-fn reports<'a>(alloc: Global) -> Result<Command<'a>, AllocError>
-    ensures { IfOk result (IsApp reports_app) }
-{
-    let command = Command::new(alloc, CHECK).about(CHECK_ABOUT);
-    command
-        .arg(paths(alloc))?
-        .arg(flag(alloc, QUIET, "Reports the counts alone"))?
-        .arg(flag(
-            alloc,
-            TAP,
-            "Writes TAP version 14 to standard output, a test for each file",
-        ))
-}
-
-fn explain<'a>(alloc: Global) -> Result<Command<'a>, AllocError>
-    ensures { IfOk result (IsApp (script_app (codes "explain"))) }
-{
-    Command::new(alloc, EXPLAIN)
-        .about(EXPLAIN_ABOUT)
-        .arg(file(alloc))
-}
-
-fn trace<'a>(alloc: Global) -> Result<Command<'a>, AllocError>
-    ensures { IfOk result (IsApp trace_app) }
-{
-    scripted(alloc)?
-        .arg(option(
-            alloc,
-            FROM,
-            "SECONDS",
-            "Begins the script or the picture at that time",
-        ))?
-        .arg(option(alloc, TO, "SECONDS", "Ends it at that time"))
-}
-
-/// `trace`, its file and the form of what it writes.
-fn scripted<'a>(alloc: Global) -> Result<Command<'a>, AllocError>
-    ensures { IfOk result (IsApp scripted_app) }
-{
-    let command = Command::new(alloc, TRACE).about(TRACE_ABOUT);
-    command
-        .arg(trace_file(alloc))?
-        .arg(flag(alloc, JSON, "Writes the report as one JSON document"))?
-        .arg(flag(alloc, SCRIPT, "Writes what happened as a script instead"))?
-        .arg(flag(alloc, DRAW, "Draws what happened as SVG instead"))
-}
-
-/// The file of a trace.
-fn trace_file<'a>(alloc: Global) -> Arg<'a>
-    ensures rule { rule_of result ≡ file_rule }
+/// An argument as clap reads it.
+fn argument_of<'a>(alloc: Global, argument: &Argument) -> Arg<'a>
+    ensures rule { rule_of result ≡ rule_by argument.now }
     ensures local { result.global ≡ false }
 {
-    Arg::new(alloc, FILE)
-        .default_value(STANDARD_INPUT)
-        .help("The trace's text, or - for standard input")
+    let arg = Arg::new(alloc, argument.name).help(argument.help);
+    match argument.form {
+        Form::File => arg.default_value(STANDARD_INPUT),
+        Form::Paths => arg.action(ArgAction::Append).default_value(STANDARD_INPUT),
+        Form::Flag => arg.long(argument.name).action(ArgAction::SetTrue),
+        Form::Option(value) => arg
+            .long(argument.name)
+            .action(ArgAction::Set)
+            .value_name(value),
+        Form::Number(most) => arg.required(true).value_parser(up_to(most)),
+    }
 }
 
-fn draw<'a>(alloc: Global) -> Result<Command<'a>, AllocError>
-    ensures { IfOk result (IsApp draw_app) }
+/// Takes numbers from 1 to this one.
+fn up_to<'a>(most: u16) -> ValueParser<'a>
+    ensures { result ≡ parser.Signed (pos 1) (pos most) }
 {
-    drawing(alloc)?
-        .arg(option(alloc, LINES, "A..B", "Draws these lines alone"))?
-        .arg(option(
-            alloc,
-            OUTPUT,
-            "PICTURE",
-            "Writes this file, as a whole or not at all",
-        ))
-}
-
-/// `draw`, its file, and the options of a graph.
-fn drawing<'a>(alloc: Global) -> Result<Command<'a>, AllocError>
-    ensures { IfOk result (IsApp drawing_app) }
-{
-    let command = Command::new(alloc, DRAW).about(DRAW_ABOUT);
-    command
-        .arg(file(alloc))?
-        .arg(flag(
-            alloc,
-            GRAPH,
-            "Draws what waits for what at the end, as a graph in DOT",
-        ))?
-        .arg(option(alloc, LINE, "N", "Draws the graph after line N"))
-}
-
-/// An option of that name, with a value.
-fn option<'a>(alloc: Global, name: &'a str, value: &'a str, help: &'a str) -> Arg<'a>
-    ensures rule { rule_of result ≡ option_rule name.entry.now }
-    ensures local { result.global ≡ false }
-{
-    Arg::new(alloc, name)
-        .long(name)
-        .action(ArgAction::Set)
-        .value_name(value)
-        .help(help)
-}
-
-/// The file of a script.
-fn file<'a>(alloc: Global) -> Arg<'a>
-    ensures rule { rule_of result ≡ file_rule }
-    ensures local { result.global ≡ false }
-{
-    Arg::new(alloc, FILE)
-        .default_value(STANDARD_INPUT)
-        .help("The script's file, or - for standard input")
-}
-
-/// The files and folders of a check.
-fn paths<'a>(alloc: Global) -> Arg<'a>
-    ensures rule { rule_of result ≡ paths_rule }
-    ensures local { result.global ≡ false }
-{
-    Arg::new(alloc, PATH)
-        .action(ArgAction::Append)
-        .default_value(STANDARD_INPUT)
-        .help("Scripts' files, folders with such files (*.fence), or - for standard input")
-}
-
-/// `clients`, its two numbers and its table.
-fn clients<'a>(alloc: Global) -> Result<Command<'a>, AllocError>
-    ensures { IfOk result (IsApp clients_app) }
-{
-    let command = Command::new(alloc, CLIENTS_WORD).about(CLIENTS_ABOUT);
-    command.arg(count(alloc))?.arg(rounds(alloc))?.arg(flag(
-        alloc,
-        LOCKS,
-        "Shares buffers under locks instead of a lock-free board",
-    ))
-}
-
-/// The number of clients.
-fn count<'a>(alloc: Global) -> Arg<'a>
-    ensures rule { rule_of result ≡ number_rule (codes "N") CLIENTS }
-    ensures local { result.global ≡ false }
-{
-    Arg::new(alloc, COUNT)
-        .required(true)
-        .value_parser(value_parser!(u16).range(1..=CLIENTS as i64))
-        .help("How many clients, 1 to 8")
-}
-
-/// The number of rounds.
-fn rounds<'a>(alloc: Global) -> Arg<'a>
-    ensures rule { rule_of result ≡ number_rule (codes "ROUNDS") ROUNDS }
-    ensures local { result.global ≡ false }
-{
-    Arg::new(alloc, ROUNDS_WORD)
-        .required(true)
-        .value_parser(value_parser!(u16).range(1..=ROUNDS as i64))
-        .help("How many rounds each of them makes, 1 to 10000")
-}
-
-/// A flag of that name.
-fn flag<'a>(alloc: Global, name: &'a str, help: &'a str) -> Arg<'a>
-    ensures rule { rule_of result ≡ flag_rule name.entry.now }
-    ensures local { result.global ≡ false }
-{
-    Arg::new(alloc, name)
-        .long(name)
-        .action(ArgAction::SetTrue)
-        .help(help)
+    value_parser!(u16).range(1..=i64::from(most))
 }

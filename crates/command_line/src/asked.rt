@@ -22,7 +22,7 @@ ghost use Rattle.command_line.specs.Asked.{
 };
 
 use crate::action::{Action, Check, Clients, Draw, Report, Table, Trace};
-use crate::arguments::{
+use crate::subcommands::{
     ALLOW_EMPTY, CHECK, CLIENTS_WORD, COUNT, DRAW, EXPLAIN, FILE, FROM, GRAPH, JSON, LINE, LINES,
     LOCKS, OUTPUT, PATH, QUIET, ROUNDS_WORD, SCRIPT, TAP, TO, TRACE, UPDATE,
 };

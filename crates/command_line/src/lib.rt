@@ -7,6 +7,7 @@ mod asked;
 mod clients;
 mod color;
 mod paint;
+mod subcommands;
 mod usage;
 
 pub use action::{Action, Check, Clients, Draw, Report, Table, Trace};
