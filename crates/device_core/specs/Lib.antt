@@ -5,4 +5,5 @@ pub mod Woken
 pub mod Request
 pub mod History
 pub mod Sound
+pub mod Times
 pub mod Headline
