@@ -9,3 +9,4 @@ pub mod Headline
 pub mod Names
 pub mod Info
 pub mod Buffers
+pub mod BufferWorld
