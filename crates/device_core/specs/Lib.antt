@@ -10,3 +10,4 @@ pub mod Headline
 pub mod Names
 pub mod Info
 pub mod Buffers
+pub mod BufferWorld

@@ -156,7 +156,8 @@ fn put_option(listed: &mut Vec<Fence>, fence: Option<Fence>) -> Result<(), Refus
     }
 }
 
-/// Drops what no longer waits if the table has grown so much since its last trim, and gives how many its last trim left.
+/// Drops what no longer waits if the table has grown so much since its last trim, and gives how many its last trim
+/// left.
 fn trim_grown(
     fences: &mut Vec<BufferFence>,
     left: usize,

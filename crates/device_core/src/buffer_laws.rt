@@ -8,11 +8,15 @@ ghost use Rattle.device_core.specs.declared.buffer_fence.BufferFence.{BufferFenc
 ghost use Rattle.device_core.specs.declared.fence.Fence.{Fence};
 ghost use Rattle.device_core.specs.declared.fence.Timeline.{Timeline};
 ghost use Rattle.device_core.specs.Buffers.{AreWaiting, BufferState, IsReachOf, at_usage, entries_of, exported, import_into, imported, none_waits};
+ghost use Rattle.device_core.specs.BufferWorld.{AreBufferFences, HasGivenTimelines, put_with};
 ghost use Rattle.device_core.specs.Fences.{HasRisingTimelines, entries_in};
+ghost use Rattle.device_core.specs.History.{reach_of};
+ghost use Rattle.device_core.specs.Sound.{AreFences};
+ghost use Rattle.device_core.specs.State.{Objects};
 ghost use Rattle.device_core.specs.Wrapping.{unwrapped};
 
-/// At each usage a buffer agrees, above what its timelines have reached, with what was in it and the pending fences of the
-/// file that was imported.
+/// At each usage a buffer agrees, above what its timelines have reached, with what was in it and the pending fences of
+/// the file that was imported.
 pub fn an_import_is_a_union()
     ensures { (timelines : ℕ → Option Timeline) (usage : Usage) (fs : List Fence) (b : BufferState) (reach : List ℕ) →
         IsReachOf timelines b.fences reach →
@@ -20,8 +24,8 @@ pub fn an_import_is_a_union()
         (entries_of (b.fences ++ imported usage fs)) }
 {}
 
-/// An export has one fence of each timeline, by rising number, each of them pending, and agrees with what was put into the
-/// buffer at its usage or a stronger one.
+/// An export has one fence of each timeline, by rising number, each of them pending, and agrees with what was put into
+/// the buffer at its usage or a stronger one.
 pub fn an_export_is_what_waits()
     ensures agrees { (timelines : ℕ → Option Timeline) (usage : Usage) (hs : List BufferFence) (reach : List ℕ) →
         IsReachOf timelines hs reach →
@@ -37,6 +41,25 @@ pub fn a_test_finds_what_is_reached()
     ensures { (timelines : ℕ → Option Timeline) (usage : Usage) (hs : List BufferFence) (reach : List ℕ) →
         IsReachOf timelines hs reach →
         ((none_waits timelines usage hs ≡ true) ↔ IsReached (entries_of hs) (usage_number usage) reach) }
+{}
+
+/// A buffer of a device agrees with all that was put into it, and so do the files that are exported from it.
+pub fn a_buffer_keeps_what_was_put()
+    ensures imports { (d : Objects) (usage : Usage) (fs : List Fence) (b : BufferState) (put more : List Entry) →
+        HasGivenTimelines d → AreBufferFences d b.fences → AreFences d fs →
+        AgreesAbove (reach_of d) (entries_of b.fences) put → AgreesAbove (reach_of d) (entries_in fs) more →
+        AgreesAbove (reach_of d) (entries_of (import_into d.timelines usage fs b).fences) (put ++ put_with usage more) }
+    ensures kept { (d : Objects) (usage : Usage) (fs : List Fence) (b : BufferState) →
+        AreBufferFences d b.fences → AreFences d fs →
+        AreBufferFences d (import_into d.timelines usage fs b).fences }
+    ensures exports { (d : Objects) (usage : Usage) (hs : List BufferFence) (put : List Entry) →
+        HasGivenTimelines d → AreBufferFences d hs → AgreesAbove (reach_of d) (entries_of hs) put →
+        AgreesAbove (reach_of d) (entries_in (exported d.timelines usage hs)) (at_usage usage put) }
+    ensures fences { (d : Objects) (usage : Usage) (hs : List BufferFence) →
+        AreBufferFences d hs → AreFences d (exported d.timelines usage hs) }
+    ensures tests { (d : Objects) (usage : Usage) (hs : List BufferFence) (put : List Entry) →
+        HasGivenTimelines d → AreBufferFences d hs → AgreesAbove (reach_of d) (entries_of hs) put →
+        ((none_waits d.timelines usage hs ≡ true) ↔ IsReached put (usage_number usage) (reach_of d)) }
 {}
 
 /// Buffers that agree above a reach export alike.

@@ -1,4 +1,4 @@
-use Rattle.std.proofs.Common.{ap, ◌∙◌, arith, rules}
+use Rattle.std.proofs.Common.{arith, rules}
 use Rattle.std.proofs.lemmas.Fn.{filter_same}
 use Rattle.device_core.specs.Buffers.{is_waiting, state_of}
 use Rattle.device_core.specs.State.{at}

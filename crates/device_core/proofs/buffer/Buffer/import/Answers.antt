@@ -1,4 +1,4 @@
-use Rattle.std.proofs.Common.{◌≡◌, ◌∙◌, ap, sym}
+use Rattle.std.proofs.Common.{◌∙◌, ap, sym}
 use Rattle.device_core.specs.Buffers.{import_into, state_of}
 use Rattle.device_core.specs.State.{at}
 use Rattle.device_core.proofs.Putting.{import-none, import-is}
