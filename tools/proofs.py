@@ -77,20 +77,21 @@ class Schedule:
         return self.of_memory * self.rt.need(crate) * (1 + OF_MORE * (jobs - 1))
 
     def start(self, crate, ready):
-        """Returns with how many processors and how nicely the proof of one of the crates that are ready starts, or None where it has to
-        wait for room."""
-        taken, room = [sum(it) for it in zip(*self.running.values())] or (0, 0), self.memory
-        idle, room = self.processors - taken[0], room - taken[1]
+        """Returns with how many processors and how nicely one of the crates that are ready is proved, or None where it has to wait for
+        room."""
+        taken = sum(jobs for jobs, _ in self.running.values())
+        room = self.memory - sum(need for _, need in self.running.values())
         longest = max(self.ahead[it] for it in [*self.running, *(it.name for it in ready)])
         part = self.ahead[crate.name] / longest
-        jobs = max(URGENT_JOBS if part >= NEARLY else 1, idle // len(ready))
+        # Processors that nothing else is ready for go to those that are.
+        jobs = max(URGENT_JOBS if part >= NEARLY else 1, (self.processors - taken) // len(ready))
         jobs = min(jobs, self.processors, MOST_JOBS)
         while jobs > 1 and self.need(crate, jobs) > room:
             jobs -= 1
-        has_room = taken[0] < SHARING * self.processors and self.need(crate, jobs) <= room
-        if self.running and not has_room:
+        need = self.need(crate, jobs)
+        if self.running and (taken >= SHARING * self.processors or need > room):
             return None
-        self.running[crate.name] = jobs, self.need(crate, jobs)
+        self.running[crate.name] = jobs, need
         return jobs, min(round(NICER * (1 - part)), NICEST)
 
     def end(self, crate):

@@ -15,8 +15,8 @@ use clap::error::ErrorKind;
 use point_core::Refusal;
 use source_core::Script;
 use std::alloc::Global;
-use std::rt::Files;
 use std::fs;
+use std::rt::Files;
 
 /// What the words of the command line ask for; the first of them is the program's own. A lone word that is no subcommand asks to
 /// run the script of that file, if there is one. Help and the version are printed here, and wrong usage is reported.
