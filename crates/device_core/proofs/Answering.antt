@@ -36,7 +36,7 @@ one_settled t v s f = elim (cases_Bool (is_due t v f)) [
     or_false true = refl
     or_false false = refl
 
-all_settled : (t v : ℕ) (s : Signal) (fs : List Fence) → are_signalled (all_signalled_by t v s fs) ≡ list_all (is_settled_by t v) fs
+pub all_settled : (t v : ℕ) (s : Signal) (fs : List Fence) → are_signalled (all_signalled_by t v s fs) ≡ list_all (is_settled_by t v) fs
 all_settled t v s [] = refl
 all_settled t v s (f ∷ fs) = ap (λ b. b && are_signalled (all_signalled_by t v s fs)) (one_settled t v s f) ∙ ap (λ b. is_settled_by t v f && b) (all_settled t v s fs)
 

@@ -11,7 +11,7 @@ pub world_from-push : (history : List Request) (w : World) (r : Request) → wor
 world_from-push [] w r = refl
 world_from-push (x ∷ rest) w r = world_from-push rest (world_after w x) r
 
-AreAccepted-push : (history : List Request) (w : World) (r : Request) → AreAccepted w history → cause_of (world_from w history).objects r ≡ None → AreAccepted w (history ++ r ∷ [])
+pub AreAccepted-push : (history : List Request) (w : World) (r : Request) → AreAccepted w history → cause_of (world_from w history).objects r ≡ None → AreAccepted w (history ++ r ∷ [])
 AreAccepted-push [] w r accepted none = (none, tt)
 AreAccepted-push (x ∷ rest) w r accepted none = (accepted.0, AreAccepted-push rest (world_after w x) r accepted.1 none)
 

@@ -1,5 +1,5 @@
 -- What a device says of all that was put into its files, and of its timelines.
-use Rattle.std.proofs.Common.{◌≡◌, ◌≢◌, ℕ, ◌+◌, ◌<◌, ◌≤◌, ◌⊎◌, inl, inr, true, false, not, cond, refl, sym, ap, ◌∙◌, subst, List, [], ◌∷◌, ◌++◌, append_assoc, append-nil, Option, None, Some, is_some, option_map, All, arith}
+use Rattle.std.proofs.Common.{◌≡◌, ◌≢◌, ◌↔◌, ℕ, ◌+◌, ◌<◌, ◌≤◌, ◌⊎◌, inl, inr, true, false, not, cond, refl, sym, ap, ◌∙◌, subst, List, [], ◌∷◌, ◌++◌, append_assoc, append-nil, Option, None, Some, is_some, option_map, All, arith}
 use Rattle.std.proofs.lemmas.Bool.{cases_eq, and_parts, and_from, not-true, le-ltb, eq-eqb, ne_eqb}
 use Rattle.std.proofs.lemmas.List.Elements.{All-nil, All-cons, All-head, All-tail, All-contains, Contains-append_right}
 use Rattle.point_core.specs.declared.entry.Entry.{Entry}
@@ -47,6 +47,18 @@ below-signalled d (f ∷ fs) each reached =
     and_from (not (is_pending f)) (are_signalled fs) (ap not settled)
     (below-signalled d fs (All-tail (IsFence d) f fs each) (λ e among strong. reached e (Contains-append_right (entry_in f ∷ []) (entries_in fs) e among) strong))
 
+-- of the world of a history
+pub signalled-world : (w : World) → IsSound w → (n : ℕ) (f : FileState) → w.objects.files n ≡ Some f → (are_signalled f.fences ≡ true) ↔ IsReached (w.put n) 0 (reach_of w.objects)
+signalled-world w sound n f is =
+    let reach = reach_of w.objects in
+    let each = (sound.fences n f is).each in
+    let agrees = sound.agrees n f is in (
+      λ all.
+          let low = signalled-below w.objects f.fences each all in
+          IsReached-AgreesAbove 0 agrees (λ e among strong. All-contains (IsBelow reach) (entries_in f.fences) e low among),
+      λ reached. below-signalled w.objects f.fences each (IsReached-AgreesAbove 0 (AgreesAbove-sym agrees) reached),
+    )
+
 pub ReportsWhatWasPut-stands : (d : DeviceState) (history : List Request) → HasHistory d history → ReportsWhatWasPut d history
 ReportsWhatWasPut-stands d history had =
     let w = world_of history in
@@ -58,13 +70,7 @@ ReportsWhatWasPut-stands d history had =
       agrees = agrees;
       same_put = λ a b f g left right same.
           AgreesAbove-trans (agrees a f left) (AgreesAbove-trans (AgreesAbove-same_entries reach (w.put a) (w.put b) same.there same.back) (AgreesAbove-sym (agrees b g right)));
-      signalled = λ n f is.
-          let each = (sound.fences n f (there n f is)).each in (
-            λ all.
-                let low = signalled-below w.objects f.fences each all in
-                IsReached-AgreesAbove 0 (agrees n f is) (λ e among strong. All-contains (IsBelow reach) (entries_in f.fences) e low among),
-            λ reached. below-signalled w.objects f.fences each (IsReached-AgreesAbove 0 (AgreesAbove-sym (agrees n f is)) reached),
-          );
+      signalled = λ n f is. signalled-world w sound n f (there n f is);
       rising = λ n f is. (sound.fences n f (there n f is)).rising;
     }
 

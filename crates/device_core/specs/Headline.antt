@@ -1,11 +1,16 @@
 -- What a device reports of all that was put into its files, and of its timelines.
-use Rattle.std.specs.Prelude.{◌≡◌, ◌↔◌, ℕ, true, List, Some, Contains}
+use Rattle.std.specs.Prelude.{◌≡◌, ◌↔◌, ℕ, ◌+◌, ◌-◌, ◌≤◌, true, List, Some, Contains, Result}
+use Rattle.std.specs.List.{range_with_len}
 use Rattle.point_core.specs.declared.entry.Entry.{Entry}
 use Rattle.point_core.specs.Agreement.{AgreesAbove, IsReached}
 use Rattle.device_core.specs.declared.fence.Timeline.{Timeline}
+use Rattle.device_core.specs.declared.refusal.Refusal.{Refusal}
 use Rattle.device_core.specs.declared.request.Request.{Request}
+use Rattle.device_core.specs.declared.request.Answer.{Answer}
 use Rattle.device_core.specs.Fences.{are_signalled, entries_in, HasRisingTimelines}
 use Rattle.device_core.specs.State.{FileState, DeviceState, file_at, timeline_at}
+use Rattle.device_core.specs.Request.{is_waiting}
+use Rattle.device_core.specs.Times.{numbers_given, times_woken, times_begun, times_dropped, one_if}
 use Rattle.device_core.specs.History.{world_of, reach_of, sum_of}
 
 -- both have the same entries, in whatever order and however often
@@ -39,3 +44,16 @@ pub record ReportsWhatWasPut (d : DeviceState) (history : List Request) : Type 0
 -- an open timeline is at the sum of its increments
 pub record ReportsSums (d : DeviceState) (history : List Request) : Type 0 where
   pub values : (n : ℕ) (t : Timeline) → timeline_at d n ≡ Some t → t.value ≡ sum_of n history
+
+-- the objects that are made have the numbers from 1 on, one after another, so none is given twice
+pub record ReportsNumbers (d : DeviceState) (given : List (Result Answer Refusal)) : Type 0 where
+  pub rising : numbers_given given ≡ range_with_len 1 (d.next - 1)
+
+-- each file that waits when it is made is woken, or closed while it waits, or still waits, and only one of these
+pub record ReportsEachWaking (d : DeviceState) (history : List Request) (given : List (Result Answer Refusal)) : Type 0 where
+  pub each : (n : ℕ) →
+      times_begun n history ≡ times_woken n given + times_dropped n history + one_if (is_waiting (file_at d n))
+  -- it is made once
+  pub begun : (n : ℕ) → times_begun n history ≤ 1
+  -- so it is woken at most once
+  pub woken : (n : ℕ) → times_woken n given ≤ 1

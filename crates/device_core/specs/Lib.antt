@@ -5,6 +5,7 @@ pub mod Woken
 pub mod Request
 pub mod History
 pub mod Sound
+pub mod Times
 pub mod Headline
 pub mod Names
 pub mod Info

@@ -1,14 +1,15 @@
 //! What holds of all points, fences and values: each law is the contract of a function with an empty body.
-ghost use Rattle.std.specs.Prelude.{◌≡◌, ℕ, ◌+◌, ◌^◌, ◌<◌, ◌≤◌, ◌++◌, List, nat_lt, All};
+ghost use Rattle.std.specs.Prelude.{◌≡◌, ℕ, ◌+◌, ◌^◌, ◌<◌, ◌≤◌, ◌++◌, List, nat_lt, All, ◌↔◌, Some, true};
 ghost use Rattle.point_core.specs.declared.entry.Entry.{Entry};
 ghost use Rattle.point_core.specs.Reach.{IsAtLeast};
-ghost use Rattle.point_core.specs.Agreement.{AgreesAbove};
+ghost use Rattle.point_core.specs.Agreement.{AgreesAbove, IsReached};
 ghost use Rattle.device_core.specs.declared.fence.Fence.{Fence};
 ghost use Rattle.device_core.specs.declared.fence.Signal.{Signal};
-ghost use Rattle.device_core.specs.Fences.{all_signalled_by, entries_in, merged, HasRisingTimelines, IsReachedUnlessPending};
+ghost use Rattle.device_core.specs.Fences.{all_signalled_by, are_signalled, entries_in, merged, HasRisingTimelines, IsReachedUnlessPending};
 ghost use Rattle.device_core.specs.declared.request.Request.{Request};
-ghost use Rattle.device_core.specs.History.{AreAccepted, empty_world, world_of};
+ghost use Rattle.device_core.specs.History.{AreAccepted, empty_world, world_of, reach_of};
 ghost use Rattle.device_core.specs.Sound.{IsSound};
+ghost use Rattle.device_core.specs.State.{FileState};
 ghost use Rattle.device_core.specs.Wrapping.{is_later, unwrapped};
 
 /// The kernel's comparison of 32 bits says that a point is later than the value exactly when the point of 64 bits that
@@ -40,4 +41,12 @@ pub fn merge_is_a_union()
 /// is open and its point above the value, and each file agrees with what was put into it.
 pub fn a_history_makes_a_sound_world()
     ensures { (history : List Request) → AreAccepted empty_world history → IsSound (world_of history) }
+{}
+
+/// After every history an open file has signalled exactly when each point that was put into it is reached, or its timeline
+/// closed.
+pub fn a_file_has_signalled_once_all_is_reached()
+    ensures { (history : List Request) → AreAccepted empty_world history →
+        (n : ℕ) (f : FileState) → (world_of history).objects.files n ≡ Some f →
+        ((are_signalled f.fences ≡ true) ↔ IsReached ((world_of history).put n) 0 (reach_of (world_of history).objects)) }
 {}
