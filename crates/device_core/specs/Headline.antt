@@ -50,7 +50,8 @@ pub record ReportsNumbers (d : DeviceState) (given : List (Result Answer Refusal
   pub rising : numbers_given given ≡ range_with_len 1 (d.next - 1)
 
 -- each file that waits when it is made is woken, or closed while it waits, or still waits, and only one of these
-pub record ReportsEachWaking (d : DeviceState) (history : List Request) (given : List (Result Answer Refusal)) : Type 0 where
+pub record ReportsEachWaking (d : DeviceState) (history : List Request) (given : List (Result Answer Refusal))
+    : Type 0 where
   pub each : (n : ℕ) →
       times_begun n history ≡ times_woken n given + times_dropped n history + one_if (is_waiting (file_at d n))
   -- it is made once

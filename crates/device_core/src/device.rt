@@ -145,8 +145,8 @@ impl Device {
 
     /// Closes a timeline or a file; its number is never used again.
     ///
-    /// What is pending of a timeline is cancelled now, as the release of `sync/sw_sync` does. Gives the files that signal
-    /// by it, by rising number. Nothing waits for a closed file any more.
+    /// What is pending of a timeline is cancelled now, as the release of `sync/sw_sync` does. Gives the files that
+    /// signal by it, by rising number. Nothing waits for a closed file any more.
     ///
     /// Fails with `NoEntry`, then at a timeline with `NoMemory`; nothing has changed then.
     pub fn close(&mut self, number: u64, now: u64) -> Result<Vec<u64>, Refusal>
@@ -217,8 +217,8 @@ impl Device {
         Ok(())
     }
 
-    /// Merges two files, which both stay, as `SYNC_IOC_MERGE` does: the latest pending fence of each timeline. If nothing
-    /// is pending, the file is a stub, with the latest time at which any of them signalled.
+    /// Merges two files, which both stay, as `SYNC_IOC_MERGE` does: the latest pending fence of each timeline. If
+    /// nothing is pending, the file is a stub, with the latest time at which any of them signalled.
     ///
     /// Fails with `NoEntry`, or with `WrongKind` at a timeline in place of the first, then with `NoEntry` if the second
     /// is no file, then with `NoMemory`; nothing is made then.

@@ -28,8 +28,8 @@ pub fn signalling_keeps_agreement()
         AgreesAbove later (entries_in (all_signalled_by timeline value s fs)) put }
 {}
 
-/// A merge says what both files do above every reach that all signalled fences have reached, and keeps fences that rise by
-/// timeline.
+/// A merge says what both files do above every reach that all signalled fences have reached, and keeps fences that rise
+/// by timeline.
 pub fn merge_is_a_union()
     ensures agrees { (reach : List ℕ) (fs gs : List Fence) →
         All (IsReachedUnlessPending reach) fs → All (IsReachedUnlessPending reach) gs →
@@ -37,16 +37,17 @@ pub fn merge_is_a_union()
     ensures rising { (fs gs : List Fence) → HasRisingTimelines fs → HasRisingTimelines (merged fs gs) }
 {}
 
-/// The world of every history is sound: nothing has a number that was not given, each fence is pending exactly if its timeline
-/// is open and its point above the value, and each file agrees with what was put into it.
+/// The world of every history is sound: nothing has a number that was not given, each fence is pending exactly if its
+/// timeline is open and its point above the value, and each file agrees with what was put into it.
 pub fn a_history_makes_a_sound_world()
     ensures { (history : List Request) → AreAccepted empty_world history → IsSound (world_of history) }
 {}
 
-/// After every history an open file has signalled exactly when each point that was put into it is reached, or its timeline
-/// closed.
+/// After every history an open file has signalled exactly when each point that was put into it is reached, or its
+/// timeline closed.
 pub fn a_file_has_signalled_once_all_is_reached()
     ensures { (history : List Request) → AreAccepted empty_world history →
         (n : ℕ) (f : FileState) → (world_of history).objects.files n ≡ Some f →
-        ((are_signalled f.fences ≡ true) ↔ IsReached ((world_of history).put n) 0 (reach_of (world_of history).objects)) }
+        ((are_signalled f.fences ≡ true)
+        ↔ IsReached ((world_of history).put n) 0 (reach_of (world_of history).objects)) }
 {}

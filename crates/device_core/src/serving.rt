@@ -12,9 +12,9 @@ use crate::refusal::Refusal;
 use crate::request::{Answer, Request};
 
 impl Device {
-    /// The answer to one request: the first refusal whose cause holds, else what the request gives. `NoMemory` comes last,
-    /// where a growth was really refused; a look at a file and the closing of one are never answered it. A refused request
-    /// changes nothing.
+    /// The answer to one request: the first refusal whose cause holds, else what the request gives. `NoMemory` comes
+    /// last, where a growth was really refused; a look at a file and the closing of one are never answered it. A refused
+    /// request changes nothing.
     pub fn serve(&mut self, request: Request) -> Result<Answer, Refusal>
         ensures answer { IsAnswer (objects_of self.old) request result }
         ensures done { OnOk result (objects_of self.new ≡ after (objects_of self.old) request) }
@@ -54,7 +54,8 @@ impl Device {
 
     fn serve_fence(&mut self, timeline: u64, point: u32, now: u64) -> Result<Answer, Refusal>
         ensures answer { IsAnswer (objects_of self.old) (request.Fence timeline point now) result }
-        ensures done { OnOk result (objects_of self.new ≡ after (objects_of self.old) (request.Fence timeline point now)) }
+        ensures done { OnOk result
+            (objects_of self.new ≡ after (objects_of self.old) (request.Fence timeline point now)) }
         ensures unchanged { OnErr result (self.new ≡ self.old) }
     {
         match self.fence(timeline, point, now) {

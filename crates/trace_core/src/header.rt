@@ -14,6 +14,8 @@ const FLAGS_FEWEST: usize = 4;
 
 const FLAGS_MOST: usize = 6;
 
+const _: () = prove!(FLAGS_FEWEST == 4 && FLAGS_MOST == 6);
+
 /// What stands in a record before its event, and the event's text.
 #[derive(Clone, Copy)]
 pub(crate) struct Header<'a> {
