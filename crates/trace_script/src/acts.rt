@@ -153,10 +153,10 @@ impl Acts {
         }
     }
 
-    /// Gives the fences that were not signalled the points after those of the others.
-    pub(crate) fn number_the_rest(&mut self) {
+    /// Gives the fences that were not signalled the points after those of the others. One that its driver has not numbered has none.
+    pub(crate) fn number_the_rest(&mut self, ledger: &Ledger) {
         for fence in self.fences.as_mut_slice() {
-            if fence.point == 0 {
+            if fence.point == 0 && !is_unnumbered(ledger, &fence.key) {
                 if let Some(count) = self.signalled.get_mut(fence.timeline) {
                     *count = count.saturating_add(1);
                     fence.point = *count;

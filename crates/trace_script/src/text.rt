@@ -71,7 +71,7 @@ fn script_of<R: Read>(
     if tracker.ledger.events() == 0 {
         return Ok(Scripted::NoEvents);
     }
-    acts.number_the_rest();
+    acts.number_the_rest(&tracker.ledger);
     written(alloc, tracker, acts)
 }
 
@@ -97,13 +97,21 @@ fn read_window<R: Read>(
             }
             None => {
                 if pieces.is_whole() {
-                    return Ok(());
+                    return end(alloc, stage, tracker, acts);
                 }
                 if pieces.read(reader) == Progress::Failed {
                     return Err(Refusal::Read);
                 }
             }
         }
+    }
+    Ok(())
+}
+
+/// At the end of the text begins a window that no event is in.
+fn end(alloc: Global, stage: Stage, tracker: &Tracker, acts: &mut Acts) -> Result<(), Refusal> {
+    if stage == Stage::Before {
+        return acts.begin(alloc, tracker);
     }
     Ok(())
 }
@@ -122,11 +130,11 @@ fn take(
         return Ok(stage);
     };
     let next = stage.after(span, record.time);
+    if stage == Stage::Before && next != Stage::Before {
+        acts.begin(alloc, tracker)?;
+    }
     if next == Stage::After {
         return Ok(next);
-    }
-    if stage == Stage::Before && next == Stage::Within {
-        acts.begin(alloc, tracker)?;
     }
     tracker.take(piece)?;
     if next == Stage::Within {
