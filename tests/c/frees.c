@@ -1,0 +1,107 @@
+/* What the library has taken of memory it gives back: with each handle that is closed something, and with the last all.
+ *
+ * It is linked with --wrap=malloc, --wrap=realloc and --wrap=free.
+ */
+#include <bimphlai.h>
+
+#include "expect.h"
+#include <stddef.h>
+
+void *__real_malloc(size_t size);
+void *__real_realloc(void *block, size_t size);
+void __real_free(void *block);
+
+/* The blocks that are taken. */
+static long long blocks;
+
+void *__wrap_malloc(size_t size)
+{
+    void *block = __real_malloc(size);
+
+    blocks += block != NULL;
+    return block;
+}
+
+void *__wrap_realloc(void *block, size_t size)
+{
+    void *moved = __real_realloc(block, size);
+
+    blocks += block == NULL && moved != NULL;
+    return moved;
+}
+
+void __wrap_free(void *block)
+{
+    blocks -= block != NULL;
+    __real_free(block);
+}
+
+/* Expects that a call gives some blocks back. */
+#define GIVES_BACK(call) \
+    do { \
+        long long taken = blocks; \
+        call; \
+        HOLDS(blocks < taken); \
+    } while (0)
+
+static void close_a_desk(void)
+{
+    bim_desk desk = BIM_DESK_INIT;
+    uint64_t value;
+
+    EXPECT(bim_desk_open(&desk), BIM_OK);
+    EXPECT(bim_timeline(&desk, "a", NULL), BIM_OK);
+    EXPECT(bim_timeline(&desk, "b", NULL), BIM_OK);
+    EXPECT(bim_fence(&desk, "f", "a", 5), BIM_OK);
+    EXPECT(bim_fence(&desk, "g", "b", 7), BIM_OK);
+    EXPECT(bim_merge(&desk, "m", "f", "g"), BIM_OK);
+    EXPECT(bim_buffer(&desk, "B"), BIM_OK);
+    EXPECT(bim_import(&desk, "B", "m", BIM_SYNC_WRITE), BIM_OK);
+    EXPECT(bim_export(&desk, "x", "B", BIM_SYNC_READ), BIM_OK);
+    EXPECT(bim_watch(&desk, "m", 1), BIM_OK);
+    EXPECT(bim_watch(&desk, "f", 2), BIM_OK);
+    EXPECT(bim_inc(&desk, "a", 5, &value), BIM_OK);
+    GIVES_BACK(EXPECT(bim_close(&desk, "m"), BIM_OK));
+    GIVES_BACK(bim_desk_close(&desk));
+}
+
+static void close_files_and_seats(void)
+{
+    bim_seat seat = BIM_SEAT_INIT, other = BIM_SEAT_INIT;
+    bim_file file = BIM_FILE_INIT, copy = BIM_FILE_INIT, second = BIM_FILE_INIT, both = BIM_FILE_INIT,
+             export = BIM_FILE_INIT;
+
+    EXPECT(bim_words_open(&seat, 2, 1, 1), BIM_OK);
+    EXPECT(bim_seat_part(&seat, &other), BIM_OK);
+    EXPECT(bim_seat_drive(&other, 1), BIM_OK);
+    EXPECT(bim_file_plain(&file, 1, 5), BIM_OK);
+    EXPECT(bim_file_copy(&file, &copy), BIM_OK);
+    EXPECT(bim_file_plain(&second, 2, 7), BIM_OK);
+    EXPECT(bim_file_merge(&both, &file, &second, &seat), BIM_OK);
+    EXPECT(bim_board_put(&seat, 0, 1, 5, BIM_READ), BIM_OK);
+    EXPECT(bim_board_export(&export, &seat, 0, BIM_READ), BIM_OK);
+    GIVES_BACK(bim_file_close(&file));
+    GIVES_BACK(bim_file_close(&copy));
+    GIVES_BACK(bim_file_close(&second));
+    GIVES_BACK(bim_file_close(&both));
+    GIVES_BACK(bim_file_close(&export));
+    GIVES_BACK(bim_seat_close(&other));
+    GIVES_BACK(bim_seat_close(&seat));
+    /* A closed handle has nothing more to give. */
+    long long taken = blocks;
+    bim_file_close(&file);
+    bim_seat_close(&seat);
+    EXPECT(blocks, taken);
+}
+
+int main(void)
+{
+    for (int round = 0; round < 3; round++) {
+        long long taken = blocks;
+        close_a_desk();
+        EXPECT(blocks, taken);
+        close_files_and_seats();
+        EXPECT(blocks, taken);
+    }
+    return report("frees");
+}
