@@ -3,13 +3,16 @@ ghost use Rattle.std.specs.Prelude.{◌≡◌, ◌+◌, ◌<◌, ◌≤◌};
 ghost use Rattle.fence_core.specs.SharedFence.{token_of};
 ghost use Rattle.words_core.specs.declared.seat.TheConstants.{PARTS};
 
-use fence_core::{SharedFence, Signal};
-use point_core::{Context, Point, Refusal};
+use fence_core::{CALLBACKS, SharedFence, Signal};
+use point_core::{Context, LimitKind, Point, Refusal};
 use std::alloc::Global;
 use std::process::Abort;
 use std::sync::Wait;
 use std::thread::{Threads, join};
 use words_core::{Seat, Won, Words};
+
+/// The greatest cookie, of as many as there can be from 1 on.
+const LAST: u64 = CALLBACKS as u64;
 
 /// Words of one context and two flags, and their first seat.
 fn words_of(rt: &impl Abort, alloc: Global) -> (Words, Seat)
@@ -75,12 +78,28 @@ fn signal_first(rt: &impl Abort, fence: &SharedFence, words: &Words, seat: &mut 
     token
 }
 
-/// Hands the callbacks out by the token, and checks which they are.
-fn hand_out<R: Abort + Wait>(rt: &R, fence: &SharedFence, token: Won, wanted: &[u64])
+/// Adds a callback for each cookie but 1, the greatest first.
+fn fill<R: Abort + Wait>(rt: &R, fence: &SharedFence) {
+    for cookie in (2..=LAST).rev() {
+        add(rt, fence, cookie, Ok(()));
+    }
+}
+
+/// Hands the callbacks out by the token, and checks that they are those of each cookie, in the order in which they were added.
+fn hand_out<R: Abort + Wait>(rt: &R, fence: &SharedFence, token: Won)
     requires own { token ≡ token_of fence.now }
 {
-    let cookies = fence.hand_out(rt, token);
-    assert!(rt; cookies.as_slice() == wanted);
+    check_falling(rt, fence.hand_out(rt, token).as_slice());
+}
+
+/// Checks that the cookies are as many as there can be, down to 1.
+fn check_falling(rt: &impl Abort, cookies: &[u64]) {
+    assert!(rt; cookies.len() == CALLBACKS);
+    let mut wanted = LAST;
+    for cookie in cookies {
+        assert!(rt; *cookie == wanted);
+        wanted = wanted.saturating_sub(1);
+    }
 }
 
 /// Checks that a fence was signalled by another call.
@@ -90,17 +109,18 @@ fn check_signalled(rt: &impl Abort, fence: &SharedFence, words: &Words, seat: &m
     assert!(rt; matches!(fence.signal(words, seat), Signal::Already));
 }
 
-/// Signals a fence twice, with callbacks before and between, and hands them out.
+/// Signals a fence twice, with callbacks before and between, as many as there can be, and hands them out.
 fn signal_again<R: Abort + Wait>(rt: &R, fence: &SharedFence, words: &Words, seat: &mut Seat)
     requires own { (words.now ≡ fence.now.words) × (seat.old.words ≡ words.now) }
 {
-    add(rt, fence, 7, Ok(()));
-    add(rt, fence, 7, Err(Refusal::Exists));
+    fill(rt, fence);
+    add(rt, fence, LAST, Err(Refusal::Exists));
     let token = signal_first(rt, fence, words, seat);
-    add(rt, fence, 8, Ok(()));
+    add(rt, fence, 1, Ok(()));
+    add(rt, fence, 0, Err(Refusal::Limit(LimitKind::Watches)));
     check_signalled(rt, fence, words, seat);
-    hand_out(rt, fence, token, &[7, 8]);
-    add(rt, fence, 9, Err(Refusal::Signalled));
+    hand_out(rt, fence, token);
+    add(rt, fence, 0, Err(Refusal::Signalled));
 }
 
 /// Drives the first context to the point of a pending fence, which is then signalled.
@@ -222,10 +242,10 @@ fn signal_and_count<R: Threads + Wait + Abort + Sync>(
     requires parts { 4 < seat.old.parts }
     ensures own { (seat.new.words ≡ words.now) × (seat.old.parts ≤ seat.new.parts + 4) }
 {
+    add(rt, fence, 12, Ok(()));
     add(rt, fence, 7, Ok(()));
-    add(rt, fence, 8, Ok(()));
     let answers = signal_four_times(rt, fence, words, seat);
-    assert!(rt; is_handed_out_once(&answers, &[7, 8]));
+    assert!(rt; is_handed_out_once(&answers, &[12, 7]));
 }
 
 /// Signals a fence of no point on four threads.
