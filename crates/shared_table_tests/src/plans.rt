@@ -18,17 +18,28 @@ pub(crate) fn point(value: u64) -> Point
     }
 }
 
-/// The plan of one client, which puts a point into the first buffer of two.
-pub(crate) fn plan_of_a_put(rt: &impl Abort, alloc: Global) -> Vec<Plan>
-    ensures within { ArePlansWithin 1 2 result.items }
-    ensures count { vec_len result ≡ 1 }
+/// A point of the second context.
+pub(crate) fn second_point(value: u64) -> Point
+    ensures context { result.ctx ≡ 2 }
+{
+    Point {
+        ctx: Context::at(1),
+        value,
+    }
+}
+
+/// The plans of two clients, of which the first puts a point into the second buffer of two, and the other does nothing.
+pub(crate) fn plans_of_a_put(rt: &impl Abort, alloc: Global) -> Vec<Plan>
+    ensures within { ArePlansWithin 2 2 result.items }
+    ensures count { vec_len result ≡ 2 }
 {
     let ctx = Context::at(0);
-    plan_of(
-        rt,
-        alloc,
-        Act::Put(0, Point { ctx, value: 1 }, Usage::Write),
-    )
+    let put = Act::Put(1, Point { ctx, value: 1 }, Usage::Write);
+    let acts = Vec::from_elem(alloc, put, 1).expect(rt, "acts");
+    let mut plans = Vec::with_capacity(alloc, 2).expect(rt, "plans");
+    plans.push_reserved(Plan::of(acts));
+    plans.push_reserved(Plan::of(Vec::new(alloc)));
+    plans
 }
 
 /// The plan of one client, which advances its timeline by 4.

@@ -1,7 +1,7 @@
 // One buffer of each table, and what lies under a lock.
 ghost use Rattle.std.specs.Prelude.{◌≡◌, ◌<◌};
 
-use crate::plans::{check_refused, gathered, plan_of_a_put, point};
+use crate::plans::{check_refused, gathered, plans_of_a_put, point, second_point};
 use clients_core::{Board, LockedBuffer, LockedTable};
 use point_core::{Entry, Listing, Point, Reach, Refusal, Usage};
 use resv_core::SharedTable;
@@ -107,7 +107,7 @@ fn check_kept_listing<R: Wait + Abort, T: SharedTable>(
     check_listing(rt, &listing, &Reach::zero(), &[]);
 }
 
-/// Checks that a new table has not settled the plan of a put.
+/// Checks that a new table has not settled the plans of a put.
 fn check_unsettled<R: Wait + Abort, T: SharedTable>(
     rt: &R,
     alloc: Global,
@@ -115,15 +115,15 @@ fn check_unsettled<R: Wait + Abort, T: SharedTable>(
     all: &mut Whole,
 )
     requires own { all.old.words ≡ words.now }
-    requires sizes { (words.now.contexts ≡ 1) × (words.now.buffers ≡ 2) }
+    requires sizes { (words.now.contexts ≡ 2) × (words.now.buffers ≡ 2) }
 {
-    let plans = plan_of_a_put(rt, alloc);
+    let plans = plans_of_a_put(rt, alloc);
     let table = T::empty(alloc, words).expect(rt, "a table");
     let refused = table.settle(rt, alloc, words, all, plans.as_slice());
     check_refused(rt, refused, Refusal::Torn);
 }
 
-/// Checks a put into the second buffer of a new table, which shows there alone.
+/// Checks puts into the second buffer of a new table, which show there alone, each from its usage on.
 fn check_new_table<R: Wait + Abort, T: SharedTable>(
     rt: &R,
     alloc: Global,
@@ -131,21 +131,25 @@ fn check_new_table<R: Wait + Abort, T: SharedTable>(
     seat: &mut Seat,
 )
     requires own { seat.old.words ≡ words.now }
-    requires sizes { (words.now.contexts ≡ 1) × (words.now.buffers ≡ 2) }
+    requires sizes { (words.now.contexts ≡ 2) × (words.now.buffers ≡ 2) }
     ensures same { (seat.new.words ≡ seat.old.words) × (seat.new.parts ≡ seat.old.parts) }
 {
     let table = T::empty(alloc, words).expect(rt, "a table");
     let put = table.put(rt, alloc, words, seat, 1, point(4), Usage::Read);
     put.expect(rt, "a put");
-    check_export::<R, T>(rt, alloc, &table, words, seat, 1, Usage::Read, &[point(4)]);
+    let put = table.put(rt, alloc, words, seat, 1, second_point(3), Usage::Bookkeep);
+    put.expect(rt, "a put");
+    let both = [point(4), second_point(3)];
+    check_export::<R, T>(rt, alloc, &table, words, seat, 1, Usage::Bookkeep, &both);
+    check_export::<R, T>(rt, alloc, &table, words, seat, 1, Usage::Read, &both[..1]);
     check_export::<R, T>(rt, alloc, &table, words, seat, 1, Usage::Write, &[]);
     check_export::<R, T>(rt, alloc, &table, words, seat, 0, Usage::Bookkeep, &[]);
     check_kept_listing::<R, T>(rt, alloc, &table, words, seat);
 }
 
-/// Checks tables of two buffers and one context.
+/// Checks tables of two buffers and two contexts.
 fn check_tables<R: Wait + Abort, T: SharedTable>(rt: &R, alloc: Global) {
-    let (words, mut seat) = Words::new(alloc, 1, 2, 0).expect(rt, "words");
+    let (words, mut seat) = Words::new(alloc, 2, 2, 0).expect(rt, "words");
     check_new_table::<R, T>(rt, alloc, &words, &mut seat);
     let mut all = gathered(rt, seat);
     check_unsettled::<R, T>(rt, alloc, &words, &mut all);
