@@ -193,16 +193,17 @@ fn a_table_that_never_settles(rt: HostRuntime) {
     check_torn(&rt, rt.alloc(), plans.as_slice());
 }
 
-/// Closed to one client, and counts the acts that were left.
+/// Closed to one client from an act on, and counts the acts that were left.
 #[derive(Drop)]
 struct ClosedTo {
     client: usize,
+    from: usize,
     left: AtomicUsize,
 }
 
 impl Gate for ClosedTo {
-    fn enter(&self, client: usize, _act: usize) -> bool {
-        client != self.client
+    fn enter(&self, client: usize, act: usize) -> bool {
+        client != self.client || act < self.from
     }
 
     fn leave(&self, _client: usize, _act: usize) {
@@ -210,28 +211,31 @@ impl Gate for ClosedTo {
     }
 }
 
-/// Checks as what two clients are refused, of which one finds the gate closed, and the other looks at a table that lists
-/// nothing; and that both acts of the other are left.
+/// Checks as what two clients are refused, of which one finds the gate closed at an act, and the other looks at a table that
+/// lists nothing; and that both acts of the other are left, and those before the closed one.
 fn check_least<R: Threads + Wait + Abort + Sync>(
     rt: &R,
     alloc: Global,
     plans: &[Plan],
-    closed: usize,
+    client: usize,
+    from: usize,
     wanted: Refusal,
 ) {
     let gate = ClosedTo {
-        client: closed,
+        client,
+        from,
         left: AtomicUsize::new(0),
     };
     let refused = run_clients::<R, OddTable, ClosedTo>(rt, alloc, 1, plans, &gate);
     check_refused(rt, refused, wanted);
-    assert!(rt; gate.left.load(Ordering::SeqCst) == 2);
+    assert!(rt; gate.left.load(Ordering::SeqCst) == from.saturating_add(2));
 }
 
 #[test]
 fn a_table_that_lists_nothing(rt: HostRuntime) {
     let plans = plans_of_two(&rt, rt.alloc(), Usage::Bookkeep);
     check_torn(&rt, rt.alloc(), plans.as_slice());
-    check_least(&rt, rt.alloc(), plans.as_slice(), 1, Refusal::TimedOut);
-    check_least(&rt, rt.alloc(), plans.as_slice(), 2, Refusal::Torn);
+    check_least(&rt, rt.alloc(), plans.as_slice(), 1, 0, Refusal::TimedOut);
+    check_least(&rt, rt.alloc(), plans.as_slice(), 1, 1, Refusal::TimedOut);
+    check_least(&rt, rt.alloc(), plans.as_slice(), 2, 0, Refusal::Torn);
 }
