@@ -12,6 +12,8 @@ use Rattle.command_line.specs.declared.action.Draw.{Draw as DrawAction}
 use Rattle.command_line.specs.declared.action.Trace.{Trace as TraceAction}
 use Rattle.command_line.specs.declared.action.Report.{Report}
 use Rattle.command_line.specs.declared.action.Report.TheVariants as report
+use Rattle.command_line.specs.declared.action.Table.{Table}
+use Rattle.command_line.specs.declared.action.Table.TheVariants as table
 
 -- a check of scripts: the paths that name them, what is reported, and whether a script may expect nothing
 pub record AskedCheck : Type 0 where
@@ -37,7 +39,7 @@ pub record AskedDraw : Type 0 where
   pub lines : Option Text
   pub output : Option Text
 
--- a script has the name of its file, or none on standard input; clients have their number and that of their rounds
+-- a script has the name of its file, or none on standard input; clients have their number, that of their rounds, and their table
 pub data Asked : Type 0 where
   Run : Option Text → Asked
   Json : Option Text → Asked
@@ -46,7 +48,7 @@ pub data Asked : Type 0 where
   Explain : Option Text → Asked
   Trace : AskedTrace → Asked
   Draw : AskedDraw → Asked
-  Clients : ℕ → ℕ → Asked
+  Clients : ℕ → ℕ → Table → Asked
 
 abbrev pub number_named : Option Text → ℕ
 number_named None = 0
@@ -65,6 +67,13 @@ report_named rows =
     if flag_named (one_of (codes "tap") rows) then report.Tap
     else if flag_named (one_of (codes "quiet") rows) then report.Counts
     else report.All
+
+abbrev pub table_named : List Row → Table
+table_named rows = if flag_named (one_of (codes "locks") rows) then table.Locks else table.Board
+
+abbrev pub clients_after : List Row → Asked
+clients_after rows =
+    Clients (number_named (one_of (codes "N") rows)) (number_named (one_of (codes "ROUNDS") rows)) (table_named rows)
 
 abbrev pub check_after : List Row → AskedCheck
 check_after rows = record {
@@ -111,8 +120,7 @@ asked_on word rows = if bytes_eq word (codes "explain") then Explain (script_nam
 -- by the word of a subcommand, and the values after it
 abbrev pub asked_after : Text → List Row → Asked
 asked_after word rows =
-    if bytes_eq word (codes "clients") then
-    Clients (number_named (one_of (codes "N") rows)) (number_named (one_of (codes "ROUNDS") rows))
+    if bytes_eq word (codes "clients") then clients_after rows
     else if bytes_eq word (codes "check") then check_or_update rows
     else if bytes_eq word (codes "trace") then Trace (trace_after rows)
     else if bytes_eq word (codes "draw") then Draw (draw_after rows)
@@ -158,7 +166,7 @@ asked_of (action.Check check) = Some (Check (asked_of_check check))
 asked_of (action.Explain script) = Some (Explain (file_of script))
 asked_of (action.Trace trace) = Some (Trace (asked_of_trace trace))
 asked_of (action.Draw draw) = Some (Draw (asked_of_draw draw))
-asked_of (action.Clients clients) = Some (Clients clients.count clients.rounds)
+asked_of (action.Clients clients) = Some (Clients clients.count clients.rounds clients.table)
 asked_of (action.End status) = None
 
 -- the second of two words is asked for as the name of a script's file

@@ -18,6 +18,7 @@ ghost use Rattle.command_line.specs.Asked.{
   paths_named,
   report_named,
   run_or_json,
+  table_named,
   trace_after,
 };
 
@@ -185,6 +186,7 @@ fn clients_of(matches: &ArgMatches<'_>) -> Result<Clients, Refusal>
         ≡ number_named (one_of (codes "N") (rows_of (found_of matches.now)))) }
     ensures rounds { IfOk result (λ clients. clients.rounds
         ≡ number_named (one_of (codes "ROUNDS") (rows_of (found_of matches.now)))) }
+    ensures table { IfOk result (λ clients. clients.table ≡ table_named (rows_of (found_of matches.now))) }
 {
     let count = usize::from(number_of(matches, COUNT));
     if !(1..=CLIENTS).contains(&count) {
@@ -208,7 +210,9 @@ fn number_of(matches: &ArgMatches<'_>, name: &str) -> u16
     matches.get_one(name).unwrap_or(0)
 }
 
-fn table_of(matches: &ArgMatches<'_>) -> Table {
+fn table_of(matches: &ArgMatches<'_>) -> Table
+    ensures { result ≡ table_named (rows_of (found_of matches.now)) }
+{
     if has_flag(matches, LOCKS) {
         Table::Locks
     } else {
