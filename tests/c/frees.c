@@ -50,8 +50,8 @@ static void close_a_desk(void)
     uint64_t value;
 
     EXPECT(bim_desk_open(&desk), BIM_OK);
-    EXPECT(bim_timeline(&desk, "a", NULL), BIM_OK);
-    EXPECT(bim_timeline(&desk, "b", NULL), BIM_OK);
+    EXPECT(bim_timeline(&desk, "a", &value), BIM_OK);
+    EXPECT(bim_timeline(&desk, "b", &value), BIM_OK);
     EXPECT(bim_fence(&desk, "f", "a", 5), BIM_OK);
     EXPECT(bim_fence(&desk, "g", "b", 7), BIM_OK);
     EXPECT(bim_merge(&desk, "m", "f", "g"), BIM_OK);
