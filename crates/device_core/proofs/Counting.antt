@@ -13,11 +13,12 @@ use Rattle.device_core.specs.declared.refusal.Refusal.{Refusal}
 use Rattle.device_core.specs.declared.request.Request.{Request}
 use Rattle.device_core.specs.declared.request.Request.TheVariants as request
 use Rattle.device_core.specs.declared.request.Answer.{Answer}
+use Rattle.device_core.specs.declared.info.FileInfo.{FileInfo}
 use Rattle.device_core.specs.declared.request.Answer.TheVariants as answer
 use Rattle.device_core.specs.Fences.{is_pending, is_due, signal_at, are_signalled, status_of}
 use Rattle.device_core.specs.State.{FileState, DeviceState, Objects, file_at, file_signalled, merged_files, one_fence_file}
 use Rattle.device_core.specs.Woken.{is_settled_by}
-use Rattle.device_core.specs.Request.{with_at, value_in, with_file, risen, closed, closed_timeline, closed_file, after, is_waiting, has_signalled, AreWoken, OnWoken, OnFile, Reports}
+use Rattle.device_core.specs.Request.{with_at, value_in, with_file, risen, closed, closed_timeline, closed_file, after, is_waiting, has_signalled, AreWoken, OnWoken, OnFile, OnInfo, Reports}
 use Rattle.device_core.specs.History.{World, world_after, world_from, world_of, empty_world, AreAccepted, HasHistory, history_of, AreAnswers}
 use Rattle.device_core.specs.Times.{number_in, woken_in, in_accepted, numbers_given, times_woken, one_if, begins, is_dropped, times_from, times_begun, times_dropped}
 use Rattle.device_core.specs.Sound.{IsSound}
@@ -131,6 +132,7 @@ never-again w (request.Inc t m now) n sound is = signalled_stays t _ (signal_at 
 never-again w (request.Merge a b name) n sound is = never-new w (merged_files name (w.objects.files a) (w.objects.files b)) n sound is
 never-again w (request.Status file) n sound is = not_waiting (w.objects.files n) is
 never-again w (request.IsSignalled file) n sound is = not_waiting (w.objects.files n) is
+never-again w (request.Info file) n sound is = not_waiting (w.objects.files n) is
 never-again w (request.Close number now) n sound is = go (is_some (w.objects.timelines number))
   where
     go : (b : Bool) → is_waiting ((cond b (closed_timeline w.objects number now) (closed_file w.objects number)).files n) ≡ false
@@ -162,16 +164,26 @@ woken-told old new (answer.Number n) h = absurd h
 woken-told old new (answer.Woken woken) h = h
 woken-told old new (answer.Status status) h = absurd h
 woken-told old new (answer.Signalled signalled) h = absurd h
+woken-told old new (answer.Info info) h = absurd h
 
 number-told : (such : List ℕ → Type 0) (given : Answer) → OnWoken such given → number_in given ≡ []
 number-told such (answer.Number n) h = absurd h
 number-told such (answer.Woken woken) h = refl
 number-told such (answer.Status status) h = absurd h
 number-told such (answer.Signalled signalled) h = absurd h
+number-told such (answer.Info info) h = absurd h
 
 file-told : (told : Answer → List ℕ) (o : Option FileState) (give : FileState → Answer) (given : Answer) → ((f : FileState) → told (give f) ≡ []) → OnFile o give given → told given ≡ []
 file-told told None give given none h = absurd h
 file-told told (Some f) give given none h = ap told h ∙ none f
+
+info-told : (told : Answer → List ℕ) (n : ℕ) (o : Option FileState) (given : Answer) → ((info : FileInfo) → told (answer.Info info) ≡ []) → OnInfo n o given → told given ≡ []
+info-told told n None given none h = absurd h
+info-told told n (Some f) (answer.Number m) none h = absurd h
+info-told told n (Some f) (answer.Woken woken) none h = absurd h
+info-told told n (Some f) (answer.Status status) none h = absurd h
+info-told told n (Some f) (answer.Signalled signalled) none h = absurd h
+info-told told n (Some f) (answer.Info info) none h = none info
 
 pub wakes-after : (w : World) (r : Request) (given : Answer) → IsSound w → Reports w.objects r given → AreWoken w.objects (after w.objects r) (woken_in given)
 wakes-after w (request.Open name) given sound h = subst (AreWoken w.objects (after w.objects (request.Open name))) (sym (ap woken_in h)) (none-woken w.objects (after w.objects (request.Open name)) (λ n. inl refl))
@@ -182,6 +194,8 @@ wakes-after w (request.Status file) given sound h =
     subst (AreWoken w.objects w.objects) (sym (file-told woken_in (w.objects.files file) (λ f. answer.Status (status_of f.fences)) given (λ f. refl) h)) (none-woken w.objects w.objects (λ n. inl refl))
 wakes-after w (request.IsSignalled file) given sound h =
     subst (AreWoken w.objects w.objects) (sym (file-told woken_in (w.objects.files file) (λ f. answer.Signalled (are_signalled f.fences)) given (λ f. refl) h)) (none-woken w.objects w.objects (λ n. inl refl))
+wakes-after w (request.Info file) given sound h =
+    subst (AreWoken w.objects w.objects) (sym (info-told woken_in file (w.objects.files file) given (λ info. refl) h)) (none-woken w.objects w.objects (λ n. inl refl))
 wakes-after w (request.Close number now) given sound h = woken-told w.objects (closed w.objects number now) given h
 
 -- which number is given
@@ -201,6 +215,7 @@ next-after d (request.Inc t n now) given h = inr (number-told (AreWoken d (risen
 next-after d (request.Merge a b name) given h = inl (ap number_in h, refl)
 next-after d (request.Status file) given h = inr (file-told number_in (d.files file) (λ f. answer.Status (status_of f.fences)) given (λ f. refl) h, refl)
 next-after d (request.IsSignalled file) given h = inr (file-told number_in (d.files file) (λ f. answer.Signalled (are_signalled f.fences)) given (λ f. refl) h, refl)
+next-after d (request.Info file) given h = inr (info-told number_in file (d.files file) given (λ info. refl) h, refl)
 next-after d (request.Close number now) given h = inr (number-told (AreWoken d (closed d number now)) given h, next-closed d number now (is_some (d.timelines number)))
 
 -- along a run
@@ -242,6 +257,7 @@ begins-made d (request.Inc t m now) n is = signals_begin t (value_in (d.timeline
 begins-made d (request.Merge a b name) n is = (begins-new d (merged_files name (d.files a) (d.files b)) n is, refl)
 begins-made d (request.Status file) n is = none_begins (d.files n) (d.files n) (λ none. none) is
 begins-made d (request.IsSignalled file) n is = none_begins (d.files n) (d.files n) (λ none. none) is
+begins-made d (request.Info file) n is = none_begins (d.files n) (d.files n) (λ none. none) is
 begins-made d (request.Close number now) n is = go (is_some (d.timelines number)) is
   where
     go : (b : Bool) → begins d (cond b (closed_timeline d number now) (closed_file d number)) n ≡ true → IsMade d (request.Close number now) n

@@ -121,6 +121,8 @@ HasSums-after w history (request.Status file) sound none h =
     adds_none w w history (request.Status file) h (λ n. refl) (omega arith) (λ n t is. inl is)
 HasSums-after w history (request.IsSignalled file) sound none h =
     adds_none w w history (request.IsSignalled file) h (λ n. refl) (omega arith) (λ n t is. inl is)
+HasSums-after w history (request.Info file) sound none h =
+    adds_none w w history (request.Info file) h (λ n. refl) (omega arith) (λ n t is. inl is)
 HasSums-after w history (request.Inc timeline m now) sound none h =
     let there = no_cause (w.objects.timelines timeline) (overflow (value_in (w.objects.timelines timeline) + m)) (missing_timeline w.objects timeline) none in
     let k = there.0 in

@@ -285,6 +285,7 @@ IsSound-after w (request.Merge a b name) h none =
     (IsSound-merged w name a b (w.objects.files a) (w.objects.files b) h refl refl)
 IsSound-after w (request.Status file) h none = h
 IsSound-after w (request.IsSignalled file) h none = h
+IsSound-after w (request.Info file) h none = h
 IsSound-after w (request.Close n now) h none = go (w.objects.timelines n) refl
   where
     go : (o : Option Timeline) → w.objects.timelines n ≡ o → IsSound (world (closed w.objects n now) w.put)

@@ -35,6 +35,7 @@ put_after w (request.Inc timeline n now) = w.put
 put_after w (request.Merge a b name) = with_at w.put w.objects.next (w.put a ++ w.put b)
 put_after w (request.Status file) = w.put
 put_after w (request.IsSignalled file) = w.put
+put_after w (request.Info file) = w.put
 put_after w (request.Close number now) = w.put
 
 abbrev pub world_after : World → Request → World
@@ -94,6 +95,7 @@ added_by number (request.Fence timeline point now) = 0
 added_by number (request.Merge a b name) = 0
 added_by number (request.Status file) = 0
 added_by number (request.IsSignalled file) = 0
+added_by number (request.Info file) = 0
 added_by number (request.Close other now) = 0
 
 -- the sum of a timeline's increments

@@ -13,6 +13,7 @@ use Rattle.device_core.specs.declared.request.Answer.{Answer}
 use Rattle.device_core.specs.declared.request.Answer.TheVariants as answer
 use Rattle.device_core.specs.Wrapping.{unwrapped}
 use Rattle.device_core.specs.Fences.{signal_at, are_signalled, status_of}
+use Rattle.device_core.specs.Info.{IsInfo}
 use Rattle.device_core.specs.State.{FileState, Objects, new_timeline, raised, one_fence_file, merged_files, file_signalled}
 
 -- what is kept by number, with one number changed
@@ -61,6 +62,7 @@ after d (request.Inc timeline n now) = risen d timeline n now
 after d (request.Merge a b name) = with_file d (merged_files name (d.files a) (d.files b))
 after d (request.Status file) = d
 after d (request.IsSignalled file) = d
+after d (request.Info file) = d
 after d (request.Close number now) = closed d number now
 
 -- why there is no timeline of that number, and no file
@@ -91,6 +93,7 @@ cause_of d (request.Inc timeline n now) = cause_at_timeline d timeline (overflow
 cause_of d (request.Merge a b name) = cause_at_file d a (if is_some (d.files b) then None else Some NoEntry)
 cause_of d (request.Status file) = cause_at_file d file None
 cause_of d (request.IsSignalled file) = cause_at_file d file None
+cause_of d (request.Info file) = cause_at_file d file None
 cause_of d (request.Close number now) =
     if is_some (d.timelines number) || is_some (d.files number) then None else Some NoEntry
 
@@ -102,6 +105,7 @@ takes_memory d (request.Inc timeline n now) = true
 takes_memory d (request.Merge a b name) = true
 takes_memory d (request.Status file) = false
 takes_memory d (request.IsSignalled file) = false
+takes_memory d (request.Info file) = true
 takes_memory d (request.Close number now) = is_some (d.timelines number)
 
 -- a file that is there and has not signalled, and one that has
@@ -124,11 +128,21 @@ OnWoken such (answer.Number n) = ⊥
 OnWoken such (answer.Woken woken) = such woken.items
 OnWoken such (answer.Status status) = ⊥
 OnWoken such (answer.Signalled signalled) = ⊥
+OnWoken such (answer.Info info) = ⊥
 
 -- the answer is that of a file that is there
 abbrev pub OnFile : Option FileState → (FileState → Answer) → Answer → Type 0
 OnFile None told given = ⊥
 OnFile (Some f) told given = given ≡ told f
+
+-- the answer is what is reported of a file of that number that is there
+abbrev pub OnInfo : ℕ → Option FileState → Answer → Type 0
+OnInfo number None given = ⊥
+OnInfo number (Some f) (answer.Number n) = ⊥
+OnInfo number (Some f) (answer.Woken woken) = ⊥
+OnInfo number (Some f) (answer.Status status) = ⊥
+OnInfo number (Some f) (answer.Signalled signalled) = ⊥
+OnInfo number (Some f) (answer.Info info) = IsInfo number f info
 
 -- what is answered to an accepted request
 abbrev pub Reports : Objects → Request → Answer → Type 0
@@ -139,6 +153,7 @@ Reports d (request.Merge a b name) given = given ≡ answer.Number d.next
 Reports d (request.Status file) given = OnFile (d.files file) (λ f. answer.Status (status_of f.fences)) given
 Reports d (request.IsSignalled file) given =
     OnFile (d.files file) (λ f. answer.Signalled (are_signalled f.fences)) given
+Reports d (request.Info file) given = OnInfo file (d.files file) given
 Reports d (request.Close number now) given = OnWoken (AreWoken d (closed d number now)) given
 
 -- it is the first cause, or that memory is short where there is none

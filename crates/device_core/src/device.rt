@@ -5,6 +5,7 @@ ghost use Rattle.device_core.specs.declared.refusal.Refusal.TheVariants.{NoEntry
 ghost use Rattle.device_core.specs.declared.fence.Text.{Text as Name};
 ghost use Rattle.point_core.specs.Reach.{GREATEST};
 ghost use Rattle.device_core.specs.Fences.{are_signalled, signal_at, status_of};
+ghost use Rattle.device_core.specs.Info.{IsInfo};
 ghost use Rattle.device_core.specs.Woken.{file_wakes};
 ghost use Rattle.device_core.specs.Wrapping.{unwrapped as unwrapped_of};
 ghost use Rattle.device_core.specs.State.{nothing, at, timeline_at, file_at, file_of, new_timeline, raised, merged_files, one_fence_file, why_no_timeline, why_no_file, objects_of, AreSignalled};
@@ -13,6 +14,7 @@ ghost use Rattle.device_core.specs.Request.{AreWoken, IsCause, cause_of, closed,
 
 use crate::fence::{Fence, Signal, Text, Timeline, one_fence};
 use crate::file::File;
+use crate::info::{FileInfo, info as info_of};
 use crate::merging::{merged, merged_time};
 use crate::refusal::Refusal;
 use crate::signalling::signal_due;
@@ -286,6 +288,21 @@ impl Device {
     {
         match self.files.get(&file) {
             Some(known) => Ok(known.status()),
+            None => Err(self.unknown_file(file)),
+        }
+    }
+
+    /// What `SYNC_IOC_FILE_INFO` reports of a file: its name, its status, and each of its fences.
+    ///
+    /// Fails with `NoEntry`, or with `WrongKind` at a timeline, then with `NoMemory`.
+    pub fn info(&self, file: u64) -> Result<FileInfo, Refusal>
+        ensures reported { IfOk result (λ info. IfSome (file_at self.now file) (λ f. IsInfo file f info)) }
+        ensures known { OnOk result (IsSome (file_at self.now file)) }
+        ensures refused { IfNone (file_at self.now file) (result ≡ Err (why_no_file self.now file)) }
+        ensures memory { IfSome (file_at self.now file) (λ _. IfErr result (λ e. e ≡ NoMemory)) }
+    {
+        match self.files.get(&file) {
+            Some(known) => info_of(self.alloc, file, known),
             None => Err(self.unknown_file(file)),
         }
     }

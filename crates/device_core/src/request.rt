@@ -1,5 +1,6 @@
 // Requests, and what is answered.
 use crate::fence::Text;
+use crate::info::FileInfo;
 use point_core::Status;
 
 /// A request, with the time at which it is made, in nanoseconds, where the kernel would look at its clock.
@@ -17,6 +18,8 @@ pub enum Request {
     Status(u64),
     /// A look at a file, as poll's.
     IsSignalled(u64),
+    /// `SYNC_IOC_FILE_INFO` of a file.
+    Info(u64),
     /// The last close of an object, and a time.
     Close(u64, u64),
 }
@@ -32,4 +35,6 @@ pub enum Answer {
     Status(Status),
     /// Whether a file is signalled.
     Signalled(bool),
+    /// What is reported of a file and its fences.
+    Info(FileInfo),
 }

@@ -37,6 +37,7 @@ impl Device {
             Request::Merge(a, b, name) => self.serve_merge(a, b, name),
             Request::Status(file) => self.serve_status(file),
             Request::IsSignalled(file) => self.serve_is_signalled(file),
+            Request::Info(file) => self.serve_info(file),
             Request::Close(number, now) => self.serve_close(number, now),
         }
     }
@@ -100,6 +101,15 @@ impl Device {
     {
         match self.is_signalled(file) {
             Ok(signalled) => Ok(Answer::Signalled(signalled)),
+            Err(refusal) => Err(refusal),
+        }
+    }
+
+    fn serve_info(&self, file: u64) -> Result<Answer, Refusal>
+        ensures { IsAnswer (objects_of self.now) (request.Info file) result }
+    {
+        match self.info(file) {
+            Ok(info) => Ok(Answer::Info(info)),
             Err(refusal) => Err(refusal),
         }
     }
