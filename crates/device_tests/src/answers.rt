@@ -74,17 +74,18 @@ fn is_info(info: &FileInfo, told: &Told) -> bool {
 }
 
 fn are_rows(fences: &[FenceInfo], rows: &[Row]) -> bool {
-    let mut left = rows;
-    for fence in fences {
-        let Some((row, rest)) = left.split_first() else {
-            return false;
-        };
-        if !is_row(fence, row) {
-            return false;
-        }
-        left = rest;
+    let mut are = fences.len() == rows.len();
+    for (place, fence) in fences.iter().enumerate() {
+        are = are && is_at(rows, place, fence);
     }
-    left.is_empty()
+    are
+}
+
+fn is_at(rows: &[Row], place: usize, fence: &FenceInfo) -> bool {
+    match rows.get(place) {
+        Some(row) => is_row(fence, row),
+        None => false,
+    }
 }
 
 fn is_row(fence: &FenceInfo, row: &Row) -> bool {
