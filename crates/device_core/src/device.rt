@@ -1,36 +1,40 @@
 // The device.
-ghost use Rattle.std.specs.Prelude.{◌≡◌, ◌⊎◌, ℕ, ◌+◌, ◌^◌, ◌≤◌, nat_eq, if◌then◌else◌, Some, None, IsSome, IfSome, IfNone, OnOk, OnErr, IfOk, IfErr, MatchOption, Ok, Err, true, false, ◌<◌, ◌↔◌, Contains};
+ghost use Rattle.std.specs.Prelude.{◌≡◌, ◌⊎◌, ℕ, ◌+◌, ◌^◌, ◌≤◌, nat_eq, if◌then◌else◌, Some, None, is_some, option_map, ◌||◌, IsSome, IfSome, IfNone, OnOk, OnErr, IfOk, IfErr, MatchOption, Ok, Err, true, false, ◌<◌, ◌↔◌, Contains};
 ghost use Rattle.std.specs.List.Sorted.{IsStrictlyIncreasing};
 ghost use Rattle.device_core.specs.declared.refusal.Refusal.TheVariants.{NoEntry, NoMemory, Overflow};
 ghost use Rattle.device_core.specs.declared.fence.Text.{Text as Name};
 ghost use Rattle.point_core.specs.Reach.{GREATEST};
 ghost use Rattle.device_core.specs.Fences.{are_signalled, signal_at, status_of};
+ghost use Rattle.device_core.specs.Buffers.{empty_buffer, export_usage as export_usage_of, import_usage as import_usage_of, import_into as imported_into, none_waits};
 ghost use Rattle.device_core.specs.Info.{IsInfo};
 ghost use Rattle.device_core.specs.Woken.{file_wakes};
 ghost use Rattle.device_core.specs.Wrapping.{unwrapped as unwrapped_of};
-ghost use Rattle.device_core.specs.State.{nothing, at, timeline_at, file_at, file_of, new_timeline, raised, merged_files, one_fence_file, why_no_timeline, why_no_file, objects_of, AreSignalled};
+ghost use Rattle.device_core.specs.State.{nothing, at, timeline_at, file_at, file_of, new_timeline, raised, merged_files, one_fence_file, empty_text, missing_timeline, missing_file, missing_buffer, buffer_at, export_of, import_of, objects_of, AreSignalled};
 ghost use Rattle.device_core.specs.declared.request.Request.TheVariants as request;
 ghost use Rattle.device_core.specs.Request.{AreWoken, IsCause, cause_of, closed, takes_memory};
 
+use crate::buffer::Buffer;
 use crate::fence::{Fence, Signal, Text, Timeline, one_fence};
 use crate::file::File;
 use crate::info::{FileInfo, info as info_of};
 use crate::merging::{merged, merged_time};
 use crate::refusal::Refusal;
 use crate::signalling::signal_due;
+use crate::sync_flags::{export_usage, import_usage};
 use crate::waiting::WaitingFiles;
-use point_core::Status;
+use point_core::{Status, Usage};
 use std::alloc::Global;
 use std::collections::HashMap;
 use std::marker::Model;
 
-/// Timelines and sync files by number. Numbers rise from 1, and none is given twice.
+/// Timelines, sync files and buffers by number. Numbers rise from 1, and none is given twice.
 #[derive(Drop)]
 pub struct Device {
     alloc: Global,
     next: u64,
     timelines: HashMap<u64, Timeline>,
     files: HashMap<u64, File>,
+    buffers: HashMap<u64, Buffer>,
     waiting: WaitingFiles,
 }
 
@@ -39,9 +43,9 @@ impl Model for Device {
 
     ghost Value = { DeviceState };
 
-    ghost view = { λ d. record { next = d.next; timelines = d.timelines.entries; files = d.files.entries } };
+    ghost view = { λ d. record { next = d.next; timelines = d.timelines.entries; files = d.files.entries; buffers = d.buffers.entries } };
 
-    ghost invariant = { λ d. IsKept d.next d.timelines.entries d.files.entries d.waiting };
+    ghost invariant = { λ d. IsKept d.next d.timelines.entries d.files.entries d.buffers.entries d.waiting };
 }
 
 impl Device {
@@ -54,6 +58,7 @@ impl Device {
             next: 1,
             timelines: HashMap::new(alloc),
             files: HashMap::new(alloc),
+            buffers: HashMap::new(alloc),
             waiting: WaitingFiles::new(alloc),
         }
     }
@@ -66,6 +71,7 @@ impl Device {
         ensures opened { IfOk result (λ n. (q : ℕ) →
             timeline_at self.new q ≡ (if nat_eq n q then Some (new_timeline name) else timeline_at self.old q)) }
         ensures files { self.new.files ≡ self.old.files }
+        ensures buffers { self.new.buffers ≡ self.old.buffers }
         ensures memory { IfErr result (λ e. e ≡ NoMemory) }
         ensures unchanged { OnErr result (self.new ≡ self.old) }
     {
@@ -95,7 +101,8 @@ impl Device {
             file_at self.new q
             ≡ (if nat_eq n q then Some (one_fence_file timeline t point now) else file_at self.old q))) }
         ensures timelines { self.new.timelines ≡ self.old.timelines }
-        ensures refused { IfNone (timeline_at self.old timeline) (result ≡ Err (why_no_timeline self.old timeline)) }
+        ensures buffers { self.new.buffers ≡ self.old.buffers }
+        ensures refused { IfNone (timeline_at self.old timeline) (result ≡ Err (missing_timeline (objects_of self.old) timeline)) }
         ensures last { IfSome (timeline_at self.old timeline) (λ t. IfErr result (λ e.
             ((e ≡ NoMemory) × (unwrapped_of t.value point < 2 ^ 64))
             ⊎ ((e ≡ Overflow) × (2 ^ 64 ≤ unwrapped_of t.value point)))) }
@@ -121,9 +128,10 @@ impl Device {
             timeline_at self.new q ≡ (if nat_eq timeline q then Some (raised t n) else timeline_at self.old q))) }
         ensures signalled { OnOk result (IfSome (timeline_at self.old timeline) (λ t.
             AreSignalled timeline (t.value + n) (signal_at now false) self.old.files self.new.files)) }
+        ensures buffers { self.new.buffers ≡ self.old.buffers }
         ensures next { self.new.next ≡ self.old.next }
         ensures known { OnOk result (IsSome (timeline_at self.old timeline)) }
-        ensures refused { IfNone (timeline_at self.old timeline) (result ≡ Err (why_no_timeline self.old timeline)) }
+        ensures refused { IfNone (timeline_at self.old timeline) (result ≡ Err (missing_timeline (objects_of self.old) timeline)) }
         ensures last { IfSome (timeline_at self.old timeline) (λ t. IfErr result (λ e.
             ((e ≡ NoMemory) × (t.value + n < 2 ^ 64)) ⊎ ((e ≡ Overflow) × (2 ^ 64 ≤ t.value + n)))) }
         ensures fits { OnOk result (IfSome (timeline_at self.old timeline) (λ t. t.value + n < 2 ^ 64)) }
@@ -145,10 +153,11 @@ impl Device {
         Ok(woken)
     }
 
-    /// Closes a timeline or a file; its number is never used again.
+    /// Closes a timeline, a file or a buffer; its number is never used again.
     ///
     /// What is pending of a timeline is cancelled now, as the release of `sync/sw_sync` does. Gives the files that
-    /// signal by it, by rising number. Nothing waits for a closed file any more.
+    /// signal by it, by rising number. Nothing waits for a closed file any more. Nothing is woken by the closing of a
+    /// buffer.
     ///
     /// Fails with `NoEntry`, then at a timeline with `NoMemory`; nothing has changed then.
     pub fn close(&mut self, number: u64, now: u64) -> Result<Vec<u64>, Refusal>
@@ -162,7 +171,7 @@ impl Device {
         if self.timelines.contains_key(&number) {
             return self.close_timeline(number, now);
         }
-        match self.close_file(number) {
+        match self.drop_number(number) {
             Ok(_done) => Ok(Vec::new(self.alloc)),
             Err(refusal) => Err(refusal),
         }
@@ -177,9 +186,10 @@ impl Device {
             timeline_at self.new q ≡ (if nat_eq timeline q then None else timeline_at self.old q)) }
         ensures signalled { OnOk result
             (AreSignalled timeline GREATEST (signal_at now true) self.old.files self.new.files) }
+        ensures buffers { self.new.buffers ≡ self.old.buffers }
         ensures next { self.new.next ≡ self.old.next }
         ensures known { OnOk result (IsSome (timeline_at self.old timeline)) }
-        ensures refused { IfNone (timeline_at self.old timeline) (result ≡ Err (why_no_timeline self.old timeline)) }
+        ensures refused { IfNone (timeline_at self.old timeline) (result ≡ Err (missing_timeline (objects_of self.old) timeline)) }
         ensures last { IfSome (timeline_at self.old timeline) (λ _. IfErr result (λ e. e ≡ NoMemory)) }
         ensures unchanged { OnErr result (self.new ≡ self.old) }
     {
@@ -202,21 +212,28 @@ impl Device {
         Ok(woken)
     }
 
-    // Fails with `NoEntry`, or with `WrongKind` at a timeline; nothing has changed then. Takes no memory.
-    fn close_file(&mut self, file: u64) -> Result<(), Refusal>
-        ensures closed { OnOk result ((q : ℕ) →
-            file_at self.new q ≡ (if nat_eq file q then None else file_at self.old q)) }
+    // Neither a file nor a buffer has the number any more. Fails with `NoEntry`; nothing has changed then. Takes no
+    // memory.
+    fn drop_number(&mut self, number: u64) -> Result<(), Refusal>
+        ensures files { OnOk result ((q : ℕ) →
+            file_at self.new q ≡ (if nat_eq number q then None else file_at self.old q)) }
+        ensures buffers { OnOk result ((q : ℕ) →
+            buffer_at self.new q ≡ (if nat_eq number q then None else buffer_at self.old q)) }
         ensures timelines { self.new.timelines ≡ self.old.timelines }
         ensures next { self.new.next ≡ self.old.next }
-        ensures known { OnOk result (IsSome (file_at self.old file)) }
-        ensures refused { IfErr result (λ e. (e ≡ why_no_file self.old file) × (file_at self.old file ≡ None)) }
+        ensures known { OnOk result ((is_some (file_at self.old number) || is_some (buffer_at self.old number)) ≡ true) }
+        ensures refused { IfErr result (λ e. (e ≡ NoEntry)
+            × (file_at self.old number ≡ None) × (buffer_at self.old number ≡ None)) }
         ensures unchanged { OnErr result (self.new ≡ self.old) }
     {
-        let Some(closed) = self.files.remove(&file) else {
-            return Err(self.unknown_file(file));
-        };
-        self.waiting.take_all(file, closed.fences.as_slice());
-        Ok(())
+        if let Some(closed) = self.files.remove(&number) {
+            self.waiting.take_all(number, closed.fences.as_slice());
+            return Ok(());
+        }
+        match self.buffers.remove(&number) {
+            Some(_closed) => Ok(()),
+            None => Err(Refusal::NoEntry),
+        }
     }
 
     /// Merges two files, which both stay, as `SYNC_IOC_MERGE` does: the latest pending fence of each timeline. If
@@ -230,7 +247,8 @@ impl Device {
             (if nat_eq n q then merged_files name (file_at self.old a) (file_at self.old b) else file_at self.old q)) }
         ensures known { OnOk result (IsSome (file_at self.old a) × IsSome (file_at self.old b)) }
         ensures timelines { self.new.timelines ≡ self.old.timelines }
-        ensures first { IfNone (file_at self.old a) (result ≡ Err (why_no_file self.old a)) }
+        ensures buffers { self.new.buffers ≡ self.old.buffers }
+        ensures first { IfNone (file_at self.old a) (result ≡ Err (missing_file (objects_of self.old) a)) }
         ensures second { IfSome (file_at self.old a) (λ _. IfNone (file_at self.old b) (result ≡ Err NoEntry)) }
         ensures memory { IfSome (file_at self.old a) (λ _. IfSome (file_at self.old b) (λ _.
             IfErr result (λ e. e ≡ NoMemory))) }
@@ -244,7 +262,7 @@ impl Device {
         ensures merged { IfOk result (λ r. (name : Name) →
             Some (file_of name r.0.items r.1) ≡ merged_files name (file_at self.now a) (file_at self.now b)) }
         ensures known { OnOk result (IsSome (file_at self.now a) × IsSome (file_at self.now b)) }
-        ensures first { IfNone (file_at self.now a) (result ≡ Err (why_no_file self.now a)) }
+        ensures first { IfNone (file_at self.now a) (result ≡ Err (missing_file (objects_of self.now) a)) }
         ensures second { IfSome (file_at self.now a) (λ _. IfNone (file_at self.now b) (result ≡ Err NoEntry)) }
         ensures memory { IfSome (file_at self.now a) (λ _. IfSome (file_at self.now b) (λ _.
             IfErr result (λ e. e ≡ NoMemory))) }
@@ -269,7 +287,7 @@ impl Device {
     /// Fails with `NoEntry`, or with `WrongKind` at a timeline. Takes no memory.
     pub fn is_signalled(&self, file: u64) -> Result<bool, Refusal>
         ensures known { MatchOption (file_at self.now file)
-            (result ≡ Err (why_no_file self.now file))
+            (result ≡ Err (missing_file (objects_of self.now) file))
             (λ f. result ≡ Ok (are_signalled f.fences)) }
     {
         match self.files.get(&file) {
@@ -283,7 +301,7 @@ impl Device {
     /// Fails with `NoEntry`, or with `WrongKind` at a timeline. Takes no memory.
     pub fn status(&self, file: u64) -> Result<Status, Refusal>
         ensures known { MatchOption (file_at self.now file)
-            (result ≡ Err (why_no_file self.now file))
+            (result ≡ Err (missing_file (objects_of self.now) file))
             (λ f. result ≡ Ok (status_of f.fences)) }
     {
         match self.files.get(&file) {
@@ -298,7 +316,7 @@ impl Device {
     pub fn info(&self, file: u64) -> Result<FileInfo, Refusal>
         ensures reported { IfOk result (λ info. IfSome (file_at self.now file) (λ f. IsInfo file f info)) }
         ensures known { OnOk result (IsSome (file_at self.now file)) }
-        ensures refused { IfNone (file_at self.now file) (result ≡ Err (why_no_file self.now file)) }
+        ensures refused { IfNone (file_at self.now file) (result ≡ Err (missing_file (objects_of self.now) file)) }
         ensures memory { IfSome (file_at self.now file) (λ _. IfErr result (λ e. e ≡ NoMemory)) }
     {
         match self.files.get(&file) {
@@ -307,11 +325,124 @@ impl Device {
         }
     }
 
+    /// Makes a buffer without fences, whose exports are stubs of that time.
+    ///
+    /// Fails with `NoMemory` alone; nothing is made then.
+    pub fn buffer(&mut self, now: u64) -> Result<u64, Refusal>
+        ensures number { IfOk result (λ n. (n ≡ self.old.next) × (self.new.next ≡ n + 1)) }
+        ensures made { IfOk result (λ n. (q : ℕ) →
+            buffer_at self.new q ≡ (if nat_eq n q then Some (empty_buffer now) else buffer_at self.old q)) }
+        ensures timelines { self.new.timelines ≡ self.old.timelines }
+        ensures files { self.new.files ≡ self.old.files }
+        ensures memory { IfErr result (λ e. e ≡ NoMemory) }
+        ensures unchanged { OnErr result (self.new ≡ self.old) }
+    {
+        let number = self.next;
+        if number == u64::MAX {
+            return Err(Refusal::NoMemory);
+        }
+        match self.buffers.insert(number, Buffer::new(self.alloc, now)) {
+            Ok(_) => {
+                self.next = number + 1;
+                Ok(number)
+            }
+            Err(_) => Err(Refusal::NoMemory),
+        }
+    }
+
+    /// Makes a file of what an access with these flags waits for in a buffer, as `DMA_BUF_IOCTL_EXPORT_SYNC_FILE` does:
+    /// the latest pending fence of each timeline. If nothing is pending, the file is a stub, with the time at which the
+    /// buffer was made.
+    ///
+    /// Fails with `NoEntry`, or with `WrongKind` at a timeline or a file, then with `Invalid` for flags that are none,
+    /// then with `NoMemory`; nothing is made then.
+    pub fn export(&mut self, buffer: u64, flags: u32) -> Result<u64, Refusal>
+        ensures number { IfOk result (λ n. (n ≡ self.old.next) × (self.new.next ≡ n + 1)) }
+        ensures made { IfOk result (λ n. (q : ℕ) → file_at self.new q ≡
+            (if nat_eq n q
+            then export_of (timeline_at self.old) (export_usage_of flags) (buffer_at self.old buffer)
+            else file_at self.old q)) }
+        ensures timelines { self.new.timelines ≡ self.old.timelines }
+        ensures buffers { self.new.buffers ≡ self.old.buffers }
+        ensures known { OnOk result (cause_of (objects_of self.old) (request.Export buffer flags) ≡ None) }
+        ensures refused { IfErr result (λ e.
+            IsCause (cause_of (objects_of self.old) (request.Export buffer flags)) true e) }
+        ensures unchanged { OnErr result (self.new ≡ self.old) }
+    {
+        let (fences, stub_at) = self.export_of(buffer, flags)?;
+        self.add_file(Text::EMPTY, fences, stub_at)
+    }
+
+    fn export_of(&self, buffer: u64, flags: u32) -> Result<(Vec<Fence>, u64), Refusal>
+        ensures exported { IfOk result (λ r. Some (file_of empty_text r.0.items r.1)
+            ≡ export_of (timeline_at self.now) (export_usage_of flags) (buffer_at self.now buffer)) }
+        ensures known { OnOk result (cause_of (objects_of self.now) (request.Export buffer flags) ≡ None) }
+        ensures refused { IfErr result (λ e.
+            IsCause (cause_of (objects_of self.now) (request.Export buffer flags)) true e) }
+    {
+        let Some(known) = self.buffers.get(&buffer) else {
+            return Err(self.unknown_buffer(buffer));
+        };
+        let usage = export_usage(flags)?;
+        let fences = known.export(self.alloc, &self.timelines, usage)?;
+        let stub_at = if fences.is_empty() {
+            known.stub_at()
+        } else {
+            0
+        };
+        Ok((fences, stub_at))
+    }
+
+    /// Puts the pending fences of a file into a buffer for an access with these flags, as
+    /// `DMA_BUF_IOCTL_IMPORT_SYNC_FILE` does. The file stays.
+    ///
+    /// Fails with `NoEntry`, or with `WrongKind` at a timeline or a file in place of the buffer, then with `Invalid` for
+    /// flags that are none or if there is no such file, then with `NoMemory`; nothing has changed then.
+    pub fn import(&mut self, buffer: u64, file: u64, flags: u32) -> Result<(), Refusal>
+        ensures imported { OnOk result ((q : ℕ) → buffer_at self.new q ≡
+            (if nat_eq buffer q
+            then import_of (timeline_at self.old) (import_usage_of flags) (file_at self.old file)
+            (buffer_at self.old buffer)
+            else buffer_at self.old q)) }
+        ensures timelines { self.new.timelines ≡ self.old.timelines }
+        ensures files { self.new.files ≡ self.old.files }
+        ensures next { self.new.next ≡ self.old.next }
+        ensures known { OnOk result (cause_of (objects_of self.old) (request.Import buffer file flags) ≡ None) }
+        ensures refused { IfErr result (λ e.
+            IsCause (cause_of (objects_of self.old) (request.Import buffer file flags)) true e) }
+        ensures unchanged { OnErr result (self.new ≡ self.old) }
+    {
+        if !self.buffers.contains_key(&buffer) {
+            return Err(self.unknown_buffer(buffer));
+        }
+        let usage = import_usage(flags)?;
+        let Some(known) = self.files.get(&file) else {
+            return Err(Refusal::Invalid);
+        };
+        let fences = known.fences.as_slice();
+        import_into(&mut self.buffers, buffer, &self.timelines, fences, usage)
+    }
+
+    /// Whether each fence of a buffer at that usage or a stronger one has signalled, as poll asks: the writers before a
+    /// read, and the readers too before a write.
+    ///
+    /// Fails with `NoEntry`, or with `WrongKind` at a timeline or a file. Takes no memory.
+    pub fn test(&self, buffer: u64, usage: Usage) -> Result<bool, Refusal>
+        ensures known { MatchOption (buffer_at self.now buffer)
+            (result ≡ Err (missing_buffer (objects_of self.now) buffer))
+            (λ b. result ≡ Ok (none_waits (timeline_at self.now) usage b.fences)) }
+    {
+        match self.buffers.get(&buffer) {
+            Some(known) => Ok(known.test(&self.timelines, usage)),
+            None => Err(self.unknown_buffer(buffer)),
+        }
+    }
+
     // The timeline of that number.
     fn timeline(&self, number: u64) -> Result<Timeline, Refusal>
         ensures found { IfOk result (λ t. timeline_at self.now number ≡ Some t) }
         ensures refused { IfErr result (λ e.
-            (timeline_at self.now number ≡ None) × (e ≡ why_no_timeline self.now number)) }
+            (timeline_at self.now number ≡ None) × (e ≡ missing_timeline (objects_of self.now) number)) }
     {
         match self.timelines.get(&number) {
             Some(known) => Ok(*known),
@@ -321,9 +452,9 @@ impl Device {
 
     // Why there is no timeline of that number.
     fn unknown_timeline(&self, number: u64) -> Refusal
-        ensures { result ≡ why_no_timeline self.now number }
+        ensures { result ≡ missing_timeline (objects_of self.now) number }
     {
-        if self.files.contains_key(&number) {
+        if self.files.contains_key(&number) || self.buffers.contains_key(&number) {
             Refusal::WrongKind
         } else {
             Refusal::NoEntry
@@ -337,6 +468,7 @@ impl Device {
             file_at self.new q
             ≡ (if nat_eq n q then Some (file_of name fences.items stub_at) else file_at self.old q)) }
         ensures timelines { self.new.timelines ≡ self.old.timelines }
+        ensures buffers { self.new.buffers ≡ self.old.buffers }
         ensures memory { IfErr result (λ e. e ≡ NoMemory) }
         ensures unchanged { OnErr result (self.new ≡ self.old) }
     {
@@ -365,9 +497,20 @@ impl Device {
 
     // Why there is no file of that number.
     fn unknown_file(&self, number: u64) -> Refusal
-        ensures { result ≡ why_no_file self.now number }
+        ensures { result ≡ missing_file (objects_of self.now) number }
     {
-        if self.timelines.contains_key(&number) {
+        if self.timelines.contains_key(&number) || self.buffers.contains_key(&number) {
+            Refusal::WrongKind
+        } else {
+            Refusal::NoEntry
+        }
+    }
+
+    // Why there is no buffer of that number.
+    fn unknown_buffer(&self, number: u64) -> Refusal
+        ensures { result ≡ missing_buffer (objects_of self.now) number }
+    {
+        if self.timelines.contains_key(&number) || self.files.contains_key(&number) {
             Refusal::WrongKind
         } else {
             Refusal::NoEntry
@@ -382,5 +525,25 @@ fn set_value(timelines: &mut HashMap<u64, Timeline>, number: u64, value: u64)
 {
     if let Some(timeline) = timelines.get_mut(&number) {
         timeline.value = value;
+    }
+}
+
+fn import_into(
+    buffers: &mut HashMap<u64, Buffer>,
+    number: u64,
+    timelines: &HashMap<u64, Timeline>,
+    fences: &[Fence],
+    usage: Usage,
+) -> Result<(), Refusal>
+    ensures imported { OnOk result ((q : ℕ) → at buffers.new.entries q ≡
+        (if nat_eq number q
+        then option_map (imported_into (at timelines.now.entries) usage fences.now) (at buffers.old.entries number)
+        else at buffers.old.entries q)) }
+    ensures memory { IfErr result (λ e. e ≡ NoMemory) }
+    ensures unchanged { OnErr result (buffers.new.entries ≡ buffers.old.entries) }
+{
+    match buffers.get_mut(&number) {
+        Some(buffer) => buffer.import(timelines, fences, usage),
+        None => Ok(()),
     }
 }

@@ -11,6 +11,7 @@ pub(crate) enum Told {
     Status(Status),
     Signalled(bool),
     Info(&'static [u8], Status, &'static [Row]),
+    Done,
     Refused(Refusal),
 }
 
@@ -52,6 +53,7 @@ fn is_answer(answer: &Answer, told: &Told) -> bool {
         Answer::Status(status) => *told == Told::Status(*status),
         Answer::Signalled(signalled) => *told == Told::Signalled(*signalled),
         Answer::Info(info) => is_info(info, told),
+        Answer::Done => *told == Told::Done,
     }
 }
 
