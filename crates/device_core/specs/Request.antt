@@ -123,7 +123,7 @@ cause_of d (request.Import buffer file flags) =
     cause_at_buffer d buffer (cause_after (import_usage flags) (if is_some (d.files file) then None else Some Invalid))
 cause_of d (request.Test buffer usage) = cause_at_buffer d buffer None
 
--- a look at a file or a buffer takes no memory, nor does the closing of one
+-- a look at a file or a buffer takes no memory, but for a report of it, nor does the closing of one
 abbrev pub takes_memory : Objects → Request → Bool
 takes_memory d (request.Open name) = true
 takes_memory d (request.Fence timeline point now) = true

@@ -43,7 +43,12 @@ impl Model for Device {
 
     ghost Value = { DeviceState };
 
-    ghost view = { λ d. record { next = d.next; timelines = d.timelines.entries; files = d.files.entries; buffers = d.buffers.entries } };
+    ghost view = { λ d. record {
+      next = d.next;
+      timelines = d.timelines.entries;
+      files = d.files.entries;
+      buffers = d.buffers.entries;
+    } };
 
     ghost invariant = { λ d. IsKept d.next d.timelines.entries d.files.entries d.buffers.entries d.waiting };
 }
@@ -92,8 +97,8 @@ impl Device {
     /// Makes a file of one fence, as `SW_SYNC_IOC_CREATE_FENCE` does. A point that the timeline has reached is signalled
     /// now.
     ///
-    /// Fails with `NoEntry`, or with `WrongKind` at a file, then with `Overflow`, then with `NoMemory`; nothing is made
-    /// then.
+    /// Fails with `NoEntry`, or with `WrongKind` at a file or a buffer, then with `Overflow`, then with `NoMemory`;
+    /// nothing is made then.
     pub fn fence(&mut self, timeline: u64, point: u32, now: u64) -> Result<u64, Refusal>
         ensures known { OnOk result (IsSome (timeline_at self.old timeline)) }
         ensures number { IfOk result (λ n. (n ≡ self.old.next) × (self.new.next ≡ n + 1)) }
@@ -102,7 +107,8 @@ impl Device {
             ≡ (if nat_eq n q then Some (one_fence_file timeline t point now) else file_at self.old q))) }
         ensures timelines { self.new.timelines ≡ self.old.timelines }
         ensures buffers { self.new.buffers ≡ self.old.buffers }
-        ensures refused { IfNone (timeline_at self.old timeline) (result ≡ Err (missing_timeline (objects_of self.old) timeline)) }
+        ensures refused { IfNone (timeline_at self.old timeline)
+            (result ≡ Err (missing_timeline (objects_of self.old) timeline)) }
         ensures last { IfSome (timeline_at self.old timeline) (λ t. IfErr result (λ e.
             ((e ≡ NoMemory) × (unwrapped_of t.value point < 2 ^ 64))
             ⊎ ((e ≡ Overflow) × (2 ^ 64 ≤ unwrapped_of t.value point)))) }
@@ -118,8 +124,8 @@ impl Device {
     /// Raises a timeline, as `SW_SYNC_IOC_INC` does: what is pending at or below the new value is signalled now. Gives
     /// the files that signal by it, by rising number.
     ///
-    /// Fails with `NoEntry`, or with `WrongKind` at a file, then with `Overflow`, then with `NoMemory`; nothing has
-    /// changed then.
+    /// Fails with `NoEntry`, or with `WrongKind` at a file or a buffer, then with `Overflow`, then with `NoMemory`;
+    /// nothing has changed then.
     pub fn inc(&mut self, timeline: u64, n: u32, now: u64) -> Result<Vec<u64>, Refusal>
         ensures woken { IfOk result (λ found. IfSome (timeline_at self.old timeline) (λ t. (f : ℕ) →
             (Contains found.items f ↔ (file_wakes timeline (t.value + n) (file_at self.old f) ≡ true)))) }
@@ -131,7 +137,8 @@ impl Device {
         ensures buffers { self.new.buffers ≡ self.old.buffers }
         ensures next { self.new.next ≡ self.old.next }
         ensures known { OnOk result (IsSome (timeline_at self.old timeline)) }
-        ensures refused { IfNone (timeline_at self.old timeline) (result ≡ Err (missing_timeline (objects_of self.old) timeline)) }
+        ensures refused { IfNone (timeline_at self.old timeline)
+            (result ≡ Err (missing_timeline (objects_of self.old) timeline)) }
         ensures last { IfSome (timeline_at self.old timeline) (λ t. IfErr result (λ e.
             ((e ≡ NoMemory) × (t.value + n < 2 ^ 64)) ⊎ ((e ≡ Overflow) × (2 ^ 64 ≤ t.value + n)))) }
         ensures fits { OnOk result (IfSome (timeline_at self.old timeline) (λ t. t.value + n < 2 ^ 64)) }
@@ -177,7 +184,7 @@ impl Device {
         }
     }
 
-    // Fails with `NoEntry`, or with `WrongKind` at a file, then with `NoMemory`; nothing has changed then.
+    // Fails with `NoEntry`, or with `WrongKind` at a file or a buffer, then with `NoMemory`; nothing has changed then.
     fn close_timeline(&mut self, timeline: u64, now: u64) -> Result<Vec<u64>, Refusal>
         ensures woken { IfOk result (λ found. (f : ℕ) →
             (Contains found.items f ↔ (file_wakes timeline GREATEST (file_at self.old f) ≡ true))) }
@@ -189,7 +196,8 @@ impl Device {
         ensures buffers { self.new.buffers ≡ self.old.buffers }
         ensures next { self.new.next ≡ self.old.next }
         ensures known { OnOk result (IsSome (timeline_at self.old timeline)) }
-        ensures refused { IfNone (timeline_at self.old timeline) (result ≡ Err (missing_timeline (objects_of self.old) timeline)) }
+        ensures refused { IfNone (timeline_at self.old timeline)
+            (result ≡ Err (missing_timeline (objects_of self.old) timeline)) }
         ensures last { IfSome (timeline_at self.old timeline) (λ _. IfErr result (λ e. e ≡ NoMemory)) }
         ensures unchanged { OnErr result (self.new ≡ self.old) }
     {
@@ -221,7 +229,8 @@ impl Device {
             buffer_at self.new q ≡ (if nat_eq number q then None else buffer_at self.old q)) }
         ensures timelines { self.new.timelines ≡ self.old.timelines }
         ensures next { self.new.next ≡ self.old.next }
-        ensures known { OnOk result ((is_some (file_at self.old number) || is_some (buffer_at self.old number)) ≡ true) }
+        ensures known { OnOk result
+            ((is_some (file_at self.old number) || is_some (buffer_at self.old number)) ≡ true) }
         ensures refused { IfErr result (λ e. (e ≡ NoEntry)
             × (file_at self.old number ≡ None) × (buffer_at self.old number ≡ None)) }
         ensures unchanged { OnErr result (self.new ≡ self.old) }
@@ -239,8 +248,8 @@ impl Device {
     /// Merges two files, which both stay, as `SYNC_IOC_MERGE` does: the latest pending fence of each timeline. If
     /// nothing is pending, the file is a stub, with the latest time at which any of them signalled.
     ///
-    /// Fails with `NoEntry`, or with `WrongKind` at a timeline in place of the first, then with `NoEntry` if the second
-    /// is no file, then with `NoMemory`; nothing is made then.
+    /// Fails with `NoEntry`, or with `WrongKind` at a timeline or a buffer in place of the first, then with `NoEntry` if
+    /// the second is no file, then with `NoMemory`; nothing is made then.
     pub fn merge(&mut self, a: u64, b: u64, name: Text) -> Result<u64, Refusal>
         ensures number { IfOk result (λ n. (n ≡ self.old.next) × (self.new.next ≡ n + 1)) }
         ensures made { IfOk result (λ n. (q : ℕ) → file_at self.new q ≡
@@ -284,7 +293,7 @@ impl Device {
 
     /// Whether each fence of a file has signalled.
     ///
-    /// Fails with `NoEntry`, or with `WrongKind` at a timeline. Takes no memory.
+    /// Fails with `NoEntry`, or with `WrongKind` at a timeline or a buffer. Takes no memory.
     pub fn is_signalled(&self, file: u64) -> Result<bool, Refusal>
         ensures known { MatchOption (file_at self.now file)
             (result ≡ Err (missing_file (objects_of self.now) file))
@@ -298,7 +307,7 @@ impl Device {
 
     /// The status of a file, in the kernel's order.
     ///
-    /// Fails with `NoEntry`, or with `WrongKind` at a timeline. Takes no memory.
+    /// Fails with `NoEntry`, or with `WrongKind` at a timeline or a buffer. Takes no memory.
     pub fn status(&self, file: u64) -> Result<Status, Refusal>
         ensures known { MatchOption (file_at self.now file)
             (result ≡ Err (missing_file (objects_of self.now) file))
@@ -312,7 +321,7 @@ impl Device {
 
     /// What `SYNC_IOC_FILE_INFO` reports of a file: its name, its status, and each of its fences.
     ///
-    /// Fails with `NoEntry`, or with `WrongKind` at a timeline, then with `NoMemory`.
+    /// Fails with `NoEntry`, or with `WrongKind` at a timeline or a buffer, then with `NoMemory`.
     pub fn info(&self, file: u64) -> Result<FileInfo, Refusal>
         ensures reported { IfOk result (λ info. IfSome (file_at self.now file) (λ f. IsInfo file f info)) }
         ensures known { OnOk result (IsSome (file_at self.now file)) }

@@ -14,8 +14,8 @@ use point_core::Usage;
 
 impl Device {
     /// The answer to one request: the first refusal whose cause holds, else what the request gives. `NoMemory` comes
-    /// last, where a growth was really refused; a look at a file and the closing of one are never answered it. A refused
-    /// request changes nothing.
+    /// last, where a growth was really refused; `Status`, `IsSignalled`, `Test` and the closing of a file or a buffer are
+    /// never answered it. A refused request changes nothing.
     pub fn serve(&mut self, request: Request) -> Result<Answer, Refusal>
         ensures answer { IsAnswer (objects_of self.old) request result }
         ensures done { OnOk result (objects_of self.new ≡ after (objects_of self.old) request) }
