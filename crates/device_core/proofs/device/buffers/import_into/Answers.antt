@@ -1,5 +1,5 @@
 use Rattle.device_core.proofs.Importing.{refused-unchanged}
-use Rattle.device_core.proofs.device.import_into.Goals as goal
+use Rattle.device_core.proofs.device.buffers.import_into.Goals as goal
 
 pub returns-in-Some-clause-unchanged : goal.returns-in-Some-clause-unchanged
 returns-in-Some-clause-unchanged c =
