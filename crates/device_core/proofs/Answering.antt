@@ -10,20 +10,21 @@ use Rattle.device_core.specs.declared.fence.Timeline.{Timeline}
 use Rattle.device_core.specs.declared.refusal.Refusal.{Refusal}
 use Rattle.device_core.specs.declared.refusal.Refusal.TheVariants.{Overflow}
 use Rattle.device_core.specs.Fences.{is_pending, is_due, signal_at, are_signalled, signalled_by, all_signalled_by}
-use Rattle.device_core.specs.State.{FileState, DeviceState, timeline_at, file_at, objects_of, raised, file_signalled, AreSignalled}
+use Rattle.device_core.specs.State.{FileState, DeviceState, at, timeline_at, file_at, objects_of, raised, file_signalled, AreSignalled}
 use Rattle.device_core.specs.Woken.{is_settled_by, file_wakes}
-use Rattle.device_core.specs.Request.{value_in, with_signals, closed_timeline, closed_file, closed, risen, overflow, is_waiting, has_signalled, AreWoken}
+use Rattle.device_core.specs.Request.{value_in, with_signals, closed_timeline, dropped, closed, risen, overflow, is_waiting, has_signalled, AreWoken}
 
 -- what a device holds once a timeline is closed
-objects-with_signals : (d e : DeviceState) (t : ℕ) (new : Option Timeline) (v : ℕ) (s : Signal) → e.next ≡ d.next → ((q : ℕ) → timeline_at e q ≡ cond (nat_eq t q) new (timeline_at d q)) → AreSignalled t v s d.files e.files → objects_of e ≡ with_signals (objects_of d) t new v s
-objects-with_signals d e t new v s next timelines signalled = λ i. record {
+objects-with_signals : (d e : DeviceState) (t : ℕ) (new : Option Timeline) (v : ℕ) (s : Signal) → e.next ≡ d.next → e.buffers ≡ d.buffers → ((q : ℕ) → timeline_at e q ≡ cond (nat_eq t q) new (timeline_at d q)) → AreSignalled t v s d.files e.files → objects_of e ≡ with_signals (objects_of d) t new v s
+objects-with_signals d e t new v s next buffers timelines signalled = λ i. record {
   next = next i;
   timelines = λ q. timelines q i;
   files = λ q. signalled q i;
+  buffers = λ q. at (buffers i) q;
 }
 
 closed-timeline : (d : DeviceState) (n now : ℕ) → is_some (timeline_at d n) ≡ true → closed_timeline (objects_of d) n now ≡ closed (objects_of d) n now
-closed-timeline d n now there = sym (ap (λ b. cond b (closed_timeline (objects_of d) n now) (closed_file (objects_of d) n)) there)
+closed-timeline d n now there = sym (ap (λ b. cond b (closed_timeline (objects_of d) n now) (dropped (objects_of d) n)) there)
 
 -- who is woken
 one_settled : (t v : ℕ) (s : Signal) (f : Fence) → not (is_pending (signalled_by t v s f)) ≡ is_settled_by t v f
@@ -70,18 +71,18 @@ pub closing-woken : (d e : DeviceState) (t now : ℕ) (r : Result (Vec ℕ Globa
 closing-woken d e t now (Ok found) signalled told rising = woken-signalled d e t GREATEST (signal_at now true) found.items signalled told rising
 closing-woken d e t now (Err x) signalled told rising = tt
 
-pub closing-closed : (d e : DeviceState) (t now : ℕ) (r : Result (Vec ℕ Global) Refusal) → OnOk r (IsSome (timeline_at d t)) → e.next ≡ d.next → OnOk r ((q : ℕ) → timeline_at e q ≡ cond (nat_eq t q) None (timeline_at d q)) → OnOk r (AreSignalled t GREATEST (signal_at now true) d.files e.files) → OnOk r (objects_of e ≡ closed (objects_of d) t now)
-closing-closed d e t now (Ok found) there next timelines signalled = objects-with_signals d e t None GREATEST (signal_at now true) next timelines signalled ∙ closed-timeline d t now there
-closing-closed d e t now (Err x) there next timelines signalled = tt
+pub closing-closed : (d e : DeviceState) (t now : ℕ) (r : Result (Vec ℕ Global) Refusal) → OnOk r (IsSome (timeline_at d t)) → e.next ≡ d.next → e.buffers ≡ d.buffers → OnOk r ((q : ℕ) → timeline_at e q ≡ cond (nat_eq t q) None (timeline_at d q)) → OnOk r (AreSignalled t GREATEST (signal_at now true) d.files e.files) → OnOk r (objects_of e ≡ closed (objects_of d) t now)
+closing-closed d e t now (Ok found) there next buffers timelines signalled = objects-with_signals d e t None GREATEST (signal_at now true) next buffers timelines signalled ∙ closed-timeline d t now there
+closing-closed d e t now (Err x) there next buffers timelines signalled = tt
 
 -- a timeline that is there rises
-pub objects-risen : (d e : DeviceState) (t n now : ℕ) (o : Option Timeline) → timeline_at d t ≡ o → IsSome o → e.next ≡ d.next
+pub objects-risen : (d e : DeviceState) (t n now : ℕ) (o : Option Timeline) → timeline_at d t ≡ o → IsSome o → e.next ≡ d.next → e.buffers ≡ d.buffers
     → IfSome o (λ k. (q : ℕ) → timeline_at e q ≡ cond (nat_eq t q) (Some (raised k n)) (timeline_at d q))
     → IfSome o (λ k. AreSignalled t (k.value + n) (signal_at now false) d.files e.files)
     → objects_of e ≡ risen (objects_of d) t n now
-objects-risen d e t n now None is there next timelines signalled = absurd (false≢true there)
-objects-risen d e t n now (Some k) is there next timelines signalled =
-    objects-with_signals d e t (Some (raised k n)) (k.value + n) (signal_at now false) next timelines signalled
+objects-risen d e t n now None is there next buffers timelines signalled = absurd (false≢true there)
+objects-risen d e t n now (Some k) is there next buffers timelines signalled =
+    objects-with_signals d e t (Some (raised k n)) (k.value + n) (signal_at now false) next buffers timelines signalled
     ∙ ap (λ p. with_signals (objects_of d) t (option_map (λ j. raised j n) p) (value_in p + n) (signal_at now false)) (sym is)
 
 pub no_cause-timeline : (o : Option Timeline) (why : Refusal) (f : ℕ → ℕ) → IsSome o → IfSome o (λ k. f k.value < 2 ^ 64) → cond (is_some o) (overflow (f (value_in o))) (Some why) ≡ None

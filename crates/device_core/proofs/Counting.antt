@@ -13,11 +13,13 @@ use Rattle.device_core.specs.declared.refusal.Refusal.{Refusal}
 use Rattle.device_core.specs.declared.request.Request.{Request}
 use Rattle.device_core.specs.declared.request.Request.TheVariants as request
 use Rattle.device_core.specs.declared.request.Answer.{Answer}
+use Rattle.device_core.specs.declared.info.FileInfo.{FileInfo}
 use Rattle.device_core.specs.declared.request.Answer.TheVariants as answer
 use Rattle.device_core.specs.Fences.{is_pending, is_due, signal_at, are_signalled, status_of}
-use Rattle.device_core.specs.State.{FileState, DeviceState, Objects, file_at, file_signalled, merged_files, one_fence_file}
+use Rattle.device_core.specs.State.{FileState, DeviceState, Objects, file_at, file_signalled, merged_files, one_fence_file, export_of}
 use Rattle.device_core.specs.Woken.{is_settled_by}
-use Rattle.device_core.specs.Request.{with_at, value_in, with_file, risen, closed, closed_timeline, closed_file, after, is_waiting, has_signalled, AreWoken, OnWoken, OnFile, Reports}
+use Rattle.device_core.specs.Buffers.{export_usage, none_waits as none_waits_in}
+use Rattle.device_core.specs.Request.{with_at, value_in, with_file, risen, closed, closed_timeline, dropped, after, is_waiting, has_signalled, AreWoken, OnWoken, OnObject, OnInfo, Reports}
 use Rattle.device_core.specs.History.{World, world_after, world_from, world_of, empty_world, AreAccepted, HasHistory, history_of, AreAnswers}
 use Rattle.device_core.specs.Times.{number_in, woken_in, in_accepted, numbers_given, times_woken, one_if, begins, is_dropped, times_from, times_begun, times_dropped}
 use Rattle.device_core.specs.Sound.{IsSound}
@@ -131,14 +133,19 @@ never-again w (request.Inc t m now) n sound is = signalled_stays t _ (signal_at 
 never-again w (request.Merge a b name) n sound is = never-new w (merged_files name (w.objects.files a) (w.objects.files b)) n sound is
 never-again w (request.Status file) n sound is = not_waiting (w.objects.files n) is
 never-again w (request.IsSignalled file) n sound is = not_waiting (w.objects.files n) is
+never-again w (request.Info file) n sound is = not_waiting (w.objects.files n) is
 never-again w (request.Close number now) n sound is = go (is_some (w.objects.timelines number))
   where
-    go : (b : Bool) → is_waiting ((cond b (closed_timeline w.objects number now) (closed_file w.objects number)).files n) ≡ false
+    go : (b : Bool) → is_waiting ((cond b (closed_timeline w.objects number now) (dropped w.objects number)).files n) ≡ false
     go true = signalled_stays number GREATEST (signal_at now true) (w.objects.files n) is
     go false = elim (cases_eq number n) [
       | inl same ↦ ap is_waiting (sym (ap (with_at w.objects.files number None) same) ∙ with_at-same w.objects.files number None)
       | inr apart ↦ ap is_waiting (with_at-other w.objects.files number None n apart) ∙ not_waiting (w.objects.files n) is
     ]
+never-again w (request.Buffer now) n sound is = not_waiting (w.objects.files n) is
+never-again w (request.Export buffer flags) n sound is = never-new w (export_of w.objects.timelines (export_usage flags) (w.objects.buffers buffer)) n sound is
+never-again w (request.Import buffer file flags) n sound is = not_waiting (w.objects.files n) is
+never-again w (request.Test buffer usage) n sound is = not_waiting (w.objects.files n) is
 
 -- who is woken by any request
 none-woken : (old new : Objects) → ((n : ℕ) → (new.files n ≡ old.files n) ⊎ (old.files n ≡ None)) → AreWoken old new []
@@ -162,16 +169,29 @@ woken-told old new (answer.Number n) h = absurd h
 woken-told old new (answer.Woken woken) h = h
 woken-told old new (answer.Status status) h = absurd h
 woken-told old new (answer.Signalled signalled) h = absurd h
+woken-told old new (answer.Info info) h = absurd h
+woken-told old new answer.Done h = absurd h
 
 number-told : (such : List ℕ → Type 0) (given : Answer) → OnWoken such given → number_in given ≡ []
 number-told such (answer.Number n) h = absurd h
 number-told such (answer.Woken woken) h = refl
 number-told such (answer.Status status) h = absurd h
 number-told such (answer.Signalled signalled) h = absurd h
+number-told such (answer.Info info) h = absurd h
+number-told such answer.Done h = absurd h
 
-file-told : (told : Answer → List ℕ) (o : Option FileState) (give : FileState → Answer) (given : Answer) → ((f : FileState) → told (give f) ≡ []) → OnFile o give given → told given ≡ []
-file-told told None give given none h = absurd h
-file-told told (Some f) give given none h = ap told h ∙ none f
+object-told : {X : Type 0} (told : Answer → List ℕ) (o : Option X) (give : X → Answer) (given : Answer) → ((x : X) → told (give x) ≡ []) → OnObject o give given → told given ≡ []
+object-told told None give given none h = absurd h
+object-told told (Some f) give given none h = ap told h ∙ none f
+
+info-told : (told : Answer → List ℕ) (n : ℕ) (o : Option FileState) (given : Answer) → ((info : FileInfo) → told (answer.Info info) ≡ []) → OnInfo n o given → told given ≡ []
+info-told told n None given none h = absurd h
+info-told told n (Some f) (answer.Number m) none h = absurd h
+info-told told n (Some f) (answer.Woken woken) none h = absurd h
+info-told told n (Some f) (answer.Status status) none h = absurd h
+info-told told n (Some f) (answer.Signalled signalled) none h = absurd h
+info-told told n (Some f) (answer.Info info) none h = none info
+info-told told n (Some f) answer.Done none h = absurd h
 
 pub wakes-after : (w : World) (r : Request) (given : Answer) → IsSound w → Reports w.objects r given → AreWoken w.objects (after w.objects r) (woken_in given)
 wakes-after w (request.Open name) given sound h = subst (AreWoken w.objects (after w.objects (request.Open name))) (sym (ap woken_in h)) (none-woken w.objects (after w.objects (request.Open name)) (λ n. inl refl))
@@ -179,10 +199,17 @@ wakes-after w (request.Fence t point now) given sound h = subst (AreWoken w.obje
 wakes-after w (request.Inc t n now) given sound h = woken-told w.objects (risen w.objects t n now) given h
 wakes-after w (request.Merge a b name) given sound h = subst (AreWoken w.objects (after w.objects (request.Merge a b name))) (sym (ap woken_in h)) (new-woken w _ sound)
 wakes-after w (request.Status file) given sound h =
-    subst (AreWoken w.objects w.objects) (sym (file-told woken_in (w.objects.files file) (λ f. answer.Status (status_of f.fences)) given (λ f. refl) h)) (none-woken w.objects w.objects (λ n. inl refl))
+    subst (AreWoken w.objects w.objects) (sym (object-told woken_in (w.objects.files file) (λ f. answer.Status (status_of f.fences)) given (λ f. refl) h)) (none-woken w.objects w.objects (λ n. inl refl))
 wakes-after w (request.IsSignalled file) given sound h =
-    subst (AreWoken w.objects w.objects) (sym (file-told woken_in (w.objects.files file) (λ f. answer.Signalled (are_signalled f.fences)) given (λ f. refl) h)) (none-woken w.objects w.objects (λ n. inl refl))
+    subst (AreWoken w.objects w.objects) (sym (object-told woken_in (w.objects.files file) (λ f. answer.Signalled (are_signalled f.fences)) given (λ f. refl) h)) (none-woken w.objects w.objects (λ n. inl refl))
+wakes-after w (request.Info file) given sound h =
+    subst (AreWoken w.objects w.objects) (sym (info-told woken_in file (w.objects.files file) given (λ info. refl) h)) (none-woken w.objects w.objects (λ n. inl refl))
 wakes-after w (request.Close number now) given sound h = woken-told w.objects (closed w.objects number now) given h
+wakes-after w (request.Buffer now) given sound h = subst (AreWoken w.objects (after w.objects (request.Buffer now))) (sym (ap woken_in h)) (none-woken w.objects (after w.objects (request.Buffer now)) (λ n. inl refl))
+wakes-after w (request.Export buffer flags) given sound h = subst (AreWoken w.objects (after w.objects (request.Export buffer flags))) (sym (ap woken_in h)) (new-woken w _ sound)
+wakes-after w (request.Import buffer file flags) given sound h = subst (AreWoken w.objects (after w.objects (request.Import buffer file flags))) (sym (ap woken_in h)) (none-woken w.objects (after w.objects (request.Import buffer file flags)) (λ n. inl refl))
+wakes-after w (request.Test buffer usage) given sound h =
+    subst (AreWoken w.objects w.objects) (sym (object-told woken_in (w.objects.buffers buffer) (λ b. answer.Signalled (none_waits_in w.objects.timelines usage b.fences)) given (λ b. refl) h)) (none-woken w.objects w.objects (λ n. inl refl))
 
 -- which number is given
 abbrev IsNext : Objects → Request → Answer → Type 0
@@ -190,7 +217,7 @@ IsNext d r given =
     ((number_in given ≡ d.next ∷ []) × ((after d r).next ≡ d.next + 1))
     ⊎ ((number_in given ≡ []) × ((after d r).next ≡ d.next))
 
-next-closed : (d : Objects) (number now : ℕ) (b : Bool) → (cond b (closed_timeline d number now) (closed_file d number)).next ≡ d.next
+next-closed : (d : Objects) (number now : ℕ) (b : Bool) → (cond b (closed_timeline d number now) (dropped d number)).next ≡ d.next
 next-closed d number now true = refl
 next-closed d number now false = refl
 
@@ -199,9 +226,14 @@ next-after d (request.Open name) given h = inl (ap number_in h, refl)
 next-after d (request.Fence t point now) given h = inl (ap number_in h, refl)
 next-after d (request.Inc t n now) given h = inr (number-told (AreWoken d (risen d t n now)) given h, refl)
 next-after d (request.Merge a b name) given h = inl (ap number_in h, refl)
-next-after d (request.Status file) given h = inr (file-told number_in (d.files file) (λ f. answer.Status (status_of f.fences)) given (λ f. refl) h, refl)
-next-after d (request.IsSignalled file) given h = inr (file-told number_in (d.files file) (λ f. answer.Signalled (are_signalled f.fences)) given (λ f. refl) h, refl)
+next-after d (request.Status file) given h = inr (object-told number_in (d.files file) (λ f. answer.Status (status_of f.fences)) given (λ f. refl) h, refl)
+next-after d (request.IsSignalled file) given h = inr (object-told number_in (d.files file) (λ f. answer.Signalled (are_signalled f.fences)) given (λ f. refl) h, refl)
+next-after d (request.Info file) given h = inr (info-told number_in file (d.files file) given (λ info. refl) h, refl)
 next-after d (request.Close number now) given h = inr (number-told (AreWoken d (closed d number now)) given h, next-closed d number now (is_some (d.timelines number)))
+next-after d (request.Buffer now) given h = inl (ap number_in h, refl)
+next-after d (request.Export buffer flags) given h = inl (ap number_in h, refl)
+next-after d (request.Import buffer file flags) given h = inr (ap number_in h, refl)
+next-after d (request.Test buffer usage) given h = inr (object-told number_in (d.buffers buffer) (λ b. answer.Signalled (none_waits_in d.timelines usage b.fences)) given (λ b. refl) h, refl)
 
 -- along a run
 times-push : (test : Objects → Objects → ℕ → Bool) (n : ℕ) (history : List Request) (w : World) (r : Request) → times_from test n w (history ++ r ∷ []) ≡ times_from test n w history + one_if (test (world_from w history).objects (world_after (world_from w history) r).objects n)
@@ -242,14 +274,19 @@ begins-made d (request.Inc t m now) n is = signals_begin t (value_in (d.timeline
 begins-made d (request.Merge a b name) n is = (begins-new d (merged_files name (d.files a) (d.files b)) n is, refl)
 begins-made d (request.Status file) n is = none_begins (d.files n) (d.files n) (λ none. none) is
 begins-made d (request.IsSignalled file) n is = none_begins (d.files n) (d.files n) (λ none. none) is
+begins-made d (request.Info file) n is = none_begins (d.files n) (d.files n) (λ none. none) is
 begins-made d (request.Close number now) n is = go (is_some (d.timelines number)) is
   where
-    go : (b : Bool) → begins d (cond b (closed_timeline d number now) (closed_file d number)) n ≡ true → IsMade d (request.Close number now) n
+    go : (b : Bool) → begins d (cond b (closed_timeline d number now) (dropped d number)) n ≡ true → IsMade d (request.Close number now) n
     go true told = signals_begin number GREATEST (signal_at now true) (d.files n) told
     go false told = none_begins (d.files n) (with_at d.files number None n) (λ none. elim (cases_eq number n) [
       | inl same ↦ sym (ap (with_at d.files number None) same) ∙ with_at-same d.files number None
       | inr apart ↦ with_at-other d.files number None n apart ∙ none
     ]) told
+begins-made d (request.Buffer now) n is = none_begins (d.files n) (d.files n) (λ none. none) is
+begins-made d (request.Export buffer flags) n is = (begins-new d (export_of d.timelines (export_usage flags) (d.buffers buffer)) n is, refl)
+begins-made d (request.Import buffer file flags) n is = none_begins (d.files n) (d.files n) (λ none. none) is
+begins-made d (request.Test buffer usage) n is = none_begins (d.files n) (d.files n) (λ none. none) is
 
 record HasTimes (d : Objects) (history : List Request) (given : List (Result Answer Refusal)) : Type 0 where
   pub each : (n : ℕ) → times_begun n history ≡ times_woken n given + times_dropped n history + one_if (is_waiting (d.files n))

@@ -1,8 +1,9 @@
--- What a device says of all that was put into its files, and of its timelines.
+-- What a device says of all that was put into its files and buffers, and of its timelines.
 use Rattle.std.proofs.Common.{◌≡◌, ◌≢◌, ◌↔◌, ℕ, ◌+◌, ◌<◌, ◌≤◌, ◌⊎◌, inl, inr, true, false, not, cond, refl, sym, ap, ◌∙◌, subst, List, [], ◌∷◌, ◌++◌, append_assoc, append-nil, Option, None, Some, is_some, option_map, All, arith}
 use Rattle.std.proofs.lemmas.Bool.{cases_eq, and_parts, and_from, not-true, le-ltb, eq-eqb, ne_eqb}
 use Rattle.std.proofs.lemmas.List.Elements.{All-nil, All-cons, All-head, All-tail, All-contains, Contains-append_right}
 use Rattle.point_core.specs.declared.entry.Entry.{Entry}
+use Rattle.point_core.specs.Usage.{usage_number}
 use Rattle.point_core.specs.Agreement.{AgreesAbove, IsReached}
 use Rattle.point_core.specs.Reach.{value_at}
 use Rattle.point_core.proofs.Agreement.{AgreesAbove-sym, AgreesAbove-trans, AgreesAbove-same_entries}
@@ -12,14 +13,18 @@ use Rattle.device_core.specs.declared.fence.Timeline.{Timeline}
 use Rattle.device_core.specs.declared.request.Request.{Request}
 use Rattle.device_core.specs.declared.request.Request.TheVariants as request
 use Rattle.device_core.specs.Fences.{is_pending, are_signalled, entries_in}
-use Rattle.device_core.specs.State.{FileState, DeviceState, Objects, file_at, new_timeline, raised}
-use Rattle.device_core.specs.Request.{with_at, value_in, overflow, missing_timeline, closed_timeline, closed_file, cause_of}
+use Rattle.device_core.specs.State.{FileState, DeviceState, Objects, file_at, timeline_at, buffer_at, new_timeline, raised, missing_timeline}
+use Rattle.device_core.specs.Request.{with_at, value_in, overflow, closed_timeline, dropped, cause_of}
 use Rattle.device_core.specs.History.{World, world_after, world_from, world_of, empty_world, AreAccepted, HasHistory, reach_of, reached_by, added_by, sum_of}
+use Rattle.device_core.specs.Buffers.{BufferState, at_usage, entries_of, exported, none_waits}
+use Rattle.device_core.specs.BufferWorld.{AreBufferFences}
 use Rattle.device_core.specs.Sound.{is_above, IsFence, IsSound}
-use Rattle.device_core.specs.Headline.{ReportsWhatWasPut, ReportsSums}
+use Rattle.device_core.specs.Headline.{ReportsWhatWasPut, ReportsBuffers, ReportsSums}
 use Rattle.device_core.proofs.Placed.{entry_in}
 use Rattle.device_core.proofs.Sound.{with_at-same, with_at-other, value_at-reach_of, fence-reached}
-use Rattle.device_core.proofs.Stepping.{same_Some, None≢Some, no_cause, timeline_given, IsSound-empty, IsSound-after, IsSound-history}
+use Rattle.device_core.proofs.Exports.{AgreesAbove-at_usage}
+use Rattle.device_core.proofs.BufferSteps.{export-step, test-step}
+use Rattle.device_core.proofs.Stepping.{same_Some, None≢Some, no_cause, timeline_given, given_timelines, IsSound-empty, IsSound-after, IsSound-history}
 
 abbrev IsBelow : List ℕ → Entry → Type 0
 IsBelow reach e = e.point.value ≤ value_at reach e.point.ctx
@@ -74,6 +79,32 @@ ReportsWhatWasPut-stands d history had =
       rising = λ n f is. (sound.fences n f (there n f is)).rising;
     }
 
+-- the same of its buffers
+pub ReportsBuffers-stands : (d : DeviceState) (history : List Request) → HasHistory d history → ReportsBuffers d history
+ReportsBuffers-stands d history had =
+    let w = world_of history in
+    let sound = IsSound-history history had.accepted in
+    let reach = reach_of w.objects in
+    let timelines : timeline_at d ≡ w.objects.timelines = ap (λ (o : Objects). o.timelines) had.is in
+    let there : (n : ℕ) (b : BufferState) → buffer_at d n ≡ Some b → w.objects.buffers n ≡ Some b = λ n b is. sym (ap (λ (o : Objects). o.buffers n) had.is) ∙ is in
+    let agrees : (n : ℕ) (b : BufferState) → buffer_at d n ≡ Some b → AgreesAbove reach (entries_of b.fences) (w.put n) = λ n b is. sound.buffer_agrees n b (there n b is) in
+    let kept : (n : ℕ) (b : BufferState) → buffer_at d n ≡ Some b → AreBufferFences w.objects b.fences = λ n b is. sound.buffer_fences n b (there n b is) in
+    record {
+      agrees = agrees;
+      same_put = λ m n a b left right same.
+          AgreesAbove-trans (agrees m a left) (AgreesAbove-trans (AgreesAbove-same_entries reach (w.put m) (w.put n) same.there same.back) (AgreesAbove-sym (agrees n b right)));
+      same_as_file = λ m n f b usage left right same.
+          AgreesAbove-trans (sound.agrees m f (sym (ap (λ (o : Objects). o.files m) had.is) ∙ left))
+          (AgreesAbove-trans (AgreesAbove-same_entries reach (w.put m) (at_usage usage (w.put n)) same.there same.back)
+          (AgreesAbove-sym (AgreesAbove-at_usage reach usage (entries_of b.fences) (w.put n) (agrees n b right))));
+      signalled = λ n b usage is.
+          subst (λ ts. (none_waits ts usage b.fences ≡ true) ↔ IsReached (w.put n) (usage_number usage) reach) (sym timelines)
+          (test-step w.objects usage b.fences (w.put n) (given_timelines w sound) (kept n b is) (agrees n b is));
+      exports = λ n b usage is.
+          subst (λ ts. AgreesAbove reach (entries_in (exported ts usage b.fences)) (at_usage usage (w.put n))) (sym timelines)
+          (export-step w.objects usage b.fences (w.put n) (given_timelines w sound) (kept n b is) (agrees n b is));
+    }
+
 -- sums of increments
 sum-push : (n : ℕ) (history : List Request) (r : Request) → sum_of n (history ++ r ∷ []) ≡ sum_of n history + added_by n r
 sum-push n [] r = omega arith
@@ -121,6 +152,8 @@ HasSums-after w history (request.Status file) sound none h =
     adds_none w w history (request.Status file) h (λ n. refl) (omega arith) (λ n t is. inl is)
 HasSums-after w history (request.IsSignalled file) sound none h =
     adds_none w w history (request.IsSignalled file) h (λ n. refl) (omega arith) (λ n t is. inl is)
+HasSums-after w history (request.Info file) sound none h =
+    adds_none w w history (request.Info file) h (λ n. refl) (omega arith) (λ n t is. inl is)
 HasSums-after w history (request.Inc timeline m now) sound none h =
     let there = no_cause (w.objects.timelines timeline) (overflow (value_in (w.objects.timelines timeline) + m)) (missing_timeline w.objects timeline) none in
     let k = there.0 in
@@ -153,18 +186,26 @@ HasSums-after w history (request.Close number now) sound none h = go (w.objects.
   where
     go : (o : Option Timeline) → w.objects.timelines number ≡ o → HasSums (world_after w (request.Close number now)) (history ++ request.Close number now ∷ [])
     go None is =
-        let left : world_after w (request.Close number now) ≡ record { objects = closed_file w.objects number; put = w.put } =
-        ap (λ o. record { objects = cond (is_some o) (closed_timeline w.objects number now) (closed_file w.objects number); put = w.put }) is in
+        let left : world_after w (request.Close number now) ≡ record { objects = dropped w.objects number; put = w.put } =
+        ap (λ o. record { objects = cond (is_some o) (closed_timeline w.objects number now) (dropped w.objects number); put = w.put }) is in
         subst (λ v. HasSums v (history ++ request.Close number now ∷ [])) (sym left)
-        (adds_none w (record { objects = closed_file w.objects number; put = w.put }) history (request.Close number now) h (λ n. refl) (omega arith) (λ n t its. inl its))
+        (adds_none w (record { objects = dropped w.objects number; put = w.put }) history (request.Close number now) h (λ n. refl) (omega arith) (λ n t its. inl its))
     go (Some k) is =
         let left : world_after w (request.Close number now) ≡ record { objects = closed_timeline w.objects number now; put = w.put } =
-        ap (λ o. record { objects = cond (is_some o) (closed_timeline w.objects number now) (closed_file w.objects number); put = w.put }) is in
+        ap (λ o. record { objects = cond (is_some o) (closed_timeline w.objects number now) (dropped w.objects number); put = w.put }) is in
         subst (λ v. HasSums v (history ++ request.Close number now ∷ [])) (sym left)
         (adds_none w (record { objects = closed_timeline w.objects number now; put = w.put }) history (request.Close number now) h (λ n. refl) (omega arith) (λ n t its. elim (cases_eq number n) [
           | inl same ↦ None≢Some t (sym (with_at-same w.objects.timelines number None) ∙ ap (with_at w.objects.timelines number None) same ∙ its)
           | inr apart ↦ inl (sym (with_at-other w.objects.timelines number None n apart) ∙ its)
         ]))
+HasSums-after w history (request.Buffer now) sound none h =
+    adds_none w (world_after w (request.Buffer now)) history (request.Buffer now) h (λ n. refl) (omega arith) (λ n t is. inl is)
+HasSums-after w history (request.Export buffer flags) sound none h =
+    adds_none w (world_after w (request.Export buffer flags)) history (request.Export buffer flags) h (λ n. refl) (omega arith) (λ n t is. inl is)
+HasSums-after w history (request.Import buffer file flags) sound none h =
+    adds_none w (world_after w (request.Import buffer file flags)) history (request.Import buffer file flags) h (λ n. refl) (omega arith) (λ n t is. inl is)
+HasSums-after w history (request.Test buffer usage) sound none h =
+    adds_none w w history (request.Test buffer usage) h (λ n. refl) (omega arith) (λ n t is. inl is)
 
 HasSums-from : (history : List Request) (w : World) (before : List Request) → IsSound w → AreAccepted w history → HasSums w before → HasSums (world_from w history) (before ++ history)
 HasSums-from [] w before sound accepted h = subst (HasSums w) (sym (append-nil before)) h

@@ -1,9 +1,10 @@
 -- Each accepted request keeps the world sound.
-use Rattle.std.proofs.Common.{◌≡◌, ◌≢◌, ℕ, ◌+◌, ◌^◌, ◌<◌, ◌≤◌, nat_lt, nat_le, inl, inr, Bool, true, false, not, cond, ◌&&◌, refl, sym, ap, ◌∙◌, subst, List, [], ◌∷◌, ◌++◌, Option, None, Some, is_some, option_map, arith}
+use Rattle.std.proofs.Common.{◌≡◌, ◌≢◌, ℕ, ◌+◌, ◌^◌, ◌<◌, ◌≤◌, nat_lt, nat_le, inl, inr, Bool, true, false, not, cond, ◌&&◌, refl, sym, ap, ◌∙◌, subst, List, [], ◌∷◌, ◌++◌, Option, None, Some, is_some, option_map, Result, Ok, Err, arith}
 use Rattle.std.proofs.lemmas.Bool.{cases_lt, cases_eq, and_right, lt-ltb, le-ltb, le-leb, lt-leb}
 use Rattle.std.proofs.lemmas.Bool.Decides.{nat_tests}
-use Rattle.std.proofs.lemmas.List.Elements.{All-nil, All-cons}
+use Rattle.std.proofs.lemmas.List.Elements.{All-nil, All-cons, All-weaker}
 use Rattle.point_core.specs.declared.entry.Entry.{Entry}
+use Rattle.point_core.specs.declared.entry.Usage.{Usage}
 use Rattle.point_core.specs.Agreement.{AgreesAbove}
 use Rattle.point_core.specs.Reach.{GREATEST, IsAtLeast}
 use Rattle.point_core.proofs.Agreement.{AgreesAbove-refl, AgreesAbove-trans, AgreesAbove-append, AgreesAbove-later}
@@ -11,17 +12,21 @@ use Rattle.device_core.specs.declared.fence.Text.{Text}
 use Rattle.device_core.specs.declared.fence.Signal.{Signal}
 use Rattle.device_core.specs.declared.fence.Timeline.{Timeline}
 use Rattle.device_core.specs.declared.refusal.Refusal.{Refusal}
-use Rattle.device_core.specs.declared.refusal.Refusal.TheVariants.{Overflow}
+use Rattle.device_core.specs.declared.refusal.Refusal.TheVariants.{Invalid, Overflow}
 use Rattle.device_core.specs.declared.request.Request.{Request}
 use Rattle.device_core.specs.declared.request.Request.TheVariants as request
 use Rattle.device_core.specs.Wrapping.{unwrapped}
 use Rattle.device_core.specs.Fences.{signal_at, all_signalled_by, merged, entries_in}
-use Rattle.device_core.specs.State.{FileState, Objects, new_timeline, raised, fence_at, one_fence_file, merged_files, file_signalled}
-use Rattle.device_core.specs.Request.{with_at, value_in, opened, with_file, with_signals, closed_timeline, closed_file, closed, overflow, missing_timeline, cause_of}
-use Rattle.device_core.specs.History.{World, asked, world_after, world_from, world_of, empty_world, AreAccepted, reach_of, reached_by}
+use Rattle.device_core.specs.State.{FileState, Objects, new_timeline, raised, fence_at, one_fence_file, merged_files, file_signalled, missing_timeline, missing_buffer, export_of, import_of}
+use Rattle.device_core.specs.Request.{with_at, value_in, opened, with_file, with_signals, closed_timeline, dropped, closed, with_new_buffer, with_buffer, overflow, cause_after, cause_of}
+use Rattle.device_core.specs.History.{World, asked, put_by_export, put_by_import, world_after, world_from, world_of, empty_world, AreAccepted, reach_of, reached_by}
+use Rattle.device_core.specs.Buffers.{BufferState, at_usage, empty_buffer, entries_of, export_usage, exported, import_into, import_usage}
+use Rattle.device_core.specs.BufferWorld.{AreBufferFences, HasGivenTimelines, IsBufferFence, put_with}
+use Rattle.device_core.specs.declared.buffer_fence.BufferFence.{BufferFence}
 use Rattle.device_core.specs.Sound.{is_above, IsFence, AreFences, IsSound}
 use Rattle.device_core.proofs.Signalled.{entries-signalled}
 use Rattle.device_core.proofs.Placed.{Rising-is, Rising-from, merged-All, merged-Rising, merged-agrees}
+use Rattle.device_core.proofs.BufferSteps.{export-keeps, export-step, import-keeps, import-step}
 use Rattle.device_core.proofs.Sound.{with_at-same, with_at-other, reach-rises, fences-kept, fences-signalled, fences-reached}
 
 pub same_Some : {X : Type 0} {x y : X} → Some x ≡ Some y → x ≡ y
@@ -48,6 +53,10 @@ IsSound-empty = record {
   values = λ n t is. None≢Some t is;
   fences = λ n f is. None≢Some f is;
   agrees = λ n f is. None≢Some f is;
+  buffers = λ n low. refl;
+  one_kind = λ n b is. refl;
+  buffer_fences = λ n b is. None≢Some b is;
+  buffer_agrees = λ n b is. None≢Some b is;
 }
 
 -- an object that is there has a number that was given
@@ -68,6 +77,22 @@ file_given w h n f there = elim (cases_lt n w.objects.next) [
   | inl low ↦ low
   | inr past ↦ None≢Some f (sym (h.files n past) ∙ there)
 ]
+
+pub buffer_given : (w : World) → IsSound w → (n : ℕ) (b : BufferState) → w.objects.buffers n ≡ Some b → n < w.objects.next
+buffer_given w h n b there = elim (cases_lt n w.objects.next) [
+  | inl low ↦ low
+  | inr past ↦ None≢Some b (sym (h.buffers n past) ∙ there)
+]
+
+-- fences of timelines that were opened stay so
+buffer_fences-kept : (d e : Objects) (hs : List BufferFence) → d.next ≤ e.next → AreBufferFences d hs → AreBufferFences e hs
+buffer_fences-kept d e hs more all = All-weaker (IsBufferFence d.next) (IsBufferFence e.next) (λ h is. later h is) hs all
+  where
+    later : (h : BufferFence) → IsBufferFence d.next h → IsBufferFence e.next h
+    later h is = let given = is.given in record { numbered = is.numbered; given = omega arith; fits = is.fits }
+
+pub given_timelines : (w : World) → IsSound w → HasGivenTimelines w.objects
+given_timelines w h = record { none = h.none; given = h.timelines }
 
 abbrev world : Objects → (ℕ → List Entry) → World
 world objects put = record { objects = objects; put = put }
@@ -96,6 +121,10 @@ IsSound-opened w name h =
       ];
       fences = λ n f is. fences-kept old now f.fences (omega arith) before (h.fences n f is);
       agrees = λ n f is. AgreesAbove-later rises (h.agrees n f is);
+      buffers = λ n low. h.buffers n (omega arith);
+      one_kind = h.one_kind;
+      buffer_fences = λ n b is. buffer_fences-kept old now b.fences (omega arith) (h.buffer_fences n b is);
+      buffer_agrees = λ n b is. AgreesAbove-later rises (h.buffer_agrees n b is);
     }
 
 -- a file is new, of fences of timelines that were opened, and agrees with what is put into it
@@ -130,6 +159,98 @@ IsSound-with_file w file put h new =
         | inr apart ↦
             subst (λ es. AgreesAbove (reach_of now) (entries_in f.fences) es) (sym (with_at-other w.put next put n apart))
             (AgreesAbove-later rises (h.agrees n f (sym (with_at-other w.objects.files next file n apart) ∙ is)))
+      ];
+      buffers = λ n low. h.buffers n (omega arith);
+      one_kind = λ n b is.
+          let low = buffer_given w h n b is in
+          with_at-other w.objects.files next file n (λ same. omega arith) ∙ h.one_kind n b is;
+      buffer_fences = λ n b is. buffer_fences-kept old now b.fences (omega arith) (h.buffer_fences n b is);
+      buffer_agrees = λ n b is.
+          let low = buffer_given w h n b is in
+          subst (λ es. AgreesAbove (reach_of now) (entries_of b.fences) es) (sym (with_at-other w.put next put n (λ same. omega arith)))
+          (AgreesAbove-later rises (h.buffer_agrees n b is));
+    }
+
+-- a buffer is new, and nothing was put into it
+pub IsSound-with_new_buffer : (w : World) (time : ℕ) → IsSound w → IsSound (world (with_new_buffer w.objects time) (with_at w.put w.objects.next []))
+IsSound-with_new_buffer w time h =
+    let first = h.first in
+    let next = w.objects.next in
+    let new = Some (empty_buffer time) in
+    let old : Objects = w.objects in
+    let now : Objects = with_new_buffer w.objects time in
+    let rises : IsAtLeast (reach_of now) (reach_of old) = reach-rises old now (omega arith) (λ n low high. omega arith) in
+    record {
+      first = omega arith;
+      none = h.none;
+      timelines = λ n low. h.timelines n (omega arith);
+      files = λ n low. h.files n (omega arith);
+      values = h.values;
+      fences = λ n f is. fences-kept old now f.fences (omega arith) (λ m low. refl) (h.fences n f is);
+      agrees = λ n f is.
+          let low = file_given w h n f is in
+          subst (λ es. AgreesAbove (reach_of now) (entries_in f.fences) es) (sym (with_at-other w.put next [] n (λ same. omega arith)))
+          (AgreesAbove-later rises (h.agrees n f is));
+      buffers = λ n low. with_at-other w.objects.buffers next new n (λ is. omega arith) ∙ h.buffers n (omega arith);
+      one_kind = λ n b is. elim (cases_eq next n) [
+        | inl same ↦ h.files n (omega arith)
+        | inr apart ↦ h.one_kind n b (sym (with_at-other w.objects.buffers next new n apart) ∙ is)
+      ];
+      buffer_fences = λ n b is. elim (cases_eq next n) [
+        | inl same ↦
+            let its : new ≡ Some b = sym (with_at-same w.objects.buffers next new) ∙ ap now.buffers same ∙ is in
+            subst (AreBufferFences now) (ap (λ (x : BufferState). x.fences) (same_Some its)) (All-nil (IsBufferFence now.next))
+        | inr apart ↦ buffer_fences-kept old now b.fences (omega arith) (h.buffer_fences n b (sym (with_at-other w.objects.buffers next new n apart) ∙ is))
+      ];
+      buffer_agrees = λ n b is. elim (cases_eq next n) [
+        | inl same ↦
+            let its : new ≡ Some b = sym (with_at-same w.objects.buffers next new) ∙ ap now.buffers same ∙ is in
+            subst (λ es. AgreesAbove (reach_of now) (entries_of b.fences) es) (sym (with_at-same w.put next []) ∙ ap (with_at w.put next []) same)
+            (subst (λ hs. AgreesAbove (reach_of now) (entries_of hs) []) (ap (λ (x : BufferState). x.fences) (same_Some its)) (AgreesAbove-refl (reach_of now) []))
+        | inr apart ↦
+            subst (λ es. AgreesAbove (reach_of now) (entries_of b.fences) es) (sym (with_at-other w.put next [] n apart))
+            (AgreesAbove-later rises (h.buffer_agrees n b (sym (with_at-other w.objects.buffers next new n apart) ∙ is)))
+      ];
+    }
+
+-- a buffer that is there is another, of fences of timelines that were opened, and agrees with what is put into it
+pub IsSound-with_buffer : (w : World) (number : ℕ) (was new : BufferState) (put : List Entry) → IsSound w
+    → w.objects.buffers number ≡ Some was → AreBufferFences w.objects new.fences → AgreesAbove (reach_of w.objects) (entries_of new.fences) put
+    → IsSound (world (with_buffer w.objects number (Some new)) (with_at w.put number put))
+IsSound-with_buffer w number was new put h there kept agrees =
+    let low = buffer_given w h number was there in
+    let old : Objects = w.objects in
+    let now : Objects = with_buffer w.objects number (Some new) in
+    let reach = reach_of w.objects in
+    record {
+      first = h.first;
+      none = h.none;
+      timelines = h.timelines;
+      files = h.files;
+      values = h.values;
+      fences = λ n f is. fences-kept old now f.fences (omega arith) (λ m l. refl) (h.fences n f is);
+      agrees = λ n f is.
+          let apart : number ≢ n = λ same. None≢Some f (sym (h.one_kind number was there) ∙ ap w.objects.files same ∙ is) in
+          subst (λ es. AgreesAbove reach (entries_in f.fences) es) (sym (with_at-other w.put number put n apart)) (h.agrees n f is);
+      buffers = λ n past. with_at-other w.objects.buffers number (Some new) n (λ is. omega arith) ∙ h.buffers n past;
+      one_kind = λ n b is. elim (cases_eq number n) [
+        | inl same ↦ sym (ap w.objects.files same) ∙ h.one_kind number was there
+        | inr apart ↦ h.one_kind n b (sym (with_at-other w.objects.buffers number (Some new) n apart) ∙ is)
+      ];
+      buffer_fences = λ n b is. elim (cases_eq number n) [
+        | inl same ↦
+            let its : new ≡ b = same_Some (sym (with_at-same w.objects.buffers number (Some new)) ∙ ap now.buffers same ∙ is) in
+            subst (AreBufferFences now) (ap (λ (x : BufferState). x.fences) its) kept
+        | inr apart ↦ h.buffer_fences n b (sym (with_at-other w.objects.buffers number (Some new) n apart) ∙ is)
+      ];
+      buffer_agrees = λ n b is. elim (cases_eq number n) [
+        | inl same ↦
+            let its : new ≡ b = same_Some (sym (with_at-same w.objects.buffers number (Some new)) ∙ ap now.buffers same ∙ is) in
+            subst (λ es. AgreesAbove reach (entries_of b.fences) es) (sym (with_at-same w.put number put) ∙ ap (with_at w.put number put) same)
+            (subst (λ hs. AgreesAbove reach (entries_of hs) put) (ap (λ (x : BufferState). x.fences) its) agrees)
+        | inr apart ↦
+            subst (λ es. AgreesAbove reach (entries_of b.fences) es) (sym (with_at-other w.put number put n apart))
+            (h.buffer_agrees n b (sym (with_at-other w.objects.buffers number (Some new) n apart) ∙ is))
       ];
     }
 
@@ -176,15 +297,23 @@ IsSound-with_signals w t new v s was h there fits above higher =
       agrees = λ n f is. signalled-was t v s (w.objects.files n) f is (λ g its fs.
           subst (λ es. AgreesAbove (reach_of now) es (w.put n)) (sym (entries-signalled t v s g.fences) ∙ ap entries_in fs)
           (AgreesAbove-later rises (h.agrees n g its)));
+      buffers = h.buffers;
+      one_kind = λ n b is. ap (option_map (file_signalled t v s)) (h.one_kind n b is);
+      buffer_fences = h.buffer_fences;
+      buffer_agrees = λ n b is. AgreesAbove-later rises (h.buffer_agrees n b is);
     }
 
-pub IsSound-closed_file : (w : World) (file : ℕ) → IsSound w → IsSound (world (closed_file w.objects file) w.put)
-IsSound-closed_file w file h =
+pub IsSound-dropped : (w : World) (file : ℕ) → IsSound w → IsSound (world (dropped w.objects file) w.put)
+IsSound-dropped w file h =
     let old : Objects = w.objects in
-    let now : Objects = closed_file w.objects file in
+    let now : Objects = dropped w.objects file in
     let was : (n : ℕ) (f : FileState) → now.files n ≡ Some f → old.files n ≡ Some f = λ n f is. elim (cases_eq file n) [
       | inl same ↦ None≢Some f (sym (with_at-same w.objects.files file None) ∙ ap now.files same ∙ is)
       | inr apart ↦ sym (with_at-other w.objects.files file None n apart) ∙ is
+    ] in
+    let had : (n : ℕ) (b : BufferState) → now.buffers n ≡ Some b → old.buffers n ≡ Some b = λ n b is. elim (cases_eq file n) [
+      | inl same ↦ None≢Some b (sym (with_at-same w.objects.buffers file None) ∙ ap now.buffers same ∙ is)
+      | inr apart ↦ sym (with_at-other w.objects.buffers file None n apart) ∙ is
     ] in
     record {
       first = h.first;
@@ -197,6 +326,16 @@ IsSound-closed_file w file h =
       values = h.values;
       fences = λ n f is. fences-kept old now f.fences (omega arith) (λ m low. refl) (h.fences n f (was n f is));
       agrees = λ n f is. h.agrees n f (was n f is);
+      buffers = λ n past. elim (cases_eq file n) [
+        | inl same ↦ ap now.buffers (sym same) ∙ with_at-same w.objects.buffers file None
+        | inr apart ↦ with_at-other w.objects.buffers file None n apart ∙ h.buffers n past
+      ];
+      one_kind = λ n b is. elim (cases_eq file n) [
+        | inl same ↦ ap now.files (sym same) ∙ with_at-same w.objects.files file None
+        | inr apart ↦ with_at-other w.objects.files file None n apart ∙ h.one_kind n b (had n b is)
+      ];
+      buffer_fences = λ n b is. h.buffer_fences n b (had n b is);
+      buffer_agrees = λ n b is. h.buffer_agrees n b (had n b is);
     }
 
 -- a cause that is none
@@ -250,6 +389,34 @@ IsSound-merged w name a b (Some g) (Some k) h left right f is =
           (AgreesAbove-append {reach = reach} {a = entries_in g.fences} {b = w.put a} {c = entries_in k.fences} {d = w.put b} (h.agrees a g left) (h.agrees b k right))),
     )
 
+-- what is exported from a buffer that is there
+IsSound-exported : (w : World) (buffer : ℕ) (u : Result Usage Refusal) (o : Option BufferState) → IsSound w → w.objects.buffers buffer ≡ o
+    → (f : FileState) → export_of w.objects.timelines u o ≡ Some f → AreFences w.objects f.fences × AgreesAbove (reach_of w.objects) (entries_in f.fences) (put_by_export u (w.put buffer))
+IsSound-exported w buffer (Err e) o h its f is = None≢Some f is
+IsSound-exported w buffer (Ok usage) None h its f is = None≢Some f is
+IsSound-exported w buffer (Ok usage) (Some b) h its f is =
+    let fs : exported w.objects.timelines usage b.fences ≡ f.fences = ap (λ (x : FileState). x.fences) (same_Some is) in
+    let kept = h.buffer_fences buffer b its in (
+      subst (AreFences w.objects) fs (export-keeps w.objects usage b.fences kept),
+      subst (λ gs. AgreesAbove (reach_of w.objects) (entries_in gs) (at_usage usage (w.put buffer))) fs
+          (export-step w.objects usage b.fences (w.put buffer) (given_timelines w h) kept (h.buffer_agrees buffer b its)),
+    )
+
+-- what becomes of a buffer by an import
+IsSound-imported : (w : World) (buffer file : ℕ) (b : BufferState) (u : Result Usage Refusal) (o : Option FileState) → IsSound w
+    → w.objects.buffers buffer ≡ Some b → w.objects.files file ≡ o → cause_after u (cond (is_some o) None (Some Invalid)) ≡ None
+    → IsSound (world (with_buffer w.objects buffer (import_of w.objects.timelines u o (w.objects.buffers buffer))) (with_at w.put buffer (put_by_import u (w.put buffer) (w.put file))))
+IsSound-imported w buffer file b (Err e) o h there its none = None≢Some e (sym none)
+IsSound-imported w buffer file b (Ok usage) None h there its none = None≢Some Invalid (sym none)
+IsSound-imported w buffer file b (Ok usage) (Some f) h there its none =
+    let d = w.objects in
+    let fences = h.fences file f its in
+    let kept = h.buffer_fences buffer b there in
+    let put = w.put buffer ++ put_with usage (w.put file) in
+    subst (λ o. IsSound (world (with_buffer d buffer (option_map (import_into d.timelines usage f.fences) o)) (with_at w.put buffer put))) (sym there)
+    (IsSound-with_buffer w buffer b (import_into d.timelines usage f.fences b) put h there (import-keeps d usage f.fences b kept fences)
+    (import-step d usage f.fences b (w.put buffer) (w.put file) (given_timelines w h) kept fences (h.buffer_agrees buffer b there) (h.agrees file f its)))
+
 above_raised : (value n x : ℕ) → nat_lt (value + n) x ≡ (nat_lt value x && not (nat_le x (value + n)))
 above_raised value n x = grind (arith, nat_tests)
 
@@ -285,15 +452,25 @@ IsSound-after w (request.Merge a b name) h none =
     (IsSound-merged w name a b (w.objects.files a) (w.objects.files b) h refl refl)
 IsSound-after w (request.Status file) h none = h
 IsSound-after w (request.IsSignalled file) h none = h
+IsSound-after w (request.Info file) h none = h
 IsSound-after w (request.Close n now) h none = go (w.objects.timelines n) refl
   where
     go : (o : Option Timeline) → w.objects.timelines n ≡ o → IsSound (world (closed w.objects n now) w.put)
     go None is =
-        subst (λ o. IsSound (world (cond (is_some o) (closed_timeline w.objects n now) (closed_file w.objects n)) w.put)) (sym is)
-        (IsSound-closed_file w n h)
+        subst (λ o. IsSound (world (cond (is_some o) (closed_timeline w.objects n now) (dropped w.objects n)) w.put)) (sym is)
+        (IsSound-dropped w n h)
     go (Some k) is =
-        subst (λ o. IsSound (world (cond (is_some o) (closed_timeline w.objects n now) (closed_file w.objects n)) w.put)) (sym is)
+        subst (λ o. IsSound (world (cond (is_some o) (closed_timeline w.objects n now) (dropped w.objects n)) w.put)) (sym is)
         (IsSound-with_signals w n None GREATEST (signal_at now true) k h is (λ j none. None≢Some j none) (λ x low. above_closed (nat_lt k.value x) x low) (h.values n k is))
+IsSound-after w (request.Buffer now) h none = IsSound-with_new_buffer w now h
+IsSound-after w (request.Export buffer flags) h none =
+    IsSound-with_file w (export_of w.objects.timelines (export_usage flags) (w.objects.buffers buffer)) (put_by_export (export_usage flags) (w.put buffer)) h
+    (IsSound-exported w buffer (export_usage flags) (w.objects.buffers buffer) h refl)
+IsSound-after w (request.Import buffer file flags) h none =
+    let cause = cause_after (import_usage flags) (cond (is_some (w.objects.files file)) None (Some Invalid)) in
+    let there = no_cause (w.objects.buffers buffer) cause (missing_buffer w.objects buffer) none in
+    IsSound-imported w buffer file there.0 (import_usage flags) (w.objects.files file) h there.1 refl there.2
+IsSound-after w (request.Test buffer usage) h none = h
 
 pub IsSound-from : (history : List Request) (w : World) → IsSound w → AreAccepted w history → IsSound (world_from w history)
 IsSound-from [] w h accepted = h

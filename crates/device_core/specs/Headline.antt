@@ -1,14 +1,17 @@
--- What a device reports of all that was put into its files, and of its timelines.
+-- What a device reports of all that was put into its files and buffers, and of its timelines.
 use Rattle.std.specs.Prelude.{◌≡◌, ◌↔◌, ℕ, ◌+◌, ◌-◌, ◌≤◌, true, List, Some, Contains, Result}
 use Rattle.std.specs.List.{range_with_len}
 use Rattle.point_core.specs.declared.entry.Entry.{Entry}
+use Rattle.point_core.specs.declared.entry.Usage.{Usage}
+use Rattle.point_core.specs.Usage.{usage_number}
 use Rattle.point_core.specs.Agreement.{AgreesAbove, IsReached}
 use Rattle.device_core.specs.declared.fence.Timeline.{Timeline}
 use Rattle.device_core.specs.declared.refusal.Refusal.{Refusal}
 use Rattle.device_core.specs.declared.request.Request.{Request}
 use Rattle.device_core.specs.declared.request.Answer.{Answer}
 use Rattle.device_core.specs.Fences.{are_signalled, entries_in, HasRisingTimelines}
-use Rattle.device_core.specs.State.{FileState, DeviceState, file_at, timeline_at}
+use Rattle.device_core.specs.State.{FileState, DeviceState, file_at, timeline_at, buffer_at}
+use Rattle.device_core.specs.Buffers.{BufferState, at_usage, entries_of, exported, none_waits}
 use Rattle.device_core.specs.Request.{is_waiting}
 use Rattle.device_core.specs.Times.{numbers_given, times_woken, times_begun, times_dropped, one_if}
 use Rattle.device_core.specs.History.{world_of, reach_of, sum_of}
@@ -22,7 +25,7 @@ pub record HasSameEntries (es fs : List Entry) : Type 0 where
 abbrev pub reach_after : List Request → List ℕ
 reach_after history = reach_of (world_of history).objects
 
--- all that a history put into the file of that number
+-- all that a history put into the file or buffer of that number
 abbrev pub put_into : List Request → ℕ → List Entry
 put_into history number = (world_of history).put number
 
@@ -40,6 +43,30 @@ pub record ReportsWhatWasPut (d : DeviceState) (history : List Request) : Type 0
       ((are_signalled f.fences ≡ true) ↔ IsReached (put_into history n) 0 (reach_after history))
   -- its fences are of rising timelines
   pub rising : (n : ℕ) (f : FileState) → file_at d n ≡ Some f → HasRisingTimelines f.fences
+
+-- above the timelines' values a buffer says what was put into it, at each usage
+pub record ReportsBuffers (d : DeviceState) (history : List Request) : Type 0 where
+  -- each buffer agrees with the union of all that was put into it
+  pub agrees : (n : ℕ) (b : BufferState) → buffer_at d n ≡ Some b →
+      AgreesAbove (reach_after history) (entries_of b.fences) (put_into history n)
+  -- buffers into which the same was put agree
+  pub same_put : (m n : ℕ) (a b : BufferState) → buffer_at d m ≡ Some a → buffer_at d n ≡ Some b →
+      HasSameEntries (put_into history m) (put_into history n) →
+      AgreesAbove (reach_after history) (entries_of a.fences) (entries_of b.fences)
+  -- a file agrees with a buffer at a usage if all that was put into it is what was put into the buffer there
+  pub same_as_file : (m n : ℕ) (f : FileState) (b : BufferState) (usage : Usage) →
+      file_at d m ≡ Some f → buffer_at d n ≡ Some b →
+      HasSameEntries (put_into history m) (at_usage usage (put_into history n)) →
+      AgreesAbove (reach_after history) (entries_in f.fences) (at_usage usage (entries_of b.fences))
+  -- a buffer is signalled at a usage exactly when each point put in at it or a stronger one is reached, or its timeline
+  -- is closed
+  pub signalled : (n : ℕ) (b : BufferState) (usage : Usage) → buffer_at d n ≡ Some b →
+      ((none_waits (timeline_at d) usage b.fences ≡ true)
+      ↔ IsReached (put_into history n) (usage_number usage) (reach_after history))
+  -- an export at a usage says what was put in at it or a stronger one
+  pub exports : (n : ℕ) (b : BufferState) (usage : Usage) → buffer_at d n ≡ Some b →
+      AgreesAbove (reach_after history) (entries_in (exported (timeline_at d) usage b.fences))
+      (at_usage usage (put_into history n))
 
 -- an open timeline is at the sum of its increments
 pub record ReportsSums (d : DeviceState) (history : List Request) : Type 0 where

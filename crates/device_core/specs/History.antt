@@ -1,7 +1,9 @@
--- A history is the list of the accepted requests. What was put into a file is read off it, and a timeline is its number.
+-- A history is the list of the accepted requests. What was put into a file or a buffer is read off it, and a timeline is
+-- its number.
 use Rattle.std.specs.Prelude.{◌≡◌, ℕ, ◌+◌, ◌-◌, nat_eq, ⊤, if◌then◌else◌, List, [], ◌∷◌, ◌++◌, map, Option, None, Some, Result, Ok, Err}
 use Rattle.std.specs.List.{range_with_len}
 use Rattle.point_core.specs.declared.entry.Entry.{Entry}
+use Rattle.point_core.specs.declared.entry.Usage.{Usage}
 use Rattle.point_core.specs.Agreement.{as_entry, point_of}
 use Rattle.point_core.specs.Reach.{GREATEST}
 use Rattle.device_core.specs.declared.fence.Timeline.{Timeline}
@@ -10,11 +12,13 @@ use Rattle.device_core.specs.declared.request.Request.{Request}
 use Rattle.device_core.specs.declared.request.Request.TheVariants as request
 use Rattle.device_core.specs.declared.request.Answer.{Answer}
 use Rattle.device_core.specs.Wrapping.{unwrapped}
+use Rattle.device_core.specs.Buffers.{at_usage, export_usage, import_usage}
+use Rattle.device_core.specs.BufferWorld.{put_with}
 use Rattle.device_core.specs.State.{DeviceState, Objects, no_objects, objects_of}
 use Rattle.device_core.specs.Request.{with_at, value_in, after, cause_of, IsAnswer}
 
--- what the device holds, and all that was ever put into each file, by number. Nothing of that is dropped, by a close
--- either
+-- what the device holds, and all that was ever put into each file and buffer, by number. Nothing of that is dropped, by
+-- a close either
 pub record World : Type 0 where
   pub objects : Objects
   pub put : ℕ → List Entry
@@ -26,7 +30,17 @@ empty_world = record { objects = no_objects; put = λ _. [] }
 abbrev pub asked : ℕ → Option Timeline → ℕ → List Entry
 asked number timeline point = as_entry (point_of number (unwrapped (value_in timeline) point)) ∷ []
 
--- what a request puts into a new file
+-- what an export puts into its file, of what was put into the buffer
+abbrev pub put_by_export : Result Usage Refusal → List Entry → List Entry
+put_by_export (Ok usage) put = at_usage usage put
+put_by_export (Err refusal) put = []
+
+-- what was put into a buffer once a file is imported, of what was put into both
+abbrev pub put_by_import : Result Usage Refusal → List Entry → List Entry → List Entry
+put_by_import (Ok usage) put more = put ++ put_with usage more
+put_by_import (Err refusal) put more = put
+
+-- what was put into each object after a request
 abbrev pub put_after : World → Request → ℕ → List Entry
 put_after w (request.Open name) = w.put
 put_after w (request.Fence timeline point now) =
@@ -35,7 +49,14 @@ put_after w (request.Inc timeline n now) = w.put
 put_after w (request.Merge a b name) = with_at w.put w.objects.next (w.put a ++ w.put b)
 put_after w (request.Status file) = w.put
 put_after w (request.IsSignalled file) = w.put
+put_after w (request.Info file) = w.put
 put_after w (request.Close number now) = w.put
+put_after w (request.Buffer now) = with_at w.put w.objects.next []
+put_after w (request.Export buffer flags) =
+    with_at w.put w.objects.next (put_by_export (export_usage flags) (w.put buffer))
+put_after w (request.Import buffer file flags) =
+    with_at w.put buffer (put_by_import (import_usage flags) (w.put buffer) (w.put file))
+put_after w (request.Test buffer usage) = w.put
 
 abbrev pub world_after : World → Request → World
 world_after w r = record { objects = after w.objects r; put = put_after w r }
@@ -82,7 +103,7 @@ abbrev pub reached_by : Option Timeline → ℕ
 reached_by None = GREATEST
 reached_by (Some t) = t.value
 
--- what every number that was given has reached. That of a file is never looked at, since no point is of a file
+-- what every number that was given has reached. That of a file or a buffer is never looked at, since no point is of one
 abbrev pub reach_of : Objects → List ℕ
 reach_of d = map (λ n. reached_by (d.timelines n)) (range_with_len 1 (d.next - 1))
 
@@ -94,7 +115,12 @@ added_by number (request.Fence timeline point now) = 0
 added_by number (request.Merge a b name) = 0
 added_by number (request.Status file) = 0
 added_by number (request.IsSignalled file) = 0
+added_by number (request.Info file) = 0
 added_by number (request.Close other now) = 0
+added_by number (request.Buffer now) = 0
+added_by number (request.Export buffer flags) = 0
+added_by number (request.Import buffer file flags) = 0
+added_by number (request.Test buffer usage) = 0
 
 -- the sum of a timeline's increments
 abbrev pub sum_of : ℕ → List Request → ℕ

@@ -1,12 +1,13 @@
 -- What is reported of the fences of a file.
-use Rattle.std.specs.Prelude.{ℕ, ◌==◌, if◌then◌else◌, List, [], ◌∷◌, length, map, codes}
+use Rattle.std.specs.Prelude.{◌≡◌, ℕ, ◌==◌, if◌then◌else◌, List, [], ◌∷◌, length, map, codes}
 use Rattle.point_core.specs.declared.status.Status.TheVariants.{Signalled}
 use Rattle.device_core.specs.declared.fence.Fence.{Fence}
 use Rattle.device_core.specs.declared.info.Driver.{Driver}
 use Rattle.device_core.specs.declared.info.Driver.TheVariants.{SwSync, Stub}
 use Rattle.device_core.specs.declared.info.FenceInfo.{FenceInfo}
-use Rattle.device_core.specs.Fences.{status_before, time_of}
-use Rattle.device_core.specs.Names.{as_text}
+use Rattle.device_core.specs.declared.info.FileInfo.{FileInfo}
+use Rattle.device_core.specs.Fences.{status_before, status_of, time_of}
+use Rattle.device_core.specs.Names.{as_text, file_name}
 use Rattle.device_core.specs.State.{FileState}
 
 -- the kernel's name of a driver
@@ -26,3 +27,9 @@ stub_info at = record { timeline = as_text (codes "stub"); driver = Stub; status
 -- of each fence in order, or of the stub that stands for none
 abbrev pub fence_infos : FileState → List FenceInfo
 fence_infos f = if length f.fences == 0 then stub_info f.stub_at ∷ [] else map fence_info f.fences
+
+-- what is reported of a file of that number
+pub record IsInfo (number : ℕ) (f : FileState) (info : FileInfo) : Type 0 where
+  pub name : info.name ≡ as_text (file_name number f)
+  pub status : info.status ≡ status_of f.fences
+  pub fences : info.fences.items ≡ fence_infos f

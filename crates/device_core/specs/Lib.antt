@@ -1,13 +1,13 @@
 pub mod Wrapping
 pub mod Fences
+pub mod Buffers
 pub mod State
 pub mod Woken
+pub mod Names
+pub mod Info
 pub mod Request
+pub mod BufferWorld
 pub mod History
 pub mod Sound
 pub mod Times
 pub mod Headline
-pub mod Names
-pub mod Info
-pub mod Buffers
-pub mod BufferWorld

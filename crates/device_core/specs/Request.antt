@@ -2,18 +2,21 @@
 use Rattle.std.specs.Prelude.{◌≡◌, ◌↔◌, ℕ, ◌+◌, ◌^◌, nat_eq, nat_le, Bool, true, false, not, ◌||◌, if◌then◌else◌, List, Option, None, Some, is_some, option_map, Contains, Result, Ok, Err}
 use Rattle.std.specs.List.Sorted.{IsStrictlyIncreasing}
 use Rattle.point_core.specs.Reach.{GREATEST}
+use Rattle.point_core.specs.declared.entry.Usage.{Usage}
 use Rattle.device_core.specs.declared.fence.Text.{Text}
 use Rattle.device_core.specs.declared.fence.Signal.{Signal}
 use Rattle.device_core.specs.declared.fence.Timeline.{Timeline}
 use Rattle.device_core.specs.declared.refusal.Refusal.{Refusal}
-use Rattle.device_core.specs.declared.refusal.Refusal.TheVariants.{NoEntry, NoMemory, WrongKind, Overflow}
+use Rattle.device_core.specs.declared.refusal.Refusal.TheVariants.{NoEntry, NoMemory, Invalid, Overflow}
 use Rattle.device_core.specs.declared.request.Request.{Request}
 use Rattle.device_core.specs.declared.request.Request.TheVariants as request
 use Rattle.device_core.specs.declared.request.Answer.{Answer}
 use Rattle.device_core.specs.declared.request.Answer.TheVariants as answer
 use Rattle.device_core.specs.Wrapping.{unwrapped}
 use Rattle.device_core.specs.Fences.{signal_at, are_signalled, status_of}
-use Rattle.device_core.specs.State.{FileState, Objects, new_timeline, raised, one_fence_file, merged_files, file_signalled}
+use Rattle.device_core.specs.Buffers.{BufferState, empty_buffer, export_usage, import_usage, none_waits}
+use Rattle.device_core.specs.Info.{IsInfo}
+use Rattle.device_core.specs.State.{FileState, Objects, new_timeline, raised, one_fence_file, merged_files, file_signalled, export_of, import_of, missing_timeline, missing_file, missing_buffer}
 
 -- what is kept by number, with one number changed
 abbrev pub with_at : {X : Type 0} → (ℕ → X) → ℕ → X → ℕ → X
@@ -46,11 +49,19 @@ risen d timeline n now =
 abbrev pub closed_timeline : Objects → ℕ → ℕ → Objects
 closed_timeline d timeline now = with_signals d timeline None GREATEST (signal_at now true)
 
-abbrev pub closed_file : Objects → ℕ → Objects
-closed_file d file = record d { files = with_at d.files file None }
+-- neither a file nor a buffer has that number any more
+abbrev pub dropped : Objects → ℕ → Objects
+dropped d number = record d { files = with_at d.files number None; buffers = with_at d.buffers number None }
 
 abbrev pub closed : Objects → ℕ → ℕ → Objects
-closed d number now = if is_some (d.timelines number) then closed_timeline d number now else closed_file d number
+closed d number now = if is_some (d.timelines number) then closed_timeline d number now else dropped d number
+
+abbrev pub with_new_buffer : Objects → ℕ → Objects
+with_new_buffer d now =
+    record d { next = d.next + 1; buffers = with_at d.buffers d.next (Some (empty_buffer now)) }
+
+abbrev pub with_buffer : Objects → ℕ → Option BufferState → Objects
+with_buffer d number buffer = record d { buffers = with_at d.buffers number buffer }
 
 -- the device after an accepted request
 abbrev pub after : Objects → Request → Objects
@@ -61,14 +72,14 @@ after d (request.Inc timeline n now) = risen d timeline n now
 after d (request.Merge a b name) = with_file d (merged_files name (d.files a) (d.files b))
 after d (request.Status file) = d
 after d (request.IsSignalled file) = d
+after d (request.Info file) = d
 after d (request.Close number now) = closed d number now
-
--- why there is no timeline of that number, and no file
-abbrev pub missing_timeline : Objects → ℕ → Refusal
-missing_timeline d number = if is_some (d.files number) then WrongKind else NoEntry
-
-abbrev pub missing_file : Objects → ℕ → Refusal
-missing_file d number = if is_some (d.timelines number) then WrongKind else NoEntry
+after d (request.Buffer now) = with_new_buffer d now
+after d (request.Export buffer flags) =
+    with_file d (export_of d.timelines (export_usage flags) (d.buffers buffer))
+after d (request.Import buffer file flags) =
+    with_buffer d buffer (import_of d.timelines (import_usage flags) (d.files file) (d.buffers buffer))
+after d (request.Test buffer usage) = d
 
 -- it does not fit 64 bits
 abbrev pub overflow : ℕ → Option Refusal
@@ -82,6 +93,19 @@ cause_at_timeline d number cause = if is_some (d.timelines number) then cause el
 abbrev pub cause_at_file : Objects → ℕ → Option Refusal → Option Refusal
 cause_at_file d number cause = if is_some (d.files number) then cause else Some (missing_file d number)
 
+-- the same at a buffer
+abbrev pub cause_at_buffer : Objects → ℕ → Option Refusal → Option Refusal
+cause_at_buffer d number cause = if is_some (d.buffers number) then cause else Some (missing_buffer d number)
+
+-- the cause once flags are known, or why they are refused
+abbrev pub cause_after : Result Usage Refusal → Option Refusal → Option Refusal
+cause_after (Ok usage) cause = cause
+cause_after (Err refusal) cause = Some refusal
+
+-- something has that number
+abbrev pub is_there : Objects → ℕ → Bool
+is_there d number = is_some (d.timelines number) || (is_some (d.files number) || is_some (d.buffers number))
+
 -- the first cause to refuse a request, but for memory
 abbrev pub cause_of : Objects → Request → Option Refusal
 cause_of d (request.Open name) = None
@@ -91,10 +115,15 @@ cause_of d (request.Inc timeline n now) = cause_at_timeline d timeline (overflow
 cause_of d (request.Merge a b name) = cause_at_file d a (if is_some (d.files b) then None else Some NoEntry)
 cause_of d (request.Status file) = cause_at_file d file None
 cause_of d (request.IsSignalled file) = cause_at_file d file None
-cause_of d (request.Close number now) =
-    if is_some (d.timelines number) || is_some (d.files number) then None else Some NoEntry
+cause_of d (request.Info file) = cause_at_file d file None
+cause_of d (request.Close number now) = if is_there d number then None else Some NoEntry
+cause_of d (request.Buffer now) = None
+cause_of d (request.Export buffer flags) = cause_at_buffer d buffer (cause_after (export_usage flags) None)
+cause_of d (request.Import buffer file flags) =
+    cause_at_buffer d buffer (cause_after (import_usage flags) (if is_some (d.files file) then None else Some Invalid))
+cause_of d (request.Test buffer usage) = cause_at_buffer d buffer None
 
--- a look at a file takes no memory, nor does the closing of one
+-- a look at a file or a buffer takes no memory, but for a report of it, nor does the closing of one
 abbrev pub takes_memory : Objects → Request → Bool
 takes_memory d (request.Open name) = true
 takes_memory d (request.Fence timeline point now) = true
@@ -102,7 +131,12 @@ takes_memory d (request.Inc timeline n now) = true
 takes_memory d (request.Merge a b name) = true
 takes_memory d (request.Status file) = false
 takes_memory d (request.IsSignalled file) = false
+takes_memory d (request.Info file) = true
 takes_memory d (request.Close number now) = is_some (d.timelines number)
+takes_memory d (request.Buffer now) = true
+takes_memory d (request.Export buffer flags) = true
+takes_memory d (request.Import buffer file flags) = true
+takes_memory d (request.Test buffer usage) = false
 
 -- a file that is there and has not signalled, and one that has
 abbrev pub is_waiting : Option FileState → Bool
@@ -124,11 +158,23 @@ OnWoken such (answer.Number n) = ⊥
 OnWoken such (answer.Woken woken) = such woken.items
 OnWoken such (answer.Status status) = ⊥
 OnWoken such (answer.Signalled signalled) = ⊥
+OnWoken such (answer.Info info) = ⊥
+OnWoken such answer.Done = ⊥
 
--- the answer is that of a file that is there
-abbrev pub OnFile : Option FileState → (FileState → Answer) → Answer → Type 0
-OnFile None told given = ⊥
-OnFile (Some f) told given = given ≡ told f
+-- the answer is that of an object that is there
+abbrev pub OnObject : {X : Type 0} → Option X → (X → Answer) → Answer → Type 0
+OnObject None told given = ⊥
+OnObject (Some x) told given = given ≡ told x
+
+-- the answer is what is reported of a file of that number that is there
+abbrev pub OnInfo : ℕ → Option FileState → Answer → Type 0
+OnInfo number None given = ⊥
+OnInfo number (Some f) (answer.Number n) = ⊥
+OnInfo number (Some f) (answer.Woken woken) = ⊥
+OnInfo number (Some f) (answer.Status status) = ⊥
+OnInfo number (Some f) (answer.Signalled signalled) = ⊥
+OnInfo number (Some f) (answer.Info info) = IsInfo number f info
+OnInfo number (Some f) answer.Done = ⊥
 
 -- what is answered to an accepted request
 abbrev pub Reports : Objects → Request → Answer → Type 0
@@ -136,10 +182,16 @@ Reports d (request.Open name) given = given ≡ answer.Number d.next
 Reports d (request.Fence timeline point now) given = given ≡ answer.Number d.next
 Reports d (request.Inc timeline n now) given = OnWoken (AreWoken d (risen d timeline n now)) given
 Reports d (request.Merge a b name) given = given ≡ answer.Number d.next
-Reports d (request.Status file) given = OnFile (d.files file) (λ f. answer.Status (status_of f.fences)) given
+Reports d (request.Status file) given = OnObject (d.files file) (λ f. answer.Status (status_of f.fences)) given
 Reports d (request.IsSignalled file) given =
-    OnFile (d.files file) (λ f. answer.Signalled (are_signalled f.fences)) given
+    OnObject (d.files file) (λ f. answer.Signalled (are_signalled f.fences)) given
+Reports d (request.Info file) given = OnInfo file (d.files file) given
 Reports d (request.Close number now) given = OnWoken (AreWoken d (closed d number now)) given
+Reports d (request.Buffer now) given = given ≡ answer.Number d.next
+Reports d (request.Export buffer flags) given = given ≡ answer.Number d.next
+Reports d (request.Import buffer file flags) given = given ≡ answer.Done
+Reports d (request.Test buffer usage) given =
+    OnObject (d.buffers buffer) (λ b. answer.Signalled (none_waits d.timelines usage b.fences)) given
 
 -- it is the first cause, or that memory is short where there is none
 abbrev pub IsCause : Option Refusal → Bool → Refusal → Type 0

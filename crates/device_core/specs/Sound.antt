@@ -5,6 +5,8 @@ use Rattle.point_core.specs.Agreement.{AgreesAbove}
 use Rattle.device_core.specs.declared.fence.Fence.{Fence}
 use Rattle.device_core.specs.declared.fence.Timeline.{Timeline}
 use Rattle.device_core.specs.Fences.{is_pending, entries_in, HasRisingTimelines}
+use Rattle.device_core.specs.Buffers.{BufferState, entries_of}
+use Rattle.device_core.specs.BufferWorld.{AreBufferFences}
 use Rattle.device_core.specs.State.{FileState, Objects}
 use Rattle.device_core.specs.History.{World, reach_of}
 
@@ -24,7 +26,8 @@ pub record AreFences (d : Objects) (fs : List Fence) : Type 0 where
   pub rising : HasRisingTimelines fs
   pub each : All (IsFence d) fs
 
--- nothing has a number that was not given, no value is past the greatest, and each file agrees with what was put into it
+-- nothing has a number that was not given, no value is past the greatest, and each file and buffer agrees with what was
+-- put into it
 pub record IsSound (w : World) : Type 0 where
   pub first : 1 ≤ w.objects.next
   pub none : w.objects.timelines 0 ≡ None
@@ -34,3 +37,8 @@ pub record IsSound (w : World) : Type 0 where
   pub fences : (n : ℕ) (f : FileState) → w.objects.files n ≡ Some f → AreFences w.objects f.fences
   pub agrees : (n : ℕ) (f : FileState) → w.objects.files n ≡ Some f →
       AgreesAbove (reach_of w.objects) (entries_in f.fences) (w.put n)
+  pub buffers : (n : ℕ) → w.objects.next ≤ n → w.objects.buffers n ≡ None
+  pub one_kind : (n : ℕ) (b : BufferState) → w.objects.buffers n ≡ Some b → w.objects.files n ≡ None
+  pub buffer_fences : (n : ℕ) (b : BufferState) → w.objects.buffers n ≡ Some b → AreBufferFences w.objects b.fences
+  pub buffer_agrees : (n : ℕ) (b : BufferState) → w.objects.buffers n ≡ Some b →
+      AgreesAbove (reach_of w.objects) (entries_of b.fences) (w.put n)

@@ -1,7 +1,8 @@
 -- A device, as contracts see it.
-use Rattle.std.specs.Prelude.{◌≡◌, ℕ, ◌+◌, ◌≤◌, ◌==◌, length, max, replicate, nat_eq, nat_le, Bool, true, false, ◌&&◌, if◌then◌else◌, List, [], ◌∷◌, Option, None, Some, is_some, option_map}
+use Rattle.std.specs.Prelude.{◌≡◌, ℕ, ◌+◌, ◌≤◌, ◌==◌, length, max, replicate, nat_eq, nat_le, Bool, true, false, ◌&&◌, if◌then◌else◌, List, [], ◌∷◌, Option, None, Some, is_some, option_map, Result, Ok, Err, ◌||◌}
 use Rattle.std.specs.List.{list_any}
 use Rattle.std.specs.Map.{lookup}
+use Rattle.point_core.specs.declared.entry.Usage.{Usage}
 use Rattle.device_core.specs.declared.fence.Text.{Text}
 use Rattle.device_core.specs.declared.fence.Signal.{Signal}
 use Rattle.device_core.specs.declared.fence.Fence.{Fence}
@@ -11,6 +12,7 @@ use Rattle.device_core.specs.declared.refusal.Refusal.{Refusal}
 use Rattle.device_core.specs.declared.refusal.Refusal.TheVariants.{NoEntry, WrongKind}
 use Rattle.device_core.specs.Wrapping.{unwrapped}
 use Rattle.device_core.specs.Fences.{latest_time, merged, waits_at, all_signalled_by, fence_of, signal_at}
+use Rattle.device_core.specs.Buffers.{BufferState, exported, import_into}
 
 -- a file: the name that it was given, its fences by rising timeline, and the time of its stub if it has none
 pub record FileState : Type 0 where
@@ -26,9 +28,10 @@ pub record DeviceState : Type 0 where
   pub next : ℕ
   pub timelines : List (ℕ × Timeline)
   pub files : List (ℕ × FileState)
+  pub buffers : List (ℕ × BufferState)
 
 abbrev pub nothing : DeviceState
-nothing = record { next = 1; timelines = []; files = [] }
+nothing = record { next = 1; timelines = []; files = []; buffers = [] }
 
 abbrev pub at : {X : Type 0} → List (ℕ × X) → ℕ → Option X
 at es number = lookup (nat_eq number) es
@@ -39,17 +42,21 @@ timeline_at d number = at d.timelines number
 abbrev pub file_at : DeviceState → ℕ → Option FileState
 file_at d number = at d.files number
 
+abbrev pub buffer_at : DeviceState → ℕ → Option BufferState
+buffer_at d number = at d.buffers number
+
 -- the next number, and what each number stands for: what a device holds, as definitions speak of it
 pub record Objects : Type 0 where
   pub next : ℕ
   pub timelines : ℕ → Option Timeline
   pub files : ℕ → Option FileState
+  pub buffers : ℕ → Option BufferState
 
 abbrev pub no_objects : Objects
-no_objects = record { next = 1; timelines = λ _. None; files = λ _. None }
+no_objects = record { next = 1; timelines = λ _. None; files = λ _. None; buffers = λ _. None }
 
 abbrev pub objects_of : DeviceState → Objects
-objects_of d = record { next = d.next; timelines = timeline_at d; files = file_at d }
+objects_of d = record { next = d.next; timelines = timeline_at d; files = file_at d; buffers = buffer_at d }
 
 abbrev pub new_timeline : Text → Timeline
 new_timeline name = record { name = name; value = 0 }
@@ -86,12 +93,33 @@ merged_files name None o = None
 merged_files name (Some a) None = None
 merged_files name (Some a) (Some b) = Some (merged_file name a b)
 
--- why there is no timeline of that number, and no file
-abbrev pub why_no_timeline : DeviceState → ℕ → Refusal
-why_no_timeline d number = if is_some (file_at d number) then WrongKind else NoEntry
+-- the file of an export: a stub if nothing is waiting
+abbrev pub exported_file : (ℕ → Option Timeline) → Usage → BufferState → FileState
+exported_file timelines usage b =
+    let fences = exported timelines usage b.fences in
+    file_of empty_text fences (if length fences == 0 then b.stub_at else 0)
 
-abbrev pub why_no_file : DeviceState → ℕ → Refusal
-why_no_file d number = if is_some (timeline_at d number) then WrongKind else NoEntry
+-- the export of a buffer that is there, at a usage that is known
+abbrev pub export_of : (ℕ → Option Timeline) → Result Usage Refusal → Option BufferState → Option FileState
+export_of timelines (Ok usage) buffer = option_map (exported_file timelines usage) buffer
+export_of timelines (Err refusal) buffer = None
+
+-- the buffer after the import of a file that is there, at a usage that is known
+abbrev pub import_of :
+    (ℕ → Option Timeline) → Result Usage Refusal → Option FileState → Option BufferState → Option BufferState
+import_of timelines (Ok usage) (Some f) buffer = option_map (import_into timelines usage f.fences) buffer
+import_of timelines (Ok usage) None buffer = buffer
+import_of timelines (Err refusal) file buffer = buffer
+
+-- why there is no timeline of that number, no file and no buffer
+abbrev pub missing_timeline : Objects → ℕ → Refusal
+missing_timeline d number = if is_some (d.files number) || is_some (d.buffers number) then WrongKind else NoEntry
+
+abbrev pub missing_file : Objects → ℕ → Refusal
+missing_file d number = if is_some (d.timelines number) || is_some (d.buffers number) then WrongKind else NoEntry
+
+abbrev pub missing_buffer : Objects → ℕ → Refusal
+missing_buffer d number = if is_some (d.timelines number) || is_some (d.files number) then WrongKind else NoEntry
 
 -- the file, once a timeline signals all that is pending up to the value
 abbrev pub file_signalled : ℕ → ℕ → Signal → FileState → FileState
@@ -126,10 +154,14 @@ AreSignalled timeline value signal old new =
     (q : ℕ) → at new q ≡ option_map (file_signalled timeline value signal) (at old q)
 
 -- what is kept: nothing has a number that was not given, no number is of two objects, and the index is that of the files
-pub record IsKept (next : ℕ) (timelines : List (ℕ × Timeline)) (files : List (ℕ × FileState)) (index : List Waiting)
+pub record IsKept (next : ℕ) (timelines : List (ℕ × Timeline)) (files : List (ℕ × FileState))
+    (buffers : List (ℕ × BufferState)) (index : List Waiting)
     : Type 0 where
   pub first : 1 ≤ next
   pub timelines_given : (n : ℕ) → next ≤ n → at timelines n ≡ None
   pub files_given : (n : ℕ) → next ≤ n → at files n ≡ None
+  pub buffers_given : (n : ℕ) → next ≤ n → at buffers n ≡ None
   pub one_kind : (n : ℕ) → is_some (at files n) ≡ true → at timelines n ≡ None
+  pub no_file : (n : ℕ) → is_some (at buffers n) ≡ true → at files n ≡ None
+  pub no_timeline : (n : ℕ) → is_some (at buffers n) ≡ true → at timelines n ≡ None
   pub indexed : IsIndexed index files

@@ -15,6 +15,8 @@ number_in (answer.Number n) = n ∷ []
 number_in (answer.Woken woken) = []
 number_in (answer.Status status) = []
 number_in (answer.Signalled signalled) = []
+number_in (answer.Info info) = []
+number_in answer.Done = []
 
 -- the files that are reported to have signalled
 abbrev pub woken_in : Answer → List ℕ
@@ -22,6 +24,8 @@ woken_in (answer.Number n) = []
 woken_in (answer.Woken woken) = woken.items
 woken_in (answer.Status status) = []
 woken_in (answer.Signalled signalled) = []
+woken_in (answer.Info info) = []
+woken_in answer.Done = []
 
 -- of an accepted request
 abbrev pub in_accepted : (Answer → List ℕ) → Result Answer Refusal → List ℕ

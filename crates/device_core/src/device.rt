@@ -1,18 +1,23 @@
 // The device.
-ghost use Rattle.std.specs.Prelude.{◌≡◌, ◌⊎◌, ℕ, ◌+◌, ◌^◌, ◌≤◌, nat_eq, if◌then◌else◌, Some, None, IsSome, IfSome, IfNone, OnOk, OnErr, IfOk, IfErr, MatchOption, Ok, Err, true, false, ◌<◌, ◌↔◌, Contains};
+ghost use Rattle.std.specs.Prelude.{◌≡◌, ◌⊎◌, ℕ, ◌+◌, ◌^◌, ◌≤◌, nat_eq, if◌then◌else◌, Some, None, is_some, option_map, ◌||◌, IsSome, IfSome, IfNone, OnOk, OnErr, IfOk, IfErr, MatchOption, Ok, Err, true, false, ◌<◌, ◌↔◌, Contains};
 ghost use Rattle.std.specs.List.Sorted.{IsStrictlyIncreasing};
 ghost use Rattle.device_core.specs.declared.refusal.Refusal.TheVariants.{NoEntry, NoMemory, Overflow};
 ghost use Rattle.device_core.specs.declared.fence.Text.{Text as Name};
 ghost use Rattle.point_core.specs.Reach.{GREATEST};
 ghost use Rattle.device_core.specs.Fences.{are_signalled, signal_at, status_of};
+ghost use Rattle.device_core.specs.Info.{IsInfo};
 ghost use Rattle.device_core.specs.Woken.{file_wakes};
 ghost use Rattle.device_core.specs.Wrapping.{unwrapped as unwrapped_of};
-ghost use Rattle.device_core.specs.State.{nothing, at, timeline_at, file_at, file_of, new_timeline, raised, merged_files, one_fence_file, why_no_timeline, why_no_file, objects_of, AreSignalled};
+ghost use Rattle.device_core.specs.State.{nothing, at, timeline_at, file_at, file_of, new_timeline, raised, merged_files, one_fence_file, missing_timeline, missing_file, buffer_at, objects_of, AreSignalled};
 ghost use Rattle.device_core.specs.declared.request.Request.TheVariants as request;
 ghost use Rattle.device_core.specs.Request.{AreWoken, IsCause, cause_of, closed, takes_memory};
 
+mod buffers;
+
+use crate::buffer::Buffer;
 use crate::fence::{Fence, Signal, Text, Timeline, one_fence};
 use crate::file::File;
+use crate::info::{FileInfo, info as info_of};
 use crate::merging::{merged, merged_time};
 use crate::refusal::Refusal;
 use crate::signalling::signal_due;
@@ -22,13 +27,14 @@ use std::alloc::Global;
 use std::collections::HashMap;
 use std::marker::Model;
 
-/// Timelines and sync files by number. Numbers rise from 1, and none is given twice.
+/// Timelines, sync files and buffers by number. Numbers rise from 1, and none is given twice.
 #[derive(Drop)]
 pub struct Device {
     alloc: Global,
     next: u64,
     timelines: HashMap<u64, Timeline>,
     files: HashMap<u64, File>,
+    buffers: HashMap<u64, Buffer>,
     waiting: WaitingFiles,
 }
 
@@ -37,9 +43,14 @@ impl Model for Device {
 
     ghost Value = { DeviceState };
 
-    ghost view = { λ d. record { next = d.next; timelines = d.timelines.entries; files = d.files.entries } };
+    ghost view = { λ d. record {
+      next = d.next;
+      timelines = d.timelines.entries;
+      files = d.files.entries;
+      buffers = d.buffers.entries;
+    } };
 
-    ghost invariant = { λ d. IsKept d.next d.timelines.entries d.files.entries d.waiting };
+    ghost invariant = { λ d. IsKept d.next d.timelines.entries d.files.entries d.buffers.entries d.waiting };
 }
 
 impl Device {
@@ -52,6 +63,7 @@ impl Device {
             next: 1,
             timelines: HashMap::new(alloc),
             files: HashMap::new(alloc),
+            buffers: HashMap::new(alloc),
             waiting: WaitingFiles::new(alloc),
         }
     }
@@ -64,6 +76,7 @@ impl Device {
         ensures opened { IfOk result (λ n. (q : ℕ) →
             timeline_at self.new q ≡ (if nat_eq n q then Some (new_timeline name) else timeline_at self.old q)) }
         ensures files { self.new.files ≡ self.old.files }
+        ensures buffers { self.new.buffers ≡ self.old.buffers }
         ensures memory { IfErr result (λ e. e ≡ NoMemory) }
         ensures unchanged { OnErr result (self.new ≡ self.old) }
     {
@@ -84,8 +97,8 @@ impl Device {
     /// Makes a file of one fence, as `SW_SYNC_IOC_CREATE_FENCE` does. A point that the timeline has reached is signalled
     /// now.
     ///
-    /// Fails with `NoEntry`, or with `WrongKind` at a file, then with `Overflow`, then with `NoMemory`; nothing is made
-    /// then.
+    /// Fails with `NoEntry`, or with `WrongKind` at a file or a buffer, then with `Overflow`, then with `NoMemory`;
+    /// nothing is made then.
     pub fn fence(&mut self, timeline: u64, point: u32, now: u64) -> Result<u64, Refusal>
         ensures known { OnOk result (IsSome (timeline_at self.old timeline)) }
         ensures number { IfOk result (λ n. (n ≡ self.old.next) × (self.new.next ≡ n + 1)) }
@@ -93,7 +106,9 @@ impl Device {
             file_at self.new q
             ≡ (if nat_eq n q then Some (one_fence_file timeline t point now) else file_at self.old q))) }
         ensures timelines { self.new.timelines ≡ self.old.timelines }
-        ensures refused { IfNone (timeline_at self.old timeline) (result ≡ Err (why_no_timeline self.old timeline)) }
+        ensures buffers { self.new.buffers ≡ self.old.buffers }
+        ensures refused { IfNone (timeline_at self.old timeline)
+            (result ≡ Err (missing_timeline (objects_of self.old) timeline)) }
         ensures last { IfSome (timeline_at self.old timeline) (λ t. IfErr result (λ e.
             ((e ≡ NoMemory) × (unwrapped_of t.value point < 2 ^ 64))
             ⊎ ((e ≡ Overflow) × (2 ^ 64 ≤ unwrapped_of t.value point)))) }
@@ -109,8 +124,8 @@ impl Device {
     /// Raises a timeline, as `SW_SYNC_IOC_INC` does: what is pending at or below the new value is signalled now. Gives
     /// the files that signal by it, by rising number.
     ///
-    /// Fails with `NoEntry`, or with `WrongKind` at a file, then with `Overflow`, then with `NoMemory`; nothing has
-    /// changed then.
+    /// Fails with `NoEntry`, or with `WrongKind` at a file or a buffer, then with `Overflow`, then with `NoMemory`;
+    /// nothing has changed then.
     pub fn inc(&mut self, timeline: u64, n: u32, now: u64) -> Result<Vec<u64>, Refusal>
         ensures woken { IfOk result (λ found. IfSome (timeline_at self.old timeline) (λ t. (f : ℕ) →
             (Contains found.items f ↔ (file_wakes timeline (t.value + n) (file_at self.old f) ≡ true)))) }
@@ -119,9 +134,11 @@ impl Device {
             timeline_at self.new q ≡ (if nat_eq timeline q then Some (raised t n) else timeline_at self.old q))) }
         ensures signalled { OnOk result (IfSome (timeline_at self.old timeline) (λ t.
             AreSignalled timeline (t.value + n) (signal_at now false) self.old.files self.new.files)) }
+        ensures buffers { self.new.buffers ≡ self.old.buffers }
         ensures next { self.new.next ≡ self.old.next }
         ensures known { OnOk result (IsSome (timeline_at self.old timeline)) }
-        ensures refused { IfNone (timeline_at self.old timeline) (result ≡ Err (why_no_timeline self.old timeline)) }
+        ensures refused { IfNone (timeline_at self.old timeline)
+            (result ≡ Err (missing_timeline (objects_of self.old) timeline)) }
         ensures last { IfSome (timeline_at self.old timeline) (λ t. IfErr result (λ e.
             ((e ≡ NoMemory) × (t.value + n < 2 ^ 64)) ⊎ ((e ≡ Overflow) × (2 ^ 64 ≤ t.value + n)))) }
         ensures fits { OnOk result (IfSome (timeline_at self.old timeline) (λ t. t.value + n < 2 ^ 64)) }
@@ -143,10 +160,11 @@ impl Device {
         Ok(woken)
     }
 
-    /// Closes a timeline or a file; its number is never used again.
+    /// Closes a timeline, a file or a buffer; its number is never used again.
     ///
     /// What is pending of a timeline is cancelled now, as the release of `sync/sw_sync` does. Gives the files that
-    /// signal by it, by rising number. Nothing waits for a closed file any more.
+    /// signal by it, by rising number. Nothing waits for a closed file any more. Nothing is woken by the closing of a
+    /// buffer.
     ///
     /// Fails with `NoEntry`, then at a timeline with `NoMemory`; nothing has changed then.
     pub fn close(&mut self, number: u64, now: u64) -> Result<Vec<u64>, Refusal>
@@ -160,13 +178,13 @@ impl Device {
         if self.timelines.contains_key(&number) {
             return self.close_timeline(number, now);
         }
-        match self.close_file(number) {
+        match self.drop_number(number) {
             Ok(_done) => Ok(Vec::new(self.alloc)),
             Err(refusal) => Err(refusal),
         }
     }
 
-    // Fails with `NoEntry`, or with `WrongKind` at a file, then with `NoMemory`; nothing has changed then.
+    // Fails with `NoEntry`, or with `WrongKind` at a file or a buffer, then with `NoMemory`; nothing has changed then.
     fn close_timeline(&mut self, timeline: u64, now: u64) -> Result<Vec<u64>, Refusal>
         ensures woken { IfOk result (λ found. (f : ℕ) →
             (Contains found.items f ↔ (file_wakes timeline GREATEST (file_at self.old f) ≡ true))) }
@@ -175,9 +193,11 @@ impl Device {
             timeline_at self.new q ≡ (if nat_eq timeline q then None else timeline_at self.old q)) }
         ensures signalled { OnOk result
             (AreSignalled timeline GREATEST (signal_at now true) self.old.files self.new.files) }
+        ensures buffers { self.new.buffers ≡ self.old.buffers }
         ensures next { self.new.next ≡ self.old.next }
         ensures known { OnOk result (IsSome (timeline_at self.old timeline)) }
-        ensures refused { IfNone (timeline_at self.old timeline) (result ≡ Err (why_no_timeline self.old timeline)) }
+        ensures refused { IfNone (timeline_at self.old timeline)
+            (result ≡ Err (missing_timeline (objects_of self.old) timeline)) }
         ensures last { IfSome (timeline_at self.old timeline) (λ _. IfErr result (λ e. e ≡ NoMemory)) }
         ensures unchanged { OnErr result (self.new ≡ self.old) }
     {
@@ -200,35 +220,44 @@ impl Device {
         Ok(woken)
     }
 
-    // Fails with `NoEntry`, or with `WrongKind` at a timeline; nothing has changed then. Takes no memory.
-    fn close_file(&mut self, file: u64) -> Result<(), Refusal>
-        ensures closed { OnOk result ((q : ℕ) →
-            file_at self.new q ≡ (if nat_eq file q then None else file_at self.old q)) }
+    // Neither a file nor a buffer has the number any more. Fails with `NoEntry`; nothing has changed then. Takes no
+    // memory.
+    fn drop_number(&mut self, number: u64) -> Result<(), Refusal>
+        ensures files { OnOk result ((q : ℕ) →
+            file_at self.new q ≡ (if nat_eq number q then None else file_at self.old q)) }
+        ensures buffers { OnOk result ((q : ℕ) →
+            buffer_at self.new q ≡ (if nat_eq number q then None else buffer_at self.old q)) }
         ensures timelines { self.new.timelines ≡ self.old.timelines }
         ensures next { self.new.next ≡ self.old.next }
-        ensures known { OnOk result (IsSome (file_at self.old file)) }
-        ensures refused { IfErr result (λ e. (e ≡ why_no_file self.old file) × (file_at self.old file ≡ None)) }
+        ensures known { OnOk result
+            ((is_some (file_at self.old number) || is_some (buffer_at self.old number)) ≡ true) }
+        ensures refused { IfErr result (λ e. (e ≡ NoEntry)
+            × (file_at self.old number ≡ None) × (buffer_at self.old number ≡ None)) }
         ensures unchanged { OnErr result (self.new ≡ self.old) }
     {
-        let Some(closed) = self.files.remove(&file) else {
-            return Err(self.unknown_file(file));
-        };
-        self.waiting.take_all(file, closed.fences.as_slice());
-        Ok(())
+        if let Some(closed) = self.files.remove(&number) {
+            self.waiting.take_all(number, closed.fences.as_slice());
+            return Ok(());
+        }
+        match self.buffers.remove(&number) {
+            Some(_closed) => Ok(()),
+            None => Err(Refusal::NoEntry),
+        }
     }
 
     /// Merges two files, which both stay, as `SYNC_IOC_MERGE` does: the latest pending fence of each timeline. If
     /// nothing is pending, the file is a stub, with the latest time at which any of them signalled.
     ///
-    /// Fails with `NoEntry`, or with `WrongKind` at a timeline in place of the first, then with `NoEntry` if the second
-    /// is no file, then with `NoMemory`; nothing is made then.
+    /// Fails with `NoEntry`, or with `WrongKind` at a timeline or a buffer in place of the first, then with `NoEntry` if
+    /// the second is no file, then with `NoMemory`; nothing is made then.
     pub fn merge(&mut self, a: u64, b: u64, name: Text) -> Result<u64, Refusal>
         ensures number { IfOk result (λ n. (n ≡ self.old.next) × (self.new.next ≡ n + 1)) }
         ensures made { IfOk result (λ n. (q : ℕ) → file_at self.new q ≡
             (if nat_eq n q then merged_files name (file_at self.old a) (file_at self.old b) else file_at self.old q)) }
         ensures known { OnOk result (IsSome (file_at self.old a) × IsSome (file_at self.old b)) }
         ensures timelines { self.new.timelines ≡ self.old.timelines }
-        ensures first { IfNone (file_at self.old a) (result ≡ Err (why_no_file self.old a)) }
+        ensures buffers { self.new.buffers ≡ self.old.buffers }
+        ensures first { IfNone (file_at self.old a) (result ≡ Err (missing_file (objects_of self.old) a)) }
         ensures second { IfSome (file_at self.old a) (λ _. IfNone (file_at self.old b) (result ≡ Err NoEntry)) }
         ensures memory { IfSome (file_at self.old a) (λ _. IfSome (file_at self.old b) (λ _.
             IfErr result (λ e. e ≡ NoMemory))) }
@@ -242,7 +271,7 @@ impl Device {
         ensures merged { IfOk result (λ r. (name : Name) →
             Some (file_of name r.0.items r.1) ≡ merged_files name (file_at self.now a) (file_at self.now b)) }
         ensures known { OnOk result (IsSome (file_at self.now a) × IsSome (file_at self.now b)) }
-        ensures first { IfNone (file_at self.now a) (result ≡ Err (why_no_file self.now a)) }
+        ensures first { IfNone (file_at self.now a) (result ≡ Err (missing_file (objects_of self.now) a)) }
         ensures second { IfSome (file_at self.now a) (λ _. IfNone (file_at self.now b) (result ≡ Err NoEntry)) }
         ensures memory { IfSome (file_at self.now a) (λ _. IfSome (file_at self.now b) (λ _.
             IfErr result (λ e. e ≡ NoMemory))) }
@@ -264,10 +293,10 @@ impl Device {
 
     /// Whether each fence of a file has signalled.
     ///
-    /// Fails with `NoEntry`, or with `WrongKind` at a timeline. Takes no memory.
+    /// Fails with `NoEntry`, or with `WrongKind` at a timeline or a buffer. Takes no memory.
     pub fn is_signalled(&self, file: u64) -> Result<bool, Refusal>
         ensures known { MatchOption (file_at self.now file)
-            (result ≡ Err (why_no_file self.now file))
+            (result ≡ Err (missing_file (objects_of self.now) file))
             (λ f. result ≡ Ok (are_signalled f.fences)) }
     {
         match self.files.get(&file) {
@@ -278,10 +307,10 @@ impl Device {
 
     /// The status of a file, in the kernel's order.
     ///
-    /// Fails with `NoEntry`, or with `WrongKind` at a timeline. Takes no memory.
+    /// Fails with `NoEntry`, or with `WrongKind` at a timeline or a buffer. Takes no memory.
     pub fn status(&self, file: u64) -> Result<Status, Refusal>
         ensures known { MatchOption (file_at self.now file)
-            (result ≡ Err (why_no_file self.now file))
+            (result ≡ Err (missing_file (objects_of self.now) file))
             (λ f. result ≡ Ok (status_of f.fences)) }
     {
         match self.files.get(&file) {
@@ -290,11 +319,26 @@ impl Device {
         }
     }
 
+    /// What `SYNC_IOC_FILE_INFO` reports of a file: its name, its status, and each of its fences.
+    ///
+    /// Fails with `NoEntry`, or with `WrongKind` at a timeline or a buffer, then with `NoMemory`.
+    pub fn info(&self, file: u64) -> Result<FileInfo, Refusal>
+        ensures reported { IfOk result (λ info. IfSome (file_at self.now file) (λ f. IsInfo file f info)) }
+        ensures known { OnOk result (IsSome (file_at self.now file)) }
+        ensures refused { IfNone (file_at self.now file) (result ≡ Err (missing_file (objects_of self.now) file)) }
+        ensures memory { IfSome (file_at self.now file) (λ _. IfErr result (λ e. e ≡ NoMemory)) }
+    {
+        match self.files.get(&file) {
+            Some(known) => info_of(self.alloc, file, known),
+            None => Err(self.unknown_file(file)),
+        }
+    }
+
     // The timeline of that number.
     fn timeline(&self, number: u64) -> Result<Timeline, Refusal>
         ensures found { IfOk result (λ t. timeline_at self.now number ≡ Some t) }
         ensures refused { IfErr result (λ e.
-            (timeline_at self.now number ≡ None) × (e ≡ why_no_timeline self.now number)) }
+            (timeline_at self.now number ≡ None) × (e ≡ missing_timeline (objects_of self.now) number)) }
     {
         match self.timelines.get(&number) {
             Some(known) => Ok(*known),
@@ -304,9 +348,9 @@ impl Device {
 
     // Why there is no timeline of that number.
     fn unknown_timeline(&self, number: u64) -> Refusal
-        ensures { result ≡ why_no_timeline self.now number }
+        ensures { result ≡ missing_timeline (objects_of self.now) number }
     {
-        if self.files.contains_key(&number) {
+        if self.files.contains_key(&number) || self.buffers.contains_key(&number) {
             Refusal::WrongKind
         } else {
             Refusal::NoEntry
@@ -320,6 +364,7 @@ impl Device {
             file_at self.new q
             ≡ (if nat_eq n q then Some (file_of name fences.items stub_at) else file_at self.old q)) }
         ensures timelines { self.new.timelines ≡ self.old.timelines }
+        ensures buffers { self.new.buffers ≡ self.old.buffers }
         ensures memory { IfErr result (λ e. e ≡ NoMemory) }
         ensures unchanged { OnErr result (self.new ≡ self.old) }
     {
@@ -348,9 +393,9 @@ impl Device {
 
     // Why there is no file of that number.
     fn unknown_file(&self, number: u64) -> Refusal
-        ensures { result ≡ why_no_file self.now number }
+        ensures { result ≡ missing_file (objects_of self.now) number }
     {
-        if self.timelines.contains_key(&number) {
+        if self.timelines.contains_key(&number) || self.buffers.contains_key(&number) {
             Refusal::WrongKind
         } else {
             Refusal::NoEntry

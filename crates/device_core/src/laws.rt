@@ -38,7 +38,7 @@ pub fn merge_is_a_union()
 {}
 
 /// The world of every history is sound: nothing has a number that was not given, each fence is pending exactly if its
-/// timeline is open and its point above the value, and each file agrees with what was put into it.
+/// timeline is open and its point above the value, and each file and buffer agrees with what was put into it.
 pub fn a_history_makes_a_sound_world()
     ensures { (history : List Request) → AreAccepted empty_world history → IsSound (world_of history) }
 {}

@@ -10,11 +10,12 @@ use crate::device::Device;
 use crate::fence::Text;
 use crate::refusal::Refusal;
 use crate::request::{Answer, Request};
+use point_core::Usage;
 
 impl Device {
     /// The answer to one request: the first refusal whose cause holds, else what the request gives. `NoMemory` comes
-    /// last, where a growth was really refused; a look at a file and the closing of one are never answered it. A refused
-    /// request changes nothing.
+    /// last, where a growth was really refused; `Status`, `IsSignalled`, `Test` and the closing of a file or a buffer are
+    /// never answered it. A refused request changes nothing.
     pub fn serve(&mut self, request: Request) -> Result<Answer, Refusal>
         ensures answer { IsAnswer (objects_of self.old) request result }
         ensures done { OnOk result (objects_of self.new ≡ after (objects_of self.old) request) }
@@ -37,7 +38,12 @@ impl Device {
             Request::Merge(a, b, name) => self.serve_merge(a, b, name),
             Request::Status(file) => self.serve_status(file),
             Request::IsSignalled(file) => self.serve_is_signalled(file),
+            Request::Info(file) => self.serve_info(file),
             Request::Close(number, now) => self.serve_close(number, now),
+            Request::Buffer(now) => self.serve_buffer(now),
+            Request::Export(buffer, flags) => self.serve_export(buffer, flags),
+            Request::Import(buffer, file, flags) => self.serve_import(buffer, file, flags),
+            Request::Test(buffer, usage) => self.serve_test(buffer, usage),
         }
     }
 
@@ -104,6 +110,15 @@ impl Device {
         }
     }
 
+    fn serve_info(&self, file: u64) -> Result<Answer, Refusal>
+        ensures { IsAnswer (objects_of self.now) (request.Info file) result }
+    {
+        match self.info(file) {
+            Ok(info) => Ok(Answer::Info(info)),
+            Err(refusal) => Err(refusal),
+        }
+    }
+
     fn serve_close(&mut self, number: u64, now: u64) -> Result<Answer, Refusal>
         ensures answer { IsAnswer (objects_of self.old) (request.Close number now) result }
         ensures done { OnOk result (objects_of self.new ≡ after (objects_of self.old) (request.Close number now)) }
@@ -111,6 +126,49 @@ impl Device {
     {
         match self.close(number, now) {
             Ok(woken) => Ok(Answer::Woken(woken)),
+            Err(refusal) => Err(refusal),
+        }
+    }
+
+    fn serve_buffer(&mut self, now: u64) -> Result<Answer, Refusal>
+        ensures answer { IsAnswer (objects_of self.old) (request.Buffer now) result }
+        ensures done { OnOk result (objects_of self.new ≡ after (objects_of self.old) (request.Buffer now)) }
+        ensures unchanged { OnErr result (self.new ≡ self.old) }
+    {
+        match self.buffer(now) {
+            Ok(number) => Ok(Answer::Number(number)),
+            Err(refusal) => Err(refusal),
+        }
+    }
+
+    fn serve_export(&mut self, buffer: u64, flags: u32) -> Result<Answer, Refusal>
+        ensures answer { IsAnswer (objects_of self.old) (request.Export buffer flags) result }
+        ensures done { OnOk result (objects_of self.new ≡ after (objects_of self.old) (request.Export buffer flags)) }
+        ensures unchanged { OnErr result (self.new ≡ self.old) }
+    {
+        match self.export(buffer, flags) {
+            Ok(number) => Ok(Answer::Number(number)),
+            Err(refusal) => Err(refusal),
+        }
+    }
+
+    fn serve_import(&mut self, buffer: u64, file: u64, flags: u32) -> Result<Answer, Refusal>
+        ensures answer { IsAnswer (objects_of self.old) (request.Import buffer file flags) result }
+        ensures done { OnOk result
+            (objects_of self.new ≡ after (objects_of self.old) (request.Import buffer file flags)) }
+        ensures unchanged { OnErr result (self.new ≡ self.old) }
+    {
+        match self.import(buffer, file, flags) {
+            Ok(_done) => Ok(Answer::Done),
+            Err(refusal) => Err(refusal),
+        }
+    }
+
+    fn serve_test(&self, buffer: u64, usage: Usage) -> Result<Answer, Refusal>
+        ensures { IsAnswer (objects_of self.now) (request.Test buffer usage) result }
+    {
+        match self.test(buffer, usage) {
+            Ok(signalled) => Ok(Answer::Signalled(signalled)),
             Err(refusal) => Err(refusal),
         }
     }

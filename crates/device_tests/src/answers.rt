@@ -1,5 +1,5 @@
 // What is answered, against what it should be.
-use device_core::{Answer, Refusal, Request};
+use device_core::{Answer, Driver, FenceInfo, FileInfo, Refusal, Request};
 use point_core::Status;
 use std::process::Abort;
 
@@ -10,8 +10,13 @@ pub(crate) enum Told {
     Woken(&'static [u64]),
     Status(Status),
     Signalled(bool),
+    Info(&'static [u8], Status, &'static [Row]),
+    Done,
     Refused(Refusal),
 }
+
+/// What is reported of a fence: the name of its timeline, its driver and status, and when it signalled.
+pub(crate) type Row = (&'static [u8], Driver, Status, u64);
 
 /// Checks that each answer is the one beside its request.
 pub(crate) fn check(
@@ -47,6 +52,8 @@ fn is_answer(answer: &Answer, told: &Told) -> bool {
         Answer::Woken(woken) => is_woken(woken.as_slice(), told),
         Answer::Status(status) => *told == Told::Status(*status),
         Answer::Signalled(signalled) => *told == Told::Signalled(*signalled),
+        Answer::Info(info) => is_info(info, told),
+        Answer::Done => *told == Told::Done,
     }
 }
 
@@ -55,4 +62,37 @@ fn is_woken(woken: &[u64], told: &Told) -> bool {
         Told::Woken(files) => woken == *files,
         _ => false,
     }
+}
+
+fn is_info(info: &FileInfo, told: &Told) -> bool {
+    match told {
+        Told::Info(name, status, rows) => {
+            info.name.as_bytes() == *name
+                && info.status == *status
+                && are_rows(info.fences.as_slice(), rows)
+        }
+        _ => false,
+    }
+}
+
+fn are_rows(fences: &[FenceInfo], rows: &[Row]) -> bool {
+    let mut are = fences.len() == rows.len();
+    for (place, fence) in fences.iter().enumerate() {
+        are = are && is_at(rows, place, fence);
+    }
+    are
+}
+
+fn is_at(rows: &[Row], place: usize, fence: &FenceInfo) -> bool {
+    match rows.get(place) {
+        Some(row) => is_row(fence, row),
+        None => false,
+    }
+}
+
+fn is_row(fence: &FenceInfo, row: &Row) -> bool {
+    fence.timeline.as_bytes() == row.0
+        && fence.driver == row.1
+        && fence.status == row.2
+        && fence.at == row.3
 }

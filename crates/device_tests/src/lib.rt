@@ -6,4 +6,6 @@
 #[cfg(test)]
 mod answers;
 #[cfg(test)]
+mod buffers;
+#[cfg(test)]
 mod requests;

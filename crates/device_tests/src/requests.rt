@@ -1,10 +1,10 @@
 // A run of requests, with what is answered to each.
 use crate::answers::{Told, check};
-use device_core::{Refusal, Request, Text, run};
+use device_core::{Driver, Refusal, Request, Text, run};
 use point_core::Status;
 use std::test::Fail;
 
-static ASKED: [(Request, Told); 47] = [
+static ASKED: [(Request, Told); 50] = [
     // A fence signals once its point is reached.
     (Request::Open(Text::EMPTY), Told::Number(1)),
     (Request::Fence(1, 5, 10), Told::Number(2)),
@@ -60,6 +60,34 @@ static ASKED: [(Request, Told); 47] = [
     (Request::Status(18), Told::Status(Status::Signalled)),
     (Request::Status(12), Told::Refused(Refusal::WrongKind)),
     (Request::Close(99, 5), Told::Refused(Refusal::NoEntry)),
+    // A file has the name of its fence, and a row for each fence with the time of its signal.
+    (
+        Request::Info(2),
+        Told::Info(
+            b"sw_sync-1-5",
+            Status::Signalled,
+            &[(b"", Driver::SwSync, Status::Signalled, 30)],
+        ),
+    ),
+    (
+        Request::Info(16),
+        Told::Info(
+            b"dma_fence_array-unbound16-1",
+            Status::Cancelled,
+            &[
+                (b"", Driver::SwSync, Status::Cancelled, 2),
+                (b"", Driver::SwSync, Status::Signalled, 3),
+            ],
+        ),
+    ),
+    (
+        Request::Info(18),
+        Told::Info(
+            b"stub-stub0-0",
+            Status::Signalled,
+            &[(b"stub", Driver::Stub, Status::Signalled, 3)],
+        ),
+    ),
 ];
 
 fn asked() -> &'static [(Request, Told)] {

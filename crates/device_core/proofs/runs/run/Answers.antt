@@ -3,7 +3,7 @@ use Rattle.device_core.specs.declared.request.Request.TheVariants.{Open}
 use Rattle.std.proofs.lemmas.List.{take_more, take_all}
 use Rattle.device_core.proofs.Histories.{HasRun-push}
 use Rattle.device_core.proofs.Counting.{ReportsNumbers-run, ReportsEachWaking-run}
-use Rattle.device_core.proofs.Reporting.{ReportsSums-stands, ReportsWhatWasPut-stands}
+use Rattle.device_core.proofs.Reporting.{ReportsSums-stands, ReportsWhatWasPut-stands, ReportsBuffers-stands}
 use Rattle.device_core.proofs.runs.run.Goals as goal
 
 pub returns-clause-sums : goal.returns-clause-sums
@@ -15,6 +15,11 @@ pub returns-clause-files : goal.returns-clause-files
 returns-clause-files c =
     let all = take_all c.loop-request.request-index c.args.requests.now c.loop-request-test.false in
     ReportsWhatWasPut-stands _ _ (rw all at c.loop-request.invariant.0.stands)
+
+pub returns-clause-buffers : goal.returns-clause-buffers
+returns-clause-buffers c =
+    let all = take_all c.loop-request.request-index c.args.requests.now c.loop-request-test.false in
+    ReportsBuffers-stands _ _ (rw all at c.loop-request.invariant.0.stands)
 
 pub loop-request-preserved : goal.loop-request-preserved
 loop-request-preserved c =

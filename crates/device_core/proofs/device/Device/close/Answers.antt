@@ -9,4 +9,4 @@ returns-then-contains_key-clause-woken c =
 pub returns-then-contains_key-clause-closed : goal.returns-then-contains_key-clause-closed
 returns-then-contains_key-clause-closed c =
     let left = c.close_timeline.ensures in
-    closing-closed c.args.self.now c.close_timeline.new.self c.args.number c.args.now c.close_timeline.result left.known left.next left.closed left.signalled
+    closing-closed c.args.self.now c.close_timeline.new.self c.args.number c.args.now c.close_timeline.result left.known left.next left.buffers left.closed left.signalled
