@@ -1,6 +1,6 @@
 // The name that the kernel gives to a file.
 ghost use Rattle.std.specs.Prelude.{◌≡◌, ◌++◌, ◌+◌, ◌≤◌, [], decimal, length};
-ghost use Rattle.device_core.specs.declared.naming.TheConstants.{DIGITS, LINE_BYTES};
+ghost use Rattle.device_core.specs.declared.naming.TheConstants.{NUMBER_BYTES, KERNEL_NAME_BYTES};
 ghost use Rattle.device_core.specs.declared.text.TheConstants.{TEXT_BYTES};
 ghost use Rattle.device_core.specs.Names.{as_text, file_name, kernel_name as kernel_name_of};
 
@@ -11,31 +11,31 @@ use itoa::write_digits;
 use std::marker::Model;
 
 /// The most digits of a number of 64 bits.
-const DIGITS: usize = 20;
+const NUMBER_BYTES: usize = 20;
 
 /// The most bytes of a name before it is cut: two texts and two numbers, with a byte between.
-const LINE_BYTES: usize = 2 * (TEXT_BYTES + 1) + 2 * DIGITS;
+const KERNEL_NAME_BYTES: usize = 2 * (TEXT_BYTES + 1) + 2 * NUMBER_BYTES;
 
-const _: () = prove!(DIGITS == 20);
+const _: () = prove!(NUMBER_BYTES == 20);
 
-const _: () = prove!(LINE_BYTES == 106);
+const _: () = prove!(KERNEL_NAME_BYTES == 106);
 
 /// A name before it is cut. What is put into it goes before what is there.
 #[derive(Drop)]
 struct Line {
-    bytes: [u8; LINE_BYTES],
+    bytes: [u8; KERNEL_NAME_BYTES],
     start: usize,
 }
 
 impl Model for Line {
     ghost use Rattle.std.specs.Prelude.{◌≤◌, List, ℕ, drop};
-    ghost use Rattle.device_core.specs.declared.naming.TheConstants.{LINE_BYTES};
+    ghost use Rattle.device_core.specs.declared.naming.TheConstants.{KERNEL_NAME_BYTES};
 
     ghost Value = { List ℕ };
 
     ghost view = { λ l. drop l.start l.bytes };
 
-    ghost invariant = { λ l. l.start ≤ LINE_BYTES };
+    ghost invariant = { λ l. l.start ≤ KERNEL_NAME_BYTES };
 }
 
 impl Line {
@@ -43,13 +43,13 @@ impl Line {
         ensures { result ≡ [] }
     {
         Line {
-            bytes: [0; LINE_BYTES],
-            start: LINE_BYTES,
+            bytes: [0; KERNEL_NAME_BYTES],
+            start: KERNEL_NAME_BYTES,
         }
     }
 
     fn put_text(&mut self, text: &[u8])
-        requires { length self.old + length text.now ≤ LINE_BYTES }
+        requires { length self.old + length text.now ≤ KERNEL_NAME_BYTES }
         ensures text { self.new ≡ text.now ++ self.old }
         ensures len { length self.new ≡ length self.old + length text.now }
     {
@@ -59,9 +59,9 @@ impl Line {
     }
 
     fn put_number(&mut self, number: u64)
-        requires { length self.old + DIGITS ≤ LINE_BYTES }
+        requires { length self.old + NUMBER_BYTES ≤ KERNEL_NAME_BYTES }
         ensures text { self.new ≡ decimal number ++ self.old }
-        ensures len { length self.new ≤ length self.old + DIGITS }
+        ensures len { length self.new ≤ length self.old + NUMBER_BYTES }
     {
         self.start = write_digits(number, &mut self.bytes, self.start);
     }
