@@ -453,11 +453,12 @@ class Generator:
         return self.random.choice(list(self.model.alive[kind]))
 
     def some(self, kind):
-        """The number of an object of that kind; now and then of another, of none, or of none any more."""
+        """The number of an object of that kind; now and then of any kind, of none, or of none any more."""
         if self.model.alive[kind] and self.random.random() < 0.94:
             return self.alive(kind)
-        last = self.model.last
-        return self.random.choice([0, last + 1, 2**64 - 1] + [self.random.randint(0, last)] * 3)
+        numbers = [0, self.model.last + 1, 2**64 - 1, self.random.randint(0, self.model.last)]
+        numbers += [self.alive(other) for other, objects in self.model.alive.items() if objects]
+        return self.random.choice(numbers)
 
     def small(self, kind):
         """The same of an object to put into another, most often of a file that waits. One into which much was put is
