@@ -236,6 +236,9 @@ static void compare_fired(const struct command *c)
 
     for (size_t i = 0; i < count; i++) {
         struct named *watch = watch_of(woken[i]);
+        int32_t signalled = 0;
+        same(c, "errno of a woken file", 0, bim_device_is_signalled(&device, woken[i], &signalled));
+        same(c, "whether it is signalled", 1, signalled);
         if (!watch)
             continue;
         snprintf(line, sizeof line, "fired %s", watch->name);
@@ -282,7 +285,7 @@ static enum outcome compare_file(const struct command *c, uint64_t file, const c
     bim_device_file_info info;
     bim_device_fence_info fences[ROWS];
     char name[NAME_IN_FULL];
-    int32_t status;
+    int32_t status = -1;
 
     if (!is_accepted(c, bim_device_info(&device, file, &info, fences, ROWS)))
         return WHOLE;
