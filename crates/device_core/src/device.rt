@@ -1,5 +1,5 @@
 // The device.
-ghost use Rattle.std.specs.Prelude.{◌≡◌, ◌⊎◌, ℕ, ◌+◌, ◌^◌, ◌≤◌, nat_eq, if◌then◌else◌, Some, None, is_some, option_map, ◌||◌, IsSome, IfSome, IfNone, OnOk, OnErr, IfOk, IfErr, MatchOption, Ok, Err, true, false, ◌<◌, ◌↔◌, Contains};
+ghost use Rattle.std.specs.Prelude.{◌≡◌, ◌⊎◌, ℕ, ◌+◌, ◌^◌, ◌≤◌, nat_eq, if◌then◌else◌, Some, None, is_some, option_map, ◌||◌, IsSome, IfSome, IfNone, OnOk, OnErr, IfOk, IfErr, MatchOption, Ok, Err, true, false, ◌<◌, ◌↔◌, Contains, length};
 ghost use Rattle.std.specs.List.Sorted.{IsStrictlyIncreasing};
 ghost use Rattle.device_core.specs.declared.refusal.Refusal.TheVariants.{NoEntry, NoMemory, Overflow};
 ghost use Rattle.device_core.specs.declared.fence.Text.{Text as Name};
@@ -331,6 +331,41 @@ impl Device {
         match self.files.get(&file) {
             Some(known) => info_of(self.alloc, file, known),
             None => Err(self.unknown_file(file)),
+        }
+    }
+
+    /// How many files are open.
+    pub fn open_files(&self) -> usize
+        ensures { result ≡ length self.now.files }
+    {
+        self.files.len()
+    }
+
+    /// Whether a file has that number.
+    pub fn is_file(&self, number: u64) -> bool
+        ensures { result ≡ is_some (file_at self.now number) }
+    {
+        self.files.contains_key(&number)
+    }
+
+    /// Whether a timeline has that number.
+    pub fn is_timeline(&self, number: u64) -> bool
+        ensures { result ≡ is_some (timeline_at self.now number) }
+    {
+        self.timelines.contains_key(&number)
+    }
+
+    /// What an increment is refused with if there is no memory for what it would wake: `NoMemory`, unless something
+    /// else refuses it.
+    pub fn inc_refusal(&self, timeline: u64, n: u32) -> Refusal
+        ensures { (now : ℕ) → IsCause (cause_of (objects_of self.now) (request.Inc timeline n now)) true result }
+    {
+        match self.timeline(timeline) {
+            Ok(known) => match known.value.checked_add(u64::from(n)) {
+                Some(_) => Refusal::NoMemory,
+                None => Refusal::Overflow,
+            },
+            Err(refusal) => refusal,
         }
     }
 
