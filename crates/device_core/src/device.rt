@@ -20,8 +20,8 @@ use crate::file::File;
 use crate::info::{FileInfo, info as info_of};
 use crate::merging::{merged, merged_time};
 use crate::refusal::Refusal;
-use crate::signalling::signal_due;
-use crate::waiting::WaitingFiles;
+use crate::room::give_room_back;
+use crate::timelines::Timelines;
 use point_core::Status;
 use std::alloc::Global;
 use std::collections::HashMap;
@@ -32,10 +32,9 @@ use std::marker::Model;
 pub struct Device {
     alloc: Global,
     next: u64,
-    timelines: HashMap<u64, Timeline>,
+    timelines: Timelines,
     files: HashMap<u64, File>,
     buffers: HashMap<u64, Buffer>,
-    waiting: WaitingFiles,
 }
 
 impl Model for Device {
@@ -48,9 +47,11 @@ impl Model for Device {
       timelines = d.timelines.entries;
       files = d.files.entries;
       buffers = d.buffers.entries;
+      index = d.timelines.index;
     } };
 
-    ghost invariant = { λ d. IsKept d.next d.timelines.entries d.files.entries d.buffers.entries d.waiting };
+    ghost invariant = { λ d.
+        IsKept d.next d.timelines.entries d.files.entries d.buffers.entries d.timelines.index };
 }
 
 impl Device {
@@ -61,10 +62,9 @@ impl Device {
         Device {
             alloc,
             next: 1,
-            timelines: HashMap::new(alloc),
+            timelines: Timelines::new(alloc),
             files: HashMap::new(alloc),
             buffers: HashMap::new(alloc),
-            waiting: WaitingFiles::new(alloc),
         }
     }
 
@@ -144,19 +144,22 @@ impl Device {
         ensures fits { OnOk result (IfSome (timeline_at self.old timeline) (λ t. t.value + n < 2 ^ 64)) }
         ensures unchanged { OnErr result (self.new ≡ self.old) }
     {
+        if self.timelines.rise_quietly(timeline, n) {
+            return Ok(Vec::new(self.alloc));
+        }
         let known = self.timeline(timeline)?;
         let Some(value) = known.value.checked_add(u64::from(n)) else {
             return Err(Refusal::Overflow);
         };
         let woken = self
-            .waiting
+            .timelines
             .woken_by(self.alloc, &self.files, timeline, value)?;
-        set_value(&mut self.timelines, timeline, value);
         let signal = Signal {
             at: now,
             is_cancelled: false,
         };
-        signal_due(&mut self.waiting, &mut self.files, timeline, value, signal);
+        self.timelines
+            .raise_to(&mut self.files, timeline, value, signal);
         Ok(woken)
     }
 
@@ -203,20 +206,13 @@ impl Device {
     {
         let _known = self.timeline(timeline)?;
         let woken = self
-            .waiting
+            .timelines
             .woken_by(self.alloc, &self.files, timeline, u64::MAX)?;
-        self.timelines.remove(&timeline);
         let signal = Signal {
             at: now,
             is_cancelled: true,
         };
-        signal_due(
-            &mut self.waiting,
-            &mut self.files,
-            timeline,
-            u64::MAX,
-            signal,
-        );
+        self.timelines.close(&mut self.files, timeline, signal);
         Ok(woken)
     }
 
@@ -236,13 +232,15 @@ impl Device {
         ensures unchanged { OnErr result (self.new ≡ self.old) }
     {
         if let Some(closed) = self.files.remove(&number) {
-            self.waiting.take_all(number, closed.fences.as_slice());
+            self.timelines.take_all(number, closed.fences.as_slice());
+            give_room_back(&mut self.files);
             return Ok(());
         }
-        match self.buffers.remove(&number) {
-            Some(_closed) => Ok(()),
-            None => Err(Refusal::NoEntry),
-        }
+        let Some(_closed) = self.buffers.remove(&number) else {
+            return Err(Refusal::NoEntry);
+        };
+        give_room_back(&mut self.buffers);
+        Ok(())
     }
 
     /// Merges two files, which both stay, as `SYNC_IOC_MERGE` does: the latest pending fence of each timeline. If
@@ -407,7 +405,7 @@ impl Device {
         if number == u64::MAX {
             return Err(Refusal::NoMemory);
         }
-        self.waiting.put_all(number, fences.as_slice())?;
+        self.timelines.put_all(number, fences.as_slice())?;
         let file = File {
             name,
             fences,
@@ -419,7 +417,7 @@ impl Device {
                 Ok(number)
             }
             Err(failed) => {
-                self.waiting
+                self.timelines
                     .take_all(number, failed.value.1.fences.as_slice());
                 Err(Refusal::NoMemory)
             }
@@ -435,15 +433,5 @@ impl Device {
         } else {
             Refusal::NoEntry
         }
-    }
-}
-
-fn set_value(timelines: &mut HashMap<u64, Timeline>, number: u64, value: u64)
-    ensures { IfSome (at timelines.old.entries number) (λ t. (q : ℕ) →
-        at timelines.new.entries q
-        ≡ (if nat_eq number q then Some (record t { value = value }) else at timelines.old.entries q)) }
-{
-    if let Some(timeline) = timelines.get_mut(&number) {
-        timeline.value = value;
     }
 }
