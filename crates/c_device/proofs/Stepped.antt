@@ -1,8 +1,8 @@
 -- What waits to be taken once a request was answered.
-use Rattle.std.proofs.Common.{◌≡◌, ◌∙◌, ℕ, ◌<◌, inl, inr, Bool, true, cond, sym, ap, refl, List, [], ◌∷◌, ◌++◌, filter, is_some, All, Result, Ok, Err, OnOk, OnErr}
+use Rattle.std.proofs.Common.{◌≡◌, ◌∙◌, ℕ, ◌<◌, inl, inr, Bool, true, cond, sym, ap, subst, refl, List, [], ◌∷◌, ◌++◌, filter, is_some, All, Result, Ok, Err, OnOk, OnErr}
 use Rattle.std.proofs.lemmas.Bool.{cases_Bool, false≢true}
 use Rattle.std.proofs.lemmas.List.{append-nil}
-use Rattle.std.proofs.lemmas.List.Elements.{All-head, All-tail, All-weaker, filter-append}
+use Rattle.std.proofs.lemmas.List.Elements.{All-filter, All-head, All-tail, All-weaker, filter-append}
 use Rattle.device_core.specs.declared.refusal.Refusal.{Refusal}
 use Rattle.device_core.specs.declared.request.Request.{Request}
 use Rattle.device_core.specs.declared.request.Answer.{Answer}
@@ -26,6 +26,15 @@ module _ (p q : ℕ → Bool) where
           | inr fails ↦ ap (filter p) (ap (λ b. cond b (n ∷ filter q ns) (filter q ns)) dropped) ∙ rest ∙ sym (ap (λ b. cond b (n ∷ filter p ns) (filter p ns)) fails)
         ]
       ]
+
+-- a queue without what was released
+pub open-dropped : (d : DeviceState) (queue left : List ℕ) → left ≡ open_among d queue → open_among d left ≡ open_among d queue
+open-dropped d queue left is =
+    let test : ℕ → Bool = λ n. is_some (file_at d n) in
+    ap (open_among d) is ∙ filter-both test test queue (λ k e low is. is)
+
+pub given-dropped : (d : DeviceState) (queue left : List ℕ) → left ≡ open_among d queue → (next : ℕ) → AreGiven next queue → AreGiven next left
+given-dropped d queue left is next given = subst (AreGiven next) (sym is) (All-filter (λ n. is_some (file_at d n)) (λ n. n < next) queue given)
 
 abbrev pub state : DeviceState → List ℕ → ServiceState
 state d woken = record { device = d; woken = woken }
@@ -68,11 +77,10 @@ module _ (d e : DeviceState) (r : Request) where
 pub refused-step : (d : DeviceState) (r : Request) (refusal : Refusal) (queue old : List ℕ) → IsAnswer (objects_of d) r (Err refusal) → open_among d queue ≡ open_among d old
     → IsStep (state d (open_among d old)) (state d (open_among d queue)) r (Err refusal)
 refused-step d r refusal queue old answer kept =
-    let test : ℕ → Bool = λ n. is_some (file_at d n) in
     let same : state d (open_among d queue) ≡ state d (open_among d old) = λ i. record { device = d; woken = kept i } in
     record {
       answered = answer;
       stands = λ history is. is;
       unchanged = same;
-      kept = kept ∙ sym (filter-both test test old (λ k d low is. is)) ∙ ap (open_among d) (sym (append-nil (open_among d old)));
+      kept = kept ∙ sym (open-dropped d old (open_among d old) refl) ∙ ap (open_among d) (sym (append-nil (open_among d old)));
     }

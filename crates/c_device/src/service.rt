@@ -13,6 +13,9 @@ use std::alloc::Global;
 use std::collections::VecDeque;
 use std::marker::Model;
 
+/// For fewer open files the queue has the room of so many.
+const LEAST_FILES: usize = 16;
+
 /// A device, and the files that it woke, until they are taken or released.
 #[derive(Drop)]
 pub struct Service {
@@ -105,7 +108,7 @@ fn room_for_inc(
     Err(device.inc_refusal(timeline, n))
 }
 
-// The closing of a file or a buffer wakes nothing, and takes no memory.
+// The closing of a file or a buffer wakes nothing, and takes no memory. It may leave the queue with too much room.
 #[inline(always)]
 fn room_for_close(woken: &mut VecDeque<u64>, device: &Device, number: u64) -> Result<(), Refusal>
     ensures kept { open_among device.now woken.new.items ≡ open_among device.now woken.old.items }
@@ -115,6 +118,9 @@ fn room_for_close(woken: &mut VecDeque<u64>, device: &Device, number: u64) -> Re
     ensures refused { IfErr result (λ e.
         (e ≡ NoMemory) × (is_some (timeline_at device.now number) ≡ true)) }
 {
+    if has_too_much(woken, device) {
+        give_room_back(woken, device);
+    }
     if has_room(woken, device) || !device.is_timeline(number) {
         return Ok(());
     }
@@ -133,17 +139,46 @@ fn has_room(woken: &VecDeque<u64>, device: &Device) -> bool
     device.open_files() <= woken.capacity() - woken.len()
 }
 
-/// Drops what was released, and makes room for every open file, and for as many more as are left: so a queue that is
-/// never taken from is seldom gone through. Returns whether there is room.
+/// Drops what was released, and makes room. Returns whether there is some for every open file.
 #[cold]
 fn grow(woken: &mut VecDeque<u64>, device: &Device) -> bool
     ensures kept { open_among device.now woken.new.items ≡ open_among device.now woken.old.items }
     ensures given { (next : ℕ) → AreGiven next woken.old.items → AreGiven next woken.new.items }
     ensures ready { result ≡ true → length device.now.files ≤ deque_capacity woken.new - deque_len woken.new }
 {
+    drop_released(woken, device);
+    woken.reserve(usual_room(device)).is_ok()
+}
+
+/// Whether the queue has so much room that the open files have no use for most of it.
+#[inline(always)]
+fn has_too_much(woken: &VecDeque<u64>, device: &Device) -> bool {
+    woken.capacity() / 2 > usual_room(device)
+}
+
+/// Drops what was released, and gives room back.
+#[cold]
+fn give_room_back(woken: &mut VecDeque<u64>, device: &Device)
+    ensures kept { open_among device.now woken.new.items ≡ open_among device.now woken.old.items }
+    ensures given { (next : ℕ) → AreGiven next woken.old.items → AreGiven next woken.new.items }
+{
+    drop_released(woken, device);
+    woken.shrink_to(usual_room(device));
+}
+
+/// Room for twice the open files: so the queue is gone through only when their number has doubled or halved, or as many
+/// have been woken.
+#[inline(always)]
+fn usual_room(device: &Device) -> usize
+    ensures { length device.now.files ≤ result }
+{
+    device.open_files().max(LEAST_FILES).saturating_mul(2)
+}
+
+fn drop_released(woken: &mut VecDeque<u64>, device: &Device)
+    ensures { woken.new.items ≡ open_among device.now woken.old.items }
+{
     woken.retain(|file| device.is_file(*file));
-    let room = device.open_files().saturating_add(woken.len());
-    woken.reserve(room).is_ok()
 }
 
 /// Puts the files that the answer wakes into the queue.

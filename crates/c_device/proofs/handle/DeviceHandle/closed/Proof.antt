@@ -31,6 +31,7 @@ use Rattle.std.proofs.alloc.Calls.{α, handle_tells}
 use Rattle.std_alloc.proofs.ResultValues.{and_tt}
 use Rattle.std_alloc.proofs.BoxSteps.Form.{P, owning}
 use Rattle.std_heap.specs.contracts.Global as Heap
+use Rattle.device_core.specs.State.{nothing as nothing_open}
 use Rattle.c_device.specs.Service.{ServiceState}
 use Rattle.c_device.proofs.AsBox.{E}
 use Rattle.c_device.specs.contracts.handle.DeviceHandle.closed as F
@@ -40,7 +41,7 @@ use Rattle.c_device.proofs.handle.DeviceHandle.closed.Code as code
 
 -- a closed handle says nothing of it
 abbrev nothing_in : ServiceState
-nothing_in = record { device = record { next = 0; timelines = []; files = []; buffers = [] }; woken = [] }
+nothing_in = record { device = nothing_open; woken = [] }
 
 abbrev stayed : Stays (F.ended).signature.params (F.ended).kept
 stayed = (stay_dropped (plain (λ _. Heap.the_row)) yes, tt)
