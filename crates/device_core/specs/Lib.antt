@@ -12,3 +12,4 @@ pub mod History
 pub mod Sound
 pub mod Times
 pub mod Headline
+pub mod Memory

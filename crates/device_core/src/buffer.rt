@@ -17,10 +17,10 @@ use point_core::Usage;
 use std::alloc::Global;
 use std::marker::Model;
 
-/// A table is trimmed when it has so many times the fences that its last trim left.
+/// A table is trimmed before it has more than so many times the fences that it had after its last trim.
 const GROWTH: usize = 2;
 
-/// A table of fewer than `GROWTH` times so many fences is not trimmed.
+/// A table of `GROWTH` times so many fences or fewer is not trimmed.
 const UNTRIMMED: usize = 8;
 
 const _: () = prove!(GROWTH == 2);
@@ -77,7 +77,7 @@ impl Buffer {
         let Ok(_room) = self.fences.reserve(fences.len()) else {
             return Err(Refusal::NoMemory);
         };
-        self.left = trim_grown(&mut self.fences, self.left, timelines);
+        self.left = trim_grown(&mut self.fences, self.left, fences.len(), timelines);
         put_pending(&mut self.fences, fences, usage);
         let most = GROWTH.saturating_mul(self.fences.len().max(UNTRIMMED));
         self.fences.shrink_to(most);
@@ -156,19 +156,26 @@ fn put_option(listed: &mut Vec<Fence>, fence: Option<Fence>) -> Result<(), Refus
     }
 }
 
-/// Drops what no longer waits if the table has grown so much since its last trim, and gives how many its last trim
-/// left.
-fn trim_grown(fences: &mut Vec<BufferFence>, left: usize, timelines: &Timelines) -> usize
+/// Drops what no longer waits if the table would grow too much by so many more since its last trim, and gives how many
+/// it then had after its last trim.
+fn trim_grown(
+    fences: &mut Vec<BufferFence>,
+    left: usize,
+    more: usize,
+    timelines: &Timelines,
+) -> usize
+    requires room { vec_len fences.old + more ≤ vec_capacity fences.old }
     ensures trimmed { (stub_at : ℕ) → state_of fences.new.items result stub_at ≡
-        trimmed_of (at timelines.now.entries) (state_of fences.old.items left stub_at) }
+        trimmed_of (at timelines.now.entries) more (state_of fences.old.items left stub_at) }
     ensures fewer { vec_len fences.new ≤ vec_len fences.old }
     ensures places { vec_capacity fences.new ≡ vec_capacity fences.old }
 {
-    if fences.len() / GROWTH < left.max(UNTRIMMED) {
+    let most = GROWTH.saturating_mul(left.max(UNTRIMMED));
+    if fences.len() + more <= most {
         return left;
     }
     fences.retain(|fence| fence.is_waiting(timelines));
-    fences.len()
+    fences.len() + more
 }
 
 fn put_pending(fences: &mut Vec<BufferFence>, put: &[Fence], usage: Usage)

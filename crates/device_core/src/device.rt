@@ -6,6 +6,7 @@ ghost use Rattle.device_core.specs.declared.fence.Text.{Text as Name};
 ghost use Rattle.point_core.specs.Reach.{GREATEST};
 ghost use Rattle.device_core.specs.Fences.{are_signalled, signal_at, status_of};
 ghost use Rattle.device_core.specs.Info.{IsInfo};
+ghost use Rattle.device_core.specs.Memory.{KeepsWhatIsAlive, kept_of};
 ghost use Rattle.device_core.specs.Woken.{file_wakes};
 ghost use Rattle.device_core.specs.Wrapping.{unwrapped as unwrapped_of};
 ghost use Rattle.device_core.specs.State.{nothing, at, timeline_at, file_at, file_of, new_timeline, raised, merged_files, one_fence_file, missing_timeline, missing_file, buffer_at, objects_of, AreSignalled};
@@ -18,6 +19,7 @@ use crate::buffer::Buffer;
 use crate::fence::{Fence, Signal, Text, Timeline, one_fence};
 use crate::file::File;
 use crate::info::{FileInfo, info as info_of};
+use crate::kept::Kept;
 use crate::merging::{merged, merged_time};
 use crate::refusal::Refusal;
 use crate::room::give_room_back;
@@ -364,6 +366,19 @@ impl Device {
                 None => Refusal::Overflow,
             },
             Err(refusal) => refusal,
+        }
+    }
+
+    /// How much it keeps, which is no more than what is alive. Takes no memory.
+    pub fn kept(&self) -> Kept
+        ensures counts { result ≡ kept_of self.now }
+        ensures alive { KeepsWhatIsAlive self.now }
+    {
+        Kept {
+            timelines: self.timelines.len(),
+            files: self.files.len(),
+            buffers: self.buffers.len(),
+            waiting: self.timelines.waiting(),
         }
     }
 

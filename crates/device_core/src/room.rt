@@ -1,4 +1,4 @@
-// Room that a map no longer needs.
+//! Room that a map no longer needs.
 ghost use Rattle.std.specs.Prelude.{◌≡◌, ℕ};
 ghost use Rattle.device_core.specs.State.{at};
 
@@ -17,7 +17,7 @@ const _: () = prove!(KEPT_PLACES < MOST_PLACES);
 
 /// Gives back what a map has no use for. A removal then costs the same on average, since between two times that the
 /// entries move their number has halved.
-pub(crate) fn give_room_back<T>(map: &mut HashMap<u64, T>)
+pub fn give_room_back<T>(map: &mut HashMap<u64, T>)
     ensures { (q : ℕ) → at map.new.entries q ≡ at map.old.entries q }
 {
     let places = map.capacity();
