@@ -23,7 +23,7 @@ static void allocation(void)
     data.len = 0;
     FAILS(ioctl(heap, DMA_HEAP_IOCTL_ALLOC, &data), EINVAL);
     FAILS(ioctl(heap, DMA_HEAP_IOCTL_ALLOC, NULL), EFAULT);
-    FAILS(ioctl(heap, _IO('H', 9), NULL), ENOTTY);
+    FAILS(ioctl(heap, _IO('H', 9), NULL), EINVAL);
     FAILS(ioctl(0, DMA_HEAP_IOCTL_ALLOC, &good), ENOTTY);
     FAILS(ioctl(-1, DMA_HEAP_IOCTL_ALLOC, &good), EBADF);
     EXPECT(descriptors(), before);
