@@ -1,5 +1,6 @@
 /* Processes that share timelines and files: by fork, by exec and by sockets; and how each of them may end. */
 #include "kernel.h"
+#include <pthread.h>
 #include <signal.h>
 #include <spawn.h>
 
@@ -268,6 +269,91 @@ static void buffers(void)
         close(files[i]);
 }
 
+static volatile int is_over;
+
+static void *keep_busy(void *wrong)
+{
+    int t = timeline();
+
+    for (__u32 i = 1; !is_over; i++) {
+        int f = fence(t, i), both = merge("both", f, f);
+        *(int *)wrong += f < 0 || both < 0 || inc(t, 1) || status(both) != 1 || close(f) || close(both);
+    }
+    close(t);
+    return NULL;
+}
+
+static int raise_and_make(int t, int f)
+{
+    int own = timeline(), mine = fence(own, 1);
+
+    return inc(t, 1) || !is_signalled(f) || inc(own, 1) || !is_signalled(mine) || close(own) || close(mine);
+}
+
+/* A process forks while its other threads call. */
+static void among_threads(void)
+{
+    enum { THREADS = 3, FORKS = 30 };
+    pthread_t threads[THREADS];
+    int wrong[THREADS] = { 0 }, t = timeline();
+
+    for (int i = 0; i < THREADS; i++)
+        EXPECT(pthread_create(&threads[i], NULL, keep_busy, &wrong[i]), 0);
+    for (__u32 i = 1; i <= FORKS; i++) {
+        int f = fence(t, i);
+        EXPECT(end_of(child_of(raise_and_make, t, f)), 0);
+        EXPECT(is_signalled(f), 1);
+        close(f);
+    }
+    is_over = 1;
+    for (int i = 0; i < THREADS; i++) {
+        pthread_join(threads[i], NULL);
+        EXPECT(wrong[i], 0);
+    }
+    close(t);
+}
+
+/* A signal's handler that calls while the thread is in a call itself. */
+static int handled_timeline;
+static volatile int handled;
+
+static void raise_one(int signal)
+{
+    (void)signal;
+    handled += inc(handled_timeline, 1) == 0;
+}
+
+static void in_handlers(void)
+{
+    enum { SIGNALS = 40 };
+    struct sigaction action = { .sa_handler = raise_one, .sa_flags = SA_RESTART };
+    int wrong = 0;
+
+    handled_timeline = timeline();
+    int last = fence(handled_timeline, SIGNALS), other = timeline();
+    sigaction(SIGUSR1, &action, NULL);
+    pid_t me = getpid(), child = fork();
+    if (child == 0) {
+        for (int i = 0; i < SIGNALS; i++) {
+            kill(me, SIGUSR1);
+            pause_for(1);
+        }
+        _exit(0);
+    }
+    for (__u32 i = 1; handled < SIGNALS && i < 1000000; i++) {
+        int f = fence(other, i);
+        wrong += f < 0 || inc(other, 1) || !is_signalled(f) || close(f);
+        if (waitpid(child, NULL, WNOHANG) == child)
+            break;
+    }
+    HOLDS(handled > 0);
+    EXPECT(wrong, 0);
+    EXPECT(is_signalled(last), handled == SIGNALS);
+    close(last);
+    close(other);
+    close(handled_timeline);
+}
+
 int main(int argc, char **argv)
 {
     myself = argv[0];
@@ -282,5 +368,7 @@ int main(int argc, char **argv)
     spawned();
     orphaned();
     buffers();
+    among_threads();
+    in_handlers();
     return report("processes");
 }
