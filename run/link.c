@@ -1,0 +1,168 @@
+/* The connection to the server: one for each process, made when it first asks. */
+#define _GNU_SOURCE
+#include "calls.h"
+#include "shim.h"
+
+#include <errno.h>
+#include <string.h>
+#include <sys/resource.h>
+#include <sys/un.h>
+
+/* The connection has a high number, so that a process that ends closes it last, and programs don't meet it. */
+enum { HIGHEST = 1024, BELOW_LIMIT = 32 };
+
+static int connection = -1;
+static const struct bim_page *page;
+
+static const struct bim_page *get_page(void)
+{
+    return page;
+}
+
+static bool is_own(int file)
+{
+    return file >= 0 && file == connection;
+}
+
+static void leave(void)
+{
+    if (connection >= 0)
+        call_close(connection);
+    connection = -1;
+}
+
+static int move_high(int file)
+{
+    struct rlimit files;
+    int limit = HIGHEST, moved;
+
+    if (getrlimit(RLIMIT_NOFILE, &files) == 0 && files.rlim_cur < HIGHEST)
+        limit = files.rlim_cur;
+    moved = call_dup_from(file, limit > 2 * BELOW_LIMIT ? limit - BELOW_LIMIT : limit / 2);
+    if (moved < 0)
+        return file;
+    call_close(file);
+    return moved;
+}
+
+/* Returns a new connection, or -1 where the process has no number for one. */
+static int join(void)
+{
+    struct sockaddr_un to = { .sun_family = AF_UNIX };
+    int file = syscall(SYS_socket, AF_UNIX, SOCK_SEQPACKET | SOCK_CLOEXEC, 0);
+
+    if (file < 0)
+        return -1;
+    file = move_high(file);
+    strncpy(to.sun_path, shim_service(), sizeof to.sun_path - 1);
+    while (syscall(SYS_connect, file, &to, sizeof to))
+        if (errno != EINTR)
+            shim_lost("the service can't be reached, since it has ended or its socket is out of reach");
+    return file;
+}
+
+static void set_control(struct msghdr *message, struct cmsghdr *head, int passed)
+{
+    message->msg_control = head;
+    message->msg_controllen = CMSG_SPACE(sizeof passed);
+    head->cmsg_level = SOL_SOCKET;
+    head->cmsg_type = SCM_RIGHTS;
+    head->cmsg_len = CMSG_LEN(sizeof passed);
+    memcpy(CMSG_DATA(head), &passed, sizeof passed);
+}
+
+static void send_request(const struct bim_request *request, int passed)
+{
+    union { struct cmsghdr head; char room[CMSG_SPACE(sizeof(int))]; } control = { .room = { 0 } };
+    struct iovec bytes = { (void *)request, sizeof *request };
+    struct msghdr message = { .msg_iov = &bytes, .msg_iovlen = 1 };
+
+    if (passed >= 0)
+        set_control(&message, &control.head, passed);
+    while (syscall(SYS_sendmsg, connection, &message, MSG_NOSIGNAL) != (ssize_t)sizeof *request)
+        if (errno != EINTR)
+            shim_lost("the service doesn't answer any more");
+}
+
+/* The descriptor of a message, or -1. */
+static int given_by(struct msghdr *message)
+{
+    struct cmsghdr *head = CMSG_FIRSTHDR(message);
+    int given = -1;
+
+    if (head && head->cmsg_type == SCM_RIGHTS)
+        memcpy(&given, CMSG_DATA(head), sizeof given);
+    return given;
+}
+
+static int take_answer(struct bim_answer *answer, int *given)
+{
+    union { struct cmsghdr head; char room[CMSG_SPACE(sizeof(int))]; } control = { .room = { 0 } };
+    struct iovec bytes = { answer, sizeof *answer };
+    struct msghdr message = { .msg_iov = &bytes, .msg_iovlen = 1, .msg_control = control.room, .msg_controllen = sizeof control.room };
+    ssize_t length;
+
+    while ((length = syscall(SYS_recvmsg, connection, &message, MSG_CMSG_CLOEXEC)) < 0 && errno == EINTR) {}
+    if (length < (ssize_t)offsetof(struct bim_answer, row))
+        shim_lost("the service doesn't answer any more");
+    *given = given_by(&message);
+    /* The kernel drops a descriptor for which the process has no number left. */
+    return answer->error ? answer->error : answer->gives && *given < 0 ? EMFILE : 0;
+}
+
+static int ask(const struct bim_request *request, int passed, struct bim_answer *answer, int *given)
+{
+    send_request(request, passed);
+    return take_answer(answer, given);
+}
+
+/* A child may see its parent's page, since both have the same service. */
+static void greet(void)
+{
+    struct bim_request request = { .op = BIM_OP_HELLO };
+    struct bim_answer answer;
+    int memory;
+
+    if (ask(&request, -1, &answer, &memory) == 0)
+        page = page_open(memory);
+    if (memory >= 0)
+        call_close(memory);
+}
+
+static int prepare(struct own *own)
+{
+    (void)own;
+    connection = join();
+    if (connection < 0)
+        return EMFILE;
+    if (!page)
+        greet();
+    return 0;
+}
+
+/* By a connection for this request alone, beside that of the request which was interrupted. */
+static int ask_apart(const struct bim_request *request, int passed, struct bim_answer *answer, int *given)
+{
+    int interrupted = connection, error = EMFILE;
+
+    connection = join();
+    if (connection >= 0) {
+        error = ask(request, passed, answer, given);
+        call_close(connection);
+    }
+    connection = interrupted;
+    return error;
+}
+
+static int above_own(void)
+{
+    return connection + 1;
+}
+
+/* What others have made may be this process's by inheritance. */
+static bool is_idle(void)
+{
+    return false;
+}
+
+const struct way LINK = { prepare, ask, ask_apart, leave, is_own, above_own, is_idle, true, get_page };

@@ -1,0 +1,154 @@
+/* The service in the process itself (--local). */
+#define _GNU_SOURCE
+#include "calls.h"
+#include "keeper.h"
+#include "shim.h"
+
+#include <errno.h>
+#include <limits.h>
+#include <stdlib.h>
+#include <string.h>
+#include <sys/mman.h>
+#include <sys/resource.h>
+
+static struct keeper keeper;
+static const struct own *own_of_keeper; /* which says whether the keeper is this process's */
+static struct rlimit limit;             /* on the program's descriptors */
+static int lowest = INT_MAX, above;      /* of what the keeper holds */
+static bool is_raised;
+static bool sigpipe_was_pending;
+static sigset_t mask;
+
+static bool is_open(void)
+{
+    return own_of_keeper && own_of_keeper->is_ready;
+}
+
+static const struct bim_page *get_page(void)
+{
+    return is_open() ? keeper.page : NULL;
+}
+
+/* The descriptors that the keeper holds are no program's to close. */
+static bool is_own(int file)
+{
+    struct object *object;
+    uint64_t inode;
+
+    if (file < lowest || !is_open() || !end_mark(file, &inode))
+        return false;
+    object = keeper_find(&keeper, inode);
+    return object && object->end == file;
+}
+
+/* What the keeper holds has numbers past the program's limit, and takes none of those that the program may have. */
+static void begin_files(void)
+{
+    struct rlimit raised;
+
+    is_raised = false;
+    if (getrlimit(RLIMIT_NOFILE, &limit) || limit.rlim_cur >= limit.rlim_max)
+        return;
+    raised = (struct rlimit){ limit.rlim_max, limit.rlim_max };
+    is_raised = setrlimit(RLIMIT_NOFILE, &raised) == 0;
+}
+
+static void end_files(void)
+{
+    if (is_raised)
+        setrlimit(RLIMIT_NOFILE, &limit);
+}
+
+static bool may_give(int file)
+{
+    return (rlim_t)file < limit.rlim_cur;
+}
+
+static int place(int file)
+{
+    int moved = call_dup_from(file, is_raised ? (int)limit.rlim_cur : (int)limit.rlim_cur / 2);
+
+    if (moved >= 0)
+        call_close(file);
+    else
+        moved = file;
+    lowest = moved < lowest ? moved : lowest;
+    above = moved >= above ? moved + 1 : above;
+    return moved;
+}
+
+/* A file's last reader may have gone, of which nobody is to be told by a signal. */
+static void hold_sigpipe(void)
+{
+    sigset_t pipe, pending;
+
+    sigemptyset(&pipe);
+    sigaddset(&pipe, SIGPIPE);
+    sigpending(&pending);
+    sigpipe_was_pending = sigismember(&pending, SIGPIPE);
+    pthread_sigmask(SIG_BLOCK, &pipe, &mask);
+}
+
+static void drop_sigpipe(void)
+{
+    static const struct timespec none;
+    sigset_t pipe;
+
+    sigemptyset(&pipe);
+    sigaddset(&pipe, SIGPIPE);
+    if (!sigpipe_was_pending)
+        while (sigtimedwait(&pipe, NULL, &none) < 0 && errno == EINTR) {}
+    pthread_sigmask(SIG_SETMASK, &mask, NULL);
+}
+
+static const struct host HOST = { begin_files, end_files, place, may_give, hold_sigpipe, drop_sigpipe };
+
+static int prepare(struct own *own)
+{
+    int error = keeper_open(&keeper, &HOST, getenv(BIM_TRACE));
+
+    if (error)
+        return error;
+    /* The page is this process's alone. */
+    call_close(keeper.page_memory);
+    own_of_keeper = own;
+    return 0;
+}
+
+/* What has our mark and isn't in the keeper belongs to another process. */
+static bool is_foreign(const struct bim_request *request)
+{
+    return request->a != 0 && request->op != BIM_OP_GONE && !keeper_find(&keeper, request->a);
+}
+
+static int ask(const struct bim_request *request, int passed, struct bim_answer *answer, int *given)
+{
+    if (is_foreign(request))
+        shim_lost("--local serves one process, and this descriptor is another's; run it without --local");
+    if (request->op == BIM_OP_TEXT || request->a == BIM_ANY)
+        keeper_sweep(&keeper);
+    keeper_serve(&keeper, request, passed, answer, given);
+    return answer->error;
+}
+
+/* The keeper is in the middle of a request. */
+static int ask_apart(const struct bim_request *request, int passed, struct bim_answer *answer, int *given)
+{
+    (void)request, (void)passed, (void)answer, (void)given;
+    return EBUSY;
+}
+
+static void leave(void) {}
+
+static int above_own(void)
+{
+    return above;
+}
+
+/* Nothing was opened yet. What others have opened is not served. */
+static bool is_idle(void)
+{
+    return false;
+}
+
+const struct way LOCAL = { prepare, ask, ask_apart, leave, is_own, above_own, is_idle, false, get_page };

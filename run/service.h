@@ -1,0 +1,33 @@
+/* The service of a run: its folder, its socket, and the process of the server. */
+#ifndef BIM_RUN_SERVICE_H
+#define BIM_RUN_SERVICE_H
+
+#include "server.h"
+
+#include <limits.h>
+#include <stdbool.h>
+#include <sys/types.h>
+
+struct service {
+    char folder[64], socket[80];
+    int listener;
+    int said, hears; /* the server's word at the end goes through this pipe */
+    pid_t server;    /* shares the descriptors of this process, so that its end closes none */
+    struct board *board;
+};
+
+/* Makes the folder, with the socket in it. Returns 0 or an errno. */
+int service_open(struct service *service);
+/* Starts the server. Returns 0 or an errno. */
+int service_start(struct service *service, const char *trace);
+void service_remove(struct service *service);
+
+/* Forks a process that shares this one's descriptors: what either opens stays open, whatever becomes of the other. */
+pid_t service_share(void);
+
+/* After the server was lost: kills whoever used it, and all that this process started. */
+void service_kill_users(struct service *service);
+/* How many ends of descriptors are open here, or of those only the ones that somebody still has. */
+size_t service_ends(bool only_held);
+
+#endif

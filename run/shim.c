@@ -1,0 +1,193 @@
+#define _GNU_SOURCE
+#include "shim.h"
+
+#include "calls.h"
+
+#include <errno.h>
+#include <limits.h>
+#include <pthread.h>
+#include <sched.h>
+#include <stdio.h>
+#include <stdlib.h>
+#include <string.h>
+#include <sys/mman.h>
+#include <sys/prctl.h>
+
+static struct own *own, spare; /* `spare` where there is no page to be wiped */
+static char service[PATH_MAX];
+static const struct way *way;
+static bool is_traced;
+static _Atomic int is_begun;
+static __thread bool is_inside __attribute__((tls_model("initial-exec")));
+
+static void before_fork(void)
+{
+    if (!is_inside)
+        lock_take(&own->lock);
+}
+
+static void after_fork(void)
+{
+    if (!is_inside)
+        lock_give(&own->lock);
+}
+
+static void in_child(void)
+{
+    memset(own, 0, sizeof *own);
+    is_inside = false;
+    way->leave();
+}
+
+static void make_own(void)
+{
+    void *page = mmap(NULL, sizeof *own, PROT_READ | PROT_WRITE, MAP_PRIVATE | MAP_ANONYMOUS, -1, 0);
+
+    own = page == MAP_FAILED ? &spare : page;
+    madvise(own, sizeof *own, MADV_WIPEONFORK);
+    pthread_atfork(before_fork, after_fork, in_child);
+}
+
+/* Other libraries may call before this is called as a constructor. */
+__attribute__((constructor)) static void begin(void)
+{
+    const char *value = getenv(BIM_SERVICE);
+
+    if (is_begun)
+        return;
+    if (value && *value && strlen(value) < sizeof service) {
+        strcpy(service, value);
+        is_traced = getenv(BIM_TRACE) != NULL;
+        way = strcmp(service, BIM_LOCAL) == 0 ? &LOCAL : &LINK;
+        make_own();
+    }
+    is_begun = 1;
+}
+
+bool shim_is_on(void)
+{
+    if (!is_begun)
+        begin();
+    return way != NULL;
+}
+
+const char *shim_service(void)
+{
+    return service;
+}
+
+static void set_who(struct bim_request *request)
+{
+    if (!is_traced)
+        return;
+    prctl(PR_GET_NAME, request->task);
+    request->thread = syscall(SYS_gettid);
+    request->processor = sched_getcpu();
+}
+
+/* A child that was made without fork(3) has the parent's connection. */
+static int prepare(void)
+{
+    int error;
+
+    if (own->is_ready)
+        return 0;
+    way->leave();
+    error = way->prepare(own);
+    own->is_ready = !error;
+    return error;
+}
+
+int shim_ask(struct bim_request *request, int passed, struct bim_answer *answer, int *given)
+{
+    int none, error;
+
+    given = given ? given : &none;
+    *given = -1;
+    /* A signal handler can't wait for the thread that it interrupted. */
+    if (is_inside)
+        return way->ask_apart(request, passed, answer, given);
+    is_inside = true;
+    lock_take(&own->lock);
+    error = prepare();
+    if (!error) {
+        set_who(request);
+        error = way->ask(request, passed, answer, given);
+    }
+    lock_give(&own->lock);
+    is_inside = false;
+    return error;
+}
+
+int shim_ask_for_file(struct bim_request *request)
+{
+    struct bim_answer answer;
+    int given, error = shim_ask(request, -1, &answer, &given);
+
+    if (!error)
+        return given;
+    errno = error;
+    return -1;
+}
+
+bool shim_is_traced(void)
+{
+    return shim_is_on() && is_traced;
+}
+
+bool shim_has_buffers(void)
+{
+    return shim_is_on() && (!way->page() || atomic_load_explicit(&way->page()->buffers, memory_order_relaxed));
+}
+
+bool shim_tells_closings(void)
+{
+    return is_traced || !way->sees_closings;
+}
+
+bool shim_wait(int file, bool begins)
+{
+    struct bim_request request = { .op = BIM_OP_WAIT, .value = begins };
+    struct bim_answer answer;
+
+    if (shim_mark(file, &request.a) != BIM_FILE_MARK)
+        return false;
+    return shim_ask(&request, -1, &answer, NULL) == 0 && answer.status == 1;
+}
+
+bool shim_recall(uint64_t inode, struct bim_answer *answer)
+{
+    return way->page() && page_get(way->page(), inode, answer);
+}
+
+bool shim_is_own(int file)
+{
+    return shim_is_on() && way->is_own(file);
+}
+
+int shim_above_own(void)
+{
+    return shim_is_on() ? way->above_own() : 0;
+}
+
+void shim_lost(const char *why)
+{
+    char text[256];
+    int length = snprintf(text, sizeof text, "bimphlai-run: process %d: %s; it ends\n", (int)syscall(SYS_getpid), why);
+
+    call_write(STDERR_FILENO, text, length);
+    _exit(BIM_LOST);
+}
+
+enum bim_mark shim_mark(int file, uint64_t *inode)
+{
+    return file >= 0 && shim_is_on() && !way->is_idle() ? end_mark(file, inode) : 0;
+}
+
+int shim_result(int error)
+{
+    if (!error)
+        return 0;
+    errno = error;
+    return -1;
+}
