@@ -8,7 +8,7 @@ enum { PAGE = 4096, LATER = 30 };
 
 static void allocation(void)
 {
-    int heap = open(HEAP, O_RDWR), before = descriptors();
+    int heap = open(HEAP, O_RDWR), before = lowest();
     struct dma_heap_allocation_data good = { .len = PAGE, .fd_flags = O_RDWR | O_CLOEXEC }, data = good;
 
     data.fd = 3;
@@ -26,7 +26,7 @@ static void allocation(void)
     FAILS(ioctl(heap, _IO('H', 9), NULL), EINVAL);
     FAILS(ioctl(0, DMA_HEAP_IOCTL_ALLOC, &good), ENOTTY);
     FAILS(ioctl(-1, DMA_HEAP_IOCTL_ALLOC, &good), EBADF);
-    EXPECT(descriptors(), before);
+    EXPECT(lowest(), before);
     data = good;
     EXPECT(ioctl(heap, DMA_HEAP_IOCTL_ALLOC, &data), 0);
     EXPECT(fcntl((int)data.fd, F_GETFD), FD_CLOEXEC);
@@ -62,7 +62,7 @@ static void memory(void)
 
 static void wrong_calls(void)
 {
-    int b = buffer(PAGE), t = timeline(), f = fence(t, 1), before = descriptors();
+    int b = buffer(PAGE), t = timeline(), f = fence(t, 1), before = lowest();
     __u32 one = 1;
 
     FAILS(export(b, 0), EINVAL);
@@ -88,7 +88,7 @@ static void wrong_calls(void)
     FAILS(import(f, f, DMA_BUF_SYNC_READ), ENOTTY);
     FAILS(access_buffer(f, DMA_BUF_SYNC_RW), ENOTTY);
     FAILS(export(-1, DMA_BUF_SYNC_READ), EBADF);
-    EXPECT(descriptors(), before);
+    EXPECT(lowest(), before);
     EXPECT(ready(b, POLLIN | POLLOUT, 0), POLLIN | POLLOUT);
     close(f);
     close(t);
@@ -289,7 +289,7 @@ static void interrupted(void)
 
 int main(void)
 {
-    int before = descriptors();
+    int before = lowest();
 
     alarm(30);
     allocation();
@@ -301,6 +301,6 @@ int main(void)
     waits();
     epolls();
     interrupted();
-    EXPECT(descriptors(), before);
+    EXPECT(lowest(), before);
     return report("buffers");
 }

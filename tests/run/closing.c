@@ -154,7 +154,7 @@ static void in_any_order(void)
 
 int main(void)
 {
-    int before = descriptors();
+    int before = lowest();
 
     alarm(30);
     plainly();
@@ -164,6 +164,6 @@ int main(void)
     unseen();
     ranges();
     in_any_order();
-    EXPECT(descriptors(), before);
+    EXPECT(lowest(), before);
     return report("closing");
 }

@@ -62,7 +62,7 @@ static void wrong_kinds(void)
 
 static void bad_pointers_of_timelines(void)
 {
-    int t = timeline(), f = fence(t, 1), before = descriptors();
+    int t = timeline(), f = fence(t, 1), before = lowest();
     char *end = edge(PROT_READ | PROT_WRITE);
     struct sw_sync_create_fence_data create = { .value = 1 };
 
@@ -72,7 +72,7 @@ static void bad_pointers_of_timelines(void)
     FAILS(ioctl(t, SW_SYNC_IOC_CREATE_FENCE, NULL), EFAULT);
     FAILS(ioctl(t, SW_SYNC_IOC_CREATE_FENCE, end - 8), EFAULT);
     FAILS(ioctl(t, SW_SYNC_IOC_CREATE_FENCE, fixed(&create, sizeof create)), EFAULT);
-    EXPECT(descriptors(), before);
+    EXPECT(lowest(), before);
     EXPECT(is_signalled(f), 0);
     /* As long as what is needed is there, it may end anywhere and begin at any address. */
     memcpy(end - sizeof create, &create, sizeof create);
@@ -89,7 +89,7 @@ static void bad_pointers_of_timelines(void)
 
 static void bad_pointers_of_files(void)
 {
-    int t = timeline(), f = fence(t, 1), before = descriptors();
+    int t = timeline(), f = fence(t, 1), before = lowest();
     char *end = edge(PROT_READ | PROT_WRITE);
     struct sync_merge_data join = { .name = "joined", .fd2 = f };
     struct sync_file_info info = { .num_fences = 1, .sync_fence_info = (__u64)(uintptr_t)(end - 8) };
@@ -104,7 +104,7 @@ static void bad_pointers_of_files(void)
     FAILS(ioctl(f, SYNC_IOC_FILE_INFO, &info), EFAULT);
     info.num_fences = 0;
     FAILS(ioctl(f, SYNC_IOC_FILE_INFO, fixed(&info, sizeof info)), EFAULT);
-    EXPECT(descriptors(), before);
+    EXPECT(lowest(), before);
     /* Structures that stand at odd addresses. */
     memcpy(end - sizeof join - 1, &join, sizeof join);
     EXPECT(ioctl(f, SYNC_IOC_MERGE, end - sizeof join - 1), 0);
@@ -122,7 +122,7 @@ static void bad_pointers_of_files(void)
 
 static void bad_merges(void)
 {
-    int t = timeline(), f = fence(t, 1), other = fence(t, 2), before = descriptors();
+    int t = timeline(), f = fence(t, 1), other = fence(t, 2), before;
     struct sync_merge_data join = { .fd2 = other, .flags = 1 };
 
     FAILS(ioctl(f, SYNC_IOC_MERGE, &join), EINVAL);
@@ -138,9 +138,10 @@ static void bad_merges(void)
     join.fd2 = 0;
     FAILS(ioctl(f, SYNC_IOC_MERGE, &join), ENOENT);
     close(other);
+    before = lowest();
     join.fd2 = other;
     FAILS(ioctl(f, SYNC_IOC_MERGE, &join), ENOENT);
-    EXPECT(descriptors(), before - 1);
+    EXPECT(lowest(), before);
     close(f);
     close(t);
 }

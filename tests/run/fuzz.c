@@ -3,9 +3,8 @@
  * Sends so many messages to the service that no client sends: random bytes, and good requests that are cut, made longer or
  * altered, with all kinds of descriptors, by clients that don't read their answers or go away. Meanwhile another process is
  * served as ever. */
-#include "kernel.h"
+#include "service.h"
 #include "../../run/wire.h"
-#include <signal.h>
 #include <sys/syscall.h>
 #include <sys/un.h>
 
@@ -195,9 +194,11 @@ static void send_all(int count)
 
 int main(int argc, char **argv)
 {
-    int told[2], pipes[2];
+    int told[2], pipes[2], t = timeline(), f = fence(t, 1);
+    pid_t found[MOST];
 
     alarm(60);
+    int many = service(getppid(), getpid(), found), before = held(found, many);
     state = argc > 1 ? (unsigned long long)atoll(argv[1]) : 1;
     EXPECT(socketpair(AF_UNIX, SOCK_STREAM, 0, told), 0);
     EXPECT(pipe(pipes), 0);
@@ -215,9 +216,16 @@ int main(int argc, char **argv)
     send_all(argc > 2 ? atoi(argv[2]) : 1000);
     EXPECT(write(told[0], "", 1), 1);
     EXPECT(end_of(child), 0);
-    int t = timeline(), f = fence(t, 1);
+    for (int i = 0; i < 2; i++) {
+        close(timelines[i]);
+        close(files[i]);
+        close(buffers[i]);
+    }
+    expect_held(found, many, before);
     EXPECT(is_signalled(f), 0);
     EXPECT(inc(t, 1), 0);
     EXPECT(is_signalled(f), 1);
+    close(f);
+    close(t);
     return report("fuzz");
 }

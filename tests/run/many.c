@@ -109,7 +109,7 @@ static void buffers(int count)
 int main(void)
 {
     /* A file may take two descriptors. */
-    int before = descriptors(), room = ((int)most_descriptors() - SPARE) / 2;
+    int before = lowest(), room = ((int)most_descriptors() - SPARE) / 2;
 
     alarm(60);
     timelines_at_a_time();
@@ -117,6 +117,6 @@ int main(void)
     files_at_a_time(room < FILES ? room : FILES);
     files_in_turn();
     buffers(room < BUFFERS ? room : BUFFERS);
-    EXPECT(descriptors(), before);
+    EXPECT(lowest(), before);
     return report("many");
 }

@@ -218,7 +218,7 @@ static void *take_turns(void *given)
 static void threads(void)
 {
     pthread_t running[THREADS];
-    int before = descriptors();
+    int before = lowest();
 
     for (int i = 0; i < THREADS; i++)
         shared[i] = timeline();
@@ -230,7 +230,7 @@ static void threads(void)
     }
     for (int i = 0; i < THREADS; i++)
         close(shared[i]);
-    EXPECT(descriptors(), before);
+    EXPECT(lowest(), before);
 }
 
 int main(void)

@@ -5,6 +5,7 @@
 
 #include "kernel.h"
 #include <ctype.h>
+#include <dirent.h>
 #include <signal.h>
 
 enum { MOST = 16 };
@@ -59,6 +60,17 @@ static inline int held(const pid_t *processes, int count)
         closedir(folder);
     }
     return all;
+}
+
+/* Expects that within some time these processes have no more descriptors than before. */
+static inline void expect_held(const pid_t *processes, int count, int before)
+{
+    for (int left = SOON; held(processes, count) > before && left > 0; left--)
+        pause_for(1);
+    int after = held(processes, count);
+    if (after > before)
+        printf("the service has %d descriptors, and had %d\n", after, before);
+    HOLDS(after <= before);
 }
 
 #endif

@@ -112,7 +112,7 @@ static void end_all(const pid_t *children)
 int main(int argc, char **argv)
 {
     pid_t children[PROCESSES], tool = getppid(), found[MOST];
-    int sockets[2], wait = SOON;
+    int sockets[2];
 
     alarm(40);
     seed = argc > 1 ? (unsigned)atoi(argv[1]) : 1;
@@ -129,9 +129,7 @@ int main(int argc, char **argv)
     end_all(children);
     close(sockets[0]);
     close(sockets[1]);
-    while (held(found, many) > before && wait-- > 0)
-        pause_for(1);
-    EXPECT(held(found, many), before);
+    expect_held(found, many, before);
     /* And it goes on. */
     EXPECT(is_signalled(f), 0);
     EXPECT(inc(t, 1), 0);
