@@ -61,6 +61,7 @@ int options_read(struct options *options, int count, char **words)
     int word, status = -1;
 
     *options = (struct options){ .program = NULL };
+    words[0] = "bimphlai-run"; /* which getopt_long names in what it says */
     while (status < 0 && (word = getopt_long(count, words, "+", WORDS, NULL)) >= 0)
         status = take(options, word);
     options->program = words + optind;

@@ -237,7 +237,7 @@ static void fill_board(struct server *server)
     board->buffers = server->keeper.counts[BUFFER];
 }
 
-/* Says whether the service goes on after the program: others may still use it. */
+/* Says that the service is ready, or whether it goes on after the program, since others still use it. */
 static void say(struct server *server, char what)
 {
     fill_board(server);
@@ -326,6 +326,7 @@ int server_run(const struct server_setup *setup)
         fprintf(stderr, "bimphlai-run: the service can't start: %s\n", strerror(error));
         return 1;
     }
+    say(&server, SERVER_IS_READY);
     serve_until(&server, program_goes_on);
     let_others_part(&server);
     if (is_used(&server)) {

@@ -16,8 +16,8 @@ struct board {
     _Atomic int has_ended; /* in order, with nothing left */
 };
 
-/* What the server says once it is told that the program has ended. */
-enum { SERVER_ENDS = 'E', SERVER_STAYS = 'S' };
+/* What the server says once it serves, and once it is told that the program has ended. */
+enum { SERVER_IS_READY = 'R', SERVER_ENDS = 'E', SERVER_STAYS = 'S' };
 
 struct server_setup {
     pid_t starter;         /* bimphlai-run, whose SIGTERM says that the program has ended */
@@ -29,7 +29,7 @@ struct server_setup {
     struct board *board;
 };
 
-/* Serves until SIGTERM says that the program has ended, and then until nobody uses the service. Returns the status of the
+/* To be called with SIGTERM blocked. Serves until SIGTERM says that the program has ended, and then until nobody uses the service. Returns the status of the
  * process. */
 int server_run(const struct server_setup *setup);
 

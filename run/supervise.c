@@ -24,6 +24,7 @@ static bool others_use_it;
 /* The run: which of both processes have ended, and how. */
 struct run {
     int signals;
+    sigset_t mask; /* of the program */
     pid_t program;
     int waited, server_waited;
     bool program_has_ended, server_has_ended;
@@ -38,20 +39,26 @@ static void handled_signals(sigset_t *signals)
         sigaddset(signals, HANDLED[i]);
 }
 
-/* Starts the program, in the environment that is prepared. */
-static int start_program(struct run *run, char **program)
+/* Has the handled signals wait to be read. Returns 0 or an errno. */
+static int block_signals(struct run *run)
 {
-    sigset_t signals, before;
+    sigset_t signals;
 
     handled_signals(&signals);
-    sigprocmask(SIG_BLOCK, &signals, &before);
+    sigprocmask(SIG_BLOCK, &signals, &run->mask);
     run->signals = signalfd(-1, &signals, SFD_CLOEXEC | SFD_NONBLOCK);
+    return run->signals < 0 ? errno : 0;
+}
+
+/* Starts the program, in the environment that is prepared. Returns 0 or an errno. */
+static int start_program(struct run *run, char **program)
+{
     run->program = fork();
     if (run->program == 0) {
-        sigprocmask(SIG_SETMASK, &before, NULL);
+        sigprocmask(SIG_SETMASK, &run->mask, NULL);
         _exit(launch_become(program));
     }
-    return run->program < 0 || run->signals < 0 ? errno : 0;
+    return run->program < 0 ? errno : 0;
 }
 
 /* Takes note of all processes that have ended, orphans of the program's among them. */
@@ -77,7 +84,7 @@ static void take_signals(struct run *run)
     struct signalfd_siginfo signal;
 
     while (call_read(run->signals, &signal, sizeof signal) == sizeof signal)
-        if (signal.ssi_signo != SIGCHLD && signal.ssi_code <= 0 && !run->program_has_ended)
+        if (signal.ssi_signo != SIGCHLD && signal.ssi_code <= 0 && run->program > 0 && !run->program_has_ended)
             kill(run->program, signal.ssi_signo);
     reap(run);
 }
@@ -92,12 +99,11 @@ static void wait_for_an_end(struct run *run)
     }
 }
 
-/* Tells the server that the program has ended, and returns what it says, or 0 if it is lost. */
+/* Waits for a word of the server, and returns it, or 0 if the server is lost. */
 static char hear(struct run *run)
 {
     char said = 0;
 
-    kill(service.server, SIGTERM);
     while (!run->server_has_ended) {
         struct pollfd files[] = { { run->signals, POLLIN, 0 }, { service.hears, POLLIN, 0 } };
 
@@ -141,6 +147,7 @@ static int serve_program(const struct options *options, struct run *run)
     wait_for_an_end(run);
     if (!run->program_has_ended)
         return lose(run);
+    kill(service.server, SIGTERM);
     said = hear(run);
     if (!said)
         return lose(run);
@@ -162,7 +169,7 @@ static void raise_limit(void)
     }
 }
 
-static int start_service(const struct options *options, const char *trace)
+static int start_service(struct run *run, const struct options *options, const char *trace)
 {
     int error = service_open(&service), status;
 
@@ -172,20 +179,33 @@ static int start_service(const struct options *options, const char *trace)
     error = service_start(&service, trace);
     if (error)
         return fault("the service can't start", error);
+    if (!hear(run))
+        return STATUS_FAULT;
     status = launch_prepare(service.socket, trace);
     if (!status && options->is_verbose)
         fprintf(stderr, "bimphlai-run: service %d at %s\n", service.server, service.socket);
     return status;
 }
 
+/* Starts everything. Returns 0, or the status with which to end. */
+static int start(struct run *run, const struct options *options, const char *trace)
+{
+    int error = block_signals(run), status;
+
+    if (error)
+        return fault("signals can't be read", error);
+    status = options->is_local ? launch_prepare(BIM_LOCAL, trace) : start_service(run, options, trace);
+    if (status)
+        return status;
+    error = start_program(run, options->program);
+    return error ? fault("the program can't start", error) : 0;
+}
+
 int supervise(const struct options *options, const char *trace)
 {
     struct run run = { .program = 0 };
-    int status = options->is_local ? launch_prepare(BIM_LOCAL, trace) : start_service(options, trace);
-    int error = status ? 0 : start_program(&run, options->program);
+    int status = start(&run, options, trace);
 
-    if (error)
-        status = fault("the program can't start", error);
     if (status) {
         if (service.server > 0)
             kill(service.server, SIGKILL);
