@@ -18,6 +18,16 @@ static int wait_for(int file, int milliseconds)
     return count;
 }
 
+/* The same without a poll: it asks again and again. */
+static int ask_for(int file)
+{
+    int active;
+
+    while ((active = count_with(file, 0)) > 0) {
+    }
+    return active == 0 && count_with(file, 1) == size(file);
+}
+
 static int is_open(int fd)
 {
     return fcntl(fd, F_GETFD) >= 0;
@@ -173,6 +183,12 @@ static void two_threads_shared_timeline(void)
 static int producers[PRODUCERS], consumer, produced, wrong_producers;
 static pthread_mutex_t lock = PTHREAD_MUTEX_INITIALIZER;
 
+/* In the first half of the turns all ask again and again, and in the second they poll. */
+static int wait_in_turn(int file, __u32 turn)
+{
+    return turn < TURNS / 2 ? ask_for(file) : wait_for(file, WAIT);
+}
+
 /* Makes one thing a turn, once the consumer has come to the turn. */
 static void *produce(void *given)
 {
@@ -180,7 +196,7 @@ static void *produce(void *given)
 
     for (__u32 turn = 0; turn < TURNS; turn++) {
         int f = fence(consumer, turn);
-        wrong += f < 0 || wait_for(f, WAIT) != 1;
+        wrong += f < 0 || wait_in_turn(f, turn) != 1;
         pthread_mutex_lock(&lock);
         produced++;
         pthread_mutex_unlock(&lock);
@@ -218,7 +234,7 @@ static void stress_consumer(void)
         EXPECT(pthread_create(&threads[i], NULL, produce, (void *)(intptr_t)i), 0);
     for (__u32 turn = 0; turn < TURNS; turn++) {
         int all = all_of_turn(turn);
-        wrong += wait_for(all, WAIT) != 1;
+        wrong += wait_in_turn(all, turn) != 1;
         pthread_mutex_lock(&lock);
         wrong += produced != PRODUCERS * (int)(turn + 1);
         pthread_mutex_unlock(&lock);
