@@ -96,11 +96,6 @@ int info_of_file(struct keeper *keeper, const struct bim_request *request, struc
     return error;
 }
 
-static const char *status_name(int32_t status)
-{
-    return status > 0 ? "signaled" : status < 0 ? "error" : "active";
-}
-
 static void print_timeline(FILE *text, const struct object *timeline)
 {
     fprintf(text, "%s: %d\n", timeline->line.name, (int32_t)timeline->line.value);
@@ -109,46 +104,20 @@ static void print_timeline(FILE *text, const struct object *timeline)
     fputc('\n', text);
 }
 
-static void print_row(FILE *text, const bim_device_fence_info *row)
+/* The kernel lists no sync files below the second heading. */
+static int print_all(const struct keeper *keeper, FILE *text)
 {
-    fprintf(text, "  %s_fence %s", row->timeline, status_name(row->status));
-    if (row->status != BIM_IS_ACTIVE)
-        fprintf(text, "@%llu.%09llu", (unsigned long long)(row->at / 1000000000), (unsigned long long)(row->at % 1000000000));
-    fputc('\n', text);
-}
+    uint64_t *timelines;
+    size_t count = keeper_numbers(keeper, TIMELINE, &timelines);
 
-static int print_file(struct keeper *keeper, FILE *text, const struct object *file)
-{
-    bim_device_file_info info;
-    int error = ask(keeper, file->number, &info);
-
-    if (!error)
-        error = status_of_all(keeper, file->number, &info.status);
-    if (error)
-        return error;
-    fprintf(text, "[%016llx] %s: %s\n", (unsigned long long)file->number, info.name, status_name(info.status));
-    for (size_t i = 0; i < info.fences; i++)
-        print_row(text, &keeper->rows[i]);
-    fputc('\n', text);
-    return 0;
-}
-
-static int print_all(struct keeper *keeper, FILE *text)
-{
-    uint64_t *timelines, *files;
-    size_t timeline_count = keeper_numbers(keeper, TIMELINE, &timelines);
-    size_t file_count = keeper_numbers(keeper, SYNC_FILE, &files);
-    int error = timelines && files ? 0 : ENOMEM;
-
+    if (!timelines)
+        return ENOMEM;
     fputs("objs:\n--------------\n", text);
-    for (size_t i = 0; i < timeline_count; i++)
+    for (size_t i = 0; i < count; i++)
         print_timeline(text, map_find(&keeper->by_number, timelines[i]));
     fputs("fences:\n--------------\n", text);
-    for (size_t i = 0; i < file_count && !error; i++)
-        error = print_file(keeper, text, map_find(&keeper->by_number, files[i]));
     free(timelines);
-    free(files);
-    return error;
+    return 0;
 }
 
 /* Stores the text in a file that is read from its start. */
@@ -166,7 +135,7 @@ static int store(const char *text, size_t length, int *gives)
     return ENOMEM;
 }
 
-int info_text(struct keeper *keeper, int *gives)
+int info_text(const struct keeper *keeper, int *gives)
 {
     char *bytes = NULL;
     size_t length;

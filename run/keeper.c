@@ -83,7 +83,7 @@ static int make_placed_ends(struct keeper *keeper, enum kind kind, struct ends *
         error = EMFILE;
     }
     keeper->host->end_files();
-    return error;
+    return error == EMFILE && keeper->host->make_room(keeper) ? make_placed_ends(keeper, kind, ends) : error;
 }
 
 static void set_maker(struct object *object, const struct bim_request *request)
@@ -234,8 +234,11 @@ static int serve_fence(struct keeper *keeper, const struct bim_request *request,
 
 static int serve_inc(struct keeper *keeper, const struct bim_request *request, struct object *timeline)
 {
-    int error = bim_device_inc(&keeper->device, timeline->number, request->value, keeper->now);
+    int error;
 
+    if (timeline->kind == TIMELINE && record_signals(&timeline->line, request->value))
+        keeper->now = keeper_now();
+    error = bim_device_inc(&keeper->device, timeline->number, request->value, keeper->now);
     if (error)
         return error;
     record_inc(&timeline->line, request->value, keeper->trace);
@@ -345,7 +348,9 @@ void keeper_serve(struct keeper *keeper, const struct bim_request *request, int 
     *gives = -1;
     memset(answer, 0, offsetof(struct bim_answer, row));
     keeper->requests++;
-    keeper->now = keeper_now();
+    /* An increment that signals nothing happens at no time. */
+    if (request->op != BIM_OP_INC || keeper->trace)
+        keeper->now = keeper_now();
     set_who(keeper, request);
     switch (request->op) {
     case BIM_OP_HELLO: answer->error = serve_page(keeper, gives); break;

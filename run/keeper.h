@@ -49,10 +49,13 @@ struct object {
     };
 };
 
+struct keeper;
+
 /* What differs where the keeper is in a program's own process. */
 struct host {
     void (*begin_files)(void), (*end_files)(void);     /* around what makes descriptors */
     int (*place)(int file);                            /* returns another number for one that the keeper holds */
+    bool (*make_room)(struct keeper *keeper);          /* whether there may now be numbers where there were none */
     bool (*may_give)(int file);                        /* whether the program may have one of this number */
     void (*begin_signals)(void), (*end_signals)(void); /* around writes that may meet no reader */
 };
@@ -83,6 +86,8 @@ void keeper_serve(struct keeper *keeper, const struct bim_request *request, int 
 /* Looks whether anybody still has an object; if not, keeper_settle lets go of it. */
 void keeper_look(struct keeper *keeper, struct object *object, bool is_told);
 void keeper_settle(struct keeper *keeper);
+/* Gives other numbers to all descriptors that the keeper holds. */
+void keeper_place_all(struct keeper *keeper);
 /* Looks at everything, where nothing reports closings. */
 void keeper_sweep(struct keeper *keeper);
 
@@ -108,6 +113,6 @@ void buffer_is_ready(struct object *buffer, enum access access);
 void buffer_drop(struct keeper *keeper, struct object *buffer);
 
 int info_of_file(struct keeper *keeper, const struct bim_request *request, struct object *file, struct bim_answer *answer, int *gives);
-int info_text(struct keeper *keeper, int *gives);
+int info_text(const struct keeper *keeper, int *gives);
 
 #endif

@@ -1,6 +1,7 @@
 /* The connection to the server: one for each process, made when it first asks. */
 #define _GNU_SOURCE
 #include "calls.h"
+#include "lane.h"
 #include "shim.h"
 
 #include <errno.h>
@@ -8,10 +9,12 @@
 #include <sys/resource.h>
 #include <sys/un.h>
 
-/* The connection has a high number, so that a process that ends closes it last, and programs don't meet it. */
-enum { HIGHEST = 1024, BELOW_LIMIT = 32 };
+/* The connection has a high number, so that a process that ends closes it last, and programs don't meet it. The kernel's table grows
+ * with the highest. */
+enum { HIGHEST = 65536, BELOW_LIMIT = 8 };
 
-static int connection = -1;
+static int connection = -1, bell = -1;
+static struct lane *lane; /* NULL if there is none: then all goes by the connection */
 static const struct bim_page *page;
 
 static const struct bim_page *get_page(void)
@@ -21,24 +24,34 @@ static const struct bim_page *get_page(void)
 
 static bool is_own(int file)
 {
-    return file >= 0 && file == connection;
+    return file >= 0 && (file == connection || file == bell);
 }
 
 static void leave(void)
 {
     if (connection >= 0)
         call_close(connection);
-    connection = -1;
+    if (bell >= 0)
+        call_close(bell);
+    connection = bell = -1;
+    lane = NULL;
 }
 
+/* Moves a descriptor past the limit of the program's, which is raised for that, so that it takes none of these. */
 static int move_high(int file)
 {
-    struct rlimit files;
-    int limit = HIGHEST, moved;
+    struct rlimit limit, raised;
+    int moved = -1;
 
-    if (getrlimit(RLIMIT_NOFILE, &files) == 0 && files.rlim_cur < HIGHEST)
-        limit = files.rlim_cur;
-    moved = call_dup_from(file, limit > 2 * BELOW_LIMIT ? limit - BELOW_LIMIT : limit / 2);
+    if (getrlimit(RLIMIT_NOFILE, &limit))
+        return file;
+    raised = (struct rlimit){ limit.rlim_max, limit.rlim_max };
+    if (limit.rlim_cur <= HIGHEST && limit.rlim_cur < limit.rlim_max && setrlimit(RLIMIT_NOFILE, &raised) == 0) {
+        moved = call_dup_from(file, limit.rlim_cur);
+        setrlimit(RLIMIT_NOFILE, &limit);
+    }
+    if (moved < 0)
+        moved = call_dup_from(file, limit.rlim_cur < HIGHEST ? limit.rlim_cur - BELOW_LIMIT : HIGHEST);
     if (moved < 0)
         return file;
     call_close(file);
@@ -110,23 +123,47 @@ static int take_answer(struct bim_answer *answer, int *given)
     return answer->error ? answer->error : answer->gives && *given < 0 ? EMFILE : 0;
 }
 
-static int ask(const struct bim_request *request, int passed, struct bim_answer *answer, int *given)
+static int ask_by_socket(const struct bim_request *request, int passed, struct bim_answer *answer, int *given)
 {
     send_request(request, passed);
     return take_answer(answer, given);
 }
 
-/* A child may see its parent's page, since both have the same service. */
-static void greet(void)
+/* Asks for a descriptor that belongs to the connection; returns -1 if there is none. */
+static int ask_for(enum bim_op op)
 {
-    struct bim_request request = { .op = BIM_OP_HELLO };
+    struct bim_request request = { .op = op };
     struct bim_answer answer;
-    int memory;
+    int given;
 
-    if (ask(&request, -1, &answer, &memory) == 0)
-        page = page_open(memory);
+    return ask_by_socket(&request, -1, &answer, &given) == 0 ? given : -1;
+}
+
+/* A child sees its parent's page, since both have the same service. */
+static void open_page(void)
+{
+    int memory = page ? -1 : ask_for(BIM_OP_HELLO);
+
+    if (memory < 0)
+        return;
+    page = page_open(memory);
+    call_close(memory);
+}
+
+static void open_lane(void)
+{
+    int memory = ask_for(BIM_OP_LANE);
+    struct lane *opened = memory < 0 ? NULL : lane_open(memory);
+
     if (memory >= 0)
         call_close(memory);
+    bell = opened ? ask_for(BIM_OP_BELL) : -1;
+    if (bell >= 0) {
+        bell = move_high(bell);
+        lane = opened;
+    } else if (opened) {
+        lane_close(opened);
+    }
 }
 
 static int prepare(struct own *own)
@@ -135,9 +172,31 @@ static int prepare(struct own *own)
     connection = join();
     if (connection < 0)
         return EMFILE;
-    if (!page)
-        greet();
+    open_page();
+    open_lane();
     return 0;
+}
+
+/* Called while an answer is late. */
+static void check(void)
+{
+    struct pollfd server = { connection, 0, 0 };
+
+    if (call_poll(&server, 1, 0) == 1)
+        shim_lost("the service doesn't answer any more");
+}
+
+static bool gives_none(const struct bim_request *request)
+{
+    return request->op == BIM_OP_INC || request->op == BIM_OP_INFO || request->op == BIM_OP_GONE || request->op == BIM_OP_WAIT;
+}
+
+static int ask(const struct bim_request *request, int passed, struct bim_answer *answer, int *given)
+{
+    if (!lane || !gives_none(request))
+        return ask_by_socket(request, passed, answer, given);
+    lane_ask(lane, bell, request, answer, check);
+    return answer->gives ? ask_by_socket(request, passed, answer, given) : answer->error;
 }
 
 /* By a connection for this request alone, beside that of the request which was interrupted. */
@@ -147,7 +206,7 @@ static int ask_apart(const struct bim_request *request, int passed, struct bim_a
 
     connection = join();
     if (connection >= 0) {
-        error = ask(request, passed, answer, given);
+        error = ask_by_socket(request, passed, answer, given);
         call_close(connection);
     }
     connection = interrupted;
@@ -156,7 +215,7 @@ static int ask_apart(const struct bim_request *request, int passed, struct bim_a
 
 static int above_own(void)
 {
-    return connection + 1;
+    return (connection > bell ? connection : bell) + 1;
 }
 
 /* What others have made may be this process's by inheritance. */

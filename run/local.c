@@ -11,11 +11,14 @@
 #include <sys/mman.h>
 #include <sys/resource.h>
 
+/* Programs seldom have so many descriptors, and the kernel's table grows with the highest number. */
+enum { HIGH = 512 };
+
 static struct keeper keeper;
 static const struct own *own_of_keeper; /* which says whether the keeper is this process's */
 static struct rlimit limit;             /* on the program's descriptors */
 static int lowest = INT_MAX, above;      /* of what the keeper holds */
-static bool is_raised;
+static bool is_crowded;
 static bool sigpipe_was_pending;
 static sigset_t mask;
 
@@ -41,32 +44,32 @@ static bool is_own(int file)
     return object && object->end == file;
 }
 
-/* What the keeper holds has numbers past the program's limit, and takes none of those that the program may have. */
+/* What the keeper holds has high numbers. Once these are used up, it has numbers past the program's limit, which is raised for a
+ * moment: so it takes none of those that the program may have. */
 static void begin_files(void)
 {
     struct rlimit raised;
 
-    is_raised = false;
-    if (getrlimit(RLIMIT_NOFILE, &limit) || limit.rlim_cur >= limit.rlim_max)
+    if (!is_crowded || getrlimit(RLIMIT_NOFILE, &limit))
         return;
     raised = (struct rlimit){ limit.rlim_max, limit.rlim_max };
-    is_raised = setrlimit(RLIMIT_NOFILE, &raised) == 0;
+    setrlimit(RLIMIT_NOFILE, &raised);
 }
 
 static void end_files(void)
 {
-    if (is_raised)
+    if (is_crowded)
         setrlimit(RLIMIT_NOFILE, &limit);
 }
 
 static bool may_give(int file)
 {
-    return (rlim_t)file < limit.rlim_cur;
+    return !is_crowded || (rlim_t)file < limit.rlim_cur;
 }
 
 static int place(int file)
 {
-    int moved = call_dup_from(file, is_raised ? (int)limit.rlim_cur : (int)limit.rlim_cur / 2);
+    int moved = call_dup_from(file, is_crowded ? (int)limit.rlim_cur : HIGH);
 
     if (moved >= 0)
         call_close(file);
@@ -75,6 +78,17 @@ static int place(int file)
     lowest = moved < lowest ? moved : lowest;
     above = moved >= above ? moved + 1 : above;
     return moved;
+}
+
+static bool make_room(struct keeper *all)
+{
+    if (is_crowded || getrlimit(RLIMIT_NOFILE, &limit) || limit.rlim_cur >= limit.rlim_max)
+        return false;
+    is_crowded = true;
+    begin_files();
+    keeper_place_all(all);
+    end_files();
+    return true;
 }
 
 /* A file's last reader may have gone, of which nobody is to be told by a signal. */
@@ -101,7 +115,7 @@ static void drop_sigpipe(void)
     pthread_sigmask(SIG_SETMASK, &mask, NULL);
 }
 
-static const struct host HOST = { begin_files, end_files, place, may_give, hold_sigpipe, drop_sigpipe };
+static const struct host HOST = { begin_files, end_files, place, make_room, may_give, hold_sigpipe, drop_sigpipe };
 
 static int prepare(struct own *own)
 {

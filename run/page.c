@@ -15,10 +15,10 @@ struct bim_page *page_new(int *memory)
     if (*memory < 0)
         return NULL;
     page = MAP_FAILED;
-    if (ftruncate(*memory, sizeof *page) == 0)
+    if (ftruncate(*memory, sizeof *page) == 0 && fcntl(*memory, F_ADD_SEALS, F_SEAL_SHRINK | F_SEAL_GROW) == 0)
         page = mmap(NULL, sizeof *page, PROT_READ | PROT_WRITE, MAP_SHARED, *memory, 0);
-    /* Older kernels can't forbid later writers. */
-    if (page != MAP_FAILED && (fcntl(*memory, F_ADD_SEALS, F_SEAL_FUTURE_WRITE | F_SEAL_SHRINK | F_SEAL_GROW) == 0 || errno == EINVAL))
+    /* Kernels before Linux 5.1 can't forbid later writers. */
+    if (page != MAP_FAILED && (fcntl(*memory, F_ADD_SEALS, F_SEAL_FUTURE_WRITE | F_SEAL_SEAL) == 0 || errno == EINVAL))
         return page;
     if (page != MAP_FAILED)
         munmap(page, sizeof *page);

@@ -81,6 +81,11 @@ static void signal_first(struct line *line, struct trace *trace)
     unlink_fence(line->first);
 }
 
+bool record_signals(const struct line *line, uint32_t n)
+{
+    return line->first && line->first->value <= line->value + n;
+}
+
 void record_inc(struct line *line, uint32_t n, struct trace *trace)
 {
     line->value += n;

@@ -39,6 +39,8 @@ struct fences {
     struct fence *array; /* of a file with several, in a trace */
 };
 
+/* Whether an increment signals anything. */
+bool record_signals(const struct line *line, uint32_t n);
 void record_inc(struct line *line, uint32_t n, struct trace *trace);
 /* All that is pending on the timeline is cancelled. */
 void record_close(struct line *line, struct trace *trace);

@@ -4,11 +4,14 @@
 #include "server.h"
 
 #include "calls.h"
+#include "lane.h"
 
 #include <errno.h>
 #include <stdio.h>
+#include <stdlib.h>
 #include <string.h>
 #include <sys/epoll.h>
+#include <sys/eventfd.h>
 #include <sys/prctl.h>
 #include <sys/resource.h>
 #include <sys/signalfd.h>
@@ -28,23 +31,37 @@ static bool any(int file)
     return file >= 0;
 }
 
+static bool no_room(struct keeper *keeper)
+{
+    (void)keeper;
+    return false;
+}
+
 /* The server has its descriptors for itself, and blocks all signals. */
-static const struct host HOST = { nothing, nothing, same, any, nothing, nothing };
+static const struct host HOST = { nothing, nothing, same, no_room, any, nothing, nothing };
+
+/* A process that has connected. */
+struct client {
+    int socket, bell; /* bell: -1 without a lane */
+    struct lane *lane;
+    pid_t process;
+};
 
 struct server {
     struct keeper keeper;
     const struct server_setup *setup;
     int events, signals;
-    size_t clients;
+    struct map clients; /* by the numbers of their sockets and bells, with 1 added */
+    size_t client_count;
     bool program_has_ended, is_parted; /* a client has gone since the last closings */
     uint64_t postponed;                /* since when closings wait */
     bool is_parting;
     uint64_t parting;                  /* since when the program has ended */
 };
 
-static int watch(struct server *server, int file)
+static int watch(struct server *server, int file, uint32_t how)
 {
-    struct epoll_event event = { .events = EPOLLIN, .data.fd = file };
+    struct epoll_event event = { .events = EPOLLIN | how, .data.fd = file };
 
     return epoll_ctl(server->events, EPOLL_CTL_ADD, file, &event);
 }
@@ -69,28 +86,72 @@ static pid_t peer_of(int client)
     return peer.pid;
 }
 
-static void take_client(struct server *server)
+static struct client *client_of(const struct server *server, int file)
 {
-    int client = accept4(server->setup->listener, NULL, NULL, SOCK_CLOEXEC | SOCK_NONBLOCK);
-    pid_t peer;
-
-    if (client < 0)
-        return;
-    peer = peer_of(client);
-    if (peer == 0 || watch(server, client)) {
-        call_close(client);
-        return;
-    }
-    server->clients++;
-    note_client(server, 0, peer);
+    return map_find(&server->clients, (uint64_t)file + 1);
 }
 
-static void part_with(struct server *server, int client)
+/* Returns whether the process at the other end is now a client. */
+static bool add_client(struct server *server, int socket)
 {
-    note_client(server, peer_of(client), 0);
-    call_close(client);
-    server->clients--;
+    pid_t process = peer_of(socket);
+    struct client *client = process ? malloc(sizeof *client) : NULL;
+
+    if (!client)
+        return false;
+    *client = (struct client){ socket, -1, NULL, process };
+    if (map_add(&server->clients, (uint64_t)socket + 1, client) || watch(server, socket, 0)) {
+        map_remove(&server->clients, (uint64_t)socket + 1);
+        free(client);
+        return false;
+    }
+    server->client_count++;
+    note_client(server, 0, process);
+    return true;
+}
+
+static void take_client(struct server *server)
+{
+    int socket = accept4(server->setup->listener, NULL, NULL, SOCK_CLOEXEC | SOCK_NONBLOCK);
+
+    if (socket >= 0 && !add_client(server, socket))
+        call_close(socket);
+}
+
+static void part_with(struct server *server, struct client *client)
+{
+    note_client(server, client->process, 0);
+    map_remove(&server->clients, (uint64_t)client->socket + 1);
+    call_close(client->socket);
+    if (client->bell >= 0) {
+        map_remove(&server->clients, (uint64_t)client->bell + 1);
+        call_close(client->bell);
+    }
+    if (client->lane)
+        lane_close(client->lane);
+    free(client);
+    server->client_count--;
     server->is_parted = true;
+}
+
+static int give_lane(struct client *client, int *gives)
+{
+    if (client->lane)
+        return EBUSY;
+    client->lane = lane_new(gives);
+    return client->lane ? 0 : errno;
+}
+
+/* An edge is enough: nobody reads what was rung. */
+static int give_bell(struct server *server, struct client *client, int *gives)
+{
+    if (!client->lane || client->bell >= 0)
+        return EBUSY;
+    client->bell = eventfd(0, EFD_CLOEXEC | EFD_NONBLOCK);
+    if (client->bell < 0 || map_add(&server->clients, (uint64_t)client->bell + 1, client) || watch(server, client->bell, EPOLLET))
+        return ENOMEM;
+    *gives = call_dup_from(client->bell, 0);
+    return *gives < 0 ? errno : 0;
 }
 
 /* Looks at all that the set of ends reports. */
@@ -134,7 +195,8 @@ static bool follows_closings(const struct bim_request *request)
     return request->op != BIM_OP_INC && request->op != BIM_OP_FENCE;
 }
 
-static void send_answer(struct server *server, int client, struct bim_answer *answer, int gives)
+/* Returns whether the client took the answer. */
+static bool send_answer(const struct client *client, struct bim_answer *answer, int gives)
 {
     union { struct cmsghdr head; char room[CMSG_SPACE(sizeof(int))]; } control = { .room = { 0 } };
     struct iovec bytes = { answer, bim_answer_size(answer) };
@@ -148,11 +210,7 @@ static void send_answer(struct server *server, int client, struct bim_answer *an
         control.head.cmsg_len = CMSG_LEN(sizeof gives);
         memcpy(CMSG_DATA(&control.head), &gives, sizeof gives);
     }
-    /* Who doesn't take answers asks in vain. */
-    if (sendmsg(client, &message, MSG_NOSIGNAL | MSG_DONTWAIT) < 0)
-        part_with(server, client);
-    if (gives >= 0)
-        call_close(gives);
+    return sendmsg(client->socket, &message, MSG_NOSIGNAL | MSG_DONTWAIT) >= 0;
 }
 
 /* The descriptor that came with a message, or -1. */
@@ -166,38 +224,88 @@ static int passed_by(struct msghdr *message)
     return passed;
 }
 
-static bool is_request(const struct bim_request *request, ssize_t length, const struct msghdr *message)
+static bool is_request(const struct bim_request *request)
 {
-    return length == sizeof *request && !(message->msg_flags & MSG_TRUNC) && request->op > 0 && request->op < BIM_OPS;
+    return request->op > 0 && request->op < BIM_OPS;
 }
 
-/* Takes one request of a client, and answers it. */
-static void serve_client(struct server *server, int client)
+static void answer_client(struct server *server, struct client *client, const struct bim_request *request, int passed,
+                          struct bim_answer *answer, int *gives)
+{
+    if (follows_closings(request)) {
+        see_closings(server);
+        if (request->op != BIM_OP_GONE)
+            settle(server);
+    }
+    if (request->op != BIM_OP_LANE && request->op != BIM_OP_BELL) {
+        keeper_serve(&server->keeper, request, passed, answer, gives);
+        return;
+    }
+    *answer = (struct bim_answer){ .gives = 1 };
+    answer->error = request->op == BIM_OP_LANE ? give_lane(client, gives) : give_bell(server, client, gives);
+}
+
+/* Answers one request. Returns whether the client took the answer. */
+static bool serve_request(struct server *server, struct client *client, const struct bim_request *request, int passed)
+{
+    struct bim_answer answer;
+    int gives = -1;
+    bool taken;
+
+    answer_client(server, client, request, passed, &answer, &gives);
+    taken = send_answer(client, &answer, gives);
+    if (gives >= 0)
+        call_close(gives);
+    return taken;
+}
+
+/* Takes a message of a client. Who sends none of ours, or takes no answer, is parted with. */
+static void serve_socket(struct server *server, struct client *client)
 {
     union { struct cmsghdr head; char room[CMSG_SPACE(sizeof(int))]; } control;
     struct bim_request request;
-    struct bim_answer answer;
     struct iovec bytes = { &request, sizeof request };
     struct msghdr message = { .msg_iov = &bytes, .msg_iovlen = 1, .msg_control = control.room, .msg_controllen = sizeof control.room };
-    ssize_t length = recvmsg(client, &message, MSG_CMSG_CLOEXEC | MSG_DONTWAIT);
-    int passed, gives;
+    ssize_t length = recvmsg(client->socket, &message, MSG_CMSG_CLOEXEC | MSG_DONTWAIT);
+    int passed;
 
     if (length < 0 && (errno == EAGAIN || errno == EINTR))
         return;
     passed = length > 0 ? passed_by(&message) : -1;
-    if (!is_request(&request, length, &message)) {
+    if (length != sizeof request || message.msg_flags & MSG_TRUNC || !is_request(&request) ||
+        !serve_request(server, client, &request, passed))
         part_with(server, client);
-    } else {
-        if (follows_closings(&request)) {
-            see_closings(server);
-            if (request.op != BIM_OP_GONE)
-                settle(server);
-        }
-        keeper_serve(&server->keeper, &request, passed, &answer, &gives);
-        send_answer(server, client, &answer, gives);
-    }
     if (passed >= 0)
         call_close(passed);
+}
+
+/* The same of its lane. An answer that gives a descriptor is asked for again, by the socket. */
+static void serve_lane(struct server *server, struct client *client)
+{
+    struct bim_request request;
+    struct bim_answer answer;
+    int gives = -1;
+
+    if (!lane_take(client->lane, &request))
+        return;
+    if (!is_request(&request)) {
+        part_with(server, client);
+        return;
+    }
+    answer_client(server, client, &request, -1, &answer, &gives);
+    if (gives >= 0)
+        call_close(gives);
+    lane_answer(client->lane, &answer);
+}
+
+static void serve_client(struct server *server, int file)
+{
+    struct client *client = client_of(server, file);
+
+    if (client && client->bell == file)
+        serve_lane(server, client);
+    else if (client)
+        serve_socket(server, client);
 }
 
 static void take_signal(struct server *server)
@@ -246,7 +354,7 @@ static void say(struct server *server, char what)
 
 static bool is_used(const struct server *server)
 {
-    return server->clients > 0 || server->keeper.by_inode.count > 0;
+    return server->client_count > 0 || server->keeper.by_inode.count > 0;
 }
 
 static void serve_until(struct server *server, bool (*goes_on)(const struct server *))
@@ -306,7 +414,7 @@ static int open_server(struct server *server, const struct server_setup *setup)
     if (errno)
         return errno;
     server->keeper.ends = epoll_create1(EPOLL_CLOEXEC);
-    if (watch(server, setup->listener) || watch(server, server->signals) || watch(server, server->keeper.ends))
+    if (watch(server, setup->listener, 0) || watch(server, server->signals, 0) || watch(server, server->keeper.ends, 0))
         return errno;
     return 0;
 }

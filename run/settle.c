@@ -75,6 +75,18 @@ void keeper_settle(struct keeper *keeper)
     trace_flush(keeper->trace);
 }
 
+void keeper_place_all(struct keeper *keeper)
+{
+    for (size_t i = 0; i < keeper->by_number.room; i++) {
+        struct object *object = keeper->by_number.entries[i].value;
+
+        if (object && object->end >= 0)
+            object->end = keeper->host->place(object->end);
+        if (object && object->kind == BUFFER)
+            object->buffer.memory = keeper->host->place(object->buffer.memory);
+    }
+}
+
 static int compare(const void *a, const void *b)
 {
     uint64_t x = *(const uint64_t *)a, y = *(const uint64_t *)b;

@@ -12,6 +12,9 @@
 #include <string.h>
 #include <sys/mman.h>
 #include <sys/prctl.h>
+#if __has_include(<sys/single_threaded.h>)
+#include <sys/single_threaded.h>
+#endif
 
 static struct own *own, spare; /* `spare` where there is no page to be wiped */
 static char service[PATH_MAX];
@@ -85,6 +88,16 @@ static void set_who(struct bim_request *request)
     request->processor = sched_getcpu();
 }
 
+/* A lone thread needs no lock. */
+static bool is_alone(void)
+{
+#if __has_include(<sys/single_threaded.h>)
+    return __libc_single_threaded;
+#else
+    return false;
+#endif
+}
+
 /* A child that was made without fork(3) has the parent's connection. */
 static int prepare(void)
 {
@@ -100,6 +113,7 @@ static int prepare(void)
 
 int shim_ask(struct bim_request *request, int passed, struct bim_answer *answer, int *given)
 {
+    bool alone = is_alone();
     int none, error;
 
     given = given ? given : &none;
@@ -108,13 +122,15 @@ int shim_ask(struct bim_request *request, int passed, struct bim_answer *answer,
     if (is_inside)
         return way->ask_apart(request, passed, answer, given);
     is_inside = true;
-    lock_take(&own->lock);
+    if (!alone)
+        lock_take(&own->lock);
     error = prepare();
     if (!error) {
         set_who(request);
         error = way->ask(request, passed, answer, given);
     }
-    lock_give(&own->lock);
+    if (!alone)
+        lock_give(&own->lock);
     is_inside = false;
     return error;
 }

@@ -25,6 +25,8 @@ enum bim_mark {
 
 enum bim_op {
     BIM_OP_HELLO = 1, /* gives the page of bim_page */
+    BIM_OP_LANE,      /* gives the memory of a lane */
+    BIM_OP_BELL,      /* gives its bell */
     BIM_OP_TIMELINE,
     BIM_OP_FENCE,     /* a: the timeline; value: the point */
     BIM_OP_INC,       /* a: the timeline; value: by how much */
