@@ -5,10 +5,11 @@
  * served as ever. */
 #include "service.h"
 #include "../../run/wire.h"
+#include <sched.h>
 #include <sys/syscall.h>
 #include <sys/un.h>
 
-enum { MOST_BYTES = 3 * sizeof(struct bim_request), MOST_SENT = 3, LAZY = 40 };
+enum { MOST_BYTES = 3 * sizeof(struct bim_request), MOST_SENT = 3, LAZY = 40, LANES = 10 };
 
 static unsigned long long state;
 
@@ -143,6 +144,73 @@ static int drain(int client)
     }
 }
 
+/* What run/lane.h shares with a process. */
+struct lane {
+    volatile uint32_t turn;
+    struct bim_request request;
+    struct bim_answer answer;
+};
+
+/* Asks for a descriptor, and returns it, or -1. */
+static int given(int client, uint32_t op)
+{
+    struct bim_request request = { .op = op };
+    struct timeval longest = { .tv_sec = SOON / 1000 };
+    union {
+        struct cmsghdr header;
+        char room[CMSG_SPACE(sizeof(int))];
+    } control;
+    struct bim_answer answer;
+    struct iovec part = { .iov_base = &answer, .iov_len = sizeof answer };
+    struct msghdr header = { .msg_iov = &part, .msg_iovlen = 1, .msg_control = &control, .msg_controllen = sizeof control };
+    int fd = -1;
+
+    setsockopt(client, SOL_SOCKET, SO_RCVTIMEO, &longest, sizeof longest);
+    if (send(client, &request, sizeof request, MSG_NOSIGNAL) < 0 || recvmsg(client, &header, MSG_CMSG_CLOEXEC) <= 0)
+        return -1;
+    struct cmsghdr *with = CMSG_FIRSTHDR(&header);
+    if (with)
+        memcpy(&fd, CMSG_DATA(with), sizeof fd);
+    return fd;
+}
+
+/* Writes into a lane what no client writes, also while it is served. */
+static void play(struct lane *lane, int bell, int times)
+{
+    unsigned char bytes[MOST_BYTES];
+    __u64 once = 1;
+
+    for (int i = 0; i < times; i++) {
+        message(bytes);
+        memcpy(&lane->request, bytes, sizeof lane->request);
+        lane->turn = pick(4) ? 1 : pick(8) ? pick(4) : (uint32_t)pick(1u << 31);
+        if (write(bell, &once, sizeof once) != sizeof once)
+            return;
+        message(bytes);
+        memcpy(&lane->request, bytes, sizeof lane->request);
+        if (pick(8) == 0)
+            sched_yield();
+    }
+}
+
+/* Clients with a lane each, whose memory they can't take away. */
+static void play_in_lanes(int times)
+{
+    for (int i = 0; i < LANES; i++) {
+        int client = connected(), memory = given(client, BIM_OP_LANE), bell = given(client, BIM_OP_BELL);
+        struct lane *lane = mmap(NULL, sizeof *lane, PROT_READ | PROT_WRITE, MAP_SHARED, memory, 0);
+        HOLDS(lane != MAP_FAILED && bell >= 0);
+        EXPECT(ftruncate(memory, 0), -1);
+        if (lane != MAP_FAILED) {
+            play(lane, bell, times / LANES);
+            munmap(lane, sizeof *lane);
+        }
+        close(memory);
+        close(bell);
+        close(client);
+    }
+}
+
 /* Is served until it is told that the messages are over, and counts what went wrong. */
 static int served(int told)
 {
@@ -196,6 +264,7 @@ int main(int argc, char **argv)
 {
     int told[2], pipes[2], t = timeline(), f = fence(t, 1);
     pid_t found[MOST];
+    int count = argc > 2 ? atoi(argv[2]) : 1000;
 
     alarm(60);
     int many = service(getppid(), getpid(), found), before = held(found, many);
@@ -213,7 +282,8 @@ int main(int argc, char **argv)
         others[i] = pipes[i];
     }
     be_lazy();
-    send_all(argc > 2 ? atoi(argv[2]) : 1000);
+    play_in_lanes(count / 2);
+    send_all(count);
     EXPECT(write(told[0], "", 1), 1);
     EXPECT(end_of(child), 0);
     for (int i = 0; i < 2; i++) {
