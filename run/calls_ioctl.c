@@ -296,7 +296,7 @@ EXPORT int ioctl(int file, unsigned long call, ...)
     case BIM_TIMELINE_MARK: return shim_result(on_timeline(inode, call, arg));
     case BIM_FILE_MARK: return shim_result(on_file(inode, call, arg));
     case BIM_BUFFER_MARK: return shim_result(on_buffer(file, inode, call, arg));
-    case BIM_HEAP_MARK: return shim_result(call == DMA_HEAP_IOCTL_ALLOC ? allocate(arg) : ENOTTY);
+    case BIM_HEAP_MARK: return shim_result(call == DMA_HEAP_IOCTL_ALLOC ? allocate(arg) : EINVAL);
     default: return next(file, call, arg);
     }
 }

@@ -2,6 +2,7 @@
 #define _GNU_SOURCE
 #include "calls.h"
 #include "shim.h"
+#include "user.h"
 
 #include <errno.h>
 #include <stdarg.h>
@@ -11,17 +12,33 @@
 #include <sys/prctl.h>
 #include <sys/sysmacros.h>
 
+enum { PATH_ROOM = 64 };
 enum path { NOT_OURS, SW_SYNC, SYNC_INFO, DMA_HEAP };
 
+/* The path is readable: the kernel has read it, or copy_of has. */
 static enum path path_of(const char *path)
 {
-    if (!path || path[0] != '/' || !shim_is_on())
+    if (!shim_is_on() || path[0] != '/')
         return NOT_OURS;
     if (strcmp(path, "/sys/kernel/debug/sync/sw_sync") == 0 || strcmp(path, "/dev/sw_sync") == 0)
         return SW_SYNC;
     if (strcmp(path, "/sys/kernel/debug/sync/info") == 0)
         return SYNC_INFO;
     return strcmp(path, "/dev/dma_heap/system") == 0 ? DMA_HEAP : NOT_OURS;
+}
+
+/* The path of a call that the kernel has answered. */
+static enum path path_after(const char *path, bool has_failed)
+{
+    return has_failed && errno == EFAULT ? NOT_OURS : path_of(path);
+}
+
+/* The path of a call that would make a file, and isn't to be made for ours. */
+static enum path path_before(const char *path)
+{
+    char copy[PATH_ROOM];
+
+    return shim_is_on() && user_get_text(copy, path, sizeof copy) == 0 ? path_of(copy) : NOT_OURS;
 }
 
 /* A heap is a mark: what is allocated from it is the service's. */
@@ -50,31 +67,52 @@ static int open_path(enum path path, int flags)
     return file;
 }
 
-#define MODE_OF(flags)                           \
-    mode_t mode = 0;                             \
-    if ((flags) & (O_CREAT | __O_TMPFILE)) {     \
-        va_list words;                           \
-        va_start(words, flags);                  \
-        mode = va_arg(words, mode_t);            \
-        va_end(words);                           \
+/* Opens one of ours, where the kernel may have opened another. */
+static int replace_file(enum path path, int flags, int opened)
+{
+    if (opened >= 0)
+        call_close(opened);
+    return open_path(path, flags);
+}
+
+static bool makes_files(int flags)
+{
+    return flags & (O_CREAT | __O_TMPFILE);
+}
+
+#define MODE_OF(flags)                 \
+    mode_t mode = 0;                   \
+    if (makes_files(flags)) {          \
+        va_list words;                 \
+        va_start(words, flags);        \
+        mode = va_arg(words, mode_t);  \
+        va_end(words);                 \
     }
 
-#define OPEN(name)                                                   \
-    EXPORT int name(const char *path, int flags, ...)                \
-    {                                                                \
-        NEXT(name);                                                  \
-        MODE_OF(flags)                                               \
-        enum path which = path_of(path);                             \
-        return which ? open_path(which, flags) : next(path, flags, mode); \
+#define OPEN(name)                                                                     \
+    EXPORT int name(const char *path, int flags, ...)                                  \
+    {                                                                                  \
+        NEXT(name);                                                                    \
+        MODE_OF(flags)                                                                 \
+        enum path which = makes_files(flags) ? path_before(path) : NOT_OURS;           \
+        int file = which ? -1 : next(path, flags, mode);                               \
+                                                                                       \
+        if (!which && !makes_files(flags))                                             \
+            which = path_after(path, file < 0);                                        \
+        return which ? replace_file(which, flags, file) : file;                        \
     }
 
-#define OPENAT(name)                                                 \
-    EXPORT int name(int folder, const char *path, int flags, ...)    \
-    {                                                                \
-        NEXT(name);                                                  \
-        MODE_OF(flags)                                               \
-        enum path which = path_of(path);                             \
-        return which ? open_path(which, flags) : next(folder, path, flags, mode); \
+#define OPENAT(name)                                                                   \
+    EXPORT int name(int folder, const char *path, int flags, ...)                      \
+    {                                                                                  \
+        NEXT(name);                                                                    \
+        MODE_OF(flags)                                                                 \
+        enum path which = makes_files(flags) ? path_before(path) : NOT_OURS;           \
+        int file = which ? -1 : next(folder, path, flags, mode);                       \
+                                                                                       \
+        if (!which && !makes_files(flags))                                             \
+            which = path_after(path, file < 0);                                        \
+        return which ? replace_file(which, flags, file) : file;                        \
     }
 
 OPEN(open)
@@ -120,11 +158,12 @@ static FILE *open_stream(enum path path, const char *mode)
     return stream;
 }
 
-#define FOPEN(name)                                              \
-    EXPORT FILE *name(const char *path, const char *mode)        \
-    {                                                            \
-        NEXT(name);                                              \
-        enum path which = path_of(path);                         \
+#define FOPEN(name)                                                 \
+    EXPORT FILE *name(const char *path, const char *mode)           \
+    {                                                               \
+        NEXT(name);                                                 \
+        enum path which = path_before(path);                        \
+                                                                    \
         return which ? open_stream(which, mode) : next(path, mode); \
     }
 
@@ -139,25 +178,17 @@ static mode_t mode_of(enum path path)
 
 static int fill_stat(struct stat *found, enum path path)
 {
-    if (!found)
-        return shim_result(EFAULT);
-    memset(found, 0, sizeof *found);
-    found->st_mode = mode_of(path);
-    found->st_nlink = 1;
-    found->st_blksize = sysconf(_SC_PAGESIZE);
-    return 0;
+    struct stat filled = { .st_mode = mode_of(path), .st_nlink = 1, .st_blksize = sysconf(_SC_PAGESIZE) };
+
+    return shim_result(user_put(found, &filled, sizeof filled));
 }
 
 static int fill_statx(struct statx *found, enum path path)
 {
-    if (!found)
-        return shim_result(EFAULT);
-    memset(found, 0, sizeof *found);
-    found->stx_mask = STATX_BASIC_STATS;
-    found->stx_mode = mode_of(path);
-    found->stx_nlink = 1;
-    found->stx_blksize = sysconf(_SC_PAGESIZE);
-    return 0;
+    struct statx filled = { .stx_mask = STATX_BASIC_STATS, .stx_mode = mode_of(path), .stx_nlink = 1,
+                            .stx_blksize = sysconf(_SC_PAGESIZE) };
+
+    return shim_result(user_put(found, &filled, sizeof filled));
 }
 
 /* On machines with 64 bits, both structs are the same. */
@@ -165,8 +196,10 @@ static int fill_statx(struct statx *found, enum path path)
     EXPORT int name(const char *path, struct type *found)                 \
     {                                                                     \
         NEXT(name);                                                       \
-        enum path which = path_of(path);                                  \
-        return which ? fill_stat((struct stat *)found, which) : next(path, found); \
+        int result = next(path, found);                                   \
+        enum path which = path_after(path, result < 0);                   \
+                                                                          \
+        return which ? fill_stat((struct stat *)found, which) : result;   \
     }
 
 STAT(stat, stat)
@@ -178,8 +211,10 @@ STAT(lstat64, stat64)
     EXPORT int name(int folder, const char *path, struct type *found, int flags)       \
     {                                                                                  \
         NEXT(name);                                                                    \
-        enum path which = path_of(path);                                               \
-        return which ? fill_stat((struct stat *)found, which) : next(folder, path, found, flags); \
+        int result = next(folder, path, found, flags);                                 \
+        enum path which = path_after(path, result < 0);                                \
+                                                                                       \
+        return which ? fill_stat((struct stat *)found, which) : result;                \
     }
 
 FSTATAT(fstatat, stat)
@@ -191,8 +226,10 @@ FSTATAT(fstatat64, stat64)
     EXPORT int name(int version, const char *path, struct type *found)    \
     {                                                                     \
         NEXT(name);                                                       \
-        enum path which = path_of(path);                                  \
-        return which ? fill_stat((struct stat *)found, which) : next(version, path, found); \
+        int result = next(version, path, found);                          \
+        enum path which = path_after(path, result < 0);                   \
+                                                                          \
+        return which ? fill_stat((struct stat *)found, which) : result;   \
     }
 
 XSTAT(__xstat, stat)
@@ -203,9 +240,10 @@ XSTAT(__lxstat64, stat64)
 EXPORT int statx(int folder, const char *path, int flags, unsigned mask, struct statx *found)
 {
     NEXT(statx);
-    enum path which = path_of(path);
+    int result = next(folder, path, flags, mask, found);
+    enum path which = path_after(path, result < 0);
 
-    return which ? fill_statx(found, which) : next(folder, path, flags, mask, found);
+    return which ? fill_statx(found, which) : result;
 }
 
 /* Everybody may read and write; nobody may execute. */
@@ -217,15 +255,17 @@ static int check_access(enum path path, int how)
 EXPORT int access(const char *path, int how)
 {
     NEXT(access);
-    enum path which = path_of(path);
+    int result = next(path, how);
+    enum path which = path_after(path, result < 0);
 
-    return which ? check_access(which, how) : next(path, how);
+    return which ? check_access(which, how) : result;
 }
 
 EXPORT int faccessat(int folder, const char *path, int how, int flags)
 {
     NEXT(faccessat);
-    enum path which = path_of(path);
+    int result = next(folder, path, how, flags);
+    enum path which = path_after(path, result < 0);
 
-    return which ? check_access(which, how) : next(folder, path, how, flags);
+    return which ? check_access(which, how) : result;
 }

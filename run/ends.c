@@ -45,7 +45,7 @@ int ends_sockets(struct ends *ends)
     if (socketpair(AF_UNIX, SOCK_STREAM | SOCK_CLOEXEC, 0, pair))
         return errno;
     *ends = (struct ends){ pair[0], pair[1], 0 };
-    if (setsockopt(ends->theirs, SOL_SOCKET, SO_SNDBUF, &least, sizeof least) || fchmod(ends->ours, BIM_BUFFER_MARK & ~S_IFMT))
+    if (setsockopt(ends->theirs, SOL_SOCKET, SO_SNDBUF, &least, sizeof least) || fchmod(ends->ours, BIM_BUFFER_END_MARK & ~S_IFMT))
         return give_up(ends, errno);
     return mark_ends(ends, BIM_BUFFER_MARK);
 }
@@ -72,7 +72,7 @@ enum bim_mark end_mark(int file, uint64_t *inode)
         return 0;
     *inode = found.st_ino;
     switch (found.st_mode) {
-    case BIM_TIMELINE_MARK: case BIM_FILE_MARK: case BIM_BUFFER_MARK: case BIM_HEAP_MARK:
+    case BIM_TIMELINE_MARK: case BIM_FILE_MARK: case BIM_BUFFER_MARK: case BIM_BUFFER_END_MARK: case BIM_HEAP_MARK:
         return found.st_mode;
     default:
         return 0;

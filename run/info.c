@@ -105,19 +105,12 @@ static void print_timeline(FILE *text, const struct object *timeline)
 }
 
 /* The kernel lists no sync files below the second heading. */
-static int print_all(const struct keeper *keeper, FILE *text)
+static void print_all(const struct keeper *keeper, FILE *text)
 {
-    uint64_t *timelines;
-    size_t count = keeper_numbers(keeper, TIMELINE, &timelines);
-
-    if (!timelines)
-        return ENOMEM;
     fputs("objs:\n--------------\n", text);
-    for (size_t i = 0; i < count; i++)
-        print_timeline(text, map_find(&keeper->by_number, timelines[i]));
+    for (const struct object *timeline = keeper->first_timeline; timeline; timeline = timeline->after)
+        print_timeline(text, timeline);
     fputs("fences:\n--------------\n", text);
-    free(timelines);
-    return 0;
 }
 
 /* Stores the text in a file that is read from its start. */
@@ -140,9 +133,11 @@ int info_text(const struct keeper *keeper, int *gives)
     char *bytes = NULL;
     size_t length;
     FILE *text = open_memstream(&bytes, &length);
-    int error = text ? print_all(keeper, text) : ENOMEM;
+    int error = 0;
 
-    if (text && fclose(text) != 0)
+    if (text)
+        print_all(keeper, text);
+    if (!text || fclose(text) != 0)
         error = ENOMEM;
     if (!error)
         error = store(bytes, length, gives);

@@ -41,11 +41,26 @@ struct object *keeper_find(const struct keeper *keeper, uint64_t inode)
     return map_find(&keeper->by_inode, inode);
 }
 
+static void add_timeline(struct keeper *keeper, struct object *timeline)
+{
+    timeline->before = keeper->last_timeline;
+    *(timeline->before ? &timeline->before->after : &keeper->first_timeline) = timeline;
+    keeper->last_timeline = timeline;
+}
+
+static void remove_timeline(struct keeper *keeper, struct object *timeline)
+{
+    *(timeline->before ? &timeline->before->after : &keeper->first_timeline) = timeline->after;
+    *(timeline->after ? &timeline->after->before : &keeper->last_timeline) = timeline->before;
+}
+
 /* Frees an object that has no number, or whose number is released. */
 void keeper_forget(struct keeper *keeper, struct object *object)
 {
     if (object->number)
         map_remove(&keeper->by_number, object->number);
+    if (object->number && object->kind == TIMELINE)
+        remove_timeline(keeper, object);
     if (object->inode) {
         map_remove(&keeper->by_inode, object->inode);
         page_drop(keeper->page, object->inode);
@@ -123,9 +138,9 @@ int keeper_begin(struct keeper *keeper, enum kind kind, const struct bim_request
     return 0;
 }
 
-static int watch_end(struct keeper *keeper, struct object *object)
+static int watch_end(const struct keeper *keeper, const struct object *object, uint64_t number)
 {
-    struct epoll_event event = { .events = EPOLLET, .data.u64 = object->number };
+    struct epoll_event event = { .events = EPOLLET, .data.u64 = number };
 
     if (keeper->ends < 0)
         return 0;
@@ -140,12 +155,16 @@ int keeper_finish(struct keeper *keeper, struct object *object, int error, int *
     object->number = 0;
     if (!error)
         error = map_add(&keeper->by_number, number, object);
-    if (!error) {
+    if (!error)
+        error = watch_end(keeper, object, number);
+    if (!error)
         object->number = number;
-        error = watch_end(keeper, object);
-    }
+    else if (number)
+        map_remove(&keeper->by_number, number);
     if (!error) {
         keeper->counts[object->kind]++;
+        if (object->kind == TIMELINE)
+            add_timeline(keeper, object);
         return 0;
     }
     if (number)

@@ -37,6 +37,7 @@ struct object {
     bool is_closing;
     bool is_told;    /* by the process that closed it */
     struct object *next_closing;
+    struct object *before, *after; /* among the timelines, in order of making */
     struct who maker;
     union {
         struct line line;
@@ -64,6 +65,7 @@ struct keeper {
     const struct host *host;
     bim_device device;
     struct map by_inode, by_number;
+    struct object *first_timeline, *last_timeline;
     struct object *closing; /* what nobody has any more */
     struct bim_page *page;
     int page_memory;
@@ -88,11 +90,11 @@ void keeper_look(struct keeper *keeper, struct object *object, bool is_told);
 void keeper_settle(struct keeper *keeper);
 /* Gives other numbers to all descriptors that the keeper holds. */
 void keeper_place_all(struct keeper *keeper);
-/* Looks at everything, where nothing reports closings. */
+/* Where nothing reports closings: looks at everything, or at the timelines whose closing somebody may wait for. Returns whether any
+ * was closed. */
 void keeper_sweep(struct keeper *keeper);
+bool keeper_sweep_timelines(struct keeper *keeper);
 
-/* Stores the numbers of all of a kind, rising, to be freed; NULL without memory. Returns how many. */
-size_t keeper_numbers(const struct keeper *keeper, enum kind kind, uint64_t **numbers);
 struct object *keeper_find(const struct keeper *keeper, uint64_t inode);
 uint64_t keeper_now(void);
 

@@ -224,4 +224,4 @@ static bool is_idle(void)
     return false;
 }
 
-const struct way LINK = { prepare, ask, ask_apart, leave, is_own, above_own, is_idle, true, get_page };
+const struct way LINK = { prepare, ask, ask_apart, leave, is_own, above_own, is_idle, true, NULL, get_page };

@@ -142,7 +142,15 @@ static int ask(const struct bim_request *request, int passed, struct bim_answer 
     if (request->op == BIM_OP_TEXT || request->a == BIM_ANY)
         keeper_sweep(&keeper);
     keeper_serve(&keeper, request, passed, answer, given);
+    /* What seems to be pending may be cancelled by a closing that nobody told. */
+    if (request->op == BIM_OP_INFO && !answer->error && answer->status == BIM_IS_ACTIVE && keeper_sweep_timelines(&keeper))
+        keeper_serve(&keeper, request, passed, answer, given);
     return answer->error;
+}
+
+static void before_wait(void)
+{
+    keeper_sweep_timelines(&keeper);
 }
 
 /* The keeper is in the middle of a request. */
@@ -165,4 +173,4 @@ static bool is_idle(void)
     return false;
 }
 
-const struct way LOCAL = { prepare, ask, ask_apart, leave, is_own, above_own, is_idle, false, get_page };
+const struct way LOCAL = { prepare, ask, ask_apart, leave, is_own, above_own, is_idle, false, before_wait, get_page };

@@ -46,7 +46,7 @@ static int take(struct options *options, int word)
 {
     switch (word) {
     case LOCAL: options->is_local = true; return -1;
-    case TRACE: options->trace = optarg; return -1;
+    case TRACE: options->trace = optarg; return *optarg ? -1 : tell_usage();
     case REPORT: options->reports = true; return -1;
     case REQUIRE: options->requires = true; return -1;
     case VERBOSE: options->is_verbose = true; return -1;

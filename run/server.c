@@ -213,15 +213,19 @@ static bool send_answer(const struct client *client, struct bim_answer *answer, 
     return sendmsg(client->socket, &message, MSG_NOSIGNAL | MSG_DONTWAIT) >= 0;
 }
 
-/* The descriptor that came with a message, or -1. */
+/* The descriptor that came with a message, or -1. All others that came are closed. */
 static int passed_by(struct msghdr *message)
 {
     struct cmsghdr *head = CMSG_FIRSTHDR(message);
-    int passed = -1;
+    int passed[2] = { -1, -1 };
+    size_t length = head && head->cmsg_level == SOL_SOCKET && head->cmsg_type == SCM_RIGHTS ? head->cmsg_len - CMSG_LEN(0) : 0;
 
-    if (head && head->cmsg_level == SOL_SOCKET && head->cmsg_type == SCM_RIGHTS && head->cmsg_len == CMSG_LEN(sizeof passed))
-        memcpy(&passed, CMSG_DATA(head), sizeof passed);
-    return passed;
+    /* The room for one, as it is aligned, is that for two. */
+    if (length > 0)
+        memcpy(passed, CMSG_DATA(head), length < sizeof passed ? length : sizeof passed);
+    if (passed[1] >= 0)
+        call_close(passed[1]);
+    return passed[0];
 }
 
 static bool is_request(const struct bim_request *request)
@@ -271,7 +275,7 @@ static void serve_socket(struct server *server, struct client *client)
 
     if (length < 0 && (errno == EAGAIN || errno == EINTR))
         return;
-    passed = length > 0 ? passed_by(&message) : -1;
+    passed = length >= 0 ? passed_by(&message) : -1;
     if (length != sizeof request || message.msg_flags & MSG_TRUNC || !is_request(&request) ||
         !serve_request(server, client, &request, passed))
         part_with(server, client);

@@ -134,23 +134,53 @@ void service_kill_users(struct service *service)
     while (waitpid(-1, NULL, 0) > 0);
 }
 
-static bool is_end(int file)
-{
-    uint64_t inode;
-    enum bim_mark mark = end_mark(file, &inode);
-
-    return mark == BIM_FILE_MARK || mark == BIM_TIMELINE_MARK || mark == BIM_BUFFER_MARK;
-}
-
-size_t service_ends(bool only_held)
+/* Calls for each descriptor of this process, and adds what that returns. */
+static size_t for_each_file(size_t (*call)(int file))
 {
     struct dirent *entry;
     DIR *files = opendir("/proc/self/fd");
-    size_t count = 0;
+    size_t sum = 0;
 
     while (files && (entry = readdir(files)))
-        count += is_end(atoi(entry->d_name)) && !(only_held && end_is_alone(atoi(entry->d_name)));
+        sum += call(atoi(entry->d_name));
     if (files)
         closedir(files);
-    return count;
+    return sum;
+}
+
+/* Whether a descriptor is an end of the service's, or one that it was about to give. */
+static size_t is_end(int file)
+{
+    uint64_t inode;
+
+    switch (end_mark(file, &inode)) {
+    case BIM_TIMELINE_MARK: case BIM_FILE_MARK: return (fcntl(file, F_GETFL) & O_ACCMODE) == O_WRONLY;
+    case BIM_BUFFER_END_MARK: return true;
+    default: return false;
+    }
+}
+
+static size_t close_given(int file)
+{
+    uint64_t inode;
+
+    if (end_mark(file, &inode) && !is_end(file))
+        call_close(file);
+    return 0;
+}
+
+static size_t is_held(int file)
+{
+    return is_end(file) && !end_is_alone(file);
+}
+
+size_t service_ends(void)
+{
+    return for_each_file(is_end);
+}
+
+size_t service_held_ends(void)
+{
+    for_each_file(close_given);
+    return for_each_file(is_held);
 }

@@ -27,7 +27,9 @@ pid_t service_share(void);
 
 /* After the server was lost: kills whoever used it, and all that this process started. */
 void service_kill_users(struct service *service);
-/* How many ends of descriptors are open here, or of those only the ones that somebody still has. */
-size_t service_ends(bool only_held);
+/* How many ends the service holds, which are open here too. */
+size_t service_ends(void);
+/* After the server was lost: closes what it was about to give, and returns for how many of its ends somebody has the other. */
+size_t service_held_ends(void);
 
 #endif

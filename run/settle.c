@@ -1,9 +1,13 @@
 /* Closings: what nobody has any more is let go. */
+#include "calls.h"
 #include "keeper.h"
 
 #include <errno.h>
 #include <stdlib.h>
 #include <string.h>
+
+/* How many ends are polled at once. */
+enum { AT_ONCE = 64 };
 
 void keeper_look(struct keeper *keeper, struct object *object, bool is_told)
 {
@@ -87,69 +91,75 @@ void keeper_place_all(struct keeper *keeper)
     }
 }
 
-static int compare(const void *a, const void *b)
+/* Looks at all but timelines, or at timelines. */
+static void look_at_all(struct keeper *keeper, bool timelines)
 {
-    uint64_t x = *(const uint64_t *)a, y = *(const uint64_t *)b;
+    for (size_t i = 0; i < keeper->by_number.room; i++) {
+        struct object *object = keeper->by_number.entries[i].value;
 
-    return (x > y) - (x < y);
-}
-
-size_t keeper_numbers(const struct keeper *keeper, enum kind kind, uint64_t **numbers)
-{
-    size_t count = 0;
-
-    *numbers = malloc((keeper->by_number.count + 1) * sizeof **numbers);
-    for (size_t i = 0; *numbers && i < keeper->by_number.room; i++) {
-        const struct object *object = keeper->by_number.entries[i].value;
-
-        if (object && object->kind == kind)
-            (*numbers)[count++] = object->number;
+        if (object && (object->kind == TIMELINE) == timelines)
+            keeper_look(keeper, object, false);
     }
-    if (*numbers)
-        qsort(*numbers, count, sizeof **numbers, compare);
-    return count;
-}
-
-static void look_at_all(struct keeper *keeper, enum kind kind)
-{
-    uint64_t *numbers;
-    size_t count = keeper_numbers(keeper, kind, &numbers);
-
-    for (size_t i = 0; i < count; i++)
-        keeper_look(keeper, map_find(&keeper->by_number, numbers[i]), false);
-    free(numbers);
 }
 
 void keeper_sweep(struct keeper *keeper)
 {
-    look_at_all(keeper, SYNC_FILE);
-    look_at_all(keeper, BUFFER);
-    look_at_all(keeper, TIMELINE);
+    look_at_all(keeper, false);
+    look_at_all(keeper, true);
     keeper_settle(keeper);
 }
 
-static void free_all(struct keeper *keeper, enum kind kind)
+/* Fills in the ends of timelines with pending fences, from one on. Returns that after the last. */
+static struct object *ends_of(struct object *timeline, struct pollfd *ends, nfds_t *count)
 {
-    uint64_t *numbers;
-    size_t count = keeper_numbers(keeper, kind, &numbers);
+    for (*count = 0; timeline && *count < AT_ONCE; timeline = timeline->after)
+        if (timeline->line.first)
+            ends[(*count)++] = (struct pollfd){ timeline->end, 0, 0 };
+    return timeline;
+}
 
-    for (size_t i = 0; i < count; i++) {
-        struct object *object = map_find(&keeper->by_number, numbers[i]);
+bool keeper_sweep_timelines(struct keeper *keeper)
+{
+    struct pollfd ends[AT_ONCE];
+    struct object *from = keeper->first_timeline;
+    bool any = false;
+    nfds_t count;
 
-        if (kind == SYNC_FILE)
-            record_drop(&object->fences, true, NULL);
-        if (kind == BUFFER)
-            buffer_drop(keeper, object);
-        keeper_forget(keeper, object);
+    while (from && !any) {
+        from = ends_of(from, ends, &count);
+        any = count > 0 && call_poll(ends, count, 0) > 0;
     }
-    free(numbers);
+    if (any)
+        keeper_sweep(keeper);
+    return any;
+}
+
+static void free_one(struct keeper *keeper, struct object *object)
+{
+    if (object->kind == SYNC_FILE)
+        record_drop(&object->fences, true, NULL);
+    if (object->kind == BUFFER)
+        buffer_drop(keeper, object);
+    keeper_forget(keeper, object);
+}
+
+/* Another takes the place of one that is freed. */
+static void free_all(struct keeper *keeper, bool timelines)
+{
+    for (size_t i = 0; i < keeper->by_number.room;) {
+        struct object *object = keeper->by_number.entries[i].value;
+
+        if (object && object->kind != READINESS && (object->kind == TIMELINE) == timelines)
+            free_one(keeper, object);
+        else
+            i++;
+    }
 }
 
 void keeper_close(struct keeper *keeper)
 {
-    free_all(keeper, SYNC_FILE);
-    free_all(keeper, BUFFER);
-    free_all(keeper, TIMELINE);
+    free_all(keeper, false);
+    free_all(keeper, true);
     map_free(&keeper->by_inode);
     map_free(&keeper->by_number);
     free(keeper->rows);

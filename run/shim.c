@@ -21,25 +21,39 @@ static char service[PATH_MAX];
 static const struct way *way;
 static bool is_traced;
 static _Atomic int is_begun;
+static sigset_t mask; /* of the thread that forks */
 static __thread bool is_inside __attribute__((tls_model("initial-exec")));
 
+/* A signal handler of the thread that forks isn't to meet its lock. */
 static void before_fork(void)
 {
-    if (!is_inside)
-        lock_take(&own->lock);
+    sigset_t all, before;
+
+    if (is_inside)
+        return;
+    sigfillset(&all);
+    pthread_sigmask(SIG_BLOCK, &all, &before);
+    lock_take(&own->lock);
+    mask = before;
 }
 
 static void after_fork(void)
 {
-    if (!is_inside)
-        lock_give(&own->lock);
+    sigset_t before = mask;
+
+    if (is_inside)
+        return;
+    lock_give(&own->lock);
+    pthread_sigmask(SIG_SETMASK, &before, NULL);
 }
 
 static void in_child(void)
 {
     memset(own, 0, sizeof *own);
-    is_inside = false;
     way->leave();
+    if (!is_inside)
+        pthread_sigmask(SIG_SETMASK, &mask, NULL);
+    is_inside = false;
 }
 
 static void make_own(void)
@@ -159,6 +173,17 @@ bool shim_has_buffers(void)
 bool shim_tells_closings(void)
 {
     return is_traced || !way->sees_closings;
+}
+
+void shim_before_wait(void)
+{
+    if (!shim_is_on() || !way->before_wait || is_inside || !own->is_ready)
+        return;
+    is_inside = true;
+    lock_take(&own->lock);
+    way->before_wait();
+    lock_give(&own->lock);
+    is_inside = false;
 }
 
 bool shim_wait(int file, bool begins)

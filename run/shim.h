@@ -31,6 +31,8 @@ bool shim_is_traced(void);
 bool shim_has_buffers(void);
 /* Whether the service is to be told of the closing of any object: of a timeline it always is. */
 bool shim_tells_closings(void);
+/* To be called before a call that may wait: what was closed unseen is let go. */
+void shim_before_wait(void);
 /* Notes in a trace that a wait on a file begins, if it is pending, or has ended. Returns whether it is pending. */
 bool shim_wait(int file, bool begins);
 /* What was reported of a file that has signalled. */
@@ -58,6 +60,7 @@ struct way {
     int (*above_own)(void);
     bool (*is_idle)(void);           /* nothing of this process's can be its own */
     bool sees_closings;
+    void (*before_wait)(void);       /* or NULL */
     const struct bim_page *(*page)(void);
 };
 extern const struct way LINK, LOCAL;

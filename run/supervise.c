@@ -125,7 +125,7 @@ static int lose(const struct run *run)
         fprintf(stderr, "bimphlai-run: the service ended, with status %d; no fence was signalled, and the program was killed\n",
                 WEXITSTATUS(run->server_waited));
     service_kill_users(&service);
-    others_use_it = service_ends(true) > 0;
+    others_use_it = service_held_ends() > 0;
     if (!others_use_it)
         service_remove(&service);
     return BIM_LOST;
@@ -137,7 +137,7 @@ static void tell_left(void)
 
     fprintf(stderr, "bimphlai-run: left: %llu timelines, %llu files, %llu buffers, %zu descriptors; %llu requests\n",
             (unsigned long long)board->timelines, (unsigned long long)board->files, (unsigned long long)board->buffers,
-            service_ends(false), (unsigned long long)board->requests);
+            service_ends(), (unsigned long long)board->requests);
 }
 
 static int serve_program(const struct options *options, struct run *run)
@@ -239,7 +239,7 @@ static void hold(void)
     for (size_t i = 0; i < BOARD_CLIENTS; i++)
         if (service.board->clients[i] > 0)
             kill(service.board->clients[i], SIGKILL);
-    while (service_ends(true) > 0)
+    while (service_held_ends() > 0)
         look_again();
     service_remove(&service);
 }

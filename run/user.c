@@ -9,7 +9,7 @@
 #include <sys/uio.h>
 #include <unistd.h>
 
-enum { NEAR = 16384 };
+enum { NEAR = 16384, PAGE = 4096 };
 
 /* Callers mostly pass what is on their stack, just above this frame. That needs no look. */
 static bool is_near(const void *at, size_t length)
@@ -52,16 +52,35 @@ int user_put(void *to, const void *from, size_t length)
     return 0;
 }
 
-/* Reads byte by byte, as nothing is known of what comes after its end. */
-int user_get_text(char *to, const char *from, size_t room)
+/* Reads byte by byte, as nothing is known of what comes after the end. */
+static int read_text(char *to, const char *from, size_t room)
 {
     for (size_t i = 0; i < room; i++) {
-        if (is_near(from + i, 1))
-            to[i] = from[i];
-        else if (user_get(to + i, from + i, 1))
-            return EFAULT;
+        to[i] = from[i];
         if (!to[i])
             return 0;
     }
     return EINVAL;
+}
+
+/* The same by copies of the kernel, which cross no page at once. */
+static int copy_text(char *to, const char *from, size_t room)
+{
+    for (size_t length = 0, part; length < room; length += part) {
+        int error;
+
+        part = PAGE - (uintptr_t)(from + length) % PAGE;
+        part = part < room - length ? part : room - length;
+        error = copy(SYS_process_vm_readv, to + length, from + length, part);
+        if (error)
+            return error == EFAULT ? EFAULT : read_text(to, from, room);
+        if (memchr(to + length, 0, part))
+            return 0;
+    }
+    return EINVAL;
+}
+
+int user_get_text(char *to, const char *from, size_t room)
+{
+    return is_near(from, room) ? read_text(to, from, room) : copy_text(to, from, room);
 }

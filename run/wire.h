@@ -20,6 +20,7 @@ enum bim_mark {
     BIM_TIMELINE_MARK = S_IFIFO | S_ISVTX | 0600,
     BIM_FILE_MARK = S_IFIFO | S_ISVTX | 0400,
     BIM_BUFFER_MARK = S_IFSOCK | S_ISVTX | 0600,
+    BIM_BUFFER_END_MARK = S_IFSOCK | S_ISVTX | 0200, /* of the service's end */
     BIM_HEAP_MARK = S_IFREG | S_ISVTX | 0600
 };
 
