@@ -213,19 +213,22 @@ static bool send_answer(const struct client *client, struct bim_answer *answer, 
     return sendmsg(client->socket, &message, MSG_NOSIGNAL | MSG_DONTWAIT) >= 0;
 }
 
-/* The descriptor that came with a message, or -1. All others that came are closed. */
+/* The first descriptor that came with a message, or -1. All others are closed: there may be room for two where one is aligned. */
 static int passed_by(struct msghdr *message)
 {
     struct cmsghdr *head = CMSG_FIRSTHDR(message);
-    int passed[2] = { -1, -1 };
-    size_t length = head && head->cmsg_level == SOL_SOCKET && head->cmsg_type == SCM_RIGHTS ? head->cmsg_len - CMSG_LEN(0) : 0;
+    int passed = -1, each;
 
-    /* The room for one, as it is aligned, is that for two. */
-    if (length > 0)
-        memcpy(passed, CMSG_DATA(head), length < sizeof passed ? length : sizeof passed);
-    if (passed[1] >= 0)
-        call_close(passed[1]);
-    return passed[0];
+    if (!head || head->cmsg_level != SOL_SOCKET || head->cmsg_type != SCM_RIGHTS)
+        return -1;
+    for (size_t at = 0; CMSG_LEN(at) < head->cmsg_len; at += sizeof each) {
+        memcpy(&each, CMSG_DATA(head) + at, sizeof each);
+        if (passed < 0)
+            passed = each;
+        else
+            call_close(each);
+    }
+    return passed;
 }
 
 static bool is_request(const struct bim_request *request)
