@@ -51,6 +51,7 @@ struct server {
     struct keeper keeper;
     const struct server_setup *setup;
     int events, signals;
+    int spare; /* a descriptor to close where there is no other left */
     struct map clients; /* by the numbers of their sockets and bells, with 1 added */
     size_t client_count;
     bool program_has_ended, is_parted; /* a client has gone since the last closings */
@@ -110,10 +111,20 @@ static bool add_client(struct server *server, int socket)
     return true;
 }
 
+/* Has one that waits to connect see that it can't. */
+static void turn_away(struct server *server)
+{
+    call_close(server->spare);
+    call_close(accept4(server->setup->listener, NULL, NULL, SOCK_CLOEXEC | SOCK_NONBLOCK));
+    server->spare = open("/dev/null", O_RDONLY | O_CLOEXEC);
+}
+
 static void take_client(struct server *server)
 {
     int socket = accept4(server->setup->listener, NULL, NULL, SOCK_CLOEXEC | SOCK_NONBLOCK);
 
+    if (socket < 0 && (errno == EMFILE || errno == ENFILE))
+        turn_away(server);
     if (socket >= 0 && !add_client(server, socket))
         call_close(socket);
 }
@@ -417,6 +428,7 @@ static int open_server(struct server *server, const struct server_setup *setup)
     server->setup = setup;
     server->signals = signalfd(-1, &signals, SFD_CLOEXEC);
     server->events = epoll_create1(EPOLL_CLOEXEC);
+    server->spare = open("/dev/null", O_RDONLY | O_CLOEXEC);
     errno = keeper_open(&server->keeper, &HOST, setup->trace);
     if (errno)
         return errno;

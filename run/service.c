@@ -162,30 +162,23 @@ static size_t for_each_file(size_t (*call)(int file))
     return sum;
 }
 
-/* Whether a descriptor is an end of the service's, or one that it was about to give. */
 static size_t is_end(int file)
 {
-    uint64_t inode;
-
-    switch (end_mark(file, &inode)) {
-    case BIM_TIMELINE_MARK: case BIM_FILE_MARK: return (fcntl(file, F_GETFL) & O_ACCMODE) == O_WRONLY;
-    case BIM_BUFFER_END_MARK: return true;
-    default: return false;
-    }
+    return end_is_ours(file);
 }
 
 static size_t close_given(int file)
 {
     uint64_t inode;
 
-    if (end_mark(file, &inode) && !is_end(file))
+    if (end_mark(file, &inode) && !end_is_ours(file))
         call_close(file);
     return 0;
 }
 
 static size_t is_held(int file)
 {
-    return is_end(file) && !end_is_alone(file);
+    return end_is_ours(file) && !end_is_alone(file);
 }
 
 size_t service_ends(void)
