@@ -22,7 +22,7 @@ static int make_memory(struct keeper *keeper, uint64_t size)
         memory = keeper->host->place(memory);
     keeper->host->end_files();
 
-    if (memory >= 0 && (size > INT64_MAX || ftruncate(memory, size))) {
+    if (memory >= 0 && (size > INT64_MAX || ftruncate(memory, size) || fchmod(memory, BIM_MEMORY_MARK & ~S_IFMT))) {
         call_close(memory);
         errno = ENOMEM;
         return -1;

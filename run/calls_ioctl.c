@@ -8,6 +8,7 @@
 #include <linux/dma-buf.h>
 #include <linux/dma-heap.h>
 #include <linux/ioctl.h>
+#include <sched.h>
 #include <stdarg.h>
 #include <string.h>
 #include <sys/ioctl.h>
@@ -132,6 +133,9 @@ static int file_info(uint64_t file, void *arg)
         error = put_info(&data, &answer, rows_file, arg);
     if (rows_file >= 0)
         call_close(rows_file);
+    /* Who asks until a file signals leaves the processor to those who are to signal it. */
+    if (!error && data.status == 0)
+        sched_yield();
     return error;
 }
 

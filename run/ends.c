@@ -72,10 +72,21 @@ enum bim_mark end_mark(int file, uint64_t *inode)
         return 0;
     *inode = found.st_ino;
     switch (found.st_mode) {
-    case BIM_TIMELINE_MARK: case BIM_FILE_MARK: case BIM_BUFFER_MARK: case BIM_BUFFER_END_MARK: case BIM_HEAP_MARK:
-        return found.st_mode;
+    case BIM_TIMELINE_MARK: case BIM_FILE_MARK: case BIM_BUFFER_MARK: case BIM_BUFFER_END_MARK: case BIM_MEMORY_MARK:
+    case BIM_HEAP_MARK: return found.st_mode;
     default:
         return 0;
+    }
+}
+
+bool end_is_ours(int file)
+{
+    uint64_t inode;
+
+    switch (end_mark(file, &inode)) {
+    case BIM_TIMELINE_MARK: case BIM_FILE_MARK: return (syscall(SYS_fcntl, file, F_GETFL) & O_ACCMODE) == O_WRONLY;
+    case BIM_BUFFER_END_MARK: return true;
+    default: return false;
     }
 }
 

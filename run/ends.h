@@ -27,6 +27,9 @@ bool end_is_alone(int ours);
 /* The mark and inode of a descriptor: 0 if it has no mark of ours. */
 enum bim_mark end_mark(int file, uint64_t *inode);
 
+/* Whether a descriptor is an end of the service's. */
+bool end_is_ours(int file);
+
 /* Makes a file readable. Its last reader may have gone: where SIGPIPE isn't ignored, see local.c. */
 void end_signal(int ours);
 /* What poll says of a buffer. To take readiness back needs the program's end. */

@@ -13,9 +13,9 @@
  * with the highest. */
 enum { HIGHEST = 65536, BELOW_LIMIT = 8 };
 
-static int connection = -1, bell = -1;
+static _Atomic int connection = -1, bell = -1;
 static struct lane *lane; /* NULL if there is none: then all goes by the connection */
-static const struct bim_page *page;
+static const struct bim_page *_Atomic page;
 
 static const struct bim_page *get_page(void)
 {
@@ -58,7 +58,7 @@ static int move_high(int file)
     return moved;
 }
 
-/* Returns a new connection, or -1 where the process has no number for one. */
+/* Returns a new connection, or -1 with errno. */
 static int join(void)
 {
     struct sockaddr_un to = { .sun_family = AF_UNIX };
@@ -68,9 +68,13 @@ static int join(void)
         return -1;
     file = move_high(file);
     strncpy(to.sun_path, shim_service(), sizeof to.sun_path - 1);
-    while (syscall(SYS_connect, file, &to, sizeof to))
-        if (errno != EINTR)
-            shim_lost("the service can't be reached, since it has ended or its socket is out of reach");
+    while (syscall(SYS_connect, file, &to, sizeof to)) {
+        if (errno == EINTR)
+            continue;
+        call_close(file);
+        errno = ENOTCONN;
+        return -1;
+    }
     return file;
 }
 
@@ -171,7 +175,7 @@ static int prepare(struct own *own)
     (void)own;
     connection = join();
     if (connection < 0)
-        return EMFILE;
+        return errno;
     open_page();
     open_lane();
     return 0;
@@ -202,10 +206,12 @@ static int ask(const struct bim_request *request, int passed, struct bim_answer 
 /* By a connection for this request alone, beside that of the request which was interrupted. */
 static int ask_apart(const struct bim_request *request, int passed, struct bim_answer *answer, int *given)
 {
-    int interrupted = connection, error = EMFILE;
+    int interrupted = connection, error = 0;
 
     connection = join();
-    if (connection >= 0) {
+    if (connection < 0) {
+        error = errno;
+    } else {
         error = ask_by_socket(request, passed, answer, given);
         call_close(connection);
     }

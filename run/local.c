@@ -35,13 +35,9 @@ static const struct bim_page *get_page(void)
 /* The descriptors that the keeper holds are no program's to close. */
 static bool is_own(int file)
 {
-    struct object *object;
     uint64_t inode;
 
-    if (file < lowest || !is_open() || !end_mark(file, &inode))
-        return false;
-    object = keeper_find(&keeper, inode);
-    return object && object->end == file;
+    return file >= lowest && is_open() && (end_is_ours(file) || end_mark(file, &inode) == BIM_MEMORY_MARK);
 }
 
 /* What the keeper holds has high numbers. Once these are used up, it has numbers past the program's limit, which is raised for a

@@ -51,6 +51,7 @@ struct server {
     struct keeper keeper;
     const struct server_setup *setup;
     int events, signals;
+    int spare; /* a descriptor to close where there is no other left */
     struct map clients; /* by the numbers of their sockets and bells, with 1 added */
     size_t client_count;
     bool program_has_ended, is_parted; /* a client has gone since the last closings */
@@ -110,10 +111,20 @@ static bool add_client(struct server *server, int socket)
     return true;
 }
 
+/* Has one that waits to connect see that it can't. */
+static void turn_away(struct server *server)
+{
+    call_close(server->spare);
+    call_close(accept4(server->setup->listener, NULL, NULL, SOCK_CLOEXEC | SOCK_NONBLOCK));
+    server->spare = open("/dev/null", O_RDONLY | O_CLOEXEC);
+}
+
 static void take_client(struct server *server)
 {
     int socket = accept4(server->setup->listener, NULL, NULL, SOCK_CLOEXEC | SOCK_NONBLOCK);
 
+    if (socket < 0 && (errno == EMFILE || errno == ENFILE))
+        turn_away(server);
     if (socket >= 0 && !add_client(server, socket))
         call_close(socket);
 }
@@ -213,19 +224,22 @@ static bool send_answer(const struct client *client, struct bim_answer *answer, 
     return sendmsg(client->socket, &message, MSG_NOSIGNAL | MSG_DONTWAIT) >= 0;
 }
 
-/* The descriptor that came with a message, or -1. All others that came are closed. */
+/* The first descriptor that came with a message, or -1. All others are closed: there may be room for two where one is aligned. */
 static int passed_by(struct msghdr *message)
 {
     struct cmsghdr *head = CMSG_FIRSTHDR(message);
-    int passed[2] = { -1, -1 };
-    size_t length = head && head->cmsg_level == SOL_SOCKET && head->cmsg_type == SCM_RIGHTS ? head->cmsg_len - CMSG_LEN(0) : 0;
+    int passed = -1, each;
 
-    /* The room for one, as it is aligned, is that for two. */
-    if (length > 0)
-        memcpy(passed, CMSG_DATA(head), length < sizeof passed ? length : sizeof passed);
-    if (passed[1] >= 0)
-        call_close(passed[1]);
-    return passed[0];
+    if (!head || head->cmsg_level != SOL_SOCKET || head->cmsg_type != SCM_RIGHTS)
+        return -1;
+    for (size_t at = 0; CMSG_LEN(at) < head->cmsg_len; at += sizeof each) {
+        memcpy(&each, CMSG_DATA(head) + at, sizeof each);
+        if (passed < 0)
+            passed = each;
+        else
+            call_close(each);
+    }
+    return passed;
 }
 
 static bool is_request(const struct bim_request *request)
@@ -414,6 +428,7 @@ static int open_server(struct server *server, const struct server_setup *setup)
     server->setup = setup;
     server->signals = signalfd(-1, &signals, SFD_CLOEXEC);
     server->events = epoll_create1(EPOLL_CLOEXEC);
+    server->spare = open("/dev/null", O_RDONLY | O_CLOEXEC);
     errno = keeper_open(&server->keeper, &HOST, setup->trace);
     if (errno)
         return errno;

@@ -94,8 +94,8 @@ int service_start(struct service *service, const char *trace)
     return 0;
 }
 
-/* The parent of a process, by its number in /proc; 0 if it is gone. */
-static pid_t parent_of(const char *number)
+/* Reads the state and the parent of a process, by its number in /proc; the parent is 0 if it is gone. */
+static pid_t parent_of(const char *number, char *state)
 {
     char path[32 + NAME_MAX], text[512] = { 0 };
     const char *after_name;
@@ -106,9 +106,17 @@ static pid_t parent_of(const char *number)
     if (file < 0)
         return 0;
     if (call_read(file, text, sizeof text - 1) > 0 && (after_name = strrchr(text, ')')))
-        sscanf(after_name, ") %*c %d", &parent);
+        sscanf(after_name, ") %c %d", state, &parent);
     call_close(file);
     return parent;
+}
+
+bool service_is_there(const struct service *service)
+{
+    char number[16], state = 0;
+
+    snprintf(number, sizeof number, "%d", service->server);
+    return !service->board->has_ended && parent_of(number, &state) != 0 && state != 'Z' && state != 'X';
 }
 
 /* Kills each child of this process. Their own children become its children then, since it is their reaper. */
@@ -116,19 +124,25 @@ static void kill_children(void)
 {
     DIR *processes = opendir("/proc");
     struct dirent *entry;
+    char state;
 
     while (processes && (entry = readdir(processes)))
-        if (entry->d_name[0] >= '1' && entry->d_name[0] <= '9' && parent_of(entry->d_name) == getpid())
+        if (entry->d_name[0] >= '1' && entry->d_name[0] <= '9' && parent_of(entry->d_name, &state) == getpid())
             kill(atoi(entry->d_name), SIGKILL);
     if (processes)
         closedir(processes);
 }
 
-void service_kill_users(struct service *service)
+void service_kill_clients(const struct service *service)
 {
     for (size_t i = 0; i < BOARD_CLIENTS; i++)
         if (service->board->clients[i] > 0)
             kill(service->board->clients[i], SIGKILL);
+}
+
+void service_kill_users(const struct service *service)
+{
+    service_kill_clients(service);
     do
         kill_children();
     while (waitpid(-1, NULL, 0) > 0);
@@ -148,30 +162,23 @@ static size_t for_each_file(size_t (*call)(int file))
     return sum;
 }
 
-/* Whether a descriptor is an end of the service's, or one that it was about to give. */
 static size_t is_end(int file)
 {
-    uint64_t inode;
-
-    switch (end_mark(file, &inode)) {
-    case BIM_TIMELINE_MARK: case BIM_FILE_MARK: return (fcntl(file, F_GETFL) & O_ACCMODE) == O_WRONLY;
-    case BIM_BUFFER_END_MARK: return true;
-    default: return false;
-    }
+    return end_is_ours(file);
 }
 
 static size_t close_given(int file)
 {
     uint64_t inode;
 
-    if (end_mark(file, &inode) && !is_end(file))
+    if (end_mark(file, &inode) && !end_is_ours(file))
         call_close(file);
     return 0;
 }
 
 static size_t is_held(int file)
 {
-    return is_end(file) && !end_is_alone(file);
+    return end_is_ours(file) && !end_is_alone(file);
 }
 
 size_t service_ends(void)

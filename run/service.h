@@ -25,8 +25,11 @@ void service_remove(struct service *service);
 /* Forks a process that shares this one's descriptors: what either opens stays open, whatever becomes of the other. */
 pid_t service_share(void);
 
-/* After the server was lost: kills whoever used it, and all that this process started. */
-void service_kill_users(struct service *service);
+/* Whether the server goes on: it has neither ended in order nor been lost. */
+bool service_is_there(const struct service *service);
+/* After the server was lost: kill whoever has a connection, and with these all that this process started. */
+void service_kill_clients(const struct service *service);
+void service_kill_users(const struct service *service);
 /* How many ends the service holds, which are open here too. */
 size_t service_ends(void);
 /* After the server was lost: closes what it was about to give, and returns for how many of its ends somebody has the other. */

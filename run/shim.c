@@ -146,6 +146,9 @@ int shim_ask(struct bim_request *request, int passed, struct bim_answer *answer,
     if (!alone)
         lock_give(&own->lock);
     is_inside = false;
+    /* A process in another root, say, may well close what it has. */
+    if (error == ENOTCONN && request->op != BIM_OP_GONE)
+        shim_lost("the service can't be reached, since it has ended or its socket is out of reach");
     return error;
 }
 

@@ -219,11 +219,6 @@ int supervise(const struct options *options, const char *trace)
     return status == BIM_LOST ? status : report(options, trace, status);
 }
 
-static bool server_is_there(void)
-{
-    return !service.board->has_ended && kill(service.server, 0) == 0;
-}
-
 static void look_again(void)
 {
     call_poll(NULL, 0, MILLISECONDS_BETWEEN_LOOKS);
@@ -232,13 +227,11 @@ static void look_again(void)
 /* Keeps the descriptors while the server is there; if it is lost, ends whoever uses it, and keeps them for those who only wait. */
 static void hold(void)
 {
-    while (server_is_there())
+    while (service_is_there(&service))
         look_again();
     if (service.board->has_ended)
         return;
-    for (size_t i = 0; i < BOARD_CLIENTS; i++)
-        if (service.board->clients[i] > 0)
-            kill(service.board->clients[i], SIGKILL);
+    service_kill_clients(&service);
     while (service_held_ends() > 0)
         look_again();
     service_remove(&service);

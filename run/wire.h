@@ -21,6 +21,7 @@ enum bim_mark {
     BIM_FILE_MARK = S_IFIFO | S_ISVTX | 0400,
     BIM_BUFFER_MARK = S_IFSOCK | S_ISVTX | 0600,
     BIM_BUFFER_END_MARK = S_IFSOCK | S_ISVTX | 0200, /* of the service's end */
+    BIM_MEMORY_MARK = S_IFREG | S_ISVTX | 0200,      /* of the memory of a buffer */
     BIM_HEAP_MARK = S_IFREG | S_ISVTX | 0600
 };
 
