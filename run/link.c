@@ -9,8 +9,8 @@
 #include <sys/resource.h>
 #include <sys/un.h>
 
-/* The connection has a high number, so that a process that ends closes it last, and programs don't meet it. The kernel's table grows
- * with the highest. */
+/* The connection has a high number, so that a process that ends closes it last, and programs don't meet it. The
+ * kernel's table grows with the highest. */
 enum { HIGHEST = 65536, BELOW_LIMIT = 8 };
 
 static _Atomic int connection = -1, bell = -1;
@@ -90,7 +90,10 @@ static void set_control(struct msghdr *message, struct cmsghdr *head, int passed
 
 static void send_request(const struct bim_request *request, int passed)
 {
-    union { struct cmsghdr head; char room[CMSG_SPACE(sizeof(int))]; } control = { .room = { 0 } };
+    union {
+        struct cmsghdr head;
+        char room[CMSG_SPACE(sizeof(int))];
+    } control = { .room = { 0 } };
     struct iovec bytes = { (void *)request, sizeof *request };
     struct msghdr message = { .msg_iov = &bytes, .msg_iovlen = 1 };
 
@@ -114,9 +117,14 @@ static int given_by(struct msghdr *message)
 
 static int take_answer(struct bim_answer *answer, int *given)
 {
-    union { struct cmsghdr head; char room[CMSG_SPACE(sizeof(int))]; } control = { .room = { 0 } };
+    union {
+        struct cmsghdr head;
+        char room[CMSG_SPACE(sizeof(int))];
+    } control = { .room = { 0 } };
     struct iovec bytes = { answer, sizeof *answer };
-    struct msghdr message = { .msg_iov = &bytes, .msg_iovlen = 1, .msg_control = control.room, .msg_controllen = sizeof control.room };
+    struct msghdr message = {
+        .msg_iov = &bytes, .msg_iovlen = 1, .msg_control = control.room, .msg_controllen = sizeof control.room
+    };
     ssize_t length;
 
     while ((length = syscall(SYS_recvmsg, connection, &message, MSG_CMSG_CLOEXEC)) < 0 && errno == EINTR) {}
@@ -192,7 +200,8 @@ static void check(void)
 
 static bool gives_none(const struct bim_request *request)
 {
-    return request->op == BIM_OP_INC || request->op == BIM_OP_INFO || request->op == BIM_OP_GONE || request->op == BIM_OP_WAIT;
+    return request->op == BIM_OP_INC || request->op == BIM_OP_INFO || request->op == BIM_OP_GONE ||
+           request->op == BIM_OP_WAIT;
 }
 
 static int ask(const struct bim_request *request, int passed, struct bim_answer *answer, int *given)
@@ -224,10 +233,4 @@ static int above_own(void)
     return (connection > bell ? connection : bell) + 1;
 }
 
-/* What others have made may be this process's by inheritance. */
-static bool is_idle(void)
-{
-    return false;
-}
-
-const struct way LINK = { prepare, ask, ask_apart, leave, is_own, above_own, is_idle, true, NULL, get_page };
+const struct way LINK = { prepare, ask, ask_apart, leave, is_own, above_own, true, NULL, get_page };

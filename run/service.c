@@ -19,7 +19,8 @@ enum { WAITING = 128 };
 
 static int make_folder(struct service *service, const char *in)
 {
-    if (!in || snprintf(service->folder, sizeof service->folder, "%s/bimphlai-run.XXXXXX", in) >= (int)sizeof service->folder)
+    if (!in ||
+        snprintf(service->folder, sizeof service->folder, "%s/bimphlai-run.XXXXXX", in) >= (int)sizeof service->folder)
         return ENAMETOOLONG;
     return mkdtemp(service->folder) ? 0 : errno;
 }
@@ -33,7 +34,8 @@ static int make_socket(struct service *service)
 
     strcpy(at.sun_path, service->socket);
     service->listener = socket(AF_UNIX, SOCK_SEQPACKET | SOCK_CLOEXEC, 0);
-    error = service->listener < 0 || bind(service->listener, (struct sockaddr *)&at, sizeof at) || listen(service->listener, WAITING);
+    error = service->listener < 0 || bind(service->listener, (struct sockaddr *)&at, sizeof at) ||
+            listen(service->listener, WAITING);
     error = error ? errno : 0;
     umask(mask);
     return error;
@@ -81,7 +83,8 @@ pid_t service_share(void)
 
 int service_start(struct service *service, const char *trace)
 {
-    struct server_setup setup = { getpid(), service->listener, service->said, service->folder, service->socket, trace, service->board };
+    struct server_setup setup = { getpid(), service->listener, service->said, service->folder, service->socket,
+                                  trace,    service->board };
 
     fflush(NULL);
     service->server = service_share();
