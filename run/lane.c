@@ -62,7 +62,7 @@ struct lane *lane_open(int memory)
     return lane;
 }
 
-void lane_ask(struct lane *lane, int bell, const struct bim_request *request, struct bim_answer *answer,
+bool lane_ask(struct lane *lane, int bell, const struct bim_request *request, struct bim_answer *answer,
               void (*check)(void))
 {
     static const struct timespec LIMIT = { SECONDS_BETWEEN_CHECKS, 0 };
@@ -78,4 +78,5 @@ void lane_ask(struct lane *lane, int bell, const struct bim_request *request, st
     if (answer->rows <= BIM_ROWS)
         memcpy(answer->row, lane->answer.row, answer->rows * sizeof answer->row[0]);
     lane->turn = LANE_IS_FREE;
+    return true;
 }

@@ -25,8 +25,9 @@ void lane_answer(struct lane *lane, const struct bim_answer *answer);
 
 /* The process's side, which children don't get. */
 struct lane *lane_open(int memory);
-/* Asks, and waits for the answer. `check` is called from time to time, and doesn't return if the server is lost. */
-void lane_ask(struct lane *lane, int bell, const struct bim_request *request, struct bim_answer *answer,
+/* Asks, and waits for the answer. `check` is called from time to time, and doesn't return if the server is lost.
+ * Returns whether there is a bell of that number. */
+bool lane_ask(struct lane *lane, int bell, const struct bim_request *request, struct bim_answer *answer,
               void (*check)(void));
 
 #endif

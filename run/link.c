@@ -88,7 +88,8 @@ static void set_control(struct msghdr *message, struct cmsghdr *head, int passed
     memcpy(CMSG_DATA(head), &passed, sizeof passed);
 }
 
-static void send_request(const struct bim_request *request, int passed)
+/* Returns whether the connection is still this process's. */
+static bool send_request(const struct bim_request *request, int passed)
 {
     union {
         struct cmsghdr head;
@@ -99,9 +100,13 @@ static void send_request(const struct bim_request *request, int passed)
 
     if (passed >= 0)
         set_control(&message, &control.head, passed);
-    while (syscall(SYS_sendmsg, connection, &message, MSG_NOSIGNAL) != (ssize_t)sizeof *request)
+    while (syscall(SYS_sendmsg, connection, &message, MSG_NOSIGNAL) != (ssize_t)sizeof *request) {
+        if (errno == EBADF)
+            return false;
         if (errno != EINTR)
             shim_lost("the service doesn't answer any more");
+    }
+    return true;
 }
 
 /* The descriptor of a message, or -1. */
@@ -137,8 +142,7 @@ static int take_answer(struct bim_answer *answer, int *given)
 
 static int ask_by_socket(const struct bim_request *request, int passed, struct bim_answer *answer, int *given)
 {
-    send_request(request, passed);
-    return take_answer(answer, given);
+    return send_request(request, passed) ? take_answer(answer, given) : ENOTCONN;
 }
 
 /* Asks for a descriptor that belongs to the connection; returns -1 if there is none. */
@@ -204,12 +208,25 @@ static bool gives_none(const struct bim_request *request)
            request->op == BIM_OP_WAIT;
 }
 
-static int ask(const struct bim_request *request, int passed, struct bim_answer *answer, int *given)
+/* Returns ENOTCONN if the program has closed the connection or the bell by a call that we don't see. */
+static int try_to_ask(const struct bim_request *request, int passed, struct bim_answer *answer, int *given)
 {
     if (!lane || !gives_none(request))
         return ask_by_socket(request, passed, answer, given);
-    lane_ask(lane, bell, request, answer, check);
+    if (!lane_ask(lane, bell, request, answer, check))
+        return ENOTCONN;
     return answer->gives ? ask_by_socket(request, passed, answer, given) : answer->error;
+}
+
+static int ask(const struct bim_request *request, int passed, struct bim_answer *answer, int *given)
+{
+    int error = try_to_ask(request, passed, answer, given);
+
+    if (error != ENOTCONN)
+        return error;
+    leave();
+    error = prepare(NULL);
+    return error ? error : try_to_ask(request, passed, answer, given);
 }
 
 /* By a connection for this request alone, beside that of the request which was interrupted. */

@@ -5,6 +5,7 @@
 
 #include "calls.h"
 #include "clients.h"
+#include "process.h"
 
 #include <errno.h>
 #include <stdio.h>
@@ -206,7 +207,7 @@ static bool program_is_left(const struct server *server)
 {
     pid_t program = server->setup->board->program;
 
-    return is_left(server) && program > 0 && kill(program, 0) == 0;
+    return is_left(server) && program > 0 && process_goes_on(program);
 }
 
 static void remove_folder(const struct server_setup *setup)
