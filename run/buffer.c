@@ -12,6 +12,12 @@
 static const int USAGES[ACCESSES] = { [READING] = BIM_WRITE, [WRITING] = BIM_READ };
 static const uint32_t AWAITS[ACCESSES] = { [READING] = BIM_SYNC_READ, [WRITING] = BIM_SYNC_WRITE };
 
+/* The kernel gives no buffer more memory than there is. */
+static bool is_too_large(uint64_t size)
+{
+    return size / sysconf(_SC_PAGESIZE) > (uint64_t)sysconf(_SC_PHYS_PAGES);
+}
+
 static int make_memory(struct keeper *keeper, uint64_t size)
 {
     int memory;
@@ -21,13 +27,13 @@ static int make_memory(struct keeper *keeper, uint64_t size)
     if (memory >= 0)
         memory = keeper->host->place(memory);
     keeper->host->end_files();
-
-    if (memory >= 0 && (size > INT64_MAX || ftruncate(memory, size) || fchmod(memory, BIM_MEMORY_MARK & ~S_IFMT))) {
-        call_close(memory);
-        errno = ENOMEM;
+    if (memory < 0)
         return -1;
-    }
-    return memory;
+    if (!is_too_large(size) && ftruncate(memory, size) == 0 && fchmod(memory, BIM_MEMORY_MARK & ~S_IFMT) == 0)
+        return memory;
+    call_close(memory);
+    errno = ENOMEM;
+    return -1;
 }
 
 int buffer_make(struct keeper *keeper, const struct bim_request *request, int *gives)

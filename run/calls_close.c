@@ -6,16 +6,15 @@
 #include <errno.h>
 #include <limits.h>
 
-/* What is closed, if the service is to be told of it. The closing of a file changes nothing that a program sees, but a trace. */
+/* What is closed, if the service is to be told of it. */
 static uint64_t closing(int file)
 {
     uint64_t inode;
+    enum bim_mark mark = shim_mark(file, &inode);
 
-    switch (shim_mark(file, &inode)) {
-    case BIM_TIMELINE_MARK: return inode;
-    case BIM_FILE_MARK: case BIM_BUFFER_MARK: return shim_tells_closings() ? inode : 0;
-    default: return 0;
-    }
+    if (mark != BIM_TIMELINE_MARK && mark != BIM_FILE_MARK && mark != BIM_BUFFER_MARK)
+        return 0;
+    return shim_hears_closing(mark == BIM_TIMELINE_MARK) ? inode : 0;
 }
 
 static void tell(uint64_t inode)

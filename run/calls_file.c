@@ -1,4 +1,5 @@
-/* What else programs do with descriptors: Linux's sync files can be neither read nor written, and its dma-bufs can be mapped. */
+/* What else programs do with descriptors: Linux's sync files can be neither read nor written, and its dma-bufs can be
+ * mapped. */
 #define _GNU_SOURCE
 #include "calls.h"
 #include "shim.h"
@@ -102,15 +103,15 @@ static void *map(void *at, size_t length, int protection, int flags, int file, o
     return mapped;
 }
 
-#define MMAP(name)                                                                                             \
-    EXPORT void *name(void *at, size_t length, int protection, int flags, int file, off_t from)               \
-    {                                                                                                          \
-        NEXT(name);                                                                                            \
-        void *mapped = next(at, length, protection, flags, file, from);                                       \
-                                                                                                               \
-        if (mapped != MAP_FAILED || errno != ENODEV || flags & MAP_ANONYMOUS)                                  \
-            return mapped;                                                                                     \
-        return map(at, length, protection, flags, file, from);                                                 \
+#define MMAP(name)                                                                              \
+    EXPORT void *name(void *at, size_t length, int protection, int flags, int file, off_t from) \
+    {                                                                                           \
+        NEXT(name);                                                                             \
+        void *mapped = next(at, length, protection, flags, file, from);                         \
+                                                                                                \
+        if (mapped != MAP_FAILED || errno != ENODEV || flags & MAP_ANONYMOUS)                   \
+            return mapped;                                                                      \
+        return map(at, length, protection, flags, file, from);                                  \
     }
 
 MMAP(mmap)
@@ -130,12 +131,12 @@ static off_t seek(int file, off_t to, int whence)
     return whence == SEEK_END ? (off_t)buffer.size : 0;
 }
 
-#define LSEEK(name)                                                   \
-    EXPORT off_t name(int file, off_t to, int whence)                 \
-    {                                                                 \
-        NEXT(name);                                                   \
-        off_t at = next(file, to, whence);                            \
-                                                                      \
+#define LSEEK(name)                                                     \
+    EXPORT off_t name(int file, off_t to, int whence)                   \
+    {                                                                   \
+        NEXT(name);                                                     \
+        off_t at = next(file, to, whence);                              \
+                                                                        \
         return at < 0 && errno == ESPIPE ? seek(file, to, whence) : at; \
     }
 
@@ -155,12 +156,12 @@ static int add_size(int file, struct stat *found)
     return 0;
 }
 
-#define FSTAT(name, type)                                             \
-    EXPORT int name(int file, struct type *found)                     \
-    {                                                                 \
-        NEXT(name);                                                   \
-        int result = next(file, found);                               \
-                                                                      \
+#define FSTAT(name, type)                                              \
+    EXPORT int name(int file, struct type *found)                      \
+    {                                                                  \
+        NEXT(name);                                                    \
+        int result = next(file, found);                                \
+                                                                       \
         return result ? result : add_size(file, (struct stat *)found); \
     }
 

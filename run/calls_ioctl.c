@@ -20,7 +20,7 @@ struct create_fence {
     int32_t fence;
 };
 #define CREATE_FENCE _IOWR('W', 0, struct create_fence)
-#define INC _IOW('W', 1, uint32_t)
+#define INC          _IOW('W', 1, uint32_t)
 
 /* Headers that are older lack these. */
 struct set_deadline {
@@ -30,7 +30,7 @@ struct sync_file_of_buffer {
     uint32_t flags;
     int32_t fd;
 };
-#define SET_DEADLINE _IOW('>', 5, struct set_deadline)
+#define SET_DEADLINE     _IOW('>', 5, struct set_deadline)
 #define EXPORT_SYNC_FILE _IOWR('b', 2, struct sync_file_of_buffer)
 #define IMPORT_SYNC_FILE _IOW('b', 3, struct sync_file_of_buffer)
 
@@ -158,7 +158,8 @@ static int allocate(void *arg)
 
     if (error)
         return error;
-    if (data.fd || data.fd_flags & ~(uint32_t)(O_CLOEXEC | O_ACCMODE) || data.heap_flags || data.len == 0 || data.len > UINT64_MAX - page)
+    if (data.fd || data.fd_flags & ~(uint32_t)(O_CLOEXEC | O_ACCMODE) || data.heap_flags || data.len == 0 ||
+        data.len > UINT64_MAX - page)
         return EINVAL;
     request.size = (data.len + page - 1) / page * page;
     request.flags = data.fd_flags & O_ACCMODE;
@@ -174,7 +175,8 @@ static int allocate(void *arg)
     return error;
 }
 
-/* Waits as an interruptible wait of the kernel's does: by a read, which a signal handler interrupts or not, as it asked for. */
+/* Waits as an interruptible wait of the kernel's does: by a read, which a signal handler interrupts or not, as it asked
+ * for. */
 static int wait_for(struct bim_request *request)
 {
     char byte;
@@ -269,7 +271,8 @@ static int on_buffer(int file, uint64_t inode, unsigned long call, void *arg)
 {
     switch (call) {
     case DMA_BUF_IOCTL_SYNC: return access_buffer(file, inode, arg);
-    case DMA_BUF_SET_NAME_A: case DMA_BUF_SET_NAME_B: return set_name(inode, arg);
+    case DMA_BUF_SET_NAME_A:
+    case DMA_BUF_SET_NAME_B: return set_name(inode, arg);
     case EXPORT_SYNC_FILE: return export_file(inode, arg);
     case IMPORT_SYNC_FILE: return import_file(file, inode, arg);
     default: return ENOTTY;
@@ -280,7 +283,10 @@ static int on_buffer(int file, uint64_t inode, unsigned long call, void *arg)
 static bool is_ours(unsigned long call)
 {
     switch (_IOC_TYPE(call)) {
-    case 'W': case '>': case 'b': case 'H': return true;
+    case 'W':
+    case '>':
+    case 'b':
+    case 'H': return true;
     default: return false;
     }
 }

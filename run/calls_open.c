@@ -80,39 +80,39 @@ static bool makes_files(int flags)
     return flags & (O_CREAT | __O_TMPFILE);
 }
 
-#define MODE_OF(flags)                 \
-    mode_t mode = 0;                   \
-    if (makes_files(flags)) {          \
-        va_list words;                 \
-        va_start(words, flags);        \
-        mode = va_arg(words, mode_t);  \
-        va_end(words);                 \
+#define MODE_OF(flags)                \
+    mode_t mode = 0;                  \
+    if (makes_files(flags)) {         \
+        va_list words;                \
+        va_start(words, flags);       \
+        mode = va_arg(words, mode_t); \
+        va_end(words);                \
     }
 
-#define OPEN(name)                                                                     \
-    EXPORT int name(const char *path, int flags, ...)                                  \
-    {                                                                                  \
-        NEXT(name);                                                                    \
-        MODE_OF(flags)                                                                 \
-        enum path which = makes_files(flags) ? path_before(path) : NOT_OURS;           \
-        int file = which ? -1 : next(path, flags, mode);                               \
-                                                                                       \
-        if (!which && !makes_files(flags))                                             \
-            which = path_after(path, file < 0);                                        \
-        return which ? replace_file(which, flags, file) : file;                        \
+#define OPEN(name)                                                           \
+    EXPORT int name(const char *path, int flags, ...)                        \
+    {                                                                        \
+        NEXT(name);                                                          \
+        MODE_OF(flags)                                                       \
+        enum path which = makes_files(flags) ? path_before(path) : NOT_OURS; \
+        int file = which ? -1 : next(path, flags, mode);                     \
+                                                                             \
+        if (!which && !makes_files(flags))                                   \
+            which = path_after(path, file < 0);                              \
+        return which ? replace_file(which, flags, file) : file;              \
     }
 
-#define OPENAT(name)                                                                   \
-    EXPORT int name(int folder, const char *path, int flags, ...)                      \
-    {                                                                                  \
-        NEXT(name);                                                                    \
-        MODE_OF(flags)                                                                 \
-        enum path which = makes_files(flags) ? path_before(path) : NOT_OURS;           \
-        int file = which ? -1 : next(folder, path, flags, mode);                       \
-                                                                                       \
-        if (!which && !makes_files(flags))                                             \
-            which = path_after(path, file < 0);                                        \
-        return which ? replace_file(which, flags, file) : file;                        \
+#define OPENAT(name)                                                         \
+    EXPORT int name(int folder, const char *path, int flags, ...)            \
+    {                                                                        \
+        NEXT(name);                                                          \
+        MODE_OF(flags)                                                       \
+        enum path which = makes_files(flags) ? path_before(path) : NOT_OURS; \
+        int file = which ? -1 : next(folder, path, flags, mode);             \
+                                                                             \
+        if (!which && !makes_files(flags))                                   \
+            which = path_after(path, file < 0);                              \
+        return which ? replace_file(which, flags, file) : file;              \
     }
 
 OPEN(open)
@@ -185,21 +185,22 @@ static int fill_stat(struct stat *found, enum path path)
 
 static int fill_statx(struct statx *found, enum path path)
 {
-    struct statx filled = { .stx_mask = STATX_BASIC_STATS, .stx_mode = mode_of(path), .stx_nlink = 1,
-                            .stx_blksize = sysconf(_SC_PAGESIZE) };
+    struct statx filled = {
+        .stx_mask = STATX_BASIC_STATS, .stx_mode = mode_of(path), .stx_nlink = 1, .stx_blksize = sysconf(_SC_PAGESIZE)
+    };
 
     return shim_result(user_put(found, &filled, sizeof filled));
 }
 
 /* On machines with 64 bits, both structs are the same. */
-#define STAT(name, type)                                                  \
-    EXPORT int name(const char *path, struct type *found)                 \
-    {                                                                     \
-        NEXT(name);                                                       \
-        int result = next(path, found);                                   \
-        enum path which = path_after(path, result < 0);                   \
-                                                                          \
-        return which ? fill_stat((struct stat *)found, which) : result;   \
+#define STAT(name, type)                                                \
+    EXPORT int name(const char *path, struct type *found)               \
+    {                                                                   \
+        NEXT(name);                                                     \
+        int result = next(path, found);                                 \
+        enum path which = path_after(path, result < 0);                 \
+                                                                        \
+        return which ? fill_stat((struct stat *)found, which) : result; \
     }
 
 STAT(stat, stat)
@@ -207,29 +208,29 @@ STAT(stat64, stat64)
 STAT(lstat, stat)
 STAT(lstat64, stat64)
 
-#define FSTATAT(name, type)                                                            \
-    EXPORT int name(int folder, const char *path, struct type *found, int flags)       \
-    {                                                                                  \
-        NEXT(name);                                                                    \
-        int result = next(folder, path, found, flags);                                 \
-        enum path which = path_after(path, result < 0);                                \
-                                                                                       \
-        return which ? fill_stat((struct stat *)found, which) : result;                \
+#define FSTATAT(name, type)                                                      \
+    EXPORT int name(int folder, const char *path, struct type *found, int flags) \
+    {                                                                            \
+        NEXT(name);                                                              \
+        int result = next(folder, path, found, flags);                           \
+        enum path which = path_after(path, result < 0);                          \
+                                                                                 \
+        return which ? fill_stat((struct stat *)found, which) : result;          \
     }
 
 FSTATAT(fstatat, stat)
 FSTATAT(fstatat64, stat64)
 
 /* What programs call that were built with an older C library. */
-#define XSTAT(name, type)                                                 \
-    int name(int version, const char *path, struct type *found);          \
-    EXPORT int name(int version, const char *path, struct type *found)    \
-    {                                                                     \
-        NEXT(name);                                                       \
-        int result = next(version, path, found);                          \
-        enum path which = path_after(path, result < 0);                   \
-                                                                          \
-        return which ? fill_stat((struct stat *)found, which) : result;   \
+#define XSTAT(name, type)                                               \
+    int name(int version, const char *path, struct type *found);        \
+    EXPORT int name(int version, const char *path, struct type *found)  \
+    {                                                                   \
+        NEXT(name);                                                     \
+        int result = next(version, path, found);                        \
+        enum path which = path_after(path, result < 0);                 \
+                                                                        \
+        return which ? fill_stat((struct stat *)found, which) : result; \
     }
 
 XSTAT(__xstat, stat)

@@ -75,7 +75,8 @@ EXPORT int __poll_chk(struct pollfd *files, nfds_t count, int milliseconds, size
     return result;
 }
 
-EXPORT int __ppoll_chk(struct pollfd *files, nfds_t count, const struct timespec *limit, const sigset_t *mask, size_t room)
+EXPORT int __ppoll_chk(struct pollfd *files, nfds_t count, const struct timespec *limit, const sigset_t *mask,
+                       size_t room)
 {
     NEXT(__ppoll_chk);
     uint64_t noted = waits(limit) ? begin_waits(files, count) : 0;
@@ -108,7 +109,8 @@ EXPORT int select(int count, fd_set *readable, fd_set *writable, fd_set *others,
     return result;
 }
 
-EXPORT int pselect(int count, fd_set *readable, fd_set *writable, fd_set *others, const struct timespec *limit, const sigset_t *mask)
+EXPORT int pselect(int count, fd_set *readable, fd_set *writable, fd_set *others, const struct timespec *limit,
+                   const sigset_t *mask)
 {
     NEXT(pselect);
     struct pollfd files[NOTED];

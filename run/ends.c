@@ -38,16 +38,21 @@ int ends_pipe(struct ends *ends, enum bim_mark mark)
     return mark_ends(ends, mark);
 }
 
+/* The program's end is marked first, so that nobody takes the other for one that somebody has. */
 int ends_sockets(struct ends *ends)
 {
-    int pair[2], least = 1;
+    int pair[2], least = 1, error;
 
     if (socketpair(AF_UNIX, SOCK_STREAM | SOCK_CLOEXEC, 0, pair))
         return errno;
     *ends = (struct ends){ pair[0], pair[1], 0 };
-    if (setsockopt(ends->theirs, SOL_SOCKET, SO_SNDBUF, &least, sizeof least) || fchmod(ends->ours, BIM_BUFFER_END_MARK & ~S_IFMT))
+    error = mark_ends(ends, BIM_BUFFER_MARK);
+    if (error)
+        return error;
+    if (setsockopt(ends->theirs, SOL_SOCKET, SO_SNDBUF, &least, sizeof least) ||
+        fchmod(ends->ours, BIM_BUFFER_END_MARK & ~S_IFMT))
         return give_up(ends, errno);
-    return mark_ends(ends, BIM_BUFFER_MARK);
+    return 0;
 }
 
 void ends_close(struct ends *ends)
@@ -72,10 +77,13 @@ enum bim_mark end_mark(int file, uint64_t *inode)
         return 0;
     *inode = found.st_ino;
     switch (found.st_mode) {
-    case BIM_TIMELINE_MARK: case BIM_FILE_MARK: case BIM_BUFFER_MARK: case BIM_BUFFER_END_MARK: case BIM_MEMORY_MARK:
+    case BIM_TIMELINE_MARK:
+    case BIM_FILE_MARK:
+    case BIM_BUFFER_MARK:
+    case BIM_BUFFER_END_MARK:
+    case BIM_MEMORY_MARK:
     case BIM_HEAP_MARK: return found.st_mode;
-    default:
-        return 0;
+    default: return 0;
     }
 }
 
@@ -84,7 +92,8 @@ bool end_is_ours(int file)
     uint64_t inode;
 
     switch (end_mark(file, &inode)) {
-    case BIM_TIMELINE_MARK: case BIM_FILE_MARK: return (syscall(SYS_fcntl, file, F_GETFL) & O_ACCMODE) == O_WRONLY;
+    case BIM_TIMELINE_MARK:
+    case BIM_FILE_MARK: return (syscall(SYS_fcntl, file, F_GETFL) & O_ACCMODE) == O_WRONLY;
     case BIM_BUFFER_END_MARK: return true;
     default: return false;
     }

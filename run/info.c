@@ -76,7 +76,8 @@ static int status_of_all(struct keeper *keeper, uint64_t number, int32_t *status
     return error;
 }
 
-int info_of_file(struct keeper *keeper, const struct bim_request *request, struct object *file, struct bim_answer *answer, int *gives)
+int info_of_file(struct keeper *keeper, const struct bim_request *request, struct object *file,
+                 struct bim_answer *answer, int *gives)
 {
     bim_device_file_info info;
     int error = ask(keeper, file->number, &info);

@@ -25,7 +25,8 @@ struct lane *lane_new(int *memory)
     *memory = memfd_create("bimphlai-run", MFD_CLOEXEC | MFD_ALLOW_SEALING);
     if (*memory < 0)
         return NULL;
-    if (ftruncate(*memory, sizeof *lane) == 0 && fcntl(*memory, F_ADD_SEALS, F_SEAL_SHRINK | F_SEAL_GROW | F_SEAL_SEAL) == 0)
+    if (ftruncate(*memory, sizeof *lane) == 0 &&
+        fcntl(*memory, F_ADD_SEALS, F_SEAL_SHRINK | F_SEAL_GROW | F_SEAL_SEAL) == 0)
         lane = map_lane(*memory);
     if (!lane)
         call_close(*memory);
@@ -61,7 +62,8 @@ struct lane *lane_open(int memory)
     return lane;
 }
 
-void lane_ask(struct lane *lane, int bell, const struct bim_request *request, struct bim_answer *answer, void (*check)(void))
+bool lane_ask(struct lane *lane, int bell, const struct bim_request *request, struct bim_answer *answer,
+              void (*check)(void))
 {
     static const struct timespec LIMIT = { SECONDS_BETWEEN_CHECKS, 0 };
     uint64_t one = 1;
@@ -76,4 +78,5 @@ void lane_ask(struct lane *lane, int bell, const struct bim_request *request, st
     if (answer->rows <= BIM_ROWS)
         memcpy(answer->row, lane->answer.row, answer->rows * sizeof answer->row[0]);
     lane->turn = LANE_IS_FREE;
+    return true;
 }

@@ -1,5 +1,5 @@
-/* A lane: memory that a process shares with its server, for requests that take no descriptor along and give none. A lane and a bell,
- * which is an eventfd, take half the time of a socket. */
+/* A lane: memory that a process shares with its server, for requests that take no descriptor along and give none. A
+ * lane and a bell, which is an eventfd, take half the time of a socket. */
 #ifndef BIM_RUN_LANE_H
 #define BIM_RUN_LANE_H
 
@@ -25,7 +25,9 @@ void lane_answer(struct lane *lane, const struct bim_answer *answer);
 
 /* The process's side, which children don't get. */
 struct lane *lane_open(int memory);
-/* Asks, and waits for the answer. `check` is called from time to time, and doesn't return if the server is lost. */
-void lane_ask(struct lane *lane, int bell, const struct bim_request *request, struct bim_answer *answer, void (*check)(void));
+/* Asks, and waits for the answer. `check` is called from time to time, and doesn't return if the server is lost.
+ * Returns whether there is a bell of that number. */
+bool lane_ask(struct lane *lane, int bell, const struct bim_request *request, struct bim_answer *answer,
+              void (*check)(void));
 
 #endif

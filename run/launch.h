@@ -9,7 +9,8 @@ enum { STATUS_FAULT = 125 };
 
 /* Says on standard error why something can't be done, and returns STATUS_FAULT. */
 int fault(const char *what, int error);
-/* The path of a file beside this program, in the first of these folders that has it, as found from its own; false if none has. */
+/* The path of a file beside this program, in the first of these folders that has it, as found from its own; false if
+ * none has. */
 bool find_beside(const char *const folders[], const char *name, char *path);
 
 /* Sets the environment in which programs have the service. Returns 0 or STATUS_FAULT. */

@@ -9,8 +9,8 @@
 #include <sys/resource.h>
 #include <sys/un.h>
 
-/* The connection has a high number, so that a process that ends closes it last, and programs don't meet it. The kernel's table grows
- * with the highest. */
+/* The connection has a high number, so that a process that ends closes it last, and programs don't meet it. The
+ * kernel's table grows with the highest. */
 enum { HIGHEST = 65536, BELOW_LIMIT = 8 };
 
 static _Atomic int connection = -1, bell = -1;
@@ -88,17 +88,25 @@ static void set_control(struct msghdr *message, struct cmsghdr *head, int passed
     memcpy(CMSG_DATA(head), &passed, sizeof passed);
 }
 
-static void send_request(const struct bim_request *request, int passed)
+/* Returns whether the connection is still this process's. */
+static bool send_request(const struct bim_request *request, int passed)
 {
-    union { struct cmsghdr head; char room[CMSG_SPACE(sizeof(int))]; } control = { .room = { 0 } };
+    union {
+        struct cmsghdr head;
+        char room[CMSG_SPACE(sizeof(int))];
+    } control = { .room = { 0 } };
     struct iovec bytes = { (void *)request, sizeof *request };
     struct msghdr message = { .msg_iov = &bytes, .msg_iovlen = 1 };
 
     if (passed >= 0)
         set_control(&message, &control.head, passed);
-    while (syscall(SYS_sendmsg, connection, &message, MSG_NOSIGNAL) != (ssize_t)sizeof *request)
+    while (syscall(SYS_sendmsg, connection, &message, MSG_NOSIGNAL) != (ssize_t)sizeof *request) {
+        if (errno == EBADF)
+            return false;
         if (errno != EINTR)
             shim_lost("the service doesn't answer any more");
+    }
+    return true;
 }
 
 /* The descriptor of a message, or -1. */
@@ -114,9 +122,14 @@ static int given_by(struct msghdr *message)
 
 static int take_answer(struct bim_answer *answer, int *given)
 {
-    union { struct cmsghdr head; char room[CMSG_SPACE(sizeof(int))]; } control = { .room = { 0 } };
+    union {
+        struct cmsghdr head;
+        char room[CMSG_SPACE(sizeof(int))];
+    } control = { .room = { 0 } };
     struct iovec bytes = { answer, sizeof *answer };
-    struct msghdr message = { .msg_iov = &bytes, .msg_iovlen = 1, .msg_control = control.room, .msg_controllen = sizeof control.room };
+    struct msghdr message = {
+        .msg_iov = &bytes, .msg_iovlen = 1, .msg_control = control.room, .msg_controllen = sizeof control.room
+    };
     ssize_t length;
 
     while ((length = syscall(SYS_recvmsg, connection, &message, MSG_CMSG_CLOEXEC)) < 0 && errno == EINTR) {}
@@ -129,8 +142,7 @@ static int take_answer(struct bim_answer *answer, int *given)
 
 static int ask_by_socket(const struct bim_request *request, int passed, struct bim_answer *answer, int *given)
 {
-    send_request(request, passed);
-    return take_answer(answer, given);
+    return send_request(request, passed) ? take_answer(answer, given) : ENOTCONN;
 }
 
 /* Asks for a descriptor that belongs to the connection; returns -1 if there is none. */
@@ -192,15 +204,29 @@ static void check(void)
 
 static bool gives_none(const struct bim_request *request)
 {
-    return request->op == BIM_OP_INC || request->op == BIM_OP_INFO || request->op == BIM_OP_GONE || request->op == BIM_OP_WAIT;
+    return request->op == BIM_OP_INC || request->op == BIM_OP_INFO || request->op == BIM_OP_GONE ||
+           request->op == BIM_OP_WAIT;
+}
+
+/* Returns ENOTCONN if the program has closed the connection or the bell by a call that we don't see. */
+static int try_to_ask(const struct bim_request *request, int passed, struct bim_answer *answer, int *given)
+{
+    if (!lane || !gives_none(request))
+        return ask_by_socket(request, passed, answer, given);
+    if (!lane_ask(lane, bell, request, answer, check))
+        return ENOTCONN;
+    return answer->gives ? ask_by_socket(request, passed, answer, given) : answer->error;
 }
 
 static int ask(const struct bim_request *request, int passed, struct bim_answer *answer, int *given)
 {
-    if (!lane || !gives_none(request))
-        return ask_by_socket(request, passed, answer, given);
-    lane_ask(lane, bell, request, answer, check);
-    return answer->gives ? ask_by_socket(request, passed, answer, given) : answer->error;
+    int error = try_to_ask(request, passed, answer, given);
+
+    if (error != ENOTCONN)
+        return error;
+    leave();
+    error = prepare(NULL);
+    return error ? error : try_to_ask(request, passed, answer, given);
 }
 
 /* By a connection for this request alone, beside that of the request which was interrupted. */
@@ -224,10 +250,4 @@ static int above_own(void)
     return (connection > bell ? connection : bell) + 1;
 }
 
-/* What others have made may be this process's by inheritance. */
-static bool is_idle(void)
-{
-    return false;
-}
-
-const struct way LINK = { prepare, ask, ask_apart, leave, is_own, above_own, is_idle, true, NULL, get_page };
+const struct way LINK = { prepare, ask, ask_apart, leave, is_own, above_own, true, NULL, get_page };

@@ -17,7 +17,7 @@ enum { HIGH = 512 };
 static struct keeper keeper;
 static const struct own *own_of_keeper; /* which says whether the keeper is this process's */
 static struct rlimit limit;             /* on the program's descriptors */
-static int lowest = INT_MAX, above;      /* of what the keeper holds */
+static int lowest = INT_MAX, above;     /* of what the keeper holds */
 static bool is_crowded;
 static bool sigpipe_was_pending;
 static sigset_t mask;
@@ -40,8 +40,8 @@ static bool is_own(int file)
     return file >= lowest && is_open() && (end_is_ours(file) || end_mark(file, &inode) == BIM_MEMORY_MARK);
 }
 
-/* What the keeper holds has high numbers. Once these are used up, it has numbers past the program's limit, which is raised for a
- * moment: so it takes none of those that the program may have. */
+/* What the keeper holds has high numbers. Once these are used up, it has numbers past the program's limit, which is
+ * raised for a moment: so it takes none of those that the program may have. */
 static void begin_files(void)
 {
     struct rlimit raised;
@@ -139,7 +139,8 @@ static int ask(const struct bim_request *request, int passed, struct bim_answer 
         keeper_sweep(&keeper);
     keeper_serve(&keeper, request, passed, answer, given);
     /* What seems to be pending may be cancelled by a closing that nobody told. */
-    if (request->op == BIM_OP_INFO && !answer->error && answer->status == BIM_IS_ACTIVE && keeper_sweep_timelines(&keeper))
+    if (request->op == BIM_OP_INFO && !answer->error && answer->status == BIM_IS_ACTIVE &&
+        keeper_sweep_timelines(&keeper))
         keeper_serve(&keeper, request, passed, answer, given);
     return answer->error;
 }
@@ -156,17 +157,13 @@ static int ask_apart(const struct bim_request *request, int passed, struct bim_a
     return EBUSY;
 }
 
-static void leave(void) {}
+static void leave(void)
+{
+}
 
 static int above_own(void)
 {
     return above;
 }
 
-/* Nothing was opened yet. What others have opened is not served. */
-static bool is_idle(void)
-{
-    return false;
-}
-
-const struct way LOCAL = { prepare, ask, ask_apart, leave, is_own, above_own, is_idle, false, before_wait, get_page };
+const struct way LOCAL = { prepare, ask, ask_apart, leave, is_own, above_own, false, before_wait, get_page };

@@ -9,7 +9,7 @@ struct map {
     struct map_entry {
         uint64_t key; /* 0 where there is none */
         void *value;
-    } *entries;
+    } * entries;
     size_t room, count; /* the room is a power of two, or 0 */
 };
 

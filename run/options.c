@@ -18,8 +18,8 @@ static const char HELP[] =
     "  --verbose     says where the service is, and what was left at the end\n"
     "  --help, --version\n"
     "\n"
-    "The status is that of the program; 2 for options that don't fit, 123 if the service was lost, 125 if it can't start,\n"
-    "126 if the program can't be run with it, and 127 if there is no such program.\n";
+    "The status is that of the program; 2 for options that don't fit, 123 if the service was lost, 125 if it can't\n"
+    "start, 126 if the program can't be run with it, and 127 if there is no such program.\n";
 
 enum word { LOCAL = 256, TRACE, REPORT, REQUIRE, VERBOSE, HELP_, VERSION };
 
@@ -48,7 +48,10 @@ static int take(struct options *options, int word)
     case LOCAL: options->is_local = true; return -1;
     case TRACE: options->trace = optarg; return *optarg ? -1 : tell_usage();
     case REPORT: options->reports = true; return -1;
-    case REQUIRE: options->requires = true; return -1;
+    case REQUIRE:
+        options->requires
+        = true;
+        return -1;
     case VERBOSE: options->is_verbose = true; return -1;
     case HELP_: return print(USAGE, HELP);
     case VERSION: return print("bimphlai-run " BIM_VERSION, "\n");

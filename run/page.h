@@ -1,5 +1,6 @@
-/* A page that a service shares with its processes, which they only read: whether there ever was a buffer, and what was reported of
- * files that have signalled, since nothing changes that any more. So these are reported again without a request. */
+/* A page that a service shares with its processes, which they only read: whether there ever was a buffer, and what was
+ * reported of files that have signalled, since nothing changes that any more. So these are reported again without a
+ * request. */
 #ifndef BIM_RUN_PAGE_H
 #define BIM_RUN_PAGE_H
 

@@ -40,7 +40,8 @@ static bool find(const char *program, char *path)
     for (const char *at = folders ? folders : "/bin:/usr/bin"; at; at = strchr(at, ':') ? strchr(at, ':') + 1 : NULL) {
         int length = strcspn(at, ":");
 
-        if (snprintf(path, PATH_MAX, "%.*s%s%s", length, at, length ? "/" : "./", program) < PATH_MAX && is_program(path))
+        if (snprintf(path, PATH_MAX, "%.*s%s%s", length, at, length ? "/" : "./", program) < PATH_MAX &&
+            is_program(path))
             return true;
     }
     return false;
@@ -93,7 +94,8 @@ static bool gains_rights(const char *path)
 
     if (stat(path, &found))
         return false;
-    return (found.st_mode & S_ISUID && found.st_uid != getuid()) || (found.st_mode & S_ISGID && found.st_gid != getgid()) ||
+    return (found.st_mode & S_ISUID && found.st_uid != getuid()) ||
+           (found.st_mode & S_ISGID && found.st_gid != getgid()) ||
            (getuid() != 0 && getxattr(path, "security.capability", NULL, 0) > 0);
 }
 
@@ -121,8 +123,9 @@ static int check_elf(const char *path, const struct image *image)
         return refuse(path, "is a static program, into which no library can be preloaded",
                       "link it dynamically, or build the calls of libbimphlai into it (bimphlai-run(1))");
     if (read_image("/proc/self/exe", &own) && strcmp(name_of(own.loader), name_of(image->loader)) != 0)
-        return refuse(path, "has another loader than bimphlai-run, and the loader preloads nothing for it that is built for ours",
-                      "build both for the same machine and C library");
+        return refuse(
+            path, "has another loader than bimphlai-run, and the loader preloads nothing for it that is built for ours",
+            "build both for the same machine and C library");
     return 0;
 }
 
@@ -132,7 +135,8 @@ int program_check(const char *program)
     struct image image;
 
     if (!find(program, path)) {
-        fprintf(stderr, "bimphlai-run: %s: %s\n", program, strchr(program, '/') ? strerror(ENOENT) : "not found in PATH");
+        fprintf(stderr, "bimphlai-run: %s: %s\n", program,
+                strchr(program, '/') ? strerror(ENOENT) : "not found in PATH");
         return PROGRAM_NOT_FOUND;
     }
     if (!is_program(path)) {

@@ -1,5 +1,5 @@
-/* What the trace and sync/info show: which fences each file holds, and which are pending on each timeline. Statuses, times
- * and names, and what a merge or an export holds for the program, are the device's. */
+/* What the trace and sync/info show: which fences each file holds, and which are pending on each timeline. Statuses,
+ * times and names, and what a merge or an export holds for the program, are the device's. */
 #ifndef BIM_RUN_RECORD_H
 #define BIM_RUN_RECORD_H
 
@@ -16,7 +16,7 @@ struct line {
     uint64_t number;
     int64_t value; /* of which the kernel shows the low 32 bits */
     struct fence *first, *last;
-    bool ends;     /* with its process */
+    bool ends; /* with its process */
 };
 
 /* A fence, which all files of the point share while it is pending, or the array that stands for several. */

@@ -3,6 +3,7 @@
 
 #include "calls.h"
 #include "ends.h"
+#include "process.h"
 
 #include <dirent.h>
 #include <errno.h>
@@ -19,7 +20,8 @@ enum { WAITING = 128 };
 
 static int make_folder(struct service *service, const char *in)
 {
-    if (!in || snprintf(service->folder, sizeof service->folder, "%s/bimphlai-run.XXXXXX", in) >= (int)sizeof service->folder)
+    if (!in ||
+        snprintf(service->folder, sizeof service->folder, "%s/bimphlai-run.XXXXXX", in) >= (int)sizeof service->folder)
         return ENAMETOOLONG;
     return mkdtemp(service->folder) ? 0 : errno;
 }
@@ -33,7 +35,8 @@ static int make_socket(struct service *service)
 
     strcpy(at.sun_path, service->socket);
     service->listener = socket(AF_UNIX, SOCK_SEQPACKET | SOCK_CLOEXEC, 0);
-    error = service->listener < 0 || bind(service->listener, (struct sockaddr *)&at, sizeof at) || listen(service->listener, WAITING);
+    error = service->listener < 0 || bind(service->listener, (struct sockaddr *)&at, sizeof at) ||
+            listen(service->listener, WAITING);
     error = error ? errno : 0;
     umask(mask);
     return error;
@@ -81,7 +84,8 @@ pid_t service_share(void)
 
 int service_start(struct service *service, const char *trace)
 {
-    struct server_setup setup = { getpid(), service->listener, service->said, service->folder, service->socket, trace, service->board };
+    struct server_setup setup = { getpid(), service->listener, service->said, service->folder, service->socket,
+                                  trace,    service->board };
 
     fflush(NULL);
     service->server = service_share();
@@ -94,29 +98,9 @@ int service_start(struct service *service, const char *trace)
     return 0;
 }
 
-/* Reads the state and the parent of a process, by its number in /proc; the parent is 0 if it is gone. */
-static pid_t parent_of(const char *number, char *state)
-{
-    char path[32 + NAME_MAX], text[512] = { 0 };
-    const char *after_name;
-    int parent = 0, file;
-
-    snprintf(path, sizeof path, "/proc/%s/stat", number);
-    file = open(path, O_RDONLY | O_CLOEXEC);
-    if (file < 0)
-        return 0;
-    if (call_read(file, text, sizeof text - 1) > 0 && (after_name = strrchr(text, ')')))
-        sscanf(after_name, ") %c %d", state, &parent);
-    call_close(file);
-    return parent;
-}
-
 bool service_is_there(const struct service *service)
 {
-    char number[16], state = 0;
-
-    snprintf(number, sizeof number, "%d", service->server);
-    return !service->board->has_ended && parent_of(number, &state) != 0 && state != 'Z' && state != 'X';
+    return !service->board->has_ended && process_goes_on(service->server);
 }
 
 /* Kills each child of this process. Their own children become its children then, since it is their reaper. */
@@ -124,10 +108,9 @@ static void kill_children(void)
 {
     DIR *processes = opendir("/proc");
     struct dirent *entry;
-    char state;
 
     while (processes && (entry = readdir(processes)))
-        if (entry->d_name[0] >= '1' && entry->d_name[0] <= '9' && parent_of(entry->d_name, &state) == getpid())
+        if (atoi(entry->d_name) > 0 && process_parent(atoi(entry->d_name)) == getpid())
             kill(atoi(entry->d_name), SIGKILL);
     if (processes)
         closedir(processes);

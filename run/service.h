@@ -32,7 +32,8 @@ void service_kill_clients(const struct service *service);
 void service_kill_users(const struct service *service);
 /* How many ends the service holds, which are open here too. */
 size_t service_ends(void);
-/* After the server was lost: closes what it was about to give, and returns for how many of its ends somebody has the other. */
+/* After the server was lost: closes what it was about to give, and returns for how many of its ends somebody has the
+ * other. */
 size_t service_held_ends(void);
 
 #endif

@@ -21,23 +21,23 @@ void keeper_look(struct keeper *keeper, struct object *object, bool is_told)
         object->line.ends = !is_told;
 }
 
-/* Whoever made it closes it, as far as the trace knows. */
-static void set_closer(struct keeper *keeper, const struct object *object)
+/* Who closes it: whoever told of it, or else whoever made it, as far as the trace knows. */
+static void set_closer(struct keeper *keeper, const struct object *object, const struct who *teller)
 {
     if (!keeper->trace)
         return;
-    keeper->trace->who = object->maker;
+    keeper->trace->who = object->is_told ? *teller : object->maker;
     keeper->trace->now = keeper->now;
 }
 
 /* Returns ENOMEM for a timeline that can't be released yet. */
-static int let_go(struct keeper *keeper, struct object *object)
+static int let_go(struct keeper *keeper, struct object *object, const struct who *teller)
 {
     int error = bim_device_release(&keeper->device, object->number, keeper->now);
 
     if (error)
         return error;
-    set_closer(keeper, object);
+    set_closer(keeper, object, teller);
     keeper->counts[object->kind]--;
     if (object->kind == TIMELINE) {
         record_close(&object->line, keeper->trace);
@@ -52,7 +52,7 @@ static int let_go(struct keeper *keeper, struct object *object)
 }
 
 /* Lets go of those that are timelines, or of those that aren't. What can't be released stays for another time. */
-static void settle(struct keeper *keeper, bool timelines)
+static void settle(struct keeper *keeper, bool timelines, const struct who *teller)
 {
     struct object *left = keeper->closing;
 
@@ -61,7 +61,7 @@ static void settle(struct keeper *keeper, bool timelines)
         struct object *object = left;
 
         left = object->next_closing;
-        if ((object->kind == TIMELINE) == timelines && let_go(keeper, object) == 0)
+        if ((object->kind == TIMELINE) == timelines && let_go(keeper, object, teller) == 0)
             continue;
         object->next_closing = keeper->closing;
         keeper->closing = object;
@@ -71,11 +71,15 @@ static void settle(struct keeper *keeper, bool timelines)
 /* Files go first: a timeline that is closed with them cancels nothing that only they held. */
 void keeper_settle(struct keeper *keeper)
 {
+    struct who teller = { .task = "" };
+
     if (!keeper->closing)
         return;
+    if (keeper->trace)
+        teller = keeper->trace->who;
     keeper->now = keeper_now();
-    settle(keeper, false);
-    settle(keeper, true);
+    settle(keeper, false, &teller);
+    settle(keeper, true, &teller);
     trace_flush(keeper->trace);
 }
 

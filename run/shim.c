@@ -173,9 +173,10 @@ bool shim_has_buffers(void)
     return shim_is_on() && (!way->page() || atomic_load_explicit(&way->page()->buffers, memory_order_relaxed));
 }
 
-bool shim_tells_closings(void)
+/* The service of this process itself sees nothing of what it isn't told, and knows nothing that it hasn't made. */
+bool shim_hears_closing(bool of_timeline)
 {
-    return is_traced || !way->sees_closings;
+    return way->sees_closings ? of_timeline || is_traced : own->is_ready;
 }
 
 void shim_before_wait(void)
@@ -225,7 +226,7 @@ void shim_lost(const char *why)
 
 enum bim_mark shim_mark(int file, uint64_t *inode)
 {
-    return file >= 0 && shim_is_on() && !way->is_idle() ? end_mark(file, inode) : 0;
+    return file >= 0 && shim_is_on() ? end_mark(file, inode) : 0;
 }
 
 int shim_result(int error)

@@ -12,25 +12,25 @@
 #include <stddef.h>
 
 /* The call that ours stands before, as the next library has it. */
-#define NEXT(name)                                        \
-    static __typeof__(&name) next;                        \
-    if (!next)                                            \
-        next = __extension__(__typeof__(&name)) dlsym(RTLD_NEXT, #name)
+#define NEXT(name)                 \
+    static __typeof__(&name) next; \
+    if (!next)                     \
+    next = __extension__(__typeof__(&name)) dlsym(RTLD_NEXT, #name)
 
 #define EXPORT __attribute__((visibility("default")))
 
 /* Whether this process has a service at all. */
 bool shim_is_on(void);
-/* Asks the service, one thread after another. Returns the answer's errno, which is 0 if it did what was asked. `passed` is sent
- * along, or is -1; `given`, unless it is NULL, becomes the descriptor that was sent back, or -1. */
+/* Asks the service, one thread after another. Returns the answer's errno, which is 0 if it did what was asked. `passed`
+ * is sent along, or is -1; `given`, unless it is NULL, becomes the descriptor that was sent back, or -1. */
 int shim_ask(struct bim_request *request, int passed, struct bim_answer *answer, int *given);
 /* The same, where only a descriptor is wanted; returns it, or -1 with errno. */
 int shim_ask_for_file(struct bim_request *request);
 bool shim_is_traced(void);
 /* Whether there may be a buffer. */
 bool shim_has_buffers(void);
-/* Whether the service is to be told of the closing of any object: of a timeline it always is. */
-bool shim_tells_closings(void);
+/* Whether the service is to be told of a closing. That of a file changes nothing that a program sees, but the trace. */
+bool shim_hears_closing(bool of_timeline);
 /* To be called before a call that may wait: what was closed unseen is let go. */
 void shim_before_wait(void);
 /* Notes in a trace that a wait on a file begins, if it is pending, or has ended. Returns whether it is pending. */
@@ -50,17 +50,18 @@ struct own {
     bool is_ready; /* it has a connection, or a keeper of its own */
 };
 
-/* How a service is asked: that of a server (link.c), or of this process itself (local.c). All are called with the lock. */
+/* How a service is asked: that of a server (link.c), or of this process itself (local.c). All are called with the lock.
+ */
 struct way {
     int (*prepare)(struct own *own); /* returns 0 or an errno */
     int (*ask)(const struct bim_request *request, int passed, struct bim_answer *answer, int *given);
-    int (*ask_apart)(const struct bim_request *request, int passed, struct bim_answer *answer, int *given); /* in a handler */
-    void (*leave)(void);             /* in a new process, whose parent's it was */
+    int (*ask_apart)(const struct bim_request *request, int passed, struct bim_answer *answer,
+                     int *given); /* in a handler */
+    void (*leave)(void);          /* in a new process, whose parent's it was */
     bool (*is_own)(int file);
     int (*above_own)(void);
-    bool (*is_idle)(void);           /* nothing of this process's can be its own */
     bool sees_closings;
-    void (*before_wait)(void);       /* or NULL */
+    void (*before_wait)(void); /* or NULL */
     const struct bim_page *(*page)(void);
 };
 extern const struct way LINK, LOCAL;

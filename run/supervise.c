@@ -58,7 +58,11 @@ static int start_program(struct run *run, char **program)
         sigprocmask(SIG_SETMASK, &run->mask, NULL);
         _exit(launch_become(program));
     }
-    return run->program < 0 ? errno : 0;
+    if (run->program < 0)
+        return errno;
+    if (service.board)
+        service.board->program = run->program;
+    return 0;
 }
 
 /* Takes note of all processes that have ended, orphans of the program's among them. */
@@ -119,10 +123,12 @@ static char hear(struct run *run)
 static int lose(const struct run *run)
 {
     if (WIFSIGNALED(run->server_waited))
-        fprintf(stderr, "bimphlai-run: the service ended, by signal %d; no fence was signalled, and the program was killed\n",
+        fprintf(stderr,
+                "bimphlai-run: the service ended, by signal %d; no fence was signalled, and the program was killed\n",
                 WTERMSIG(run->server_waited));
     else
-        fprintf(stderr, "bimphlai-run: the service ended, with status %d; no fence was signalled, and the program was killed\n",
+        fprintf(stderr,
+                "bimphlai-run: the service ended, with status %d; no fence was signalled, and the program was killed\n",
                 WEXITSTATUS(run->server_waited));
     service_kill_users(&service);
     others_use_it = service_held_ends() > 0;
@@ -224,7 +230,8 @@ static void look_again(void)
     call_poll(NULL, 0, MILLISECONDS_BETWEEN_LOOKS);
 }
 
-/* Keeps the descriptors while the server is there; if it is lost, ends whoever uses it, and keeps them for those who only wait. */
+/* Keeps the descriptors while the server is there; if it is lost, ends whoever uses it, and keeps them for those who
+ * only wait. */
 static void hold(void)
 {
     while (service_is_there(&service))

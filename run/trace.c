@@ -11,17 +11,16 @@
 
 enum { LINE_ROOM = 256 };
 
-static const char HEADER[] =
-    "# tracer: nop\n"
-    "#\n"
-    "#                                _-----=> irqs-off/BH-disabled\n"
-    "#                               / _----=> need-resched\n"
-    "#                              | / _---=> hardirq/softirq\n"
-    "#                              || / _--=> preempt-depth\n"
-    "#                              ||| / _-=> migrate-disable\n"
-    "#                              |||| /     delay\n"
-    "#           TASK-PID     CPU#  |||||  TIMESTAMP  FUNCTION\n"
-    "#              | |         |   |||||     |         |\n";
+static const char HEADER[] = "# tracer: nop\n"
+                             "#\n"
+                             "#                                _-----=> irqs-off/BH-disabled\n"
+                             "#                               / _----=> need-resched\n"
+                             "#                              | / _---=> hardirq/softirq\n"
+                             "#                              || / _--=> preempt-depth\n"
+                             "#                              ||| / _-=> migrate-disable\n"
+                             "#                              |||| /     delay\n"
+                             "#           TASK-PID     CPU#  |||||  TIMESTAMP  FUNCTION\n"
+                             "#              | |         |   |||||     |         |\n";
 
 /* Writes all of a text. */
 static int write_all(int file, const char *text, size_t length)
@@ -71,11 +70,12 @@ void trace_event(struct trace *trace, const char *event, const struct fence *fen
     if (trace->length > TRACE_BYTES - LINE_ROOM)
         trace_flush(trace);
     us = trace->now / 1000;
-    trace->length += snprintf(trace->text + trace->length, LINE_ROOM,
-                              "%16.*s-%-7d [%03d] ..... %5llu.%06llu: dma_fence_%s: driver=%s timeline=%s context=%u seqno=%u\n",
-                              BIM_TASK_ROOM - 1, trace->who.task, trace->who.thread, trace->who.processor,
-                              (unsigned long long)(us / 1000000), (unsigned long long)(us % 1000000), event, fence->driver,
-                              fence->timeline, (unsigned)fence->context, fence->seqno);
+    trace->length +=
+        snprintf(trace->text + trace->length, LINE_ROOM,
+                 "%16.*s-%-7d [%03d] ..... %5llu.%06llu: dma_fence_%s: driver=%s timeline=%s context=%u seqno=%u\n",
+                 BIM_TASK_ROOM - 1, trace->who.task, trace->who.thread, trace->who.processor,
+                 (unsigned long long)(us / 1000000), (unsigned long long)(us % 1000000), event, fence->driver,
+                 fence->timeline, (unsigned)fence->context, fence->seqno);
 }
 
 /* A trace that can't be written, as on a full disk, is given up: what was traced goes on. */

@@ -9,8 +9,8 @@
 
 /* The environment of a program: where its service is, and the file of the trace if there is one. */
 #define BIM_SERVICE "BIMPHLAI_RUN"
-#define BIM_TRACE "BIMPHLAI_RUN_TRACE"
-#define BIM_LOCAL "local"
+#define BIM_TRACE   "BIMPHLAI_RUN_TRACE"
+#define BIM_LOCAL   "local"
 
 /* How a process ends that can't have what it was promised: its service is gone, or is another process's. */
 enum { BIM_LOST = 123 };
@@ -30,18 +30,18 @@ enum bim_op {
     BIM_OP_LANE,      /* gives the memory of a lane */
     BIM_OP_BELL,      /* gives its bell */
     BIM_OP_TIMELINE,
-    BIM_OP_FENCE,     /* a: the timeline; value: the point */
-    BIM_OP_INC,       /* a: the timeline; value: by how much */
-    BIM_OP_MERGE,     /* a, b: the files; name */
-    BIM_OP_INFO,      /* a: the file; value: how many rows there is room for */
-    BIM_OP_GONE,      /* a: what was just closed, or BIM_ANY. Answered once all closings so far are done */
-    BIM_OP_BUFFER,    /* size, flags: O_ACCMODE of it */
-    BIM_OP_MEMORY,    /* a: the buffer; gives its memory */
-    BIM_OP_NAME,      /* a: the buffer; name */
-    BIM_OP_EXPORT,    /* a: the buffer; flags */
-    BIM_OP_IMPORT,    /* a: the buffer, which is passed as a descriptor too; b: the file; flags */
-    BIM_OP_WAIT,      /* a: a file; value: 1 where a wait begins, 0 where it has ended */
-    BIM_OP_TEXT,      /* gives the text of sync/info */
+    BIM_OP_FENCE,  /* a: the timeline; value: the point */
+    BIM_OP_INC,    /* a: the timeline; value: by how much */
+    BIM_OP_MERGE,  /* a, b: the files; name */
+    BIM_OP_INFO,   /* a: the file; value: how many rows there is room for */
+    BIM_OP_GONE,   /* a: what was just closed, or BIM_ANY. Answered once all closings so far are done */
+    BIM_OP_BUFFER, /* size, flags: O_ACCMODE of it */
+    BIM_OP_MEMORY, /* a: the buffer; gives its memory */
+    BIM_OP_NAME,   /* a: the buffer; name */
+    BIM_OP_EXPORT, /* a: the buffer; flags */
+    BIM_OP_IMPORT, /* a: the buffer, which is passed as a descriptor too; b: the file; flags */
+    BIM_OP_WAIT,   /* a: a file; value: 1 where a wait begins, 0 where it has ended */
+    BIM_OP_TEXT,   /* gives the text of sync/info */
     BIM_OPS
 };
 
@@ -65,13 +65,13 @@ struct bim_request {
 
 /* The first `rows` rows are sent. More than BIM_ROWS are in the memory file that is sent along. */
 struct bim_answer {
-    int32_t error;     /* 0 or an errno */
-    int32_t gives;     /* 1 where a descriptor is sent along */
-    int32_t status;    /* of a file */
+    int32_t error;  /* 0 or an errno */
+    int32_t gives;  /* 1 where a descriptor is sent along */
+    int32_t status; /* of a file */
     uint32_t rows;
-    uint32_t fences;   /* how many a file has */
-    uint32_t flags;    /* O_ACCMODE of a buffer */
-    uint64_t size;     /* of a buffer */
+    uint32_t fences; /* how many a file has */
+    uint32_t flags;  /* O_ACCMODE of a buffer */
+    uint64_t size;   /* of a buffer */
     char name[BIM_TEXT_ROOM];
     struct sync_fence_info row[BIM_ROWS];
 };
