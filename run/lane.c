@@ -70,7 +70,9 @@ bool lane_ask(struct lane *lane, int bell, const struct bim_request *request, st
 
     memcpy(&lane->request, request, sizeof *request);
     atomic_store_explicit(&lane->turn, LANE_IS_ASKED, memory_order_release);
-    while (call_write(bell, &one, sizeof one) < 0 && errno == EINTR) {}
+    while (call_write(bell, &one, sizeof one) < 0)
+        if (errno != EINTR)
+            return false;
     while (atomic_load_explicit(&lane->turn, memory_order_acquire) != LANE_IS_ANSWERED)
         if (syscall(SYS_futex, &lane->turn, FUTEX_WAIT, LANE_IS_ASKED, &LIMIT, NULL, 0) < 0 && errno == ETIMEDOUT)
             check();
