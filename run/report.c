@@ -30,7 +30,7 @@ int report_temporary(char *path)
 /* Becomes fencectl, whose report goes to standard error or nowhere. */
 static void become_fencectl(const char *trace, bool reports)
 {
-    static const char *const FOLDERS[] = { "", "../", NULL };
+    static const char *const FOLDERS[] = { "", "../crates/fencectl/out/", NULL };
     char fencectl[PATH_MAX];
     int nowhere = open("/dev/null", O_RDWR | O_CLOEXEC);
 

@@ -132,45 +132,57 @@ void service_kill_users(const struct service *service)
 }
 
 /* Calls for each descriptor of this process, and adds what that returns. */
-static size_t for_each_file(size_t (*call)(int file))
+static size_t for_each_file(size_t (*call)(const struct service *, int), const struct service *service)
 {
     struct dirent *entry;
     DIR *files = opendir("/proc/self/fd");
     size_t sum = 0;
 
     while (files && (entry = readdir(files)))
-        sum += call(atoi(entry->d_name));
+        sum += call(service, atoi(entry->d_name));
     if (files)
         closedir(files);
     return sum;
 }
 
-static size_t is_end(int file)
+static size_t is_end(const struct service *service, int file)
 {
+    (void)service;
     return end_is_ours(file);
 }
 
-static size_t close_given(int file)
+static size_t is_held(const struct service *service, int file)
+{
+    (void)service;
+    return end_is_ours(file) && !end_is_alone(file);
+}
+
+static bool is_connection(const struct service *service, int file)
+{
+    struct sockaddr_un name = { .sun_path = "" };
+    socklen_t size = sizeof name - 1;
+
+    return getsockname(file, (struct sockaddr *)&name, &size) == 0 && name.sun_family == AF_UNIX &&
+           strcmp(name.sun_path, service->socket) == 0;
+}
+
+/* What the server was about to give, and connections, which may carry what was passed to it. */
+static size_t close_theirs(const struct service *service, int file)
 {
     uint64_t inode;
 
-    if (end_mark(file, &inode) && !end_is_ours(file))
+    if ((end_mark(file, &inode) && !end_is_ours(file)) || is_connection(service, file))
         call_close(file);
     return 0;
 }
 
-static size_t is_held(int file)
+size_t service_ends(const struct service *service)
 {
-    return end_is_ours(file) && !end_is_alone(file);
+    return for_each_file(is_end, service);
 }
 
-size_t service_ends(void)
+size_t service_held_ends(const struct service *service)
 {
-    return for_each_file(is_end);
-}
-
-size_t service_held_ends(void)
-{
-    for_each_file(close_given);
-    return for_each_file(is_held);
+    for_each_file(close_theirs, service);
+    return for_each_file(is_held, service);
 }

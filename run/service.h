@@ -31,9 +31,9 @@ bool service_is_there(const struct service *service);
 void service_kill_clients(const struct service *service);
 void service_kill_users(const struct service *service);
 /* How many ends the service holds, which are open here too. */
-size_t service_ends(void);
-/* After the server was lost: closes what it was about to give, and returns for how many of its ends somebody has the
- * other. */
-size_t service_held_ends(void);
+size_t service_ends(const struct service *service);
+/* After the server and its clients were ended: closes what isn't the service's own, and returns for how many of its
+ * ends somebody has the other. */
+size_t service_held_ends(const struct service *service);
 
 #endif

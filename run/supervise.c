@@ -131,7 +131,7 @@ static int lose(const struct run *run)
                 "bimphlai-run: the service ended, with status %d; no fence was signalled, and the program was killed\n",
                 WEXITSTATUS(run->server_waited));
     service_kill_users(&service);
-    others_use_it = service_held_ends() > 0;
+    others_use_it = service_held_ends(&service) > 0;
     if (!others_use_it)
         service_remove(&service);
     return BIM_LOST;
@@ -143,7 +143,7 @@ static void tell_left(void)
 
     fprintf(stderr, "bimphlai-run: left: %llu timelines, %llu files, %llu buffers, %zu descriptors; %llu requests\n",
             (unsigned long long)board->timelines, (unsigned long long)board->files, (unsigned long long)board->buffers,
-            service_ends(), (unsigned long long)board->requests);
+            service_ends(&service), (unsigned long long)board->requests);
 }
 
 static int serve_program(const struct options *options, struct run *run)
@@ -239,7 +239,7 @@ static void hold(void)
     if (service.board->has_ended)
         return;
     service_kill_clients(&service);
-    while (service_held_ends() > 0)
+    while (service_held_ends(&service) > 0)
         look_again();
     service_remove(&service);
 }
