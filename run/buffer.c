@@ -134,7 +134,7 @@ static int await(struct keeper *keeper, struct object *object, enum access acces
     return 0;
 }
 
-/* Takes the readiness for an access back where the device says that something is pending. */
+/* Takes the readiness for an access back if the device says that something is pending. */
 static int refresh(struct keeper *keeper, struct object *object, enum access access, int theirs)
 {
     int32_t signalled;

@@ -1,5 +1,5 @@
-/* System calls as such: in a program whose calls are watched, the service's own are not to be, and none is where a
- * thread may be cancelled. */
+/* System calls as such: in a program whose calls are watched, the service's own are not, and a thread can't be
+ * cancelled in one. */
 #ifndef BIM_RUN_CALLS_H
 #define BIM_RUN_CALLS_H
 

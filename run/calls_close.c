@@ -1,4 +1,4 @@
-/* close(2) and what else closes: the last close of a timeline cancels before it returns, so the service is told. */
+/* close(2) and what else closes: the last close of a timeline cancels before it returns, so the service hears of it. */
 #define _GNU_SOURCE
 #include "calls.h"
 #include "shim.h"
@@ -6,7 +6,7 @@
 #include <errno.h>
 #include <limits.h>
 
-/* What is closed, if the service is to be told of it. */
+/* What is closed, if the service is to hear of it. */
 static uint64_t closing(int file)
 {
     uint64_t inode;

@@ -67,7 +67,7 @@ static int open_path(enum path path, int flags)
     return file;
 }
 
-/* Opens one of ours, where the kernel may have opened another. */
+/* Opens one of ours in place of what the kernel may have opened. */
 static int replace_file(enum path path, int flags, int opened)
 {
     if (opened >= 0)

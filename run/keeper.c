@@ -149,7 +149,7 @@ static int watch_end(const struct keeper *keeper, const struct object *object, u
     return epoll_ctl(keeper->ends, EPOLL_CTL_ADD, object->end, &event) ? errno : 0;
 }
 
-/* Keeps an object that has its number, or undoes it where something was refused. */
+/* Keeps an object that has its number, or undoes it after an error. */
 int keeper_finish(struct keeper *keeper, struct object *object, int error, int *gives)
 {
     uint64_t number = object->number;

@@ -87,7 +87,7 @@ static bool make_room(struct keeper *all)
     return true;
 }
 
-/* A file's last reader may have gone, of which nobody is to be told by a signal. */
+/* A file's last reader may have gone, of which no signal is to say anything. */
 static void hold_sigpipe(void)
 {
     sigset_t pipe, pending;
@@ -138,7 +138,7 @@ static int ask(const struct bim_request *request, int passed, struct bim_answer 
     if (request->op == BIM_OP_TEXT || request->a == BIM_ANY)
         keeper_sweep(&keeper);
     keeper_serve(&keeper, request, passed, answer, given);
-    /* What seems to be pending may be cancelled by a closing that nobody told. */
+    /* What seems to be pending may be cancelled by a closing that was not seen. */
     if (request->op == BIM_OP_INFO && !answer->error && answer->status == BIM_IS_ACTIVE &&
         keeper_sweep_timelines(&keeper))
         keeper_serve(&keeper, request, passed, answer, given);

@@ -94,7 +94,7 @@ static int serve_export(struct keeper *keeper, const struct bim_request *request
     return finish_file(keeper, file, 0, gives);
 }
 
-/* The beginning and the end of a wait; the answer's status is 1 where there is something to wait for. */
+/* The beginning and the end of a wait; the answer's status is 1 if there is something to wait for. */
 static int serve_wait(struct keeper *keeper, const struct bim_request *request, struct object *file,
                       struct bim_answer *answer)
 {

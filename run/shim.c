@@ -16,7 +16,7 @@
 #include <sys/single_threaded.h>
 #endif
 
-static struct own *own, spare; /* `spare` where there is no page to be wiped */
+static struct own *own, spare; /* `spare` if there is no page to be wiped */
 static char service[PATH_MAX];
 static const struct way *way;
 static bool is_traced;
@@ -173,7 +173,7 @@ bool shim_has_buffers(void)
     return shim_is_on() && (!way->page() || atomic_load_explicit(&way->page()->buffers, memory_order_relaxed));
 }
 
-/* The service of this process itself sees nothing of what it isn't told, and knows nothing that it hasn't made. */
+/* The service of this process itself sees no closing by itself, and knows nothing that it hasn't made. */
 bool shim_hears_closing(bool of_timeline)
 {
     return way->sees_closings ? of_timeline || is_traced : own->is_ready;

@@ -24,12 +24,12 @@ bool shim_is_on(void);
 /* Asks the service, one thread after another. Returns the answer's errno, which is 0 if it did what was asked. `passed`
  * is sent along, or is -1; `given`, unless it is NULL, becomes the descriptor that was sent back, or -1. */
 int shim_ask(struct bim_request *request, int passed, struct bim_answer *answer, int *given);
-/* The same, where only a descriptor is wanted; returns it, or -1 with errno. */
+/* The same, if only a descriptor is wanted; returns it, or -1 with errno. */
 int shim_ask_for_file(struct bim_request *request);
 bool shim_is_traced(void);
 /* Whether there may be a buffer. */
 bool shim_has_buffers(void);
-/* Whether the service is to be told of a closing. That of a file changes nothing that a program sees, but the trace. */
+/* Whether the service is to hear of a closing. That of a file changes nothing that a program sees, but the trace. */
 bool shim_hears_closing(bool of_timeline);
 /* To be called before a call that may wait: what was closed unseen is let go. */
 void shim_before_wait(void);
@@ -70,7 +70,7 @@ const char *shim_service(void);
 
 /* The mark of a descriptor, or 0 if there is no service. */
 enum bim_mark shim_mark(int file, uint64_t *inode);
-/* Sets errno, and returns -1, or 0 where there is no error. */
+/* Sets errno, and returns -1, or 0 if there is no error. */
 int shim_result(int error);
 
 #endif

@@ -40,7 +40,7 @@ enum bim_op {
     BIM_OP_NAME,   /* a: the buffer; name */
     BIM_OP_EXPORT, /* a: the buffer; flags */
     BIM_OP_IMPORT, /* a: the buffer, which is passed as a descriptor too; b: the file; flags */
-    BIM_OP_WAIT,   /* a: a file; value: 1 where a wait begins, 0 where it has ended */
+    BIM_OP_WAIT,   /* a: a file; value: 1 if a wait begins, 0 if it has ended */
     BIM_OP_TEXT,   /* gives the text of sync/info */
     BIM_OPS
 };
@@ -66,7 +66,7 @@ struct bim_request {
 /* The first `rows` rows are sent. More than BIM_ROWS are in the memory file that is sent along. */
 struct bim_answer {
     int32_t error;  /* 0 or an errno */
-    int32_t gives;  /* 1 where a descriptor is sent along */
+    int32_t gives;  /* 1 if a descriptor is sent along */
     int32_t status; /* of a file */
     uint32_t rows;
     uint32_t fences; /* how many a file has */
