@@ -16,6 +16,11 @@
 #error "only for machines with 64 bits"
 #endif
 
+/* Headers that are older than Linux 5.9 lack this one; it has the same number on all machines. */
+#ifndef SYS_close_range
+#define SYS_close_range 436
+#endif
+
 static inline int call_close(int file)
 {
     return syscall(SYS_close, file);

@@ -238,6 +238,20 @@ XSTAT(__xstat64, stat64)
 XSTAT(__lxstat, stat)
 XSTAT(__lxstat64, stat64)
 
+#define FXSTATAT(name, type)                                                                  \
+    int name(int version, int folder, const char *path, struct type *found, int flags);       \
+    EXPORT int name(int version, int folder, const char *path, struct type *found, int flags) \
+    {                                                                                         \
+        NEXT(name);                                                                           \
+        int result = next(version, folder, path, found, flags);                               \
+        enum path which = path_after(path, result < 0);                                       \
+                                                                                              \
+        return which ? fill_stat((struct stat *)found, which) : result;                       \
+    }
+
+FXSTATAT(__fxstatat, stat)
+FXSTATAT(__fxstatat64, stat64)
+
 EXPORT int statx(int folder, const char *path, int flags, unsigned mask, struct statx *found)
 {
     NEXT(statx);

@@ -146,7 +146,7 @@ static int watch_end(const struct keeper *keeper, const struct object *object, u
 
     if (keeper->ends < 0)
         return 0;
-    return epoll_ctl(keeper->ends, EPOLL_CTL_ADD, object->end, &event) ? errno : 0;
+    return epoll_ctl(keeper->ends, EPOLL_CTL_ADD, object->end, &event) ? ENOMEM : 0;
 }
 
 /* Keeps an object that has its number, or undoes it after an error. */
