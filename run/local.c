@@ -15,9 +15,9 @@
 enum { HIGH = 512 };
 
 static struct keeper keeper;
-static const struct own *own_of_keeper; /* which says whether the keeper is this process's */
-static struct rlimit limit;             /* on the program's descriptors */
-static int lowest = INT_MAX, above;     /* of what the keeper holds */
+static const struct own *own_of_keeper;     /* which says whether the keeper is this process's */
+static struct rlimit limit;                 /* on the program's descriptors */
+static _Atomic int lowest = INT_MAX, above; /* of what the keeper holds */
 static bool is_crowded;
 static bool sigpipe_was_pending;
 static sigset_t mask;

@@ -47,7 +47,7 @@ _Noreturn void shim_lost(const char *why);
 /* What is this process's alone: a child begins with zeros, as the kernel wipes it. */
 struct own {
     struct lock lock;
-    bool is_ready; /* it has a connection, or a keeper of its own */
+    _Atomic bool is_ready; /* it has a connection, or a keeper of its own */
 };
 
 /* How a service is asked: that of a server (link.c), or of this process itself (local.c). All are called with the lock.
