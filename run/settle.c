@@ -169,4 +169,5 @@ void keeper_close(struct keeper *keeper)
     free(keeper->rows);
     bim_device_close(&keeper->device);
     page_close(keeper->page);
+    trace_close(keeper->trace);
 }
