@@ -150,7 +150,7 @@ static void before_wait(void)
     keeper_sweep_timelines(&keeper);
 }
 
-/* The keeper is in the middle of a request. */
+/* The keeper is in the middle of a request, and the handler was installed by a call that we don't see. */
 static int ask_apart(const struct bim_request *request, int passed, struct bim_answer *answer, int *given)
 {
     (void)request, (void)passed, (void)answer, (void)given;
@@ -166,4 +166,4 @@ static int above_own(void)
     return above;
 }
 
-const struct way LOCAL = { prepare, ask, ask_apart, leave, is_own, above_own, false, before_wait, get_page };
+const struct way LOCAL = { prepare, ask, ask_apart, leave, is_own, above_own, false, true, before_wait, get_page };

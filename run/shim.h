@@ -31,6 +31,8 @@ bool shim_is_traced(void);
 bool shim_has_buffers(void);
 /* Whether the service is to hear of a closing. That of a file changes nothing that a program sees, but the trace. */
 bool shim_hears_closing(bool of_timeline);
+/* The program has a signal handler. */
+void shim_note_handler(void);
 /* To be called before a call that may wait: what was closed unseen is let go. */
 void shim_before_wait(void);
 /* Notes in a trace that a wait on a file begins, if it is pending, or has ended. Returns whether it is pending. */
@@ -61,6 +63,7 @@ struct way {
     bool (*is_own)(int file);
     int (*above_own)(void);
     bool sees_closings;
+    bool blocks_signals;       /* a handler can't ask while another request is answered */
     void (*before_wait)(void); /* or NULL */
     const struct bim_page *(*page)(void);
 };
