@@ -5,6 +5,7 @@
 
 #include <errno.h>
 #include <limits.h>
+#include <stdio.h>
 
 /* What is closed, if the service is to hear of it. */
 static uint64_t closing(int file)
@@ -40,6 +41,19 @@ EXPORT int close(int file)
     result = next(file);
     if (result == 0)
         tell(inode);
+    return result;
+}
+
+/* The C library closes a stream's descriptor by itself. */
+EXPORT int fclose(FILE *stream)
+{
+    NEXT(fclose);
+    int before = errno, result;
+    uint64_t inode = closing(fileno(stream));
+
+    errno = before;
+    result = next(stream);
+    tell(inode);
     return result;
 }
 
