@@ -146,12 +146,13 @@ EXPORT int __openat64_2(int folder, const char *path, int flags)
     return openat64(folder, path, flags);
 }
 
-/* A stream over a descriptor of ours. */
+/* A stream over a descriptor of ours, which nobody reads or writes, but for the text. The C library takes a pipe's read
+ * end only for reading. */
 static FILE *open_stream(enum path path, const char *mode)
 {
     int flags = strchr(mode, '+') ? O_RDWR : mode[0] == 'r' ? O_RDONLY : O_WRONLY;
     int file = open_path(path, flags | (strchr(mode, 'e') ? O_CLOEXEC : 0));
-    FILE *stream = file < 0 ? NULL : fdopen(file, mode);
+    FILE *stream = file < 0 ? NULL : fdopen(file, "r");
 
     if (file >= 0 && !stream)
         close(file);
