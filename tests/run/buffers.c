@@ -114,6 +114,29 @@ static void names(void)
     close(b);
 }
 
+/* Readers that come after a writer wait for the writer alone. */
+static void readers_of_written(void)
+{
+    int t = timeline(), writer = fence(t, 1), reader = fence(t, 2), b = buffer(PAGE);
+
+    EXPECT(import(b, writer, DMA_BUF_SYNC_WRITE), 0);
+    EXPECT(import(b, reader, DMA_BUF_SYNC_READ), 0);
+    EXPECT(ready(b, POLLIN | POLLOUT, 0), 0);
+    inc(t, 1);
+    EXPECT(ready(b, POLLIN | POLLOUT, 0), POLLIN);
+    /* A later writer holds off readers again. */
+    int later = fence(t, 3);
+    EXPECT(import(b, later, DMA_BUF_SYNC_RW), 0);
+    EXPECT(ready(b, POLLIN | POLLOUT, 0), 0);
+    inc(t, 1);
+    EXPECT(ready(b, POLLIN | POLLOUT, 0), 0);
+    close(t);
+    EXPECT(ready(b, POLLIN | POLLOUT, 0), POLLIN | POLLOUT);
+    int files[] = { writer, reader, later, b };
+    for (int i = 0; i < 4; i++)
+        close(files[i]);
+}
+
 /* A writer's fence holds off all, and a reader's only writers. */
 static void usages(void)
 {
@@ -297,6 +320,7 @@ int main(void)
     wrong_calls();
     names();
     usages();
+    readers_of_written();
     exports();
     waits();
     epolls();
