@@ -39,20 +39,20 @@ static int make_memory(struct keeper *keeper, uint64_t size)
 int buffer_make(struct keeper *keeper, const struct bim_request *request, int *gives)
 {
     struct object *object;
-    int error = keeper_begin(keeper, BUFFER, request, &object, gives);
+    int error = keeper_begin(keeper, BUFFER, request, &object, gives), memory;
 
     if (error)
         return error;
-    object->buffer.size = request->size;
-    object->buffer.flags = request->flags;
+    memory = make_memory(keeper, request->size);
+    object->buffer = (struct buffer){ .memory = memory, .flags = request->flags, .size = request->size };
     object->buffer.is_ready[READING] = object->buffer.is_ready[WRITING] = true;
+    error = memory < 0 ? errno : bim_device_buffer(&keeper->device, keeper->now, &object->number);
     end_set_readable(object->end);
-    object->buffer.memory = make_memory(keeper, request->size);
-    error = object->buffer.memory < 0 ? errno : bim_device_buffer(&keeper->device, keeper->now, &object->number);
-    if (error && object->buffer.memory >= 0)
-        call_close(object->buffer.memory);
+    error = keeper_finish(keeper, object, error, gives);
+    if (error && memory >= 0)
+        call_close(memory);
     keeper->page->buffers = 1;
-    return keeper_finish(keeper, object, error, gives);
+    return error;
 }
 
 int buffer_memory(const struct object *buffer, struct bim_answer *answer, int *gives)
@@ -134,7 +134,7 @@ static int await(struct keeper *keeper, struct object *object, enum access acces
     return 0;
 }
 
-/* Takes the readiness for an access back where the device says that something is pending. */
+/* Takes the readiness for an access back if the device says that something is pending. */
 static int refresh(struct keeper *keeper, struct object *object, enum access access, int theirs)
 {
     int32_t signalled;

@@ -1,5 +1,5 @@
-/* System calls as such: in a program whose calls are watched, the service's own are not to be, and none is where a
- * thread may be cancelled. */
+/* System calls as such: in a program whose calls are watched, the service's own are not, and a thread can't be
+ * cancelled in one. */
 #ifndef BIM_RUN_CALLS_H
 #define BIM_RUN_CALLS_H
 
@@ -14,6 +14,11 @@
 
 #if __SIZEOF_POINTER__ != 8
 #error "only for machines with 64 bits"
+#endif
+
+/* Headers that are older than Linux 5.9 lack this one; it has the same number on all machines. */
+#ifndef SYS_close_range
+#define SYS_close_range 436
 #endif
 
 static inline int call_close(int file)

@@ -1,12 +1,13 @@
-/* close(2) and what else closes: the last close of a timeline cancels before it returns, so the service is told. */
+/* close(2) and what else closes: the last close of a timeline cancels before it returns, so the service hears of it. */
 #define _GNU_SOURCE
 #include "calls.h"
 #include "shim.h"
 
 #include <errno.h>
 #include <limits.h>
+#include <stdio.h>
 
-/* What is closed, if the service is to be told of it. */
+/* What is closed, if the service is to hear of it. */
 static uint64_t closing(int file)
 {
     uint64_t inode;
@@ -40,6 +41,19 @@ EXPORT int close(int file)
     result = next(file);
     if (result == 0)
         tell(inode);
+    return result;
+}
+
+/* The C library closes a stream's descriptor by itself. */
+EXPORT int fclose(FILE *stream)
+{
+    NEXT(fclose);
+    int before = errno, result;
+    uint64_t inode = closing(fileno(stream));
+
+    errno = before;
+    result = next(stream);
+    tell(inode);
     return result;
 }
 

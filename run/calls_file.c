@@ -117,7 +117,7 @@ static void *map(void *at, size_t length, int protection, int flags, int file, o
 MMAP(mmap)
 MMAP(mmap64)
 
-/* The end of a buffer tells its size. */
+/* The end of a buffer is its size. */
 static off_t seek(int file, off_t to, int whence)
 {
     struct bim_answer buffer;

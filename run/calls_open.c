@@ -67,7 +67,7 @@ static int open_path(enum path path, int flags)
     return file;
 }
 
-/* Opens one of ours, where the kernel may have opened another. */
+/* Opens one of ours in place of what the kernel may have opened. */
 static int replace_file(enum path path, int flags, int opened)
 {
     if (opened >= 0)
@@ -146,12 +146,13 @@ EXPORT int __openat64_2(int folder, const char *path, int flags)
     return openat64(folder, path, flags);
 }
 
-/* A stream over a descriptor of ours. */
+/* A stream over a descriptor of ours, which nobody reads or writes, but for the text. The C library takes a pipe's read
+ * end only for reading. */
 static FILE *open_stream(enum path path, const char *mode)
 {
     int flags = strchr(mode, '+') ? O_RDWR : mode[0] == 'r' ? O_RDONLY : O_WRONLY;
     int file = open_path(path, flags | (strchr(mode, 'e') ? O_CLOEXEC : 0));
-    FILE *stream = file < 0 ? NULL : fdopen(file, mode);
+    FILE *stream = file < 0 ? NULL : fdopen(file, "r");
 
     if (file >= 0 && !stream)
         close(file);
@@ -237,6 +238,20 @@ XSTAT(__xstat, stat)
 XSTAT(__xstat64, stat64)
 XSTAT(__lxstat, stat)
 XSTAT(__lxstat64, stat64)
+
+#define FXSTATAT(name, type)                                                                  \
+    int name(int version, int folder, const char *path, struct type *found, int flags);       \
+    EXPORT int name(int version, int folder, const char *path, struct type *found, int flags) \
+    {                                                                                         \
+        NEXT(name);                                                                           \
+        int result = next(version, folder, path, found, flags);                               \
+        enum path which = path_after(path, result < 0);                                       \
+                                                                                              \
+        return which ? fill_stat((struct stat *)found, which) : result;                       \
+    }
+
+FXSTATAT(__fxstatat, stat)
+FXSTATAT(__fxstatat64, stat64)
 
 EXPORT int statx(int folder, const char *path, int flags, unsigned mask, struct statx *found)
 {

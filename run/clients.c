@@ -136,7 +136,7 @@ static bool send_answer(const struct client *client, struct bim_answer *answer, 
     return sendmsg(client->socket, &message, MSG_NOSIGNAL | MSG_DONTWAIT) >= 0;
 }
 
-/* The first descriptor that came with a message, or -1. All others are closed: there may be room for two where one is
+/* The first descriptor that came with a message, or -1. All others are closed: there is room for two if one is
  * aligned. */
 static int passed_by(struct msghdr *message)
 {

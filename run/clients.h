@@ -17,12 +17,12 @@ struct server {
     struct keeper keeper;
     const struct server_setup *setup;
     int events, signals;
-    int spare;          /* a descriptor to close where there is no other left */
+    int spare;          /* a descriptor to close when no other is left */
     struct map clients; /* by the numbers of their sockets and bells, with 1 added */
     size_t client_count;
     bool program_has_ended, is_parted; /* a client has gone since the last closings */
     uint64_t postponed;                /* since when closings wait */
-    bool is_hurried;                   /* what it waits for isn't told by an event */
+    bool is_hurried;                   /* no event reports what it waits for */
     uint64_t parting;                  /* since when the program has ended */
 };
 

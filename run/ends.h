@@ -31,7 +31,7 @@ enum bim_mark end_mark(int file, uint64_t *inode);
 /* Whether a descriptor is an end of the service's. */
 bool end_is_ours(int file);
 
-/* Makes a file readable. Its last reader may have gone: where SIGPIPE isn't ignored, see local.c. */
+/* Makes a file readable. Its last reader may have gone, which raises SIGPIPE unless that is blocked. */
 void end_signal(int ours);
 /* What poll says of a buffer. To take readiness back needs the program's end. */
 void end_set_readable(int ours);

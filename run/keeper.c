@@ -19,6 +19,23 @@ uint64_t keeper_now(void)
     return now.tv_sec * 1000000000ull + now.tv_nsec;
 }
 
+/* Opens all but the device. Returns 0 or an errno. */
+static int open_page_and_trace(struct keeper *keeper, const char *trace_path)
+{
+    int error;
+
+    keeper->page = page_new(&keeper->page_memory);
+    if (!keeper->page)
+        return errno;
+    keeper->trace = trace_path ? trace_open(trace_path) : NULL;
+    if (keeper->trace || !trace_path)
+        return 0;
+    error = errno;
+    page_close(keeper->page);
+    call_close(keeper->page_memory);
+    return error;
+}
+
 int keeper_open(struct keeper *keeper, const struct host *host, const char *trace_path)
 {
     int error;
@@ -27,13 +44,10 @@ int keeper_open(struct keeper *keeper, const struct host *host, const char *trac
     error = bim_device_open(&keeper->device);
     if (error)
         return error;
-    keeper->page = page_new(&keeper->page_memory);
-    if (!keeper->page)
-        return errno;
-    if (!trace_path)
-        return 0;
-    keeper->trace = trace_open(trace_path);
-    return keeper->trace ? 0 : errno;
+    error = open_page_and_trace(keeper, trace_path);
+    if (error)
+        bim_device_close(&keeper->device);
+    return error;
 }
 
 struct object *keeper_find(const struct keeper *keeper, uint64_t inode)
@@ -146,10 +160,10 @@ static int watch_end(const struct keeper *keeper, const struct object *object, u
 
     if (keeper->ends < 0)
         return 0;
-    return epoll_ctl(keeper->ends, EPOLL_CTL_ADD, object->end, &event) ? errno : 0;
+    return epoll_ctl(keeper->ends, EPOLL_CTL_ADD, object->end, &event) ? ENOMEM : 0;
 }
 
-/* Keeps an object that has its number, or undoes it where something was refused. */
+/* Keeps an object that has its number, or undoes it after an error. */
 int keeper_finish(struct keeper *keeper, struct object *object, int error, int *gives)
 {
     uint64_t number = object->number;

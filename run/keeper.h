@@ -52,11 +52,11 @@ struct object {
 
 struct keeper;
 
-/* What differs where the keeper is in a program's own process. */
+/* What differs when the keeper is in a program's own process. */
 struct host {
     void (*begin_files)(void), (*end_files)(void);     /* around what makes descriptors */
     int (*place)(int file);                            /* returns another number for one that the keeper holds */
-    bool (*make_room)(struct keeper *keeper);          /* whether there may now be numbers where there were none */
+    bool (*make_room)(struct keeper *keeper);          /* whether there may be numbers now after there were none */
     bool (*may_give)(int file);                        /* whether the program may have one of this number */
     void (*begin_signals)(void), (*end_signals)(void); /* around writes that may meet no reader */
 };

@@ -64,7 +64,7 @@ int launch_prepare(const char *service, const char *trace)
         return fault("a path with a blank or a colon can't be preloaded", EINVAL);
     if (setenv(BIM_SERVICE, service, 1) || (trace ? setenv(BIM_TRACE, trace, 1) : unsetenv(BIM_TRACE)))
         return fault("the environment", errno);
-    /* The sanitizer that gcc links as a library is to be the first; it looks for calls behind it all the same. */
+    /* The sanitizer that gcc links as a library is to be the first; it finds the calls after it all the same. */
     if (add("LD_PRELOAD", library, true) || add("ASAN_OPTIONS", "verify_asan_link_order=0", false))
         return fault("the environment", ENOMEM);
     return 0;

@@ -15,7 +15,7 @@ bool find_beside(const char *const folders[], const char *name, char *path);
 
 /* Sets the environment in which programs have the service. Returns 0 or STATUS_FAULT. */
 int launch_prepare(const char *service, const char *trace);
-/* Becomes the program; returns the status with which to end where that fails. */
+/* Becomes the program; returns the status with which to end if that fails. */
 int launch_become(char **program);
 /* The status of a process as a shell has it. */
 int launch_status(int waited);

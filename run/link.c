@@ -250,4 +250,4 @@ static int above_own(void)
     return (connection > bell ? connection : bell) + 1;
 }
 
-const struct way LINK = { prepare, ask, ask_apart, leave, is_own, above_own, true, NULL, get_page };
+const struct way LINK = { prepare, ask, ask_apart, leave, is_own, above_own, true, false, NULL, get_page };

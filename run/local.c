@@ -15,9 +15,9 @@
 enum { HIGH = 512 };
 
 static struct keeper keeper;
-static const struct own *own_of_keeper; /* which says whether the keeper is this process's */
-static struct rlimit limit;             /* on the program's descriptors */
-static int lowest = INT_MAX, above;     /* of what the keeper holds */
+static const struct own *own_of_keeper;     /* which says whether the keeper is this process's */
+static struct rlimit limit;                 /* on the program's descriptors */
+static _Atomic int lowest = INT_MAX, above; /* of what the keeper holds */
 static bool is_crowded;
 static bool sigpipe_was_pending;
 static sigset_t mask;
@@ -87,7 +87,7 @@ static bool make_room(struct keeper *all)
     return true;
 }
 
-/* A file's last reader may have gone, of which nobody is to be told by a signal. */
+/* A file's last reader may have gone, of which no signal is to say anything. */
 static void hold_sigpipe(void)
 {
     sigset_t pipe, pending;
@@ -138,7 +138,7 @@ static int ask(const struct bim_request *request, int passed, struct bim_answer 
     if (request->op == BIM_OP_TEXT || request->a == BIM_ANY)
         keeper_sweep(&keeper);
     keeper_serve(&keeper, request, passed, answer, given);
-    /* What seems to be pending may be cancelled by a closing that nobody told. */
+    /* What seems to be pending may be cancelled by a closing that was not seen. */
     if (request->op == BIM_OP_INFO && !answer->error && answer->status == BIM_IS_ACTIVE &&
         keeper_sweep_timelines(&keeper))
         keeper_serve(&keeper, request, passed, answer, given);
@@ -150,7 +150,7 @@ static void before_wait(void)
     keeper_sweep_timelines(&keeper);
 }
 
-/* The keeper is in the middle of a request. */
+/* The keeper is in the middle of a request, and the handler was installed by a call that we don't see. */
 static int ask_apart(const struct bim_request *request, int passed, struct bim_answer *answer, int *given)
 {
     (void)request, (void)passed, (void)answer, (void)given;
@@ -166,4 +166,4 @@ static int above_own(void)
     return above;
 }
 
-const struct way LOCAL = { prepare, ask, ask_apart, leave, is_own, above_own, false, before_wait, get_page };
+const struct way LOCAL = { prepare, ask, ask_apart, leave, is_own, above_own, false, true, before_wait, get_page };

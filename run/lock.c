@@ -8,7 +8,7 @@
 
 enum { SPINS = 100, BITS = 32 };
 
-/* Those who wait are told apart by a bit of their turn. */
+/* Those who wait are woken by a bit of their turn. */
 static uint32_t bit_of(uint32_t turn)
 {
     return (uint32_t)1 << turn % BITS;

@@ -1,5 +1,5 @@
 /* A lock that is given in the order in which it was asked for, so that a thread that asks all the time keeps nobody
- * out. It is free where its memory is zero. */
+ * out. It is free if its memory is zero. */
 #ifndef BIM_RUN_LOCK_H
 #define BIM_RUN_LOCK_H
 

@@ -50,7 +50,7 @@ int map_add(struct map *map, uint64_t key, void *value)
     return 0;
 }
 
-/* Those that stand behind a free place move into it, so that a search that stops there misses nothing. */
+/* Those that stand after a free place move into it, so that a search that stops there misses nothing. */
 void map_remove(struct map *map, uint64_t key)
 {
     size_t mask = map->room - 1, free_at, at;

@@ -7,13 +7,13 @@
 
 struct map {
     struct map_entry {
-        uint64_t key; /* 0 where there is none */
+        uint64_t key; /* 0 if there is none */
         void *value;
     } * entries;
     size_t room, count; /* the room is a power of two, or 0 */
 };
 
-/* Returns NULL where nothing has the key. */
+/* Returns NULL if nothing has the key. */
 void *map_find(const struct map *map, uint64_t key);
 /* The key is new. Returns 0, or ENOMEM and changes nothing. */
 int map_add(struct map *map, uint64_t key, void *value);

@@ -36,7 +36,7 @@ static int tell_usage(void)
     return STATUS_OPTIONS;
 }
 
-/* Ends with what was printed, or with 125 where standard output can't be written. */
+/* Ends with what was printed, or with 125 if standard output can't be written. */
 static int print(const char *text, const char *more)
 {
     return fputs(text, stdout) < 0 || fputs(more, stdout) < 0 || fflush(stdout) ? 125 : 0;

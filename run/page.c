@@ -7,6 +7,11 @@
 #include <string.h>
 #include <sys/mman.h>
 
+/* Headers that are older than Linux 5.1 lack this one. */
+#ifndef F_SEAL_FUTURE_WRITE
+#define F_SEAL_FUTURE_WRITE 0x0010
+#endif
+
 struct bim_page *page_new(int *memory)
 {
     struct bim_page *page;

@@ -51,7 +51,7 @@ int record_fence(struct fences *fences, struct line *line, uint32_t point, struc
 int record_union(struct fences *fences, const struct fences *a, const struct fences *b);
 /* Has several fences of a file stand in the trace as an array of that context. Returns 0 or ENOMEM. */
 int record_array(struct fences *fences, uint64_t context, struct trace *trace);
-/* The fence for which a wait on a file waits; NULL where there is none. */
+/* The fence for which a wait on a file waits; NULL if there is none. */
 struct fence *record_waited(const struct fences *fences);
 /* Notes that somebody waits for it. */
 void record_enable(struct fences *fences, struct trace *trace);

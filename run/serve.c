@@ -5,9 +5,10 @@
 #include <errno.h>
 #include <string.h>
 
-/* A new file is readable at once if it has signalled. */
+/* A new file is readable at once if it has signalled. If it isn't kept, neither is what it holds. */
 static int finish_file(struct keeper *keeper, struct object *file, int error, int *gives)
 {
+    struct fences fences;
     int32_t signalled = 0;
 
     if (!error)
@@ -16,9 +17,11 @@ static int finish_file(struct keeper *keeper, struct object *file, int error, in
         error = bim_device_is_signalled(&keeper->device, file->number, &signalled);
     if (!error && signalled)
         end_signal(file->end);
+    fences = file->fences;
+    error = keeper_finish(keeper, file, error, gives);
     if (error)
-        record_drop(&file->fences, false, keeper->trace);
-    return keeper_finish(keeper, file, error, gives);
+        record_drop(&fences, false, keeper->trace);
+    return error;
 }
 
 static int serve_timeline(struct keeper *keeper, const struct bim_request *request, int *gives)
@@ -94,7 +97,7 @@ static int serve_export(struct keeper *keeper, const struct bim_request *request
     return finish_file(keeper, file, 0, gives);
 }
 
-/* The beginning and the end of a wait; the answer's status is 1 where there is something to wait for. */
+/* The beginning and the end of a wait; the answer's status is 1 if there is something to wait for. */
 static int serve_wait(struct keeper *keeper, const struct bim_request *request, struct object *file,
                       struct bim_answer *answer)
 {

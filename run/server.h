@@ -11,13 +11,13 @@ enum { BOARD_CLIENTS = 4096 };
 
 /* What the server leaves for bimphlai-run to see, in memory that both have. */
 struct board {
-    _Atomic pid_t clients[BOARD_CLIENTS]; /* 0 where there is none */
+    _Atomic pid_t clients[BOARD_CLIENTS]; /* 0 if there is none */
     _Atomic uint64_t requests, timelines, files, buffers;
     _Atomic pid_t program; /* the process of the program, once it runs */
     _Atomic int has_ended; /* the server has, in order, with nothing left */
 };
 
-/* What the server says once it serves, and once it is told that the program has ended. */
+/* What the server says once it serves, and once it knows that the program has ended. */
 enum { SERVER_IS_READY = 'R', SERVER_ENDS = 'E', SERVER_STAYS = 'S' };
 
 struct server_setup {

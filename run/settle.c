@@ -21,7 +21,7 @@ void keeper_look(struct keeper *keeper, struct object *object, bool is_told)
         object->line.ends = !is_told;
 }
 
-/* Who closes it: whoever told of it, or else whoever made it, as far as the trace knows. */
+/* Who closes it: whoever said so, or else whoever made it, as far as the trace knows. */
 static void set_closer(struct keeper *keeper, const struct object *object, const struct who *teller)
 {
     if (!keeper->trace)
@@ -169,4 +169,5 @@ void keeper_close(struct keeper *keeper)
     free(keeper->rows);
     bim_device_close(&keeper->device);
     page_close(keeper->page);
+    trace_close(keeper->trace);
 }

@@ -16,10 +16,17 @@
 #include <sys/single_threaded.h>
 #endif
 
-static struct own *own, spare; /* `spare` where there is no page to be wiped */
+/* How a thread has come to ask. */
+struct entry {
+    bool locks, blocks;
+    sigset_t mask;
+};
+
+static struct own *own, spare; /* `spare` if there is no page to be wiped */
 static char service[PATH_MAX];
 static const struct way *way;
 static bool is_traced;
+static _Atomic bool has_handlers;
 static _Atomic int is_begun;
 static sigset_t mask; /* of the thread that forks */
 static __thread bool is_inside __attribute__((tls_model("initial-exec")));
@@ -125,9 +132,39 @@ static int prepare(void)
     return error;
 }
 
+void shim_note_handler(void)
+{
+    has_handlers = true;
+}
+
+/* Takes the lock, and blocks all signals if a handler of the program could ask meanwhile. */
+static void enter(struct entry *entry)
+{
+    sigset_t all;
+
+    entry->blocks = has_handlers && way->blocks_signals;
+    entry->locks = !is_alone();
+    if (entry->blocks) {
+        sigfillset(&all);
+        pthread_sigmask(SIG_BLOCK, &all, &entry->mask);
+    }
+    is_inside = true;
+    if (entry->locks)
+        lock_take(&own->lock);
+}
+
+static void leave(const struct entry *entry)
+{
+    if (entry->locks)
+        lock_give(&own->lock);
+    is_inside = false;
+    if (entry->blocks)
+        pthread_sigmask(SIG_SETMASK, &entry->mask, NULL);
+}
+
 int shim_ask(struct bim_request *request, int passed, struct bim_answer *answer, int *given)
 {
-    bool alone = is_alone();
+    struct entry entry;
     int none, error;
 
     given = given ? given : &none;
@@ -135,17 +172,13 @@ int shim_ask(struct bim_request *request, int passed, struct bim_answer *answer,
     /* A signal handler can't wait for the thread that it interrupted. */
     if (is_inside)
         return way->ask_apart(request, passed, answer, given);
-    is_inside = true;
-    if (!alone)
-        lock_take(&own->lock);
+    enter(&entry);
     error = prepare();
     if (!error) {
         set_who(request);
         error = way->ask(request, passed, answer, given);
     }
-    if (!alone)
-        lock_give(&own->lock);
-    is_inside = false;
+    leave(&entry);
     /* A process in another root, say, may well close what it has. */
     if (error == ENOTCONN && request->op != BIM_OP_GONE)
         shim_lost("the service can't be reached, since it has ended or its socket is out of reach");
@@ -173,7 +206,7 @@ bool shim_has_buffers(void)
     return shim_is_on() && (!way->page() || atomic_load_explicit(&way->page()->buffers, memory_order_relaxed));
 }
 
-/* The service of this process itself sees nothing of what it isn't told, and knows nothing that it hasn't made. */
+/* The service of this process itself sees no closing by itself, and knows nothing that it hasn't made. */
 bool shim_hears_closing(bool of_timeline)
 {
     return way->sees_closings ? of_timeline || is_traced : own->is_ready;
@@ -181,13 +214,13 @@ bool shim_hears_closing(bool of_timeline)
 
 void shim_before_wait(void)
 {
+    struct entry entry;
+
     if (!shim_is_on() || !way->before_wait || is_inside || !own->is_ready)
         return;
-    is_inside = true;
-    lock_take(&own->lock);
+    enter(&entry);
     way->before_wait();
-    lock_give(&own->lock);
-    is_inside = false;
+    leave(&entry);
 }
 
 bool shim_wait(int file, bool begins)

@@ -61,6 +61,13 @@ struct trace *trace_open(const char *path)
     return NULL;
 }
 
+void trace_close(struct trace *trace)
+{
+    if (trace && trace->file >= 0)
+        close(trace->file);
+    free(trace);
+}
+
 void trace_event(struct trace *trace, const char *event, const struct fence *fence)
 {
     uint64_t us;

@@ -26,6 +26,7 @@ struct fence;
 
 /* Opens a file for the lines of a trace, which are added to it; NULL with errno if it can't be opened. */
 struct trace *trace_open(const char *path);
+void trace_close(struct trace *trace);
 /* Empties the file, or makes it, and writes the lines with which ftrace begins. Returns 0 or an errno. */
 int trace_begin(const char *path);
 /* Adds a line. All events of a request are written at once, by trace_flush. Without a trace these do nothing. */

@@ -19,7 +19,7 @@ static bool is_near(const void *at, size_t length)
     return begin >= here && begin - here < NEAR && length < NEAR;
 }
 
-/* Has the kernel copy, which fails where we would fault. */
+/* Has the kernel copy, which fails if we would fault. */
 static int copy(long call, void *here, const void *there, size_t length)
 {
     struct iovec local = { here, length }, remote = { (void *)there, length };
@@ -36,7 +36,7 @@ int user_get(void *to, const void *from, size_t length)
 
     if (error == 0 || error == EFAULT)
         return error;
-    /* It is near, or the kernel was told not to copy. */
+    /* It is near, or the kernel may not copy. */
     memcpy(to, from, length);
     return 0;
 }

@@ -1,4 +1,4 @@
-/* What ioctls read and write of their caller's memory: EFAULT where there is none. */
+/* What ioctls read and write of their caller's memory: EFAULT if there is none. */
 #ifndef BIM_RUN_USER_H
 #define BIM_RUN_USER_H
 

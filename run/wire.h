@@ -40,7 +40,7 @@ enum bim_op {
     BIM_OP_NAME,   /* a: the buffer; name */
     BIM_OP_EXPORT, /* a: the buffer; flags */
     BIM_OP_IMPORT, /* a: the buffer, which is passed as a descriptor too; b: the file; flags */
-    BIM_OP_WAIT,   /* a: a file; value: 1 where a wait begins, 0 where it has ended */
+    BIM_OP_WAIT,   /* a: a file; value: 1 if a wait begins, 0 if it has ended */
     BIM_OP_TEXT,   /* gives the text of sync/info */
     BIM_OPS
 };
@@ -49,24 +49,27 @@ enum bim_op {
 
 enum { BIM_TASK_ROOM = 16, BIM_TEXT_ROOM = 32, BIM_ROWS = 16 };
 
-/* Objects are named by the inode of their descriptors, which each copy of one has. */
+/* Objects are named by the inode of their descriptors, which each copy of one has. The processor, the thread's number
+ * and its name are for the trace alone. */
 struct bim_request {
-    uint32_t op;
+    uint16_t op;
+    uint16_t processor;
+    int32_t thread;
     uint32_t value;
     uint32_t flags;
-    int32_t processor; /* of the asking thread, as its id and name; for the trace alone */
-    uint64_t a, b;
-    uint64_t size;
+    uint64_t a;
+    union {
+        uint64_t b;
+        uint64_t size;
+    };
     char name[BIM_TEXT_ROOM];
     char task[BIM_TASK_ROOM];
-    int32_t thread;
-    int32_t spare;
 };
 
 /* The first `rows` rows are sent. More than BIM_ROWS are in the memory file that is sent along. */
 struct bim_answer {
     int32_t error;  /* 0 or an errno */
-    int32_t gives;  /* 1 where a descriptor is sent along */
+    int32_t gives;  /* 1 if a descriptor is sent along */
     int32_t status; /* of a file */
     uint32_t rows;
     uint32_t fences; /* how many a file has */
