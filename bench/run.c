@@ -1,0 +1,97 @@
+/* usage: run                 what each call takes, in nanoseconds: the least of some tries
+ *        run CALL COUNT      that call COUNT times, for strace
+ *
+ * The calls of sw_sync and sync files, beside getppid, the least of a system call, and a pipe with two closes, which is what a file
+ * costs at least. */
+#include "../tests/run/kernel.h"
+
+enum { TRIES = 7 };
+
+static int line, pending, other, reached;
+
+static void get_parent(void)
+{
+    getppid();
+}
+
+static void bare_pipe(void)
+{
+    int ends[2];
+
+    if (pipe(ends))
+        abort();
+    close(ends[0]);
+    close(ends[1]);
+}
+
+static void increment(void)
+{
+    inc(line, 1);
+}
+
+static void create(void)
+{
+    close(fence(other, 1u << 30));
+}
+
+static void join(void)
+{
+    close(merge("joined", pending, reached));
+}
+
+static void report_file(void)
+{
+    struct report report;
+
+    ask(pending, &report);
+}
+
+static void poll_file(void)
+{
+    ready(pending, POLLIN, 0);
+}
+
+static const struct call {
+    const char *name;
+    void (*run)(void);
+    int count;
+} calls[] = {
+    { "getppid", get_parent, 20000 },     { "pipe", bare_pipe, 3000 }, { "inc", increment, 10000 },
+    { "create", create, 2000 },           { "merge", join, 2000 },     { "info", report_file, 5000 },
+    { "poll", poll_file, 20000 },
+};
+enum { CALLS = sizeof calls / sizeof *calls };
+
+static double least_of(const struct call *call)
+{
+    double least = 0;
+
+    for (int attempt = 0; attempt < TRIES; attempt++) {
+        __u64 begun = now();
+        for (int i = 0; i < call->count; i++)
+            call->run();
+        double took = (double)(now() - begun) / call->count;
+        if (attempt == 0 || took < least)
+            least = took;
+    }
+    return least;
+}
+
+int main(int argc, char **argv)
+{
+    line = timeline();
+    other = timeline();
+    pending = fence(other, 1u << 30);
+    reached = fence(timeline(), 1);
+    EXPECT(is_signalled(pending), 0);
+    HOLDS(reached >= 0);
+    if (failures)
+        return report("run");
+    for (int i = 0; i < CALLS; i++)
+        if (argc == 3 && !strcmp(argv[1], calls[i].name))
+            for (int left = atoi(argv[2]); left > 0; left--)
+                calls[i].run();
+        else if (argc == 1)
+            printf("%s %.0f\n", calls[i].name, least_of(&calls[i]));
+    return 0;
+}

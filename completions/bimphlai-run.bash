@@ -1,0 +1,26 @@
+# Completion of bimphlai-run for bash.
+
+_bimphlai_run() {
+    local word="${COMP_WORDS[COMP_CWORD]}" at=1
+    # After the options comes a program, whose own words follow.
+    while [ "$at" -lt "$COMP_CWORD" ]; do
+        case "${COMP_WORDS[at]}" in
+        --trace) at=$((at + 2)) ;;
+        --) at=$((at + 1)) && break ;;
+        -*) at=$((at + 1)) ;;
+        *) break ;;
+        esac
+    done
+    if [ "${COMP_WORDS[COMP_CWORD - 1]}" = --trace ]; then
+        mapfile -t COMPREPLY < <(compgen -f -- "$word")
+    elif [ "$at" -lt "$COMP_CWORD" ]; then
+        mapfile -t COMPREPLY < <(compgen -f -- "$word")
+    elif [[ $word == -* ]]; then
+        mapfile -t COMPREPLY < <(compgen -W "--local --trace --report --require --verbose --help --version" -- "$word")
+    else
+        mapfile -t COMPREPLY < <(compgen -c -- "$word")
+        mapfile -t -O "${#COMPREPLY[@]}" COMPREPLY < <(compgen -f -- "$word")
+    fi
+}
+
+complete -o filenames -F _bimphlai_run bimphlai-run

@@ -1,0 +1,198 @@
+/* Buffers: memory that can be mapped, and a socket that polls as the kernel's dma-buf does. */
+#define _GNU_SOURCE
+#include "calls.h"
+#include "keeper.h"
+
+#include <errno.h>
+#include <stdlib.h>
+#include <string.h>
+#include <sys/mman.h>
+
+/* What a poll asks of the device, and what it waits for: a reader for writers, a writer for everybody. */
+static const int USAGES[ACCESSES] = { [READING] = BIM_WRITE, [WRITING] = BIM_READ };
+static const uint32_t AWAITS[ACCESSES] = { [READING] = BIM_SYNC_READ, [WRITING] = BIM_SYNC_WRITE };
+
+/* The kernel gives no buffer more memory than there is. */
+static bool is_too_large(uint64_t size)
+{
+    return size / sysconf(_SC_PAGESIZE) > (uint64_t)sysconf(_SC_PHYS_PAGES);
+}
+
+static int make_memory(struct keeper *keeper, uint64_t size)
+{
+    int memory;
+
+    keeper->host->begin_files();
+    memory = memfd_create("dmabuf", MFD_CLOEXEC);
+    if (memory >= 0)
+        memory = keeper->host->place(memory);
+    keeper->host->end_files();
+    if (memory < 0)
+        return -1;
+    if (!is_too_large(size) && ftruncate(memory, size) == 0 && fchmod(memory, BIM_MEMORY_MARK & ~S_IFMT) == 0)
+        return memory;
+    call_close(memory);
+    errno = ENOMEM;
+    return -1;
+}
+
+int buffer_make(struct keeper *keeper, const struct bim_request *request, int *gives)
+{
+    struct object *object;
+    int error = keeper_begin(keeper, BUFFER, request, &object, gives), memory;
+
+    if (error)
+        return error;
+    memory = make_memory(keeper, request->size);
+    object->buffer = (struct buffer){ .memory = memory, .flags = request->flags, .size = request->size };
+    object->buffer.is_ready[READING] = object->buffer.is_ready[WRITING] = true;
+    error = memory < 0 ? errno : bim_device_buffer(&keeper->device, keeper->now, &object->number);
+    end_set_readable(object->end);
+    error = keeper_finish(keeper, object, error, gives);
+    if (error && memory >= 0)
+        call_close(memory);
+    keeper->page->buffers = 1;
+    return error;
+}
+
+int buffer_memory(const struct object *buffer, struct bim_answer *answer, int *gives)
+{
+    if (buffer->kind != BUFFER)
+        return ENOTTY;
+    answer->size = buffer->buffer.size;
+    answer->flags = buffer->buffer.flags;
+    memcpy(answer->name, buffer->buffer.name, sizeof answer->name);
+    *gives = call_dup_from(buffer->buffer.memory, 0);
+    return *gives < 0 ? errno : 0;
+}
+
+int buffer_name(struct object *buffer, const char *name)
+{
+    if (buffer->kind != BUFFER)
+        return ENOTTY;
+    memcpy(buffer->buffer.name, name, sizeof buffer->buffer.name);
+    buffer->buffer.name[BIM_TEXT_ROOM - 1] = 0;
+    return 0;
+}
+
+int buffer_fences(const struct object *buffer, uint32_t flags, struct fences *fences)
+{
+    static const struct fences none;
+    const struct fences *reads = flags & BIM_SYNC_WRITE ? &buffer->buffer.fences[READING] : &none;
+
+    return record_union(fences, &buffer->buffer.fences[WRITING], reads);
+}
+
+/* The program's poll reports a buffer for this access again. */
+void buffer_is_ready(struct object *object, enum access access)
+{
+    struct buffer *buffer = &object->buffer;
+
+    if (buffer->is_ready[access])
+        return;
+    buffer->is_ready[access] = true;
+    if (access == READING)
+        end_set_readable(object->end);
+    else
+        end_set_writable(object->end);
+}
+
+static void stop_awaiting(struct keeper *keeper, struct buffer *buffer, enum access access)
+{
+    struct object *awaited = buffer->awaited[access];
+
+    if (!awaited)
+        return;
+    bim_device_release(&keeper->device, awaited->number, keeper->now);
+    keeper_forget(keeper, awaited);
+    buffer->awaited[access] = NULL;
+}
+
+/* Has the device report when all that the access waits for has signalled, by a file that no program has. */
+static int await(struct keeper *keeper, struct object *object, enum access access)
+{
+    struct object *awaited = calloc(1, sizeof *awaited);
+    uint64_t number;
+    int error;
+
+    if (!awaited)
+        return ENOMEM;
+    awaited->kind = READINESS;
+    awaited->end = -1;
+    awaited->readiness.of = object;
+    awaited->readiness.access = access;
+    error = bim_device_export(&keeper->device, object->number, AWAITS[access], &number);
+    if (!error)
+        error = map_add(&keeper->by_number, number, awaited);
+    if (error) {
+        free(awaited);
+        return error;
+    }
+    awaited->number = number;
+    stop_awaiting(keeper, &object->buffer, access);
+    object->buffer.awaited[access] = awaited;
+    return 0;
+}
+
+/* Takes the readiness for an access back if the device says that something is pending. */
+static int refresh(struct keeper *keeper, struct object *object, enum access access, int theirs)
+{
+    int32_t signalled;
+    int error = bim_device_test(&keeper->device, object->number, USAGES[access], &signalled);
+
+    if (error || signalled)
+        return error;
+    if (object->buffer.is_ready[access] && access == READING)
+        end_take_readable(theirs);
+    if (object->buffer.is_ready[access] && access == WRITING)
+        end_take_writable(theirs);
+    object->buffer.is_ready[access] = false;
+    return await(keeper, object, access);
+}
+
+/* Keeps what was imported for the trace. */
+static int put_fences(struct buffer *buffer, uint32_t flags, const struct fences *file, struct trace *trace)
+{
+    enum access access = flags & BIM_SYNC_WRITE ? WRITING : READING;
+    struct fences both;
+    int error = record_union(&both, &buffer->fences[access], file);
+
+    if (error)
+        return error;
+    record_drop(&buffer->fences[access], false, trace);
+    buffer->fences[access] = both;
+    return 0;
+}
+
+/* The program's end comes along, since only that can take readiness back. */
+static bool is_end_of(const struct object *object, int passed)
+{
+    uint64_t inode;
+
+    return passed >= 0 && end_mark(passed, &inode) == BIM_BUFFER_MARK && inode == object->inode;
+}
+
+int buffer_import(struct keeper *keeper, const struct bim_request *request, struct object *object, int passed)
+{
+    struct object *file = keeper_find(keeper, request->b);
+    int error = object->kind == BUFFER && !is_end_of(object, passed) ? EBADF : 0;
+
+    if (!error)
+        error = bim_device_import(&keeper->device, object->number, file ? file->number : 0, request->flags);
+    if (!error)
+        error = put_fences(&object->buffer, request->flags, &file->fences, keeper->trace);
+    if (!error)
+        error = refresh(keeper, object, READING, passed);
+    if (!error)
+        error = refresh(keeper, object, WRITING, passed);
+    return error;
+}
+
+void buffer_drop(struct keeper *keeper, struct object *object)
+{
+    for (enum access access = 0; access < ACCESSES; access++) {
+        stop_awaiting(keeper, &object->buffer, access);
+        record_drop(&object->buffer.fences[access], !object->is_told, keeper->trace);
+    }
+    call_close(object->buffer.memory);
+}

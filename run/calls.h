@@ -1,0 +1,67 @@
+/* System calls as such: in a program whose calls are watched, the service's own are not, and a thread can't be
+ * cancelled in one. */
+#ifndef BIM_RUN_CALLS_H
+#define BIM_RUN_CALLS_H
+
+#include <fcntl.h>
+#include <poll.h>
+#include <signal.h>
+#include <stddef.h>
+#include <sys/socket.h>
+#include <sys/stat.h>
+#include <sys/syscall.h>
+#include <unistd.h>
+
+#if __SIZEOF_POINTER__ != 8
+#error "only for machines with 64 bits"
+#endif
+
+/* Headers that are older than Linux 5.9 lack this one; it has the same number on all machines. */
+#ifndef SYS_close_range
+#define SYS_close_range 436
+#endif
+
+static inline int call_close(int file)
+{
+    return syscall(SYS_close, file);
+}
+
+static inline int call_fstat(int file, struct stat *found)
+{
+    return syscall(SYS_fstat, file, found);
+}
+
+static inline int call_poll(struct pollfd *files, nfds_t count, int milliseconds)
+{
+    struct timespec limit = { milliseconds / 1000, milliseconds % 1000 * 1000000L };
+
+    return syscall(SYS_ppoll, files, count, milliseconds < 0 ? NULL : &limit, NULL, (size_t)(_NSIG / 8));
+}
+
+static inline ssize_t call_read(int file, void *bytes, size_t length)
+{
+    return syscall(SYS_read, file, bytes, length);
+}
+
+static inline ssize_t call_write(int file, const void *bytes, size_t length)
+{
+    return syscall(SYS_write, file, bytes, length);
+}
+
+static inline ssize_t call_send(int file, const void *bytes, size_t length)
+{
+    return syscall(SYS_sendto, file, bytes, length, MSG_DONTWAIT | MSG_NOSIGNAL, NULL, 0);
+}
+
+static inline ssize_t call_recv(int file, void *bytes, size_t length)
+{
+    return syscall(SYS_recvfrom, file, bytes, length, MSG_DONTWAIT, NULL, NULL);
+}
+
+/* Another number of a descriptor, the least from `least` on. */
+static inline int call_dup_from(int file, int least)
+{
+    return syscall(SYS_fcntl, file, F_DUPFD_CLOEXEC, least);
+}
+
+#endif

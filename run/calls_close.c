@@ -1,0 +1,130 @@
+/* close(2) and what else closes: the last close of a timeline cancels before it returns, so the service hears of it. */
+#define _GNU_SOURCE
+#include "calls.h"
+#include "shim.h"
+
+#include <errno.h>
+#include <limits.h>
+#include <stdio.h>
+
+/* What is closed, if the service is to hear of it. */
+static uint64_t closing(int file)
+{
+    uint64_t inode;
+    enum bim_mark mark = shim_mark(file, &inode);
+
+    if (mark != BIM_TIMELINE_MARK && mark != BIM_FILE_MARK && mark != BIM_BUFFER_MARK)
+        return 0;
+    return shim_hears_closing(mark == BIM_TIMELINE_MARK) ? inode : 0;
+}
+
+static void tell(uint64_t inode)
+{
+    struct bim_request request = { .op = BIM_OP_GONE, .a = inode };
+    struct bim_answer answer;
+    int before = errno;
+
+    if (inode)
+        shim_ask(&request, -1, &answer, NULL);
+    errno = before;
+}
+
+EXPORT int close(int file)
+{
+    NEXT(close);
+    uint64_t inode;
+    int result;
+
+    if (shim_is_own(file))
+        return shim_result(EBADF);
+    inode = closing(file);
+    result = next(file);
+    if (result == 0)
+        tell(inode);
+    return result;
+}
+
+/* The C library closes a stream's descriptor by itself. */
+EXPORT int fclose(FILE *stream)
+{
+    NEXT(fclose);
+    int before = errno, result;
+    uint64_t inode = closing(fileno(stream));
+
+    errno = before;
+    result = next(stream);
+    tell(inode);
+    return result;
+}
+
+EXPORT int dup2(int file, int other)
+{
+    NEXT(dup2);
+    uint64_t inode = file == other ? 0 : closing(other);
+    int result;
+
+    if (shim_is_own(other))
+        return shim_result(EBUSY);
+    result = next(file, other);
+    if (result >= 0)
+        tell(inode);
+    return result;
+}
+
+EXPORT int dup3(int file, int other, int flags)
+{
+    NEXT(dup3);
+    uint64_t inode = closing(other);
+    int result;
+
+    if (shim_is_own(other))
+        return shim_result(EBUSY);
+    result = next(file, other, flags);
+    if (result >= 0)
+        tell(inode);
+    return result;
+}
+
+/* Closes a range of numbers, in whatever way the kernel has. */
+static int close_numbers(unsigned first, unsigned last, int flags)
+{
+    long most = sysconf(_SC_OPEN_MAX);
+
+    if (syscall(SYS_close_range, first, last, flags) == 0)
+        return 0;
+    if (errno != ENOSYS || flags)
+        return -1;
+    for (unsigned file = first; file <= last && file < most; file++)
+        call_close(file);
+    return 0;
+}
+
+/* Closes a range but for what the service has in this process, and has all closings done. */
+static int close_around(unsigned first, unsigned last, int flags)
+{
+    unsigned begin = first, above = shim_above_own();
+    int result = 0;
+
+    for (unsigned file = first; file <= last && file < above; file++) {
+        if (!shim_is_own(file))
+            continue;
+        if (file > begin)
+            result |= close_numbers(begin, file - 1, flags);
+        begin = file + 1;
+    }
+    if (begin <= last)
+        result |= close_numbers(begin, last, flags);
+    if (above > 0)
+        tell(BIM_ANY);
+    return result;
+}
+
+EXPORT int close_range(unsigned first, unsigned last, int flags)
+{
+    return first > last ? shim_result(EINVAL) : close_around(first, last, flags);
+}
+
+EXPORT void closefrom(int first)
+{
+    close_around(first < 0 ? 0 : first, UINT_MAX, 0);
+}

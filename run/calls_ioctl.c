@@ -1,0 +1,312 @@
+/* ioctl(2) on our descriptors: what Linux's sw_sync, sync files, dma-bufs and heaps take. */
+#define _GNU_SOURCE
+#include "calls.h"
+#include "shim.h"
+#include "user.h"
+
+#include <errno.h>
+#include <linux/dma-buf.h>
+#include <linux/dma-heap.h>
+#include <linux/ioctl.h>
+#include <sched.h>
+#include <stdarg.h>
+#include <string.h>
+#include <sys/ioctl.h>
+
+/* Linux has these in no header of its interface. */
+struct create_fence {
+    uint32_t value;
+    char name[32];
+    int32_t fence;
+};
+#define CREATE_FENCE _IOWR('W', 0, struct create_fence)
+#define INC          _IOW('W', 1, uint32_t)
+
+/* Headers that are older lack these. */
+struct set_deadline {
+    uint64_t deadline_ns, pad;
+};
+struct sync_file_of_buffer {
+    uint32_t flags;
+    int32_t fd;
+};
+#define SET_DEADLINE     _IOW('>', 5, struct set_deadline)
+#define EXPORT_SYNC_FILE _IOWR('b', 2, struct sync_file_of_buffer)
+#define IMPORT_SYNC_FILE _IOW('b', 3, struct sync_file_of_buffer)
+
+/* Asks for a new descriptor, and stores it in the caller's struct. If it can't be stored, it is closed again. */
+static int give_file(struct bim_request *request, void *arg, void *data, size_t size, int32_t *field)
+{
+    struct bim_answer answer;
+    int given, error = shim_ask(request, -1, &answer, &given);
+
+    if (error)
+        return error;
+    memcpy(field, &given, sizeof given);
+    error = user_put(arg, data, size);
+    if (error)
+        close(given);
+    return error;
+}
+
+static int create_fence(uint64_t timeline, void *arg)
+{
+    struct bim_request request = { .op = BIM_OP_FENCE, .a = timeline };
+    struct create_fence data;
+    int error = user_get(&data, arg, sizeof data);
+
+    if (error)
+        return error;
+    request.value = data.value;
+    return give_file(&request, arg, &data, sizeof data, &data.fence);
+}
+
+static int inc(uint64_t timeline, void *arg)
+{
+    struct bim_request request = { .op = BIM_OP_INC, .a = timeline };
+    struct bim_answer answer;
+    int error = user_get(&request.value, arg, sizeof request.value);
+
+    return error ? error : shim_ask(&request, -1, &answer, NULL);
+}
+
+static int merge(uint64_t file, void *arg)
+{
+    struct bim_request request = { .op = BIM_OP_MERGE, .a = file };
+    struct sync_merge_data data;
+    int error = user_get(&data, arg, sizeof data);
+
+    if (error)
+        return error;
+    if (data.flags || data.pad)
+        return EINVAL;
+    if (shim_mark(data.fd2, &request.b) != BIM_FILE_MARK)
+        request.b = 0;
+    memcpy(request.name, data.name, strnlen(data.name, sizeof request.name - 1));
+    return give_file(&request, arg, &data, sizeof data, &data.fence);
+}
+
+/* Stores the rows of an answer, which come in a file if there are many. */
+static int put_rows(const struct sync_file_info *data, const struct bim_answer *answer, int rows_file)
+{
+    char *to = (char *)(uintptr_t)data->sync_fence_info;
+    struct sync_fence_info row;
+
+    if (rows_file < 0)
+        return user_put(to, answer->row, answer->rows * sizeof row);
+    for (size_t at = 0; at < answer->fences * sizeof row; at += sizeof row) {
+        if (syscall(SYS_pread64, rows_file, &row, sizeof row, at) != sizeof row)
+            return ENOMEM;
+        if (user_put(to + at, &row, sizeof row))
+            return EFAULT;
+    }
+    return 0;
+}
+
+static int put_info(struct sync_file_info *data, const struct bim_answer *answer, int rows_file, void *arg)
+{
+    int error = data->num_fences ? put_rows(data, answer, rows_file) : 0;
+
+    if (error)
+        return error;
+    memcpy(data->name, answer->name, sizeof data->name);
+    data->status = answer->status;
+    data->num_fences = answer->fences;
+    return user_put(arg, data, sizeof *data);
+}
+
+static int file_info(uint64_t file, void *arg)
+{
+    struct bim_request request = { .op = BIM_OP_INFO, .a = file };
+    struct sync_file_info data;
+    struct bim_answer answer;
+    int rows_file = -1, error = user_get(&data, arg, sizeof data);
+
+    if (error)
+        return error;
+    if (data.flags || data.pad)
+        return EINVAL;
+    request.value = data.num_fences;
+    if (!shim_recall(file, &answer))
+        error = shim_ask(&request, -1, &answer, &rows_file);
+    if (!error)
+        error = put_info(&data, &answer, rows_file, arg);
+    if (rows_file >= 0)
+        call_close(rows_file);
+    /* Who asks until a file signals leaves the processor to those who are to signal it. */
+    if (!error && data.status == 0)
+        sched_yield();
+    return error;
+}
+
+static int set_deadline(uint64_t file, void *arg)
+{
+    struct set_deadline data;
+    int error = user_get(&data, arg, sizeof data);
+
+    (void)file;
+    return error ? error : data.pad ? EINVAL : 0;
+}
+
+static int allocate(void *arg)
+{
+    struct bim_request request = { .op = BIM_OP_BUFFER };
+    struct dma_heap_allocation_data data;
+    uint64_t page = sysconf(_SC_PAGESIZE);
+    int32_t given;
+    int error = user_get(&data, arg, sizeof data);
+
+    if (error)
+        return error;
+    if (data.fd || data.fd_flags & ~(uint32_t)(O_CLOEXEC | O_ACCMODE) || data.heap_flags || data.len == 0 ||
+        data.len > UINT64_MAX - page)
+        return EINVAL;
+    request.size = (data.len + page - 1) / page * page;
+    request.flags = data.fd_flags & O_ACCMODE;
+    given = shim_ask_for_file(&request);
+    if (given < 0)
+        return errno;
+    if (!(data.fd_flags & O_CLOEXEC))
+        syscall(SYS_fcntl, given, F_SETFD, 0);
+    data.fd = given;
+    error = user_put(arg, &data, sizeof data);
+    if (error)
+        close(given);
+    return error;
+}
+
+/* Waits as an interruptible wait of the kernel's does: by a read, which a signal handler interrupts or not, as it asked
+ * for. */
+static int wait_for(struct bim_request *request)
+{
+    char byte;
+    int file = shim_ask_for_file(request), error = 0;
+
+    if (file < 0)
+        return errno;
+    if (shim_is_traced())
+        shim_wait(file, true);
+    if (call_read(file, &byte, 1) < 0)
+        error = errno;
+    if (shim_is_traced())
+        shim_wait(file, false);
+    close(file);
+    return error;
+}
+
+static int access_buffer(int file, uint64_t buffer, void *arg)
+{
+    struct bim_request request = { .op = BIM_OP_EXPORT, .a = buffer };
+    struct pollfd ready = { file, 0, 0 };
+    struct dma_buf_sync data;
+    int error = user_get(&data, arg, sizeof data);
+
+    if (error)
+        return error;
+    request.flags = data.flags & DMA_BUF_SYNC_RW;
+    if (data.flags & ~(uint64_t)DMA_BUF_SYNC_VALID_FLAGS_MASK || !request.flags)
+        return EINVAL;
+    ready.events = request.flags & DMA_BUF_SYNC_WRITE ? POLLOUT : POLLIN;
+    if (data.flags & DMA_BUF_SYNC_END || call_poll(&ready, 1, 0) == 1)
+        return 0;
+    return wait_for(&request);
+}
+
+static int set_name(uint64_t buffer, const char *arg)
+{
+    struct bim_request request = { .op = BIM_OP_NAME, .a = buffer };
+    struct bim_answer answer;
+    int error = user_get_text(request.name, arg, sizeof request.name);
+
+    return error ? error : shim_ask(&request, -1, &answer, NULL);
+}
+
+static int export_file(uint64_t buffer, void *arg)
+{
+    struct bim_request request = { .op = BIM_OP_EXPORT, .a = buffer };
+    struct sync_file_of_buffer data;
+    int error = user_get(&data, arg, sizeof data);
+
+    if (error)
+        return error;
+    request.flags = data.flags;
+    return give_file(&request, arg, &data, sizeof data, &data.fd);
+}
+
+static int import_file(int file, uint64_t buffer, void *arg)
+{
+    struct bim_request request = { .op = BIM_OP_IMPORT, .a = buffer };
+    struct sync_file_of_buffer data;
+    struct bim_answer answer;
+    int error = user_get(&data, arg, sizeof data);
+
+    if (error)
+        return error;
+    request.flags = data.flags;
+    if (shim_mark(data.fd, &request.b) != BIM_FILE_MARK)
+        request.b = 0;
+    return shim_ask(&request, file, &answer, NULL);
+}
+
+static int on_timeline(uint64_t inode, unsigned long call, void *arg)
+{
+    switch (call) {
+    case CREATE_FENCE: return create_fence(inode, arg);
+    case INC: return inc(inode, arg);
+    default: return ENOTTY;
+    }
+}
+
+static int on_file(uint64_t inode, unsigned long call, void *arg)
+{
+    switch (call) {
+    case SYNC_IOC_MERGE: return merge(inode, arg);
+    case SYNC_IOC_FILE_INFO: return file_info(inode, arg);
+    case SET_DEADLINE: return set_deadline(inode, arg);
+    default: return ENOTTY;
+    }
+}
+
+static int on_buffer(int file, uint64_t inode, unsigned long call, void *arg)
+{
+    switch (call) {
+    case DMA_BUF_IOCTL_SYNC: return access_buffer(file, inode, arg);
+    case DMA_BUF_SET_NAME_A:
+    case DMA_BUF_SET_NAME_B: return set_name(inode, arg);
+    case EXPORT_SYNC_FILE: return export_file(inode, arg);
+    case IMPORT_SYNC_FILE: return import_file(file, inode, arg);
+    default: return ENOTTY;
+    }
+}
+
+/* Whether a call is one of those above. All others are the kernel's at once. */
+static bool is_ours(unsigned long call)
+{
+    switch (_IOC_TYPE(call)) {
+    case 'W':
+    case '>':
+    case 'b':
+    case 'H': return true;
+    default: return false;
+    }
+}
+
+EXPORT int ioctl(int file, unsigned long call, ...)
+{
+    NEXT(ioctl);
+    uint64_t inode;
+    va_list words;
+    void *arg;
+
+    va_start(words, call);
+    arg = va_arg(words, void *);
+    va_end(words);
+    call = (uint32_t)call;
+    switch (is_ours(call) ? shim_mark(file, &inode) : 0) {
+    case BIM_TIMELINE_MARK: return shim_result(on_timeline(inode, call, arg));
+    case BIM_FILE_MARK: return shim_result(on_file(inode, call, arg));
+    case BIM_BUFFER_MARK: return shim_result(on_buffer(file, inode, call, arg));
+    case BIM_HEAP_MARK: return shim_result(call == DMA_HEAP_IOCTL_ALLOC ? allocate(arg) : EINVAL);
+    default: return next(file, call, arg);
+    }
+}

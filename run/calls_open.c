@@ -1,0 +1,287 @@
+/* open(2) and stat(2) of the paths by which programs reach fences. */
+#define _GNU_SOURCE
+#include "calls.h"
+#include "shim.h"
+#include "user.h"
+
+#include <errno.h>
+#include <stdarg.h>
+#include <stdio.h>
+#include <string.h>
+#include <sys/mman.h>
+#include <sys/prctl.h>
+#include <sys/sysmacros.h>
+
+enum { PATH_ROOM = 64 };
+enum path { NOT_OURS, SW_SYNC, SYNC_INFO, DMA_HEAP };
+
+/* The path is readable: the kernel has read it, or copy_of has. */
+static enum path path_of(const char *path)
+{
+    if (!shim_is_on() || path[0] != '/')
+        return NOT_OURS;
+    if (strcmp(path, "/sys/kernel/debug/sync/sw_sync") == 0 || strcmp(path, "/dev/sw_sync") == 0)
+        return SW_SYNC;
+    if (strcmp(path, "/sys/kernel/debug/sync/info") == 0)
+        return SYNC_INFO;
+    return strcmp(path, "/dev/dma_heap/system") == 0 ? DMA_HEAP : NOT_OURS;
+}
+
+/* The path of a call that the kernel has answered. */
+static enum path path_after(const char *path, bool has_failed)
+{
+    return has_failed && errno == EFAULT ? NOT_OURS : path_of(path);
+}
+
+/* The path of a call that would make a file, and isn't to be made for ours. */
+static enum path path_before(const char *path)
+{
+    char copy[PATH_ROOM];
+
+    return shim_is_on() && user_get_text(copy, path, sizeof copy) == 0 ? path_of(copy) : NOT_OURS;
+}
+
+/* A heap is a mark: what is allocated from it is the service's. */
+static int open_heap(void)
+{
+    int file = memfd_create("heap", MFD_CLOEXEC);
+
+    if (file >= 0)
+        fchmod(file, BIM_HEAP_MARK & ~S_IFMT);
+    return file;
+}
+
+static int open_path(enum path path, int flags)
+{
+    struct bim_request request = { .op = path == SW_SYNC ? BIM_OP_TIMELINE : BIM_OP_TEXT };
+    int file;
+
+    if (path == SYNC_INFO && (flags & O_ACCMODE) != O_RDONLY) {
+        errno = EACCES;
+        return -1;
+    }
+    prctl(PR_GET_NAME, request.name);
+    file = path == DMA_HEAP ? open_heap() : shim_ask_for_file(&request);
+    if (file >= 0 && !(flags & O_CLOEXEC))
+        syscall(SYS_fcntl, file, F_SETFD, 0);
+    return file;
+}
+
+/* Opens one of ours in place of what the kernel may have opened. */
+static int replace_file(enum path path, int flags, int opened)
+{
+    if (opened >= 0)
+        call_close(opened);
+    return open_path(path, flags);
+}
+
+static bool makes_files(int flags)
+{
+    return flags & (O_CREAT | __O_TMPFILE);
+}
+
+#define MODE_OF(flags)                \
+    mode_t mode = 0;                  \
+    if (makes_files(flags)) {         \
+        va_list words;                \
+        va_start(words, flags);       \
+        mode = va_arg(words, mode_t); \
+        va_end(words);                \
+    }
+
+#define OPEN(name)                                                           \
+    EXPORT int name(const char *path, int flags, ...)                        \
+    {                                                                        \
+        NEXT(name);                                                          \
+        MODE_OF(flags)                                                       \
+        enum path which = makes_files(flags) ? path_before(path) : NOT_OURS; \
+        int file = which ? -1 : next(path, flags, mode);                     \
+                                                                             \
+        if (!which && !makes_files(flags))                                   \
+            which = path_after(path, file < 0);                              \
+        return which ? replace_file(which, flags, file) : file;              \
+    }
+
+#define OPENAT(name)                                                         \
+    EXPORT int name(int folder, const char *path, int flags, ...)            \
+    {                                                                        \
+        NEXT(name);                                                          \
+        MODE_OF(flags)                                                       \
+        enum path which = makes_files(flags) ? path_before(path) : NOT_OURS; \
+        int file = which ? -1 : next(folder, path, flags, mode);             \
+                                                                             \
+        if (!which && !makes_files(flags))                                   \
+            which = path_after(path, file < 0);                              \
+        return which ? replace_file(which, flags, file) : file;              \
+    }
+
+OPEN(open)
+OPEN(open64)
+OPENAT(openat)
+OPENAT(openat64)
+
+/* What fortified programs call. */
+int __open_2(const char *path, int flags);
+int __open64_2(const char *path, int flags);
+int __openat_2(int folder, const char *path, int flags);
+int __openat64_2(int folder, const char *path, int flags);
+
+EXPORT int __open_2(const char *path, int flags)
+{
+    return open(path, flags);
+}
+
+EXPORT int __open64_2(const char *path, int flags)
+{
+    return open64(path, flags);
+}
+
+EXPORT int __openat_2(int folder, const char *path, int flags)
+{
+    return openat(folder, path, flags);
+}
+
+EXPORT int __openat64_2(int folder, const char *path, int flags)
+{
+    return openat64(folder, path, flags);
+}
+
+/* A stream over a descriptor of ours, which nobody reads or writes, but for the text. The C library takes a pipe's read
+ * end only for reading. */
+static FILE *open_stream(enum path path, const char *mode)
+{
+    int flags = strchr(mode, '+') ? O_RDWR : mode[0] == 'r' ? O_RDONLY : O_WRONLY;
+    int file = open_path(path, flags | (strchr(mode, 'e') ? O_CLOEXEC : 0));
+    FILE *stream = file < 0 ? NULL : fdopen(file, "r");
+
+    if (file >= 0 && !stream)
+        close(file);
+    return stream;
+}
+
+#define FOPEN(name)                                                 \
+    EXPORT FILE *name(const char *path, const char *mode)           \
+    {                                                               \
+        NEXT(name);                                                 \
+        enum path which = path_before(path);                        \
+                                                                    \
+        return which ? open_stream(which, mode) : next(path, mode); \
+    }
+
+FOPEN(fopen)
+FOPEN(fopen64)
+
+/* A file of debugfs, or a device. */
+static mode_t mode_of(enum path path)
+{
+    return path == DMA_HEAP ? S_IFCHR | 0600 : path == SYNC_INFO ? S_IFREG | 0444 : S_IFREG | 0644;
+}
+
+static int fill_stat(struct stat *found, enum path path)
+{
+    struct stat filled = { .st_mode = mode_of(path), .st_nlink = 1, .st_blksize = sysconf(_SC_PAGESIZE) };
+
+    return shim_result(user_put(found, &filled, sizeof filled));
+}
+
+static int fill_statx(struct statx *found, enum path path)
+{
+    struct statx filled = {
+        .stx_mask = STATX_BASIC_STATS, .stx_mode = mode_of(path), .stx_nlink = 1, .stx_blksize = sysconf(_SC_PAGESIZE)
+    };
+
+    return shim_result(user_put(found, &filled, sizeof filled));
+}
+
+/* On machines with 64 bits, both structs are the same. */
+#define STAT(name, type)                                                \
+    EXPORT int name(const char *path, struct type *found)               \
+    {                                                                   \
+        NEXT(name);                                                     \
+        int result = next(path, found);                                 \
+        enum path which = path_after(path, result < 0);                 \
+                                                                        \
+        return which ? fill_stat((struct stat *)found, which) : result; \
+    }
+
+STAT(stat, stat)
+STAT(stat64, stat64)
+STAT(lstat, stat)
+STAT(lstat64, stat64)
+
+#define FSTATAT(name, type)                                                      \
+    EXPORT int name(int folder, const char *path, struct type *found, int flags) \
+    {                                                                            \
+        NEXT(name);                                                              \
+        int result = next(folder, path, found, flags);                           \
+        enum path which = path_after(path, result < 0);                          \
+                                                                                 \
+        return which ? fill_stat((struct stat *)found, which) : result;          \
+    }
+
+FSTATAT(fstatat, stat)
+FSTATAT(fstatat64, stat64)
+
+/* What programs call that were built with an older C library. */
+#define XSTAT(name, type)                                               \
+    int name(int version, const char *path, struct type *found);        \
+    EXPORT int name(int version, const char *path, struct type *found)  \
+    {                                                                   \
+        NEXT(name);                                                     \
+        int result = next(version, path, found);                        \
+        enum path which = path_after(path, result < 0);                 \
+                                                                        \
+        return which ? fill_stat((struct stat *)found, which) : result; \
+    }
+
+XSTAT(__xstat, stat)
+XSTAT(__xstat64, stat64)
+XSTAT(__lxstat, stat)
+XSTAT(__lxstat64, stat64)
+
+#define FXSTATAT(name, type)                                                                  \
+    int name(int version, int folder, const char *path, struct type *found, int flags);       \
+    EXPORT int name(int version, int folder, const char *path, struct type *found, int flags) \
+    {                                                                                         \
+        NEXT(name);                                                                           \
+        int result = next(version, folder, path, found, flags);                               \
+        enum path which = path_after(path, result < 0);                                       \
+                                                                                              \
+        return which ? fill_stat((struct stat *)found, which) : result;                       \
+    }
+
+FXSTATAT(__fxstatat, stat)
+FXSTATAT(__fxstatat64, stat64)
+
+EXPORT int statx(int folder, const char *path, int flags, unsigned mask, struct statx *found)
+{
+    NEXT(statx);
+    int result = next(folder, path, flags, mask, found);
+    enum path which = path_after(path, result < 0);
+
+    return which ? fill_statx(found, which) : result;
+}
+
+/* Everybody may read and write; nobody may execute. */
+static int check_access(enum path path, int how)
+{
+    return shim_result(how & X_OK || (path == SYNC_INFO && how & W_OK) ? EACCES : 0);
+}
+
+EXPORT int access(const char *path, int how)
+{
+    NEXT(access);
+    int result = next(path, how);
+    enum path which = path_after(path, result < 0);
+
+    return which ? check_access(which, how) : result;
+}
+
+EXPORT int faccessat(int folder, const char *path, int how, int flags)
+{
+    NEXT(faccessat);
+    int result = next(folder, path, how, flags);
+    enum path which = path_after(path, result < 0);
+
+    return which ? check_access(which, how) : result;
+}

@@ -1,0 +1,245 @@
+/* The processes that have connected, and what they ask. */
+#define _GNU_SOURCE
+#include "clients.h"
+
+#include "calls.h"
+
+#include <errno.h>
+#include <stdlib.h>
+#include <string.h>
+#include <sys/epoll.h>
+#include <sys/eventfd.h>
+
+static void note_client(struct server *server, pid_t from, pid_t to)
+{
+    for (size_t i = 0; i < BOARD_CLIENTS; i++)
+        if (server->setup->board->clients[i] == from) {
+            server->setup->board->clients[i] = to;
+            return;
+        }
+}
+
+/* The process at the other end, or 0 if it isn't this user's. */
+static pid_t peer_of(int client)
+{
+    struct ucred peer;
+    socklen_t size = sizeof peer;
+
+    if (getsockopt(client, SOL_SOCKET, SO_PEERCRED, &peer, &size) || peer.uid != geteuid())
+        return 0;
+    return peer.pid;
+}
+
+static struct client *client_of(const struct server *server, int file)
+{
+    return map_find(&server->clients, (uint64_t)file + 1);
+}
+
+/* Returns whether the process at the other end is now a client. */
+static bool add_client(struct server *server, int socket)
+{
+    pid_t process = peer_of(socket);
+    struct client *client = process ? malloc(sizeof *client) : NULL;
+
+    if (!client)
+        return false;
+    *client = (struct client){ socket, -1, NULL, process };
+    if (map_add(&server->clients, (uint64_t)socket + 1, client) || server_watch(server, socket, 0)) {
+        map_remove(&server->clients, (uint64_t)socket + 1);
+        free(client);
+        return false;
+    }
+    server->client_count++;
+    note_client(server, 0, process);
+    return true;
+}
+
+/* Has one that waits to connect see that it can't. */
+static void turn_away(struct server *server)
+{
+    call_close(server->spare);
+    call_close(accept4(server->setup->listener, NULL, NULL, SOCK_CLOEXEC | SOCK_NONBLOCK));
+    server->spare = open("/dev/null", O_RDONLY | O_CLOEXEC);
+}
+
+void client_take(struct server *server)
+{
+    int socket = accept4(server->setup->listener, NULL, NULL, SOCK_CLOEXEC | SOCK_NONBLOCK);
+
+    if (socket < 0 && (errno == EMFILE || errno == ENFILE))
+        turn_away(server);
+    if (socket >= 0 && !add_client(server, socket))
+        call_close(socket);
+}
+
+static void part_with(struct server *server, struct client *client)
+{
+    note_client(server, client->process, 0);
+    map_remove(&server->clients, (uint64_t)client->socket + 1);
+    call_close(client->socket);
+    if (client->bell >= 0) {
+        map_remove(&server->clients, (uint64_t)client->bell + 1);
+        call_close(client->bell);
+    }
+    if (client->lane)
+        lane_close(client->lane);
+    free(client);
+    server->client_count--;
+    server->is_parted = true;
+}
+
+static int give_lane(struct client *client, int *gives)
+{
+    if (client->lane)
+        return EBUSY;
+    client->lane = lane_new(gives);
+    return client->lane ? 0 : errno;
+}
+
+/* An edge is enough: nobody reads what was rung. */
+static int give_bell(struct server *server, struct client *client, int *gives)
+{
+    if (!client->lane || client->bell >= 0)
+        return EBUSY;
+    client->bell = eventfd(0, EFD_CLOEXEC | EFD_NONBLOCK);
+    if (client->bell < 0 || map_add(&server->clients, (uint64_t)client->bell + 1, client) ||
+        server_watch(server, client->bell, EPOLLET))
+        return ENOMEM;
+    *gives = call_dup_from(client->bell, 0);
+    return *gives < 0 ? errno : 0;
+}
+
+/* Increments and new points are the same before and after what was closed. */
+static bool follows_closings(const struct bim_request *request)
+{
+    return request->op != BIM_OP_INC && request->op != BIM_OP_FENCE;
+}
+
+/* Returns whether the client took the answer. */
+static bool send_answer(const struct client *client, struct bim_answer *answer, int gives)
+{
+    union {
+        struct cmsghdr head;
+        char room[CMSG_SPACE(sizeof(int))];
+    } control = { .room = { 0 } };
+    struct iovec bytes = { answer, bim_answer_size(answer) };
+    struct msghdr message = { .msg_iov = &bytes, .msg_iovlen = 1 };
+
+    if (gives >= 0) {
+        message.msg_control = control.room;
+        message.msg_controllen = sizeof control.room;
+        control.head.cmsg_level = SOL_SOCKET;
+        control.head.cmsg_type = SCM_RIGHTS;
+        control.head.cmsg_len = CMSG_LEN(sizeof gives);
+        memcpy(CMSG_DATA(&control.head), &gives, sizeof gives);
+    }
+    return sendmsg(client->socket, &message, MSG_NOSIGNAL | MSG_DONTWAIT) >= 0;
+}
+
+/* The first descriptor that came with a message, or -1. All others are closed: there is room for two if one is
+ * aligned. */
+static int passed_by(struct msghdr *message)
+{
+    struct cmsghdr *head = CMSG_FIRSTHDR(message);
+    int passed = -1, each;
+
+    if (!head || head->cmsg_level != SOL_SOCKET || head->cmsg_type != SCM_RIGHTS)
+        return -1;
+    for (size_t at = 0; CMSG_LEN(at) < head->cmsg_len; at += sizeof each) {
+        memcpy(&each, CMSG_DATA(head) + at, sizeof each);
+        if (passed < 0)
+            passed = each;
+        else
+            call_close(each);
+    }
+    return passed;
+}
+
+static bool is_request(const struct bim_request *request)
+{
+    return request->op > 0 && request->op < BIM_OPS;
+}
+
+static void answer_client(struct server *server, struct client *client, const struct bim_request *request, int passed,
+                          struct bim_answer *answer, int *gives)
+{
+    if (follows_closings(request)) {
+        server_see_closings(server);
+        if (request->op != BIM_OP_GONE)
+            server_settle(server);
+    }
+    if (request->op != BIM_OP_LANE && request->op != BIM_OP_BELL) {
+        keeper_serve(&server->keeper, request, passed, answer, gives);
+        return;
+    }
+    *answer = (struct bim_answer){ .gives = 1 };
+    answer->error = request->op == BIM_OP_LANE ? give_lane(client, gives) : give_bell(server, client, gives);
+}
+
+/* Answers one request. Returns whether the client took the answer. */
+static bool serve_request(struct server *server, struct client *client, const struct bim_request *request, int passed)
+{
+    struct bim_answer answer;
+    int gives = -1;
+    bool taken;
+
+    answer_client(server, client, request, passed, &answer, &gives);
+    taken = send_answer(client, &answer, gives);
+    if (gives >= 0)
+        call_close(gives);
+    return taken;
+}
+
+/* Takes a message of a client. Who sends none of ours, or takes no answer, is parted with. */
+static void serve_socket(struct server *server, struct client *client)
+{
+    union {
+        struct cmsghdr head;
+        char room[CMSG_SPACE(sizeof(int))];
+    } control;
+    struct bim_request request;
+    struct iovec bytes = { &request, sizeof request };
+    struct msghdr message = {
+        .msg_iov = &bytes, .msg_iovlen = 1, .msg_control = control.room, .msg_controllen = sizeof control.room
+    };
+    ssize_t length = recvmsg(client->socket, &message, MSG_CMSG_CLOEXEC | MSG_DONTWAIT);
+    int passed;
+
+    if (length < 0 && (errno == EAGAIN || errno == EINTR))
+        return;
+    passed = length >= 0 ? passed_by(&message) : -1;
+    if (length != sizeof request || message.msg_flags & MSG_TRUNC || !is_request(&request) ||
+        !serve_request(server, client, &request, passed))
+        part_with(server, client);
+    if (passed >= 0)
+        call_close(passed);
+}
+
+/* The same of its lane. An answer that gives a descriptor is asked for again, by the socket. */
+static void serve_lane(struct server *server, struct client *client)
+{
+    struct bim_request request;
+    struct bim_answer answer;
+    int gives = -1;
+
+    if (!lane_take(client->lane, &request))
+        return;
+    if (!is_request(&request)) {
+        part_with(server, client);
+        return;
+    }
+    answer_client(server, client, &request, -1, &answer, &gives);
+    if (gives >= 0)
+        call_close(gives);
+    lane_answer(client->lane, &answer);
+}
+
+void client_serve(struct server *server, int file)
+{
+    struct client *client = client_of(server, file);
+
+    if (client && client->bell == file)
+        serve_lane(server, client);
+    else if (client)
+        serve_socket(server, client);
+}

@@ -1,0 +1,40 @@
+/* What the server's loop and the service of its clients share. */
+#ifndef BIM_RUN_CLIENTS_H
+#define BIM_RUN_CLIENTS_H
+
+#include "keeper.h"
+#include "lane.h"
+#include "server.h"
+
+/* A process that has connected. */
+struct client {
+    int socket, bell; /* bell: -1 without a lane */
+    struct lane *lane;
+    pid_t process;
+};
+
+struct server {
+    struct keeper keeper;
+    const struct server_setup *setup;
+    int events, signals;
+    int spare;          /* a descriptor to close when no other is left */
+    struct map clients; /* by the numbers of their sockets and bells, with 1 added */
+    size_t client_count;
+    bool program_has_ended, is_parted; /* a client has gone since the last closings */
+    uint64_t postponed;                /* since when closings wait */
+    bool is_hurried;                   /* no event reports what it waits for */
+    uint64_t parting;                  /* since when the program has ended */
+};
+
+/* Has the loop see what a descriptor has to read. Returns 0, or -1 with errno. */
+int server_watch(struct server *server, int file, uint32_t how);
+/* Notes all closings so far; and lets go of what was closed. */
+void server_see_closings(struct server *server);
+void server_settle(struct server *server);
+
+/* Takes one that connects. */
+void client_take(struct server *server);
+/* Takes and answers a request of the client whose socket or bell this is. */
+void client_serve(struct server *server, int file);
+
+#endif

@@ -1,0 +1,42 @@
+/* The descriptors that stand for objects: those of a program's and those that the service holds.
+ *
+ * A timeline and a sync file are the read end of a pipe, whose write end the service holds. A byte in it makes the file
+ * readable for good, so the kernel's own poll, select and epoll report it. A buffer is a socket, and the service holds
+ * its peer: a byte sent to it makes it readable, and taking what it sent makes it writable. Once the last copy of a
+ * program's end is closed, in whatever process, the service's end reports POLLERR or POLLHUP. The inode is the object's
+ * identity. */
+#ifndef BIM_RUN_ENDS_H
+#define BIM_RUN_ENDS_H
+
+#include "wire.h"
+
+#include <stdbool.h>
+#include <stdint.h>
+
+struct ends {
+    int theirs, ours;
+    uint64_t inode;
+};
+
+/* Make a pair, marked as the mode says. Return 0 or an errno. */
+int ends_pipe(struct ends *ends, enum bim_mark mark);
+int ends_sockets(struct ends *ends);
+void ends_close(struct ends *ends);
+
+/* Whether all copies of a program's end are closed. */
+bool end_is_alone(int ours);
+/* The mark and inode of a descriptor: 0 if it has no mark of ours. */
+enum bim_mark end_mark(int file, uint64_t *inode);
+
+/* Whether a descriptor is an end of the service's. */
+bool end_is_ours(int file);
+
+/* Makes a file readable. Its last reader may have gone, which raises SIGPIPE unless that is blocked. */
+void end_signal(int ours);
+/* What poll says of a buffer. To take readiness back needs the program's end. */
+void end_set_readable(int ours);
+void end_set_writable(int ours);
+void end_take_readable(int theirs);
+void end_take_writable(int theirs);
+
+#endif

@@ -1,0 +1,147 @@
+/* What is reported: of a file, and of everything in sync/info. */
+#define _GNU_SOURCE
+#include "calls.h"
+#include "keeper.h"
+
+#include <errno.h>
+#include <stdio.h>
+#include <stdlib.h>
+#include <string.h>
+#include <sys/mman.h>
+
+/* Asks the device, with room for all rows. */
+static int ask(struct keeper *keeper, uint64_t number, bim_device_file_info *info)
+{
+    int error = bim_device_info(&keeper->device, number, info, keeper->rows, keeper->rows_room);
+    bim_device_fence_info *more;
+
+    if (error || info->fences <= keeper->rows_room)
+        return error;
+    more = realloc(keeper->rows, 2 * info->fences * sizeof *more);
+    if (!more)
+        return ENOMEM;
+    keeper->rows = more;
+    keeper->rows_room = 2 * info->fences;
+    return bim_device_info(&keeper->device, number, info, keeper->rows, keeper->rows_room);
+}
+
+static void set_row(struct sync_fence_info *to, const bim_device_fence_info *row)
+{
+    memset(to, 0, sizeof *to);
+    memcpy(to->obj_name, row->timeline, sizeof row->timeline);
+    memcpy(to->driver_name, row->driver, sizeof row->driver);
+    to->status = row->status;
+    to->timestamp_ns = row->at;
+}
+
+/* Rows for which the answer has no room come in a file. */
+static int rows_in_file(const struct keeper *keeper, size_t count, int *gives)
+{
+    struct sync_fence_info *rows = calloc(count, sizeof *rows);
+    int file = memfd_create("rows", MFD_CLOEXEC);
+    bool written = false;
+
+    for (size_t i = 0; rows && i < count; i++)
+        set_row(&rows[i], &keeper->rows[i]);
+    if (rows && file >= 0)
+        written = call_write(file, rows, count * sizeof *rows) == (ssize_t)(count * sizeof *rows);
+    free(rows);
+    if (written) {
+        *gives = file;
+        return 0;
+    }
+    if (file >= 0)
+        call_close(file);
+    return ENOMEM;
+}
+
+static int give_rows(const struct keeper *keeper, struct bim_answer *answer, int *gives)
+{
+    if (answer->fences > BIM_ROWS)
+        return rows_in_file(keeper, answer->fences, gives);
+    for (size_t i = 0; i < answer->fences; i++)
+        set_row(&answer->row[i], &keeper->rows[i]);
+    answer->rows = answer->fences;
+    return 0;
+}
+
+/* Without rows the kernel reports the status of what stands for all fences: while one is pending, it is active. */
+static int status_of_all(struct keeper *keeper, uint64_t number, int32_t *status)
+{
+    int32_t signalled;
+    int error = bim_device_is_signalled(&keeper->device, number, &signalled);
+
+    if (!error && !signalled)
+        *status = BIM_IS_ACTIVE;
+    return error;
+}
+
+int info_of_file(struct keeper *keeper, const struct bim_request *request, struct object *file,
+                 struct bim_answer *answer, int *gives)
+{
+    bim_device_file_info info;
+    int error = ask(keeper, file->number, &info);
+
+    if (error)
+        return error;
+    answer->status = info.status;
+    answer->fences = info.fences;
+    memcpy(answer->name, info.name, sizeof answer->name);
+    if (request->value == 0)
+        return status_of_all(keeper, file->number, &answer->status);
+    if (request->value < info.fences)
+        return EINVAL;
+    error = give_rows(keeper, answer, gives);
+    if (!error && info.fences == 1 && info.status != BIM_IS_ACTIVE)
+        page_put(keeper->page, file->inode, answer);
+    return error;
+}
+
+static void print_timeline(FILE *text, const struct object *timeline)
+{
+    fprintf(text, "%s: %d\n", timeline->line.name, (int32_t)timeline->line.value);
+    for (const struct fence *fence = timeline->line.first; fence; fence = fence->next)
+        fprintf(text, "  fence active: %u / %d\n", fence->seqno, (int32_t)timeline->line.value);
+    fputc('\n', text);
+}
+
+/* The kernel lists no sync files below the second heading. */
+static void print_all(const struct keeper *keeper, FILE *text)
+{
+    fputs("objs:\n--------------\n", text);
+    for (const struct object *timeline = keeper->first_timeline; timeline; timeline = timeline->after)
+        print_timeline(text, timeline);
+    fputs("fences:\n--------------\n", text);
+}
+
+/* Stores the text in a file that is read from its start. */
+static int store(const char *text, size_t length, int *gives)
+{
+    int file = memfd_create("info", MFD_CLOEXEC);
+
+    if (file < 0)
+        return errno;
+    if (call_write(file, text, length) == (ssize_t)length && syscall(SYS_lseek, file, 0L, SEEK_SET) == 0) {
+        *gives = file;
+        return 0;
+    }
+    call_close(file);
+    return ENOMEM;
+}
+
+int info_text(const struct keeper *keeper, int *gives)
+{
+    char *bytes = NULL;
+    size_t length;
+    FILE *text = open_memstream(&bytes, &length);
+    int error = 0;
+
+    if (text)
+        print_all(keeper, text);
+    if (!text || fclose(text) != 0)
+        error = ENOMEM;
+    if (!error)
+        error = store(bytes, length, gives);
+    free(bytes);
+    return error;
+}

@@ -1,0 +1,123 @@
+/* The keeper: descriptors over one device of libbimphlai. The device decides everything; this gives its objects
+ * descriptors, and carries what it says to those who have them. */
+#ifndef BIM_RUN_KEEPER_H
+#define BIM_RUN_KEEPER_H
+
+#include "ends.h"
+#include "map.h"
+#include "page.h"
+#include "record.h"
+#include "trace.h"
+#include "wire.h"
+
+#include <bimphlai.h>
+#include <stdbool.h>
+#include <stdint.h>
+
+enum kind { TIMELINE, SYNC_FILE, BUFFER, READINESS };
+
+/* The accesses to a buffer for which poll reports it: reading (POLLIN) and writing (POLLOUT). */
+enum access { READING, WRITING, ACCESSES };
+
+struct buffer {
+    int memory;
+    uint32_t flags;
+    uint64_t size;
+    char name[BIM_TEXT_ROOM];
+    bool is_ready[ACCESSES];
+    struct object *awaited[ACCESSES]; /* the device's file of what the access waits for */
+    struct fences fences[ACCESSES];   /* put in for reading, and for writing */
+};
+
+struct object {
+    uint64_t number; /* of the device */
+    uint64_t inode;
+    enum kind kind;
+    int end; /* the service's, or -1 */
+    bool is_closing;
+    bool is_told; /* by the process that closed it */
+    struct object *next_closing;
+    struct object *before, *after; /* among the timelines, in order of making */
+    struct who maker;
+    union {
+        struct line line;
+        struct fences fences;
+        struct buffer buffer;
+        struct {
+            struct object *of; /* READINESS: a file of the device that no program has */
+            enum access access;
+        } readiness;
+    };
+};
+
+struct keeper;
+
+/* What differs when the keeper is in a program's own process. */
+struct host {
+    void (*begin_files)(void), (*end_files)(void);     /* around what makes descriptors */
+    int (*place)(int file);                            /* returns another number for one that the keeper holds */
+    bool (*make_room)(struct keeper *keeper);          /* whether there may be numbers now after there were none */
+    bool (*may_give)(int file);                        /* whether the program may have one of this number */
+    void (*begin_signals)(void), (*end_signals)(void); /* around writes that may meet no reader */
+};
+
+struct keeper {
+    const struct host *host;
+    bim_device device;
+    struct map by_inode, by_number;
+    struct object *first_timeline, *last_timeline;
+    struct object *closing; /* what nobody has any more */
+    struct bim_page *page;
+    int page_memory;
+    struct trace *trace;
+    int ends; /* an epoll set that reports whose last copy is closed, or -1 */
+    bim_device_fence_info *rows;
+    size_t rows_room;
+    size_t counts[READINESS];
+    uint64_t requests;
+    uint64_t now; /* of the request that is served, or of the closings that are done */
+};
+
+/* Opens a keeper, with no trace unless there is a path. Returns 0 or an errno. */
+int keeper_open(struct keeper *keeper, const struct host *host, const char *trace_path);
+void keeper_close(struct keeper *keeper);
+
+/* Answers a request. `passed` is a descriptor that came along, or -1, and stays the caller's; `gives` becomes one for
+ * the asker, or -1. */
+void keeper_serve(struct keeper *keeper, const struct bim_request *request, int passed, struct bim_answer *answer,
+                  int *gives);
+/* Looks whether anybody still has an object; if not, keeper_settle lets go of it. */
+void keeper_look(struct keeper *keeper, struct object *object, bool is_told);
+void keeper_settle(struct keeper *keeper);
+/* Gives other numbers to all descriptors that the keeper holds. */
+void keeper_place_all(struct keeper *keeper);
+/* Where nothing reports closings: looks at everything, or at the timelines whose closing somebody may wait for. Returns
+ * whether any was closed. */
+void keeper_sweep(struct keeper *keeper);
+bool keeper_sweep_timelines(struct keeper *keeper);
+
+struct object *keeper_find(const struct keeper *keeper, uint64_t inode);
+uint64_t keeper_now(void);
+
+/* For the parts of the keeper, each in a file of its own. */
+int keeper_begin(struct keeper *keeper, enum kind kind, const struct bim_request *request, struct object **made,
+                 int *gives);
+int keeper_finish(struct keeper *keeper, struct object *object, int error, int *gives);
+void keeper_wake(struct keeper *keeper);
+void keeper_forget(struct keeper *keeper, struct object *object);
+
+/* What an access to a buffer waits for, as its export shows it. Returns 0 or ENOMEM. */
+int buffer_fences(const struct object *buffer, uint32_t flags, struct fences *fences);
+int buffer_name(struct object *buffer, const char *name);
+int buffer_make(struct keeper *keeper, const struct bim_request *request, int *gives);
+int buffer_memory(const struct object *buffer, struct bim_answer *answer, int *gives);
+int buffer_export(struct keeper *keeper, const struct bim_request *request, struct object *buffer, int *gives);
+int buffer_import(struct keeper *keeper, const struct bim_request *request, struct object *buffer, int passed);
+void buffer_is_ready(struct object *buffer, enum access access);
+void buffer_drop(struct keeper *keeper, struct object *buffer);
+
+int info_of_file(struct keeper *keeper, const struct bim_request *request, struct object *file,
+                 struct bim_answer *answer, int *gives);
+int info_text(const struct keeper *keeper, int *gives);
+
+#endif

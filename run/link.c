@@ -1,0 +1,253 @@
+/* The connection to the server: one for each process, made when it first asks. */
+#define _GNU_SOURCE
+#include "calls.h"
+#include "lane.h"
+#include "shim.h"
+
+#include <errno.h>
+#include <string.h>
+#include <sys/resource.h>
+#include <sys/un.h>
+
+/* The connection has a high number, so that a process that ends closes it last, and programs don't meet it. The
+ * kernel's table grows with the highest. */
+enum { HIGHEST = 65536, BELOW_LIMIT = 8 };
+
+static _Atomic int connection = -1, bell = -1;
+static struct lane *lane; /* NULL if there is none: then all goes by the connection */
+static const struct bim_page *_Atomic page;
+
+static const struct bim_page *get_page(void)
+{
+    return page;
+}
+
+static bool is_own(int file)
+{
+    return file >= 0 && (file == connection || file == bell);
+}
+
+static void leave(void)
+{
+    if (connection >= 0)
+        call_close(connection);
+    if (bell >= 0)
+        call_close(bell);
+    connection = bell = -1;
+    lane = NULL;
+}
+
+/* Moves a descriptor past the limit of the program's, which is raised for that, so that it takes none of these. */
+static int move_high(int file)
+{
+    struct rlimit limit, raised;
+    int moved = -1;
+
+    if (getrlimit(RLIMIT_NOFILE, &limit))
+        return file;
+    raised = (struct rlimit){ limit.rlim_max, limit.rlim_max };
+    if (limit.rlim_cur <= HIGHEST && limit.rlim_cur < limit.rlim_max && setrlimit(RLIMIT_NOFILE, &raised) == 0) {
+        moved = call_dup_from(file, limit.rlim_cur);
+        setrlimit(RLIMIT_NOFILE, &limit);
+    }
+    if (moved < 0)
+        moved = call_dup_from(file, limit.rlim_cur < HIGHEST ? limit.rlim_cur - BELOW_LIMIT : HIGHEST);
+    if (moved < 0)
+        return file;
+    call_close(file);
+    return moved;
+}
+
+/* Returns a new connection, or -1 with errno. */
+static int join(void)
+{
+    struct sockaddr_un to = { .sun_family = AF_UNIX };
+    int file = syscall(SYS_socket, AF_UNIX, SOCK_SEQPACKET | SOCK_CLOEXEC, 0);
+
+    if (file < 0)
+        return -1;
+    file = move_high(file);
+    strncpy(to.sun_path, shim_service(), sizeof to.sun_path - 1);
+    while (syscall(SYS_connect, file, &to, sizeof to)) {
+        if (errno == EINTR)
+            continue;
+        call_close(file);
+        errno = ENOTCONN;
+        return -1;
+    }
+    return file;
+}
+
+static void set_control(struct msghdr *message, struct cmsghdr *head, int passed)
+{
+    message->msg_control = head;
+    message->msg_controllen = CMSG_SPACE(sizeof passed);
+    head->cmsg_level = SOL_SOCKET;
+    head->cmsg_type = SCM_RIGHTS;
+    head->cmsg_len = CMSG_LEN(sizeof passed);
+    memcpy(CMSG_DATA(head), &passed, sizeof passed);
+}
+
+/* Returns whether the connection is still this process's. */
+static bool send_request(const struct bim_request *request, int passed)
+{
+    union {
+        struct cmsghdr head;
+        char room[CMSG_SPACE(sizeof(int))];
+    } control = { .room = { 0 } };
+    struct iovec bytes = { (void *)request, sizeof *request };
+    struct msghdr message = { .msg_iov = &bytes, .msg_iovlen = 1 };
+
+    if (passed >= 0)
+        set_control(&message, &control.head, passed);
+    while (syscall(SYS_sendmsg, connection, &message, MSG_NOSIGNAL) != (ssize_t)sizeof *request) {
+        if (errno == EBADF)
+            return false;
+        if (errno != EINTR)
+            shim_lost("the service doesn't answer any more");
+    }
+    return true;
+}
+
+/* The descriptor of a message, or -1. */
+static int given_by(struct msghdr *message)
+{
+    struct cmsghdr *head = CMSG_FIRSTHDR(message);
+    int given = -1;
+
+    if (head && head->cmsg_type == SCM_RIGHTS)
+        memcpy(&given, CMSG_DATA(head), sizeof given);
+    return given;
+}
+
+static int take_answer(struct bim_answer *answer, int *given)
+{
+    union {
+        struct cmsghdr head;
+        char room[CMSG_SPACE(sizeof(int))];
+    } control = { .room = { 0 } };
+    struct iovec bytes = { answer, sizeof *answer };
+    struct msghdr message = {
+        .msg_iov = &bytes, .msg_iovlen = 1, .msg_control = control.room, .msg_controllen = sizeof control.room
+    };
+    ssize_t length;
+
+    while ((length = syscall(SYS_recvmsg, connection, &message, MSG_CMSG_CLOEXEC)) < 0 && errno == EINTR) {}
+    if (length < (ssize_t)offsetof(struct bim_answer, row))
+        shim_lost("the service doesn't answer any more");
+    *given = given_by(&message);
+    /* The kernel drops a descriptor for which the process has no number left. */
+    return answer->error ? answer->error : answer->gives && *given < 0 ? EMFILE : 0;
+}
+
+static int ask_by_socket(const struct bim_request *request, int passed, struct bim_answer *answer, int *given)
+{
+    return send_request(request, passed) ? take_answer(answer, given) : ENOTCONN;
+}
+
+/* Asks for a descriptor that belongs to the connection; returns -1 if there is none. */
+static int ask_for(enum bim_op op)
+{
+    struct bim_request request = { .op = op };
+    struct bim_answer answer;
+    int given;
+
+    return ask_by_socket(&request, -1, &answer, &given) == 0 ? given : -1;
+}
+
+/* A child sees its parent's page, since both have the same service. */
+static void open_page(void)
+{
+    int memory = page ? -1 : ask_for(BIM_OP_HELLO);
+
+    if (memory < 0)
+        return;
+    page = page_open(memory);
+    call_close(memory);
+}
+
+static void open_lane(void)
+{
+    int memory = ask_for(BIM_OP_LANE);
+    struct lane *opened = memory < 0 ? NULL : lane_open(memory);
+
+    if (memory >= 0)
+        call_close(memory);
+    bell = opened ? ask_for(BIM_OP_BELL) : -1;
+    if (bell >= 0) {
+        bell = move_high(bell);
+        lane = opened;
+    } else if (opened) {
+        lane_close(opened);
+    }
+}
+
+static int prepare(struct own *own)
+{
+    (void)own;
+    connection = join();
+    if (connection < 0)
+        return errno;
+    open_page();
+    open_lane();
+    return 0;
+}
+
+/* Called while an answer is late. */
+static void check(void)
+{
+    struct pollfd server = { connection, 0, 0 };
+
+    if (call_poll(&server, 1, 0) == 1)
+        shim_lost("the service doesn't answer any more");
+}
+
+static bool gives_none(const struct bim_request *request)
+{
+    return request->op == BIM_OP_INC || request->op == BIM_OP_INFO || request->op == BIM_OP_GONE ||
+           request->op == BIM_OP_WAIT;
+}
+
+/* Returns ENOTCONN if the program has closed the connection or the bell by a call that we don't see. */
+static int try_to_ask(const struct bim_request *request, int passed, struct bim_answer *answer, int *given)
+{
+    if (!lane || !gives_none(request))
+        return ask_by_socket(request, passed, answer, given);
+    if (!lane_ask(lane, bell, request, answer, check))
+        return ENOTCONN;
+    return answer->gives ? ask_by_socket(request, passed, answer, given) : answer->error;
+}
+
+static int ask(const struct bim_request *request, int passed, struct bim_answer *answer, int *given)
+{
+    int error = try_to_ask(request, passed, answer, given);
+
+    if (error != ENOTCONN)
+        return error;
+    leave();
+    error = prepare(NULL);
+    return error ? error : try_to_ask(request, passed, answer, given);
+}
+
+/* By a connection for this request alone, beside that of the request which was interrupted. */
+static int ask_apart(const struct bim_request *request, int passed, struct bim_answer *answer, int *given)
+{
+    int interrupted = connection, error = 0;
+
+    connection = join();
+    if (connection < 0) {
+        error = errno;
+    } else {
+        error = ask_by_socket(request, passed, answer, given);
+        call_close(connection);
+    }
+    connection = interrupted;
+    return error;
+}
+
+static int above_own(void)
+{
+    return (connection > bell ? connection : bell) + 1;
+}
+
+const struct way LINK = { prepare, ask, ask_apart, leave, is_own, above_own, true, false, NULL, get_page };

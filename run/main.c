@@ -1,0 +1,63 @@
+/* bimphlai-run: runs a program with a service of fences for it and for all that it starts. */
+#define _GNU_SOURCE
+#include "launch.h"
+#include "options.h"
+#include "program.h"
+#include "report.h"
+#include "supervise.h"
+#include "trace.h"
+#include "wire.h"
+
+#include <errno.h>
+#include <limits.h>
+#include <stdio.h>
+#include <stdlib.h>
+#include <unistd.h>
+
+/* The trace, as a path from the root, since a program may change its folder. Returns 0 or a status. */
+static int begin_trace(const struct options *options, char *path)
+{
+    int error;
+
+    path[0] = 0;
+    if (options->trace) {
+        error = trace_begin(options->trace);
+        if (!error && !realpath(options->trace, path))
+            error = errno;
+        return error ? fault(options->trace, error) : 0;
+    }
+    if (!options->reports && !options->requires)
+        return 0;
+    error = report_temporary(path);
+    return error ? fault("a file for the trace", error) : 0;
+}
+
+static int run(const struct options *options, const char *trace)
+{
+    if (options->is_local && !options->reports && !options->requires) {
+        int status = launch_prepare(BIM_LOCAL, trace);
+
+        return status ? status : launch_become(options->program);
+    }
+    return supervise(options, trace);
+}
+
+int main(int count, char **words)
+{
+    struct options options;
+    char path[PATH_MAX];
+    int status = options_read(&options, count, words);
+
+    if (status >= 0)
+        return status;
+    status = program_check(options.program[0]);
+    if (!status)
+        status = begin_trace(&options, path);
+    if (status)
+        return status;
+    status = run(&options, path[0] ? path : NULL);
+    if (path[0] && !options.trace)
+        unlink(path);
+    supervise_leave();
+    return status;
+}

@@ -1,0 +1,72 @@
+#include "options.h"
+
+#include <bimphlai.h>
+#include <getopt.h>
+#include <stdio.h>
+
+static const char USAGE[] = "usage: bimphlai-run [OPTION ...] PROGRAM [ARGUMENT ...]\n";
+
+static const char HELP[] =
+    "\n"
+    "Runs a program, and all that it starts, with GPU fences as Linux has them: sw_sync, sync files and the fences of\n"
+    "dma-bufs. It needs no root, no kernel that has them, and no change of the program.\n"
+    "\n"
+    "  --local       no service: the fences of each process are its own; for programs of one process\n"
+    "  --trace FILE  writes what happens to fences to FILE, for `fencectl trace`\n"
+    "  --report      reports at the end what hangs and who waits, on standard error\n"
+    "  --require     ends with 1 if a fence hangs or a rule was broken\n"
+    "  --verbose     says where the service is, and what was left at the end\n"
+    "  --help, --version\n"
+    "\n"
+    "The status is that of the program; 2 for options that don't fit, 123 if the service was lost, 125 if it can't\n"
+    "start, 126 if the program can't be run with it, and 127 if there is no such program.\n";
+
+enum word { LOCAL = 256, TRACE, REPORT, REQUIRE, VERBOSE, HELP_, VERSION };
+
+static const struct option WORDS[] = {
+    { "local", no_argument, NULL, LOCAL },     { "trace", required_argument, NULL, TRACE },
+    { "report", no_argument, NULL, REPORT },   { "require", no_argument, NULL, REQUIRE },
+    { "verbose", no_argument, NULL, VERBOSE }, { "help", no_argument, NULL, HELP_ },
+    { "version", no_argument, NULL, VERSION }, { NULL, 0, NULL, 0 },
+};
+
+static int tell_usage(void)
+{
+    fputs(USAGE, stderr);
+    return STATUS_OPTIONS;
+}
+
+/* Ends with what was printed, or with 125 if standard output can't be written. */
+static int print(const char *text, const char *more)
+{
+    return fputs(text, stdout) < 0 || fputs(more, stdout) < 0 || fflush(stdout) ? 125 : 0;
+}
+
+static int take(struct options *options, int word)
+{
+    switch (word) {
+    case LOCAL: options->is_local = true; return -1;
+    case TRACE: options->trace = optarg; return *optarg ? -1 : tell_usage();
+    case REPORT: options->reports = true; return -1;
+    case REQUIRE:
+        options->requires
+        = true;
+        return -1;
+    case VERBOSE: options->is_verbose = true; return -1;
+    case HELP_: return print(USAGE, HELP);
+    case VERSION: return print("bimphlai-run " BIM_VERSION, "\n");
+    default: return tell_usage();
+    }
+}
+
+int options_read(struct options *options, int count, char **words)
+{
+    int word, status = -1;
+
+    *options = (struct options){ .program = NULL };
+    words[0] = "bimphlai-run"; /* which getopt_long names in what it says */
+    while (status < 0 && (word = getopt_long(count, words, "+", WORDS, NULL)) >= 0)
+        status = take(options, word);
+    options->program = words + optind;
+    return status < 0 && !options->program[0] ? tell_usage() : status;
+}

@@ -1,0 +1,94 @@
+#define _GNU_SOURCE
+#include "report.h"
+
+#include "launch.h"
+#include "trace.h"
+
+#include <errno.h>
+#include <fcntl.h>
+#include <limits.h>
+#include <stdio.h>
+#include <stdlib.h>
+#include <string.h>
+#include <sys/wait.h>
+#include <unistd.h>
+
+enum { HANGS = 1 };
+
+int report_temporary(char *path)
+{
+    int file;
+
+    strcpy(path, "/tmp/bimphlai-run-trace.XXXXXX");
+    file = mkostemp(path, O_CLOEXEC);
+    if (file < 0)
+        return errno;
+    close(file);
+    return trace_begin(path);
+}
+
+/* Becomes fencectl, whose report goes to standard error or nowhere. */
+static void become_fencectl(const char *trace, bool reports)
+{
+    static const char *const FOLDERS[] = { "", "../crates/fencectl/out/", NULL };
+    char fencectl[PATH_MAX];
+    int nowhere = open("/dev/null", O_RDWR | O_CLOEXEC);
+
+    if (!reports)
+        dup2(nowhere, STDERR_FILENO);
+    dup2(STDERR_FILENO, STDOUT_FILENO);
+    dup2(nowhere, STDIN_FILENO);
+    unsetenv("LD_PRELOAD");
+    if (!find_beside(FOLDERS, "fencectl", fencectl))
+        strcpy(fencectl, "fencectl");
+    execlp(fencectl, "fencectl", "trace", trace, (char *)NULL);
+    fault("fencectl", errno);
+    _exit(STATUS_FAULT);
+}
+
+/* Whether a trace has any event, which fencectl asks for. */
+static bool has_events(const char *trace)
+{
+    FILE *text = fopen(trace, "re");
+    char start[2];
+    bool has = false;
+
+    while (text && !has && fgets(start, sizeof start, text)) {
+        has = start[0] != '#';
+        for (int byte = start[0]; byte != '\n' && byte != EOF;)
+            byte = fgetc(text);
+    }
+    if (text)
+        fclose(text);
+    return has;
+}
+
+static int status_of_fencectl(const char *trace, bool reports)
+{
+    pid_t child = fork();
+    int waited;
+
+    if (child == 0)
+        become_fencectl(trace, reports);
+    while (child > 0 && waitpid(child, &waited, 0) < 0)
+        if (errno != EINTR)
+            return STATUS_FAULT;
+    return child < 0 ? fault("fork", errno) : launch_status(waited);
+}
+
+int report(const struct options *options, const char *trace, int status)
+{
+    int found;
+
+    if (!options->reports && !options->requires)
+        return status;
+    if (!has_events(trace)) {
+        if (options->reports)
+            fputs("bimphlai-run: the program made no fence\n", stderr);
+        return status;
+    }
+    found = status_of_fencectl(trace, options->reports);
+    if (found > HANGS && status == 0)
+        return STATUS_FAULT;
+    return options->requires && found == HANGS && status == 0 ? HANGS : status;
+}

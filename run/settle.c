@@ -1,0 +1,173 @@
+/* Closings: what nobody has any more is let go. */
+#include "calls.h"
+#include "keeper.h"
+
+#include <errno.h>
+#include <stdlib.h>
+#include <string.h>
+
+/* How many ends are polled at once. */
+enum { AT_ONCE = 64 };
+
+void keeper_look(struct keeper *keeper, struct object *object, bool is_told)
+{
+    if (object->is_closing || object->end < 0 || !end_is_alone(object->end))
+        return;
+    object->is_closing = true;
+    object->is_told = is_told;
+    object->next_closing = keeper->closing;
+    keeper->closing = object;
+    if (object->kind == TIMELINE)
+        object->line.ends = !is_told;
+}
+
+/* Who closes it: whoever said so, or else whoever made it, as far as the trace knows. */
+static void set_closer(struct keeper *keeper, const struct object *object, const struct who *teller)
+{
+    if (!keeper->trace)
+        return;
+    keeper->trace->who = object->is_told ? *teller : object->maker;
+    keeper->trace->now = keeper->now;
+}
+
+/* Returns ENOMEM for a timeline that can't be released yet. */
+static int let_go(struct keeper *keeper, struct object *object, const struct who *teller)
+{
+    int error = bim_device_release(&keeper->device, object->number, keeper->now);
+
+    if (error)
+        return error;
+    set_closer(keeper, object, teller);
+    keeper->counts[object->kind]--;
+    if (object->kind == TIMELINE) {
+        record_close(&object->line, keeper->trace);
+        keeper_wake(keeper);
+    } else if (object->kind == SYNC_FILE) {
+        record_drop(&object->fences, !object->is_told, keeper->trace);
+    } else {
+        buffer_drop(keeper, object);
+    }
+    keeper_forget(keeper, object);
+    return 0;
+}
+
+/* Lets go of those that are timelines, or of those that aren't. What can't be released stays for another time. */
+static void settle(struct keeper *keeper, bool timelines, const struct who *teller)
+{
+    struct object *left = keeper->closing;
+
+    keeper->closing = NULL;
+    while (left) {
+        struct object *object = left;
+
+        left = object->next_closing;
+        if ((object->kind == TIMELINE) == timelines && let_go(keeper, object, teller) == 0)
+            continue;
+        object->next_closing = keeper->closing;
+        keeper->closing = object;
+    }
+}
+
+/* Files go first: a timeline that is closed with them cancels nothing that only they held. */
+void keeper_settle(struct keeper *keeper)
+{
+    struct who teller = { .task = "" };
+
+    if (!keeper->closing)
+        return;
+    if (keeper->trace)
+        teller = keeper->trace->who;
+    keeper->now = keeper_now();
+    settle(keeper, false, &teller);
+    settle(keeper, true, &teller);
+    trace_flush(keeper->trace);
+}
+
+void keeper_place_all(struct keeper *keeper)
+{
+    for (size_t i = 0; i < keeper->by_number.room; i++) {
+        struct object *object = keeper->by_number.entries[i].value;
+
+        if (object && object->end >= 0)
+            object->end = keeper->host->place(object->end);
+        if (object && object->kind == BUFFER)
+            object->buffer.memory = keeper->host->place(object->buffer.memory);
+    }
+}
+
+/* Looks at all but timelines, or at timelines. */
+static void look_at_all(struct keeper *keeper, bool timelines)
+{
+    for (size_t i = 0; i < keeper->by_number.room; i++) {
+        struct object *object = keeper->by_number.entries[i].value;
+
+        if (object && (object->kind == TIMELINE) == timelines)
+            keeper_look(keeper, object, false);
+    }
+}
+
+void keeper_sweep(struct keeper *keeper)
+{
+    look_at_all(keeper, false);
+    look_at_all(keeper, true);
+    keeper_settle(keeper);
+}
+
+/* Fills in the ends of timelines with pending fences, from one on. Returns that after the last. */
+static struct object *ends_of(struct object *timeline, struct pollfd *ends, nfds_t *count)
+{
+    for (*count = 0; timeline && *count < AT_ONCE; timeline = timeline->after)
+        if (timeline->line.first)
+            ends[(*count)++] = (struct pollfd){ timeline->end, 0, 0 };
+    return timeline;
+}
+
+bool keeper_sweep_timelines(struct keeper *keeper)
+{
+    struct pollfd ends[AT_ONCE];
+    struct object *from = keeper->first_timeline;
+    bool any = false;
+    nfds_t count;
+
+    while (from && !any) {
+        from = ends_of(from, ends, &count);
+        any = count > 0 && call_poll(ends, count, 0) > 0;
+    }
+    if (any)
+        keeper_sweep(keeper);
+    return any;
+}
+
+static void free_one(struct keeper *keeper, struct object *object)
+{
+    if (object->kind == SYNC_FILE)
+        record_drop(&object->fences, true, NULL);
+    if (object->kind == BUFFER)
+        buffer_drop(keeper, object);
+    keeper_forget(keeper, object);
+}
+
+/* Another takes the place of one that is freed. */
+static void free_all(struct keeper *keeper, bool timelines)
+{
+    for (size_t i = 0; i < keeper->by_number.room;) {
+        struct object *object = keeper->by_number.entries[i].value;
+
+        if (object && object->kind != READINESS && (object->kind == TIMELINE) == timelines)
+            free_one(keeper, object);
+        else
+            i++;
+    }
+}
+
+void keeper_close(struct keeper *keeper)
+{
+    free_all(keeper, false);
+    free_all(keeper, true);
+    map_free(&keeper->by_inode);
+    map_free(&keeper->by_number);
+    free(keeper->rows);
+    bim_device_close(&keeper->device);
+    page_close(keeper->page);
+    trace_close(keeper->trace);
+}

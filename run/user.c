@@ -1,0 +1,86 @@
+#define _GNU_SOURCE
+#include "user.h"
+
+#include <errno.h>
+#include <stdbool.h>
+#include <stdint.h>
+#include <string.h>
+#include <sys/syscall.h>
+#include <sys/uio.h>
+#include <unistd.h>
+
+enum { NEAR = 16384, PAGE = 4096 };
+
+/* Callers mostly pass what is on their stack, just above this frame. That needs no look. */
+static bool is_near(const void *at, size_t length)
+{
+    uintptr_t here = (uintptr_t)__builtin_frame_address(0), begin = (uintptr_t)at;
+
+    return begin >= here && begin - here < NEAR && length < NEAR;
+}
+
+/* Has the kernel copy, which fails if we would fault. */
+static int copy(long call, void *here, const void *there, size_t length)
+{
+    struct iovec local = { here, length }, remote = { (void *)there, length };
+    long copied = syscall(call, syscall(SYS_getpid), &local, 1L, &remote, 1L, 0L);
+
+    if (copied == (long)length)
+        return 0;
+    return copied >= 0 || errno == EFAULT ? EFAULT : errno;
+}
+
+int user_get(void *to, const void *from, size_t length)
+{
+    int error = is_near(from, length) ? ENOSYS : copy(SYS_process_vm_readv, to, from, length);
+
+    if (error == 0 || error == EFAULT)
+        return error;
+    /* It is near, or the kernel may not copy. */
+    memcpy(to, from, length);
+    return 0;
+}
+
+int user_put(void *to, const void *from, size_t length)
+{
+    int error = is_near(to, length) ? 0 : copy(SYS_process_vm_writev, (void *)from, to, length);
+
+    if (error == EFAULT)
+        return EFAULT;
+    /* Done once more, so that tools which watch the program's memory see it. */
+    memcpy(to, from, length);
+    return 0;
+}
+
+/* Reads byte by byte, as nothing is known of what comes after the end. */
+static int read_text(char *to, const char *from, size_t room)
+{
+    for (size_t i = 0; i < room; i++) {
+        to[i] = from[i];
+        if (!to[i])
+            return 0;
+    }
+    return EINVAL;
+}
+
+/* The same by copies of the kernel, which cross no page at once. */
+static int copy_text(char *to, const char *from, size_t room)
+{
+    for (size_t length = 0, part; length < room; length += part) {
+        int error;
+
+        part = PAGE - (uintptr_t)(from + length) % PAGE;
+        part = part < room - length ? part : room - length;
+        error = copy(SYS_process_vm_readv, to + length, from + length, part);
+        if (error)
+            return error == EFAULT ? EFAULT : read_text(to, from, room);
+        if (memchr(to + length, 0, part))
+            return 0;
+    }
+    return EINVAL;
+}
+
+int user_get_text(char *to, const char *from, size_t room)
+{
+    return is_near(from, room) ? read_text(to, from, room) : copy_text(to, from, room);
+}

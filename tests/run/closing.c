@@ -1,0 +1,169 @@
+/* All ways in which one process closes: what is pending of a timeline is cancelled at its last close, not before. */
+#include "kernel.h"
+#include <sys/syscall.h>
+
+#ifndef SYS_close_range
+#define SYS_close_range 436
+#endif
+
+static int is_cancelled(int file)
+{
+    return is_signalled(file) && status(file) == -ENOENT;
+}
+
+static void plainly(void)
+{
+    int t = timeline(), f = fence(t, 1), reached = fence(t, 0);
+
+    EXPECT(is_signalled(f), 0);
+    EXPECT(close(t), 0);
+    HOLDS(is_cancelled(f));
+    EXPECT(status(reached), 1);
+    close(f);
+    close(reached);
+    FAILS(close(f), EBADF);
+}
+
+static void with_copies(void)
+{
+    int t = timeline(), f = fence(t, 2);
+    int copies[] = { dup(t), fcntl(t, F_DUPFD, 40), fcntl(t, F_DUPFD_CLOEXEC, 50), dup2(t, 60), dup3(t, 70, O_CLOEXEC) };
+
+    close(t);
+    for (int i = 0; i < 5; i++) {
+        EXPECT(is_signalled(f), 0);
+        EXPECT(inc(copies[i], 0), 0);
+        if (i < 4)
+            close(copies[i]);
+    }
+    int last = fence(copies[4], 1);
+    EXPECT(inc(copies[4], 1), 0);
+    close(copies[4]);
+    HOLDS(is_cancelled(f));
+    EXPECT(status(last), 1);
+    close(f);
+    close(last);
+}
+
+/* Another descriptor takes the number of the last. */
+static void taken_over(void)
+{
+    int t = timeline(), u = timeline(), v = timeline(), f = fence(t, 1), g = fence(u, 1), h = fence(v, 1);
+
+    EXPECT(dup2(1, t), t);
+    HOLDS(is_cancelled(f));
+    EXPECT(dup3(1, u, O_CLOEXEC), u);
+    HOLDS(is_cancelled(g));
+    /* By another of ours, which has two then; and by itself, which closes nothing. */
+    int w = timeline(), k = fence(w, 1);
+    EXPECT(dup2(v, v), v);
+    EXPECT(is_signalled(h), 0);
+    EXPECT(dup2(w, v), v);
+    HOLDS(is_cancelled(h));
+    close(w);
+    EXPECT(is_signalled(k), 0);
+    EXPECT(inc(v, 1), 0);
+    EXPECT(status(k), 1);
+    int files[] = { t, u, v, f, g, h, k };
+    for (int i = 0; i < 7; i++)
+        close(files[i]);
+}
+
+/* A close that failed, and one of something else, change nothing. */
+static void in_vain(void)
+{
+    int t = timeline(), f = fence(t, 1), other = dup(1);
+
+    FAILS(close(-1), EBADF);
+    FAILS(dup2(-1, t), EBADF);
+    FAILS(dup3(t, t, 0), EINVAL);
+    close(other);
+    FAILS(close(other), EBADF);
+    EXPECT(is_signalled(f), 0);
+    EXPECT(inc(t, 1), 0);
+    EXPECT(status(f), 1);
+    close(f);
+    close(t);
+}
+
+/* Closings that no call of close shows: they are seen soon. */
+static void unseen(void)
+{
+    int t = timeline(), f = fence(t, 1), u = timeline(), g = fence(u, 1);
+    FILE *stream = fdopen(t, "r");
+
+    HOLDS(stream);
+    if (stream)
+        fclose(stream);
+    EXPECT(ready(f, POLLIN, SOON), POLLIN);
+    EXPECT(status(f), -ENOENT);
+    syscall(SYS_close, u);
+    EXPECT(ready(g, POLLIN, SOON), POLLIN);
+    EXPECT(status(g), -ENOENT);
+    close(f);
+    close(g);
+}
+
+/* Many at once. */
+static void ranges(void)
+{
+    int t = timeline(), u = timeline(), f = fence(t, 1), g = fence(u, 1);
+
+    EXPECT(dup2(t, 200), 200);
+    EXPECT(dup2(u, 201), 201);
+    close(t);
+    close(u);
+    EXPECT(is_signalled(f) + is_signalled(g), 0);
+    if (syscall(SYS_close_range, 200, 300, 0) == 0) {
+        EXPECT(ready(f, POLLIN, SOON), POLLIN);
+        EXPECT(ready(g, POLLIN, SOON), POLLIN);
+        EXPECT(status(f), -ENOENT);
+        EXPECT(status(g), -ENOENT);
+    }
+    close(200);
+    close(201);
+    close(f);
+    close(g);
+}
+
+/* Files outlive what they are made of, and timelines outlive files. */
+static void in_any_order(void)
+{
+    int t = timeline(), a = fence(t, 1), b = fence(t, 2), both = merge("both", a, b), again = merge("again", both, both);
+
+    close(a);
+    close(b);
+    EXPECT(is_signalled(both), 0);
+    close(both);
+    inc(t, 1);
+    EXPECT(status(again), 0);
+    inc(t, 1);
+    EXPECT(status(again), 1);
+    int late = fence(t, 3);
+    close(again);
+    close(late);
+    EXPECT(inc(t, 1), 0);
+    close(t);
+    /* The number is used again, and knows nothing of what had it. */
+    int u = timeline(), f = fence(u, 1);
+    EXPECT(is_signalled(f), 0);
+    EXPECT(size(f), 1);
+    close(f);
+    close(u);
+}
+
+int main(void)
+{
+    int before = lowest();
+
+    alarm(30);
+    plainly();
+    with_copies();
+    taken_over();
+    in_vain();
+    unseen();
+    ranges();
+    in_any_order();
+    EXPECT(lowest(), before);
+    return report("closing");
+}

@@ -1,0 +1,184 @@
+/* usage: memory [TRACE]
+ *
+ * The keeper of run/, with each of its allocations refused in turn. A request that was refused memory leaves nothing behind, no
+ * object, descriptor or block, and after a run all that was made can be let go. To be linked with run/'s keeper and
+ *     -Wl,--wrap=malloc -Wl,--wrap=calloc -Wl,--wrap=realloc */
+#include "../../run/keeper.h"
+#include <errno.h>
+#include <signal.h>
+#include <stdio.h>
+#include <stdlib.h>
+#include <string.h>
+#include <sys/epoll.h>
+#include <unistd.h>
+
+enum { MOST = 200, POINTS = 40, NONE = -1 };
+
+static long left = NONE; /* allocations until one is refused; NONE: none is */
+static int was_refused, failures;
+
+void *__real_malloc(size_t size);
+void *__real_calloc(size_t count, size_t size);
+void *__real_realloc(void *old, size_t size);
+
+static int refuses(void)
+{
+    if (left == NONE || left-- > 0)
+        return 0;
+    left = NONE;
+    return was_refused = 1;
+}
+
+void *__wrap_malloc(size_t size)
+{
+    return refuses() ? NULL : __real_malloc(size);
+}
+
+void *__wrap_calloc(size_t count, size_t size)
+{
+    return refuses() ? NULL : __real_calloc(count, size);
+}
+
+void *__wrap_realloc(void *old, size_t size)
+{
+    return refuses() ? NULL : __real_realloc(old, size);
+}
+
+static void expect(const char *what, long run, long found, long wanted)
+{
+    if (found == wanted)
+        return;
+    printf("memory: run %ld: %s: %ld, not %ld\n", run, what, found, wanted);
+    failures++;
+}
+
+/* A server's host, to which nothing needs care. */
+static void nothing(void) {}
+
+static int same(int file)
+{
+    return file;
+}
+
+static bool no_room(struct keeper *keeper)
+{
+    (void)keeper;
+    return false;
+}
+
+static bool any(int file)
+{
+    return file >= 0;
+}
+
+static const struct host HOST = { nothing, nothing, same, no_room, any, nothing, nothing };
+static struct keeper keeper;
+static int given[MOST];
+static uint64_t inodes[MOST];
+static int count;
+
+/* The descriptor that answers a request, by its place; NONE if it was refused or none was given. */
+static int ask(struct bim_request request, int passed)
+{
+    struct bim_answer answer;
+    int file;
+
+    keeper_serve(&keeper, &request, passed, &answer, &file);
+    if (answer.error)
+        expect("a refusal", request.op, answer.error, ENOMEM);
+    if (answer.error)
+        expect("what a refusal gives", request.op, file, -1);
+    if (file < 0)
+        return NONE;
+    given[count] = file;
+    end_mark(file, &inodes[count]);
+    return count++;
+}
+
+static int ask_of(enum bim_op op, int object, int other, uint32_t value, uint32_t flags)
+{
+    struct bim_request request = { .op = op, .value = value, .flags = flags };
+
+    if (object == NONE)
+        return NONE;
+    request.a = inodes[object];
+    if (op == BIM_OP_MERGE || op == BIM_OP_IMPORT)
+        request.b = other == NONE ? 0 : inodes[other];
+    if ((op == BIM_OP_MERGE || op == BIM_OP_IMPORT) && other == NONE)
+        return NONE;
+    return ask(request, given[object]);
+}
+
+static void close_one(int object)
+{
+    if (object == NONE || given[object] < 0)
+        return;
+    close(given[object]);
+    given[object] = -1;
+    ask((struct bim_request){ .op = BIM_OP_GONE, .a = inodes[object] }, -1);
+}
+
+/* One request of each kind. */
+static void play(void)
+{
+    int line = ask((struct bim_request){ .op = BIM_OP_TIMELINE, .name = "line", .task = "task" }, -1);
+    int other = ask((struct bim_request){ .op = BIM_OP_TIMELINE, .name = "other" }, -1);
+    int f = ask_of(BIM_OP_FENCE, line, NONE, 1, 0), g = ask_of(BIM_OP_FENCE, other, NONE, 1, 0);
+    int both = ask_of(BIM_OP_MERGE, f, g, 0, 0);
+    int buffer = ask((struct bim_request){ .op = BIM_OP_BUFFER, .size = 4096, .flags = 2 }, -1);
+
+    ask_of(BIM_OP_IMPORT, buffer, both, 0, BIM_SYNC_WRITE);
+    ask_of(BIM_OP_EXPORT, buffer, NONE, 0, BIM_SYNC_READ);
+    ask_of(BIM_OP_INFO, both, NONE, 8, 0);
+    close_one(ask((struct bim_request){ .op = BIM_OP_TEXT }, -1));
+    for (int i = 0; i < POINTS; i++)
+        ask_of(BIM_OP_FENCE, line, NONE, 5 + i, 0);
+    ask_of(BIM_OP_INC, line, NONE, 10, 0);
+    close_one(other);
+}
+
+static int free_number(void)
+{
+    int file = dup(STDIN_FILENO);
+
+    close(file);
+    return file;
+}
+
+/* Plays with an allocation refused. Returns whether there was one to refuse. */
+static int run(long nth, const char *trace)
+{
+    int before = free_number();
+
+    was_refused = count = 0;
+    if (keeper_open(&keeper, &HOST, trace))
+        exit(2);
+    keeper.ends = epoll_create1(EPOLL_CLOEXEC);
+    left = nth;
+    play();
+    left = NONE;
+    keeper_settle(&keeper);
+    for (int i = 0; i < count; i++)
+        close_one(i);
+    expect("objects", nth, keeper.by_inode.count, 0);
+    close(keeper.ends);
+    close(keeper.page_memory);
+    keeper_close(&keeper);
+    expect("the first free descriptor", nth, free_number(), before);
+    return was_refused;
+}
+
+int main(int words, char **word)
+{
+    long nth = 0;
+
+    signal(SIGPIPE, SIG_IGN);
+    if (words > 1 && trace_begin(word[1]))
+        return 2;
+    while (run(nth, words > 1 ? word[1] : NULL))
+        nth++;
+    expect("allocations refused in turn, at least", nth, nth > 100, 1);
+    if (!failures)
+        printf("memory: as expected\n");
+    return failures != 0;
+}
