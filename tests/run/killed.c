@@ -1,11 +1,13 @@
-/* usage: killed LOG MICROSECONDS
+/* usage: killed LOG MICROSECONDS [leave]
  *
- * Processes wait in all ways for points that nobody reaches, and after some time the service is killed. Whoever sees success
- * then writes so into the log. The tool has to end them all. */
+ * Processes wait in all ways for points that nobody reaches, and after some time the service is killed; with "leave", once the
+ * program and the tool have ended. Whoever sees success then writes so into the log. All have to be ended. */
 #include "service.h"
 #include <sys/epoll.h>
 #include <sys/select.h>
 
+/* How long those go on that nobody ends, in seconds. */
+static unsigned longest = 20;
 static int log_file;
 
 static int succeeded(const char *how)
@@ -76,25 +78,36 @@ static void begin(int f, int way, int apart)
 {
     if (fork())
         return;
-    alarm(20);
     if (apart) {
         setsid();
         if (fork())
             _exit(0);
-        alarm(20);
     }
+    alarm(longest);
     ways[way](f);
     pause_for(20000);
+    _exit(0);
+}
+
+/* Kills the service after some time, which begins once the tool is gone if that is asked for. */
+static void kill_later(pid_t service, pid_t tool, int microseconds, int leaves)
+{
+    while (leaves && kill(tool, 0) == 0)
+        pause_for(1);
+    usleep((useconds_t)microseconds);
+    kill(service, SIGKILL);
     _exit(0);
 }
 
 int main(int argc, char **argv)
 {
     pid_t found[MOST], tool = getppid();
-    int t = timeline(), f = fence(t, 1), u = timeline();
+    int t = timeline(), f = fence(t, 1), u = timeline(), leaves = argc == 4;
 
-    alarm(20);
-    log_file = argc == 3 ? open(argv[1], O_WRONLY | O_APPEND) : -1;
+    /* Who waits for a file when program and tool are gone, and asks nothing, waits for good. */
+    longest = leaves ? 2 : longest;
+    alarm(longest);
+    log_file = argc >= 3 ? open(argv[1], O_WRONLY | O_APPEND) : -1;
     int count = service(tool, getpid(), found);
     HOLDS(log_file >= 0);
     HOLDS(f >= 0);
@@ -104,13 +117,11 @@ int main(int argc, char **argv)
         begin(f, i, 0);
         begin(f, i, 1);
     }
-    pid_t killer = fork();
-    if (killer == 0) {
-        usleep((useconds_t)atoi(argv[2]));
-        /* Not the tool itself, if its service is another process. */
-        kill(found[count > 1], SIGKILL);
-        pause_for(20000);
-    }
+    /* Not the tool itself, if its service is another process. */
+    if (fork() == 0)
+        kill_later(found[count > 1], tool, atoi(argv[2]), leaves);
+    if (leaves)
+        return 0;
     for (__u32 i = 1;; i++) {
         int g = fence(u, i);
         inc(u, 1);
