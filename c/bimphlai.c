@@ -129,3 +129,21 @@ int bim_report(bim_desk *desk, bim_timeline_row *timelines, size_t timelines_roo
     return bim_report_n(desk, timelines_room ? timelines : &no_timeline, timelines_room, files_room ? files : &no_file,
                         files_room, buffers_room ? buffers : &no_buffer, buffers_room, counts);
 }
+
+int bim_device_timeline(bim_device *device, const char *task, uint64_t *timeline)
+{
+    return bim_device_timeline_n(device, task, strlen(task), timeline);
+}
+
+int bim_device_merge(bim_device *device, uint64_t a, uint64_t b, const char *name, uint64_t *file)
+{
+    return bim_device_merge_n(device, a, b, name, strlen(name), file);
+}
+
+int bim_device_info(bim_device *device, uint64_t file, bim_device_file_info *info, bim_device_fence_info *rows,
+                    size_t room)
+{
+    bim_device_fence_info none;
+
+    return bim_device_info_n(device, file, info, room ? rows : &none, room);
+}

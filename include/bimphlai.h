@@ -1,19 +1,21 @@
 /* libbimphlai: GPU fences without a GPU, for C and C++ programs.
  *
  * Timelines, sync files and the fences of shared buffers, in the manner of Linux's sw_sync, sync_file and dma_resv.
- * There are two ways in:
+ * There are three ways in:
  *
  * - a desk has everything by name, and takes one call at a time;
+ * - a device has everything by number, as many as memory holds, with the kernel's lifetimes, points and errors, and
+ *   takes one call at a time;
  * - words are timelines and flags by number that threads share without a lock, each thread with a seat of its own.
  *
  * What holds of every call:
  *
- * - A call that can be refused returns BIM_OK, or the number of its refusal. A refused call changes nothing: neither
- *   the service nor what its out-parameters point to (but bim_line gives the text of a refusal). BIM_MEMORY comes only
- *   after every other refusal, and the call may be made again.
+ * - A call that can be refused returns BIM_OK, or the number of its refusal; a call of a device returns 0, or an errno.
+ *   A refused call changes nothing: neither the service nor what its out-parameters point to (but bim_line gives the
+ *   text of a refusal). BIM_MEMORY, or ENOMEM, comes only after every other refusal, and the call may be made again.
  * - A handle is a struct of the caller's. It starts closed, as its BIM_..._INIT says, and an open call opens it. A
- *   closed handle is refused with BIM_NO_ENTRY, and an open one with BIM_EXISTS where a call is to open it. Copying
- *   the struct moves the handle: only one of the copies may be used from then on.
+ *   closed handle is refused with BIM_NO_ENTRY, or EBADF, and an open one with BIM_EXISTS, or EEXIST, where a call is
+ *   to open it. Copying the struct moves the handle: only one of the copies may be used from then on.
  * - No pointer may be NULL, except for rows of which there is no room. What a call may change, its handles and
  *   out-parameters, overlaps nothing else that it is given. A string of the library's is never freed.
  * - No call blocks, sleeps, starts a thread or makes a system call of its own; memory comes from malloc. No call may
@@ -277,6 +279,120 @@ int bim_show_n(bim_desk *desk, const char *buffer, size_t buffer_length, bim_row
 int bim_watch_n(bim_desk *desk, const char *file, size_t file_length, uint64_t cookie);
 int bim_report_n(bim_desk *desk, bim_timeline_row *timelines, size_t timelines_room, bim_file_row *files,
                  size_t files_room, bim_buffer_row *buffers, size_t buffers_room, bim_counts *counts);
+
+/* ---- A device: everything by number, as the kernel has it -----------------------------------------------------------
+ *
+ * Timelines, sync files and buffers have numbers, as descriptors do, but these rise from 1 and none is given twice.
+ * There are as many as memory holds, and what was released takes none. Points have 32 bits, as the kernel's do: one
+ * stands for that of 64 bits which is nearest to the timeline's value. Times are nanoseconds of a clock of the
+ * caller's.
+ *
+ * A device is used by one thread at a time. Threads that share one take a lock of their own around each call. Devices
+ * have nothing in common.
+ *
+ * Every call but bim_device_open fails with EBADF on a closed handle (bim_device_take_woken returns 0). ENOENT says
+ * that nothing has the number, and ENOTTY that an object of another kind has it.
+ */
+typedef struct bim_device {
+    void *at;
+} bim_device;
+#define BIM_DEVICE_INIT { 0 }
+
+/* Why a call of a device was refused: the values that <errno.h> has on Linux. */
+enum bim_errno {
+    BIM_ENOENT = 2,     /* no such timeline, file or buffer */
+    BIM_EBADF = 9,      /* a closed handle */
+    BIM_ENOMEM = 12,    /* malloc has no memory */
+    BIM_EEXIST = 17,    /* an open handle where one is to be opened */
+    BIM_EINVAL = 22,    /* a number that is no usage, or no flags; an import of no file */
+    BIM_ENOTTY = 25,    /* the object is of another kind */
+    BIM_EOVERFLOW = 75  /* the value would pass UINT64_MAX: values don't wrap, their points do */
+};
+
+/* Opens a device, with nothing in it. Fails with EEXIST and ENOMEM. */
+int bim_device_open(bim_device *device);
+
+/* Closes a device, with all that is in it, and gives its memory back; the handle is closed then. Does nothing to a
+ * closed one. */
+void bim_device_close(bim_device *device);
+
+/* Makes a timeline at value 0, and stores its number. Its name is that of the task that opens it, cut at 31 bytes.
+ * Fails with ENOMEM. Opening sync/sw_sync. */
+int bim_device_timeline(bim_device *device, const char *task, uint64_t *timeline);
+
+/* Makes a file of a point on a timeline, and stores its number. A point that the timeline has reached is signalled
+ * now. Fails with ENOENT, ENOTTY, EOVERFLOW and ENOMEM. SW_SYNC_IOC_CREATE_FENCE. */
+int bim_device_fence(bim_device *device, uint64_t timeline, uint32_t point, uint64_t now, uint64_t *file);
+
+/* Adds n to a timeline's value. The files that this signals wait for bim_device_take_woken. Fails with ENOENT, ENOTTY,
+ * EOVERFLOW and ENOMEM. SW_SYNC_IOC_INC. */
+int bim_device_inc(bim_device *device, uint64_t timeline, uint32_t n, uint64_t now);
+
+/* Makes a file of what two files wait for, of each timeline the latest point that is pending, and stores its number.
+ * Its name is cut at 31 bytes; without one it is named after its fences. Fails with ENOENT, ENOTTY (the first is of
+ * another kind; of the second that is ENOENT) and ENOMEM. SYNC_IOC_MERGE. */
+int bim_device_merge(bim_device *device, uint64_t a, uint64_t b, const char *name, uint64_t *file);
+
+/* Stores a file's status (a bim_status): that of its first fence that is pending or has an error, else
+ * BIM_IS_SIGNALLED. Fails with ENOENT and ENOTTY. The status of SYNC_IOC_FILE_INFO. */
+int bim_device_status(bim_device *device, uint64_t file, int32_t *status);
+
+/* Stores 1 if each fence of a file has signalled, else 0. Fails with ENOENT and ENOTTY. poll(2) on a sync file. */
+int bim_device_is_signalled(bim_device *device, uint64_t file, int32_t *signalled);
+
+/* A fence of a file: as struct sync_fence_info. */
+typedef struct bim_device_fence_info {
+    char timeline[BIM_NAME_ROOM]; /* the name of the task that opened its timeline */
+    uint64_t at;                  /* when it signalled, or 0 */
+    char driver[BIM_DRIVER_ROOM]; /* "sw_sync"; a file without fences has one, "stub" of "stub" */
+    int32_t status;               /* a bim_status */
+} bim_device_fence_info;
+
+/* A file: as struct sync_file_info. */
+typedef struct bim_device_file_info {
+    char name[BIM_NAME_ROOM];
+    uint64_t fences; /* how many it has */
+    int32_t status;  /* as bim_device_status stores it */
+} bim_device_file_info;
+
+/* Stores what Linux reports of a file, and its first `room` fences, by rising timeline; rows past the fences stay as
+ * they are. Fails with ENOENT, ENOTTY and ENOMEM. SYNC_IOC_FILE_INFO. */
+int bim_device_info(bim_device *device, uint64_t file, bim_device_file_info *info, bim_device_fence_info *rows,
+                    size_t room);
+
+/* Releases a timeline, a file or a buffer, whose number is never given again. Points of a timeline that are pending
+ * are cancelled now, and the files that this signals wait for bim_device_take_woken. Fails with ENOENT, and with
+ * ENOMEM for a timeline alone. The close(2) of the last descriptor. */
+int bim_device_release(bim_device *device, uint64_t object, uint64_t now);
+
+/* Makes a buffer, and stores its number. Its exports have that time while nothing is pending. Fails with ENOMEM. A
+ * dma-buf's reservation, dma_resv_init. */
+int bim_device_buffer(bim_device *device, uint64_t now, uint64_t *buffer);
+
+/* Makes a file of what an access to a buffer has to wait for (flags are a bim_sync), and stores its number. Fails with
+ * ENOENT, ENOTTY, EINVAL and ENOMEM. DMA_BUF_IOCTL_EXPORT_SYNC_FILE. */
+int bim_device_export(bim_device *device, uint64_t buffer, uint32_t flags, uint64_t *file);
+
+/* Adds a file's pending fences to a buffer, for the accesses that the flags say (a bim_sync). Fails with ENOENT,
+ * ENOTTY, EINVAL (flags that are none, or no such file) and ENOMEM. DMA_BUF_IOCTL_IMPORT_SYNC_FILE. */
+int bim_device_import(bim_device *device, uint64_t buffer, uint64_t file, uint32_t flags);
+
+/* Stores 1 if each fence of a buffer of the usage (a bim_usage) or a stronger one has signalled, else 0. Fails with
+ * EINVAL (the number is no usage; this comes first), ENOENT and ENOTTY. poll(2) on a dma-buf. */
+int bim_device_test(bim_device *device, uint64_t buffer, int usage, int32_t *signalled);
+
+/* Takes the first files that have signalled and weren't taken yet, at most `room` of them, in order of the calls that
+ * signalled them and by rising number within one, and returns how many. The others wait: no file is lost. Files that
+ * were released are left out. Returns 0 for a closed device. Takes no memory. */
+size_t bim_device_take_woken(bim_device *device, uint64_t *files, size_t room);
+
+/* The same calls with the name as a pointer and a length, for callers whose strings end with no NUL. The rows of
+ * bim_device_info_n may not be NULL. */
+int bim_device_timeline_n(bim_device *device, const char *task, size_t task_length, uint64_t *timeline);
+int bim_device_merge_n(bim_device *device, uint64_t a, uint64_t b, const char *name, size_t name_length,
+                       uint64_t *file);
+int bim_device_info_n(bim_device *device, uint64_t file, bim_device_file_info *info, bim_device_fence_info *rows,
+                      size_t room);
 
 /* ---- Words: timelines, flags and buffers by number, shared by threads without a lock --------------------------------
  *

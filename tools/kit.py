@@ -62,20 +62,24 @@ PROOFS = {
     "rtlib.Crate.build_static": "self flags",
 }
 
-TRIES = {
-    "in_lanes": "tasks",
-    "need": "crate",
-    "OVER": float,
+BATCHES = {
     "read_edit": "edit folder",
     "checked": "crate texts flags kept",
     "unread": "line changed",
     "must_fail": "crate edit flags kept=",
     "REFUSED": str,
-    "AT_LIMIT": str,
     "linked": "folder to",
+    "rtlib.STALE": re.Pattern,
+}
+
+TRIES = {
+    **BATCHES,
+    "in_lanes": "tasks",
+    "need": "crate",
+    "OVER": float,
+    "AT_LIMIT": str,
     "listing": "folder",
     "SEEDS": list,
-    "rtlib.STALE": re.Pattern,
     "rtlib.Crate.build_rlib": "self flags anew",
 }
 

@@ -65,6 +65,27 @@ static void close_a_desk(void)
     GIVES_BACK(bim_desk_close(&desk));
 }
 
+static void close_a_device(void)
+{
+    bim_device device = BIM_DEVICE_INIT;
+    uint64_t a, b, of_a, of_b, both, buffer, waits;
+
+    EXPECT(bim_device_open(&device), 0);
+    EXPECT(bim_device_timeline(&device, "a", &a), 0);
+    EXPECT(bim_device_timeline(&device, "b", &b), 0);
+    EXPECT(bim_device_fence(&device, a, 5, 1, &of_a), 0);
+    EXPECT(bim_device_fence(&device, b, 7, 1, &of_b), 0);
+    EXPECT(bim_device_merge(&device, of_a, of_b, "both", &both), 0);
+    EXPECT(bim_device_buffer(&device, 1, &buffer), 0);
+    EXPECT(bim_device_import(&device, buffer, both, BIM_SYNC_WRITE), 0);
+    EXPECT(bim_device_export(&device, buffer, BIM_SYNC_READ, &waits), 0);
+    EXPECT(bim_device_inc(&device, a, 5, 2), 0);
+    GIVES_BACK(EXPECT(bim_device_release(&device, both, 3), 0));
+    GIVES_BACK(EXPECT(bim_device_release(&device, buffer, 3), 0));
+    EXPECT(bim_device_release(&device, b, 3), 0);
+    GIVES_BACK(bim_device_close(&device));
+}
+
 static void close_files_and_seats(void)
 {
     bim_seat seat = BIM_SEAT_INIT, other = BIM_SEAT_INIT;
@@ -99,6 +120,8 @@ int main(void)
     for (int round = 0; round < 3; round++) {
         long long taken = blocks;
         close_a_desk();
+        EXPECT(blocks, taken);
+        close_a_device();
         EXPECT(blocks, taken);
         close_files_and_seats();
         EXPECT(blocks, taken);

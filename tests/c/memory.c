@@ -1,5 +1,6 @@
-/* Refuses each allocation of the library in turn. The call that it is refused to answers BIM_MEMORY, changes
- * nothing, and succeeds when it is made again; so whichever is refused, the calls' end is the same.
+/* Refuses each allocation of the library in turn. The call that it is refused to answers BIM_MEMORY, or BIM_ENOMEM if it
+ * is of a device, changes nothing, and succeeds when it is made again; so whichever is refused, the calls' end is the
+ * same.
  *
  * It is linked with --wrap=malloc and --wrap=realloc.
  */
@@ -14,6 +15,9 @@
 
 /* What out-parameters hold where a refusal has to leave them. */
 enum { KEPT = 77 };
+
+/* How many objects a device has here. */
+enum { OBJECTS = 16 };
 
 /* Of `refused`: each allocation is. */
 #define EVERY SIZE_MAX
@@ -84,6 +88,7 @@ static void write_buffer(struct text *text, bim_desk *desk, const char *buffer)
 /* What the calls share: handles, and out-parameters. */
 static struct {
     bim_desk desk;
+    bim_device device;
     bim_seat seat, other;
     bim_file file, copy, second, both, export;
     uint64_t number;
@@ -96,9 +101,26 @@ static struct {
     bim_file_row made;
     bim_buffer_row buffer;
     bim_counts counts;
+    bim_device_file_info reported;
+    bim_device_fence_info fence;
     char answer[2 * BIM_ANSWER_ROOM];
     size_t length;
 } it;
+
+static void write_object(struct text *text, bim_device *device, uint64_t object)
+{
+    bim_device_file_info info = { .fences = 0 };
+    bim_device_fence_info rows[4];
+    int32_t signalled = KEPT;
+    int refusal = bim_device_info(device, object, &info, rows, 4), no_buffer;
+
+    no_buffer = bim_device_test(device, object, BIM_BOOKKEEP, &signalled);
+    write_text(text, "%" PRIu64 " %d %s %" PRId32 " %d %" PRId32 "\n", object, refusal, refusal ? "" : info.name,
+               refusal ? KEPT : info.status, no_buffer, signalled);
+    for (size_t i = 0; i < info.fences; i++)
+        write_text(text, "%s %s %" PRIu64 " %" PRId32 "\n", rows[i].timeline, rows[i].driver, rows[i].at,
+                   rows[i].status);
+}
 
 /* All that can be asked of the service. */
 static void write_service(struct text *text)
@@ -109,7 +131,7 @@ static void write_service(struct text *text)
     uint64_t value;
 
     text->length = 0;
-    write_text(text, "%d %d %d %d %d %d %d %d\n", it.desk.at != NULL, it.seat.at != NULL, it.other.at != NULL,
+    write_text(text, "%d %d %d %d %d %d %d %d %d\n", it.desk.at != NULL, it.device.at != NULL, it.seat.at != NULL, it.other.at != NULL,
                it.file.at != NULL, it.copy.at != NULL, it.second.at != NULL, it.both.at != NULL,
                it.export.at != NULL);
     for (size_t i = 0; i < sizeof timelines / sizeof timelines[0]; i++) {
@@ -121,6 +143,8 @@ static void write_service(struct text *text)
         write_file(text, &it.desk, files[i]);
     for (size_t i = 0; i < sizeof buffers / sizeof buffers[0]; i++)
         write_buffer(text, &it.desk, buffers[i]);
+    for (uint64_t object = 1; object <= OBJECTS; object++)
+        write_object(text, &it.device, object);
     for (uint32_t context = 1; context <= 2; context++) {
         value = KEPT;
         int refusal = bim_seat_load(&it.seat, context, &value);
@@ -131,10 +155,13 @@ static void write_service(struct text *text)
 static struct text before, after;
 static size_t allocations_before, refusals_met;
 
+/* What a call answers without memory. */
+static int no_memory = BIM_MEMORY;
+
 static void begin_call(void)
 {
     write_service(&before);
-    it.number = it.info.point = it.row.point = KEPT;
+    it.number = it.info.point = it.row.point = it.reported.fences = it.fence.at = KEPT;
     it.timeline.value = it.made.fences = it.buffer.rows = it.counts.files = KEPT;
     it.status = it.flag = KEPT;
     it.count = it.length = KEPT;
@@ -151,7 +178,7 @@ static bool is_to_call_again(int came, int wanted, const char *call, int line)
 
     counting = false;
     refusals_met += was_refused;
-    expect(__FILE__, line, call, came, was_refused && !asked_again ? BIM_MEMORY : wanted);
+    expect(__FILE__, line, call, came, was_refused && !asked_again ? no_memory : wanted);
     if (!was_refused || asked_again)
         return false;
     write_service(&after);
@@ -159,6 +186,7 @@ static bool is_to_call_again(int came, int wanted, const char *call, int line)
     HOLDS(it.number == KEPT && it.status == KEPT && it.count == KEPT && it.flag == KEPT);
     HOLDS(it.info.point == KEPT && it.row.point == KEPT && it.counts.files == KEPT);
     HOLDS(it.timeline.value == KEPT && it.made.fences == KEPT && it.buffer.rows == KEPT);
+    HOLDS(it.reported.fences == KEPT && it.fence.at == KEPT);
     HOLDS(it.length == KEPT || strcmp(it.answer, "err 16 Memory\n") == 0);
     return true;
 }
@@ -216,6 +244,44 @@ static void run_lines(void)
     LINE("inc c 2", "ok 2\n");
 }
 
+/* A call of a device that makes an object, and its number. */
+#define MAKES(call, object) \
+    do { \
+        CALL(call, 0); \
+        EXPECT(it.number, object); \
+    } while (0)
+
+/* Each call of a device. Timelines 1 and 2 have files 3 and 4. */
+static void run_device(void)
+{
+    no_memory = BIM_ENOMEM;
+    CALL(bim_device_open(&it.device), 0);
+    MAKES(bim_device_timeline(&it.device, "a", &it.number), 1);
+    MAKES(bim_device_timeline(&it.device, "b", &it.number), 2);
+    MAKES(bim_device_fence(&it.device, 1, 3, 1, &it.number), 3);
+    MAKES(bim_device_fence(&it.device, 2, 2, 1, &it.number), 4);
+    CALL(bim_device_fence(&it.device, 4, 2, 1, &it.number), BIM_ENOTTY);
+    MAKES(bim_device_merge(&it.device, 3, 4, "both", &it.number), 5);
+    CALL(bim_device_info(&it.device, 5, &it.reported, &it.fence, 1), 0);
+    CALL(bim_device_status(&it.device, 5, &it.status), 0);
+    CALL(bim_device_is_signalled(&it.device, 5, &it.status), 0);
+    MAKES(bim_device_buffer(&it.device, 1, &it.number), 6);
+    CALL(bim_device_import(&it.device, 6, 5, BIM_SYNC_WRITE), 0);
+    MAKES(bim_device_export(&it.device, 6, BIM_SYNC_RW, &it.number), 7);
+    CALL(bim_device_test(&it.device, 6, BIM_WRITE, &it.status), 0);
+    for (uint64_t file = 8; file < OBJECTS; file++)
+        MAKES(bim_device_fence(&it.device, 1, (uint32_t)file, 2, &it.number), file);
+    CALL(bim_device_inc(&it.device, 1, 3, 3), 0);
+    CALL(bim_device_release(&it.device, 6, 4), 0);
+    CALL(bim_device_release(&it.device, 8, 4), 0);
+    CALL(bim_device_inc(&it.device, 1, 7, 5), 0);
+    CALL(bim_device_release(&it.device, 2, 6), 0);
+    CALL(bim_device_release(&it.device, 3, 7), 0);
+    CALL(bim_device_release(&it.device, 3, 7), BIM_ENOENT);
+    CALL(bim_device_inc(&it.device, 2, 1, 8), BIM_ENOENT);
+    no_memory = BIM_MEMORY;
+}
+
 static void run_words(void)
 {
     CALL(bim_words_open(&it.seat, 2, 1, 1), BIM_OK);
@@ -248,7 +314,11 @@ static void finish(struct text *text)
     while ((count = bim_take_fired(&it.desk, cookies, 2)) > 0)
         for (size_t i = 0; i < count; i++)
             write_text(text, "fired %" PRIu64 "\n", cookies[i]);
+    while ((count = bim_device_take_woken(&it.device, cookies, 2)) > 0)
+        for (size_t i = 0; i < count; i++)
+            write_text(text, "woken %" PRIu64 "\n", cookies[i]);
     bim_desk_close(&it.desk);
+    bim_device_close(&it.device);
     bim_file_close(&it.file);
     bim_file_close(&it.copy);
     bim_file_close(&it.second);
@@ -266,6 +336,7 @@ static void run(struct text *text, size_t which)
     allocations = 0;
     run_desk();
     run_lines();
+    run_device();
     run_words();
     finish(text);
 }
@@ -300,6 +371,46 @@ static void watch_without_memory(void)
     bim_desk_close(&desk);
 }
 
+/* Without memory for the files that wait to be taken, a call of a device is refused with what else it is refused for,
+ * before BIM_ENOMEM. What takes no memory goes on. */
+static void device_without_memory(void)
+{
+    bim_device device = BIM_DEVICE_INIT;
+    uint64_t timeline, now, later, buffer, number = KEPT;
+    bim_device_file_info info = { .fences = KEPT };
+    int32_t status;
+
+    refused = EVERY;
+    EXPECT(bim_device_open(&device), 0);
+    EXPECT(bim_device_timeline(&device, "a", &timeline), 0);
+    EXPECT(bim_device_fence(&device, timeline, 1, 0, &now), 0);
+    EXPECT(bim_device_fence(&device, timeline, 2, 0, &later), 0);
+    EXPECT(bim_device_buffer(&device, 0, &buffer), 0);
+    counting = true;
+    EXPECT(bim_device_inc(&device, later + 9, 1, 1), BIM_ENOENT);
+    EXPECT(bim_device_inc(&device, later, 1, 1), BIM_ENOTTY);
+    EXPECT(bim_device_inc(&device, buffer, 1, 1), BIM_ENOTTY);
+    EXPECT(bim_device_inc(&device, timeline, 1, 1), BIM_ENOMEM);
+    EXPECT(bim_device_release(&device, timeline, 1), BIM_ENOMEM);
+    EXPECT(bim_device_release(&device, later + 9, 1), BIM_ENOENT);
+    EXPECT(bim_device_release(&device, buffer, 1), 0);
+    EXPECT(bim_device_info(&device, now, &info, NULL, 0), BIM_ENOMEM);
+    EXPECT(info.fences, KEPT);
+    EXPECT(bim_device_status(&device, now, &status), 0);
+    EXPECT(status, BIM_IS_ACTIVE);
+    counting = false;
+    EXPECT(bim_device_inc(&device, timeline, 1, 2), 0);
+    counting = true;
+    EXPECT(bim_device_status(&device, now, &status), 0);
+    EXPECT(status, BIM_IS_SIGNALLED);
+    EXPECT(bim_device_release(&device, later, 3), 0);
+    EXPECT(bim_device_take_woken(&device, &number, 1), 1);
+    EXPECT(number, now);
+    EXPECT(bim_device_take_woken(&device, &number, 1), 0);
+    bim_device_close(&device);
+    counting = false;
+}
+
 int main(void)
 {
     struct text undisturbed, text;
@@ -314,6 +425,7 @@ int main(void)
     }
     HOLDS(count > 0);
     watch_without_memory();
+    device_without_memory();
     printf("%zu allocations were refused in turn\n", count);
     return report("memory");
 }

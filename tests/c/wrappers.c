@@ -21,11 +21,11 @@ static void keep(uint64_t value)
     number++;
 }
 
-static int begin(const char *name, bim_desk *desk)
+static int begin(const char *name, const void *handle)
 {
     called = name;
     number = 0;
-    keep(PLACE(desk));
+    keep(PLACE(handle));
     return ANSWER;
 }
 
@@ -39,7 +39,7 @@ static void keep_name(const char *name, size_t length)
 #define STAND_IN(name, parameters, keeps) \
     int name parameters \
     { \
-        int answer = begin(#name, desk); \
+        int answer = begin(#name, handle); \
         keeps; \
         return answer; \
     }
@@ -47,33 +47,42 @@ static void keep_name(const char *name, size_t length)
 #define NAME(name) const char *name, size_t name##_length
 #define KEEP(name) keep_name(name, name##_length)
 
-STAND_IN(bim_timeline_n, (bim_desk *desk, NAME(timeline), uint64_t *context), KEEP(timeline); keep(PLACE(context)))
-STAND_IN(bim_inc_n, (bim_desk *desk, NAME(timeline), uint64_t n, uint64_t *value),
+STAND_IN(bim_timeline_n, (bim_desk *handle, NAME(timeline), uint64_t *context), KEEP(timeline); keep(PLACE(context)))
+STAND_IN(bim_inc_n, (bim_desk *handle, NAME(timeline), uint64_t n, uint64_t *value),
          KEEP(timeline); keep(n); keep(PLACE(value)))
-STAND_IN(bim_shut_n, (bim_desk *desk, NAME(timeline), uint64_t *value), KEEP(timeline); keep(PLACE(value)))
-STAND_IN(bim_value_n, (bim_desk *desk, NAME(timeline), uint64_t *value), KEEP(timeline); keep(PLACE(value)))
-STAND_IN(bim_fence_n, (bim_desk *desk, NAME(file), NAME(timeline), uint64_t point),
+STAND_IN(bim_shut_n, (bim_desk *handle, NAME(timeline), uint64_t *value), KEEP(timeline); keep(PLACE(value)))
+STAND_IN(bim_value_n, (bim_desk *handle, NAME(timeline), uint64_t *value), KEEP(timeline); keep(PLACE(value)))
+STAND_IN(bim_fence_n, (bim_desk *handle, NAME(file), NAME(timeline), uint64_t point),
          KEEP(file); KEEP(timeline); keep(point))
-STAND_IN(bim_merge_n, (bim_desk *desk, NAME(file), NAME(a), NAME(b)), KEEP(file); KEEP(a); KEEP(b))
-STAND_IN(bim_close_n, (bim_desk *desk, NAME(file)), KEEP(file))
-STAND_IN(bim_wait_n, (bim_desk *desk, NAME(file)), KEEP(file))
-STAND_IN(bim_info_n, (bim_desk *desk, NAME(file), int32_t *status, bim_fence_info *rows, size_t room, size_t *count),
+STAND_IN(bim_merge_n, (bim_desk *handle, NAME(file), NAME(a), NAME(b)), KEEP(file); KEEP(a); KEEP(b))
+STAND_IN(bim_close_n, (bim_desk *handle, NAME(file)), KEEP(file))
+STAND_IN(bim_wait_n, (bim_desk *handle, NAME(file)), KEEP(file))
+STAND_IN(bim_info_n, (bim_desk *handle, NAME(file), int32_t *status, bim_fence_info *rows, size_t room, size_t *count),
          KEEP(file); keep(PLACE(status)); keep(PLACE(rows)); keep(room); keep(PLACE(count)))
-STAND_IN(bim_buffer_n, (bim_desk *desk, NAME(buffer)), KEEP(buffer))
-STAND_IN(bim_add_n, (bim_desk *desk, NAME(buffer), NAME(timeline), uint64_t point, int usage),
+STAND_IN(bim_buffer_n, (bim_desk *handle, NAME(buffer)), KEEP(buffer))
+STAND_IN(bim_add_n, (bim_desk *handle, NAME(buffer), NAME(timeline), uint64_t point, int usage),
          KEEP(buffer); KEEP(timeline); keep(point); keep((uint64_t)usage))
-STAND_IN(bim_import_n, (bim_desk *desk, NAME(buffer), NAME(file), uint32_t flags), KEEP(buffer); KEEP(file); keep(flags))
-STAND_IN(bim_export_n, (bim_desk *desk, NAME(file), NAME(buffer), uint32_t flags), KEEP(file); KEEP(buffer); keep(flags))
-STAND_IN(bim_test_n, (bim_desk *desk, NAME(buffer), int usage, int *signalled),
+STAND_IN(bim_import_n, (bim_desk *handle, NAME(buffer), NAME(file), uint32_t flags),
+         KEEP(buffer); KEEP(file); keep(flags))
+STAND_IN(bim_export_n, (bim_desk *handle, NAME(file), NAME(buffer), uint32_t flags),
+         KEEP(file); KEEP(buffer); keep(flags))
+STAND_IN(bim_test_n, (bim_desk *handle, NAME(buffer), int usage, int *signalled),
          KEEP(buffer); keep((uint64_t)usage); keep(PLACE(signalled)))
-STAND_IN(bim_trim_n, (bim_desk *desk, NAME(buffer)), KEEP(buffer))
-STAND_IN(bim_show_n, (bim_desk *desk, NAME(buffer), bim_row *rows, size_t room, size_t *count),
+STAND_IN(bim_trim_n, (bim_desk *handle, NAME(buffer)), KEEP(buffer))
+STAND_IN(bim_show_n, (bim_desk *handle, NAME(buffer), bim_row *rows, size_t room, size_t *count),
          KEEP(buffer); keep(PLACE(rows)); keep(room); keep(PLACE(count)))
-STAND_IN(bim_watch_n, (bim_desk *desk, NAME(file), uint64_t cookie), KEEP(file); keep(cookie))
-STAND_IN(bim_report_n, (bim_desk *desk, bim_timeline_row *timelines, size_t timelines_room, bim_file_row *files,
+STAND_IN(bim_watch_n, (bim_desk *handle, NAME(file), uint64_t cookie), KEEP(file); keep(cookie))
+STAND_IN(bim_report_n, (bim_desk *handle, bim_timeline_row *timelines, size_t timelines_room, bim_file_row *files,
                         size_t files_room, bim_buffer_row *buffers, size_t buffers_room, bim_counts *counts),
          keep(PLACE(timelines)); keep(timelines_room); keep(PLACE(files)); keep(files_room); keep(PLACE(buffers));
          keep(buffers_room); keep(PLACE(counts)))
+
+STAND_IN(bim_device_timeline_n, (bim_device *handle, NAME(task), uint64_t *timeline), KEEP(task); keep(PLACE(timeline)))
+STAND_IN(bim_device_merge_n, (bim_device *handle, uint64_t a, uint64_t b, NAME(name), uint64_t *file),
+         keep(a); keep(b); KEEP(name); keep(PLACE(file)))
+STAND_IN(bim_device_info_n, (bim_device *handle, uint64_t file, bim_device_file_info *info, bim_device_fence_info *rows,
+                             size_t room),
+         keep(file); keep(PLACE(info)); keep(PLACE(rows)); keep(room))
 
 /* A value that is kept where a pointer stands for no rows: any, but not NULL. */
 #define ANY UINT64_MAX
@@ -159,6 +168,24 @@ static void rows_and_rooms(bim_desk *desk)
            PLACE(&counts));
 }
 
+static void devices(bim_device *device)
+{
+    static const char task[] = "a task's name", empty[] = "";
+    bim_device_file_info info;
+    bim_device_fence_info rows[3];
+    uint64_t made;
+
+    PASSES(bim_device_timeline, (device, task, &made), PLACE(device), PLACE(task), 13, PLACE(&made));
+    PASSES(bim_device_timeline, (device, empty, NULL), PLACE(device), PLACE(empty), 0, 0);
+    PASSES(bim_device_merge, (device, GREAT, GREATEST, task, &made), PLACE(device), GREAT, GREATEST, PLACE(task), 13,
+           PLACE(&made));
+    PASSES(bim_device_merge, (device, 1, 2, empty, NULL), PLACE(device), 1, 2, PLACE(empty), 0, 0);
+    for (size_t room = 1; room <= 3; room++)
+        PASSES(bim_device_info, (device, GREAT, &info, rows, room), PLACE(device), GREAT, PLACE(&info), PLACE(rows),
+               room);
+    PASSES(bim_device_info, (device, GREATEST, &info, NULL, 0), PLACE(device), GREATEST, PLACE(&info), ANY, 0);
+}
+
 /* The names of refusals are compared with the crate's; what is no refusal has none. */
 static void texts(void)
 {
@@ -172,10 +199,11 @@ static void texts(void)
 int main(void)
 {
     bim_desk desk = BIM_DESK_INIT;
+    bim_device device = BIM_DEVICE_INIT;
 
     texts();
-
     names_and_numbers(&desk);
     rows_and_rooms(&desk);
+    devices(&device);
     return report("wrappers");
 }

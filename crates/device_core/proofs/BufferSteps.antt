@@ -1,5 +1,5 @@
 -- Buffers of a device: what its requests keep of them.
-use Rattle.std.proofs.Common.{◌≡◌, ℕ, ◌⊎◌, ◌↔◌, zero, suc, refl, sym, ap, ◌∙◌, List, [], ◌∷◌, ◌++◌, map, filter, cond, Option, None, Some, Bool, true, false, if◌then◌else◌, nat_eq, nat_le, nat_lt, inl, inr, arith, All}
+use Rattle.std.proofs.Common.{◌≡◌, ℕ, ◌⊎◌, ◌↔◌, zero, suc, refl, sym, ap, ◌∙◌, List, [], ◌∷◌, ◌++◌, length, map, filter, cond, Option, None, Some, Bool, true, false, if◌then◌else◌, nat_eq, nat_le, nat_lt, inl, inr, arith, All}
 use Rattle.std.specs.Prelude.{fold}
 use Rattle.std.specs.List.{filter_map, cons_option}
 use Rattle.std.proofs.lemmas.Bool.{cases_Bool, cases_lt}
@@ -60,9 +60,9 @@ put_each-All P [] hs all more = all
 put_each-All P (g ∷ gs) hs all more = put_each-All P gs (with_buffer_fence hs g) (with-All P hs g all (All-head P g gs more)) (All-tail P g gs more)
 
 import-All : (P : BufferFence → Type 0) (timelines : ℕ → Option Timeline) (usage : Usage) (fs : List Fence) (b : BufferState) → All P b.fences → All P (imported usage fs) → All P (import_into timelines usage fs b).fences
-import-All P timelines usage fs b all more = go (cases_Bool (are_signalled fs)) (cases_Bool (has_grown b))
+import-All P timelines usage fs b all more = go (cases_Bool (are_signalled fs)) (cases_Bool (has_grown (length fs) b))
   where
-    go : (are_signalled fs ≡ true) ⊎ (are_signalled fs ≡ false) → (has_grown b ≡ true) ⊎ (has_grown b ≡ false) → All P (import_into timelines usage fs b).fences
+    go : (are_signalled fs ≡ true) ⊎ (are_signalled fs ≡ false) → (has_grown (length fs) b ≡ true) ⊎ (has_grown (length fs) b ≡ false) → All P (import_into timelines usage fs b).fences
     go (inl is) grown = rw is all
     go (inr not) (inl grown) = rw (not, grown) (put_each-All P (imported usage fs) (filter (is_waiting timelines) b.fences) (All-filter (is_waiting timelines) P b.fences all) more)
     go (inr not) (inr small) = rw (not, small) (put_each-All P (imported usage fs) b.fences all more)

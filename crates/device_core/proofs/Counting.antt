@@ -164,7 +164,7 @@ new-woken w file sound = none-woken w.objects (with_file w.objects file) (λ n. 
   | inr apart ↦ inl (with_at-other w.objects.files w.objects.next file n apart)
 ])
 
-woken-told : (old new : Objects) (given : Answer) → OnWoken (AreWoken old new) given → AreWoken old new (woken_in given)
+pub woken-told : (old new : Objects) (given : Answer) → OnWoken (AreWoken old new) given → AreWoken old new (woken_in given)
 woken-told old new (answer.Number n) h = absurd h
 woken-told old new (answer.Woken woken) h = h
 woken-told old new (answer.Status status) h = absurd h
@@ -180,11 +180,11 @@ number-told such (answer.Signalled signalled) h = absurd h
 number-told such (answer.Info info) h = absurd h
 number-told such answer.Done h = absurd h
 
-object-told : {X : Type 0} (told : Answer → List ℕ) (o : Option X) (give : X → Answer) (given : Answer) → ((x : X) → told (give x) ≡ []) → OnObject o give given → told given ≡ []
+pub object-told : {X : Type 0} (told : Answer → List ℕ) (o : Option X) (give : X → Answer) (given : Answer) → ((x : X) → told (give x) ≡ []) → OnObject o give given → told given ≡ []
 object-told told None give given none h = absurd h
 object-told told (Some f) give given none h = ap told h ∙ none f
 
-info-told : (told : Answer → List ℕ) (n : ℕ) (o : Option FileState) (given : Answer) → ((info : FileInfo) → told (answer.Info info) ≡ []) → OnInfo n o given → told given ≡ []
+pub info-told : (told : Answer → List ℕ) (n : ℕ) (o : Option FileState) (given : Answer) → ((info : FileInfo) → told (answer.Info info) ≡ []) → OnInfo n o given → told given ≡ []
 info-told told n None given none h = absurd h
 info-told told n (Some f) (answer.Number m) none h = absurd h
 info-told told n (Some f) (answer.Woken woken) none h = absurd h

@@ -1,8 +1,8 @@
 -- Fences that are put into a buffer, and those that a trim drops.
-use Rattle.std.proofs.Common.{◌≡◌, ℕ, ◌+◌, ◌/◌, ◌<◌, ◌≤◌, ◌⊎◌, zero, suc, max, refl, sym, ap, ◌∙◌, List, [], ◌∷◌, ◌++◌, length, get_or, set, drop, map, filter, Option, None, Some, Bool, true, false, inl, inr, arith, Contains, append_assoc, append-nil}
+use Rattle.std.proofs.Common.{◌≡◌, ℕ, ◌+◌, ◌*◌, ◌<◌, ◌≤◌, ◌⊎◌, zero, suc, max, refl, sym, ap, ◌∙◌, List, [], ◌∷◌, ◌++◌, length, get_or, set, drop, map, filter, Option, None, Some, Bool, true, false, inl, inr, arith, Contains, append_assoc, append-nil}
 use Rattle.std.specs.Prelude.{fold}
 use Rattle.std.specs.List.{AllWithin, HoldsAt}
-use Rattle.std.proofs.lemmas.Bool.{cases_Bool, le-leb, lt-leb, ltb-false, false≢true}
+use Rattle.std.proofs.lemmas.Bool.{cases_Bool, le-ltb, lt-ltb, ltb-false, false≢true}
 use Rattle.std.proofs.lemmas.List.{map-append, drop_more, drop_all}
 use Rattle.std.proofs.lemmas.List.Elements.{Contains-append_right}
 use Rattle.point_core.specs.declared.entry.Entry.{Entry}
@@ -13,7 +13,7 @@ use Rattle.point_core.specs.Latest.{raised_to}
 use Rattle.point_core.proofs.Latest.{put_if, put_if-comm, raised_to-if, raised_to-top-last, applies-true}
 use Rattle.point_core.proofs.Agreement.{AppliesAt-from_true, AgreesAbove-append, AgreesAbove-from_raised, AgreesAbove-refl, AgreesAbove-same, AgreesAbove-signalled, AgreesAbove-sym, AgreesAbove-trans}
 use Rattle.point_core.proofs.Reached.{covers-Covers}
-use Rattle.device_core.specs.declared.buffer.TheConstants.{UNTRIMMED}
+use Rattle.device_core.specs.declared.buffer.TheConstants.{GROWTH, UNTRIMMED}
 use Rattle.device_core.specs.declared.buffer_fence.BufferFence.{BufferFence}
 use Rattle.device_core.specs.declared.fence.Fence.{Fence}
 use Rattle.device_core.specs.declared.fence.Timeline.{Timeline}
@@ -151,29 +151,73 @@ AgreesAbove-none : (reach : List ℕ) (usage : Usage) (hs : List BufferFence) (p
 AgreesAbove-none reach usage hs put is = AgreesAbove-same reach (sym (ap (λ fs. entries_of (hs ++ map (put_as usage) fs)) (pending_of-signalled put is) ∙ ap entries_of (append-nil hs)))
 
 -- the states of a buffer
-pub trimmed-not : (timelines : ℕ → Option Timeline) (b : BufferState) → length b.fences / 2 < max b.left UNTRIMMED → b ≡ trimmed timelines b
-trimmed-not timelines b less = rw (lt-leb (max b.left UNTRIMMED) (length b.fences / 2) less) refl
+pub trimmed-not : (timelines : ℕ → Option Timeline) (more : ℕ) (b : BufferState) → length b.fences + more ≤ GROWTH * max b.left UNTRIMMED → b ≡ trimmed timelines more b
+trimmed-not timelines more b few = rw (le-ltb (GROWTH * max b.left UNTRIMMED) (length b.fences + more) few) refl
 
-pub trimmed-is : (timelines : ℕ → Option Timeline) (b : BufferState) (kept : List BufferFence) (left : ℕ) → max b.left UNTRIMMED ≤ length b.fences / 2 → kept ≡ filter (is_waiting timelines) b.fences → left ≡ length kept → state_of kept left b.stub_at ≡ trimmed timelines b
-trimmed-is timelines b kept left grown is count =
-    rw (le-leb (max b.left UNTRIMMED) (length b.fences / 2) grown)
-    (ap (λ n. state_of kept n b.stub_at) count ∙ ap (λ hs. state_of hs (length hs) b.stub_at) is)
+pub trimmed-is : (timelines : ℕ → Option Timeline) (more : ℕ) (b : BufferState) (kept : List BufferFence) (left : ℕ) → GROWTH * max b.left UNTRIMMED < length b.fences + more → kept ≡ filter (is_waiting timelines) b.fences → left ≡ length kept + more → state_of kept left b.stub_at ≡ trimmed timelines more b
+trimmed-is timelines more b kept left grown is count =
+    rw (lt-ltb (GROWTH * max b.left UNTRIMMED) (length b.fences + more) grown)
+    (ap (λ n. state_of kept n b.stub_at) count ∙ ap (λ hs. state_of hs (length hs + more) b.stub_at) is)
 
 pub import-none : (timelines : ℕ → Option Timeline) (usage : Usage) (fs : List Fence) (b : BufferState) → are_signalled fs ≡ true → b ≡ import_into timelines usage fs b
 import-none timelines usage fs b is = rw is refl
 
-pub import-is : (timelines : ℕ → Option Timeline) (usage : Usage) (fs : List Fence) (b : BufferState) (start kept new : List BufferFence) (left : ℕ) → are_signalled fs ≡ false → start ≡ b.fences → state_of kept left b.stub_at ≡ trimmed timelines (state_of start b.left b.stub_at) → new ≡ fold with_buffer_fence kept (imported usage fs) → state_of new left b.stub_at ≡ import_into timelines usage fs b
+pub import-is : (timelines : ℕ → Option Timeline) (usage : Usage) (fs : List Fence) (b : BufferState) (start kept new : List BufferFence) (left : ℕ) → are_signalled fs ≡ false → start ≡ b.fences → state_of kept left b.stub_at ≡ trimmed timelines (length fs) (state_of start b.left b.stub_at) → new ≡ fold with_buffer_fence kept (imported usage fs) → state_of new left b.stub_at ≡ import_into timelines usage fs b
 import-is timelines usage fs b start kept new left not same trim put =
-    let trimmed_is : state_of kept left b.stub_at ≡ trimmed timelines b = trim ∙ ap (λ hs. trimmed timelines (state_of hs b.left b.stub_at)) same in
+    let trimmed_is : state_of kept left b.stub_at ≡ trimmed timelines (length fs) b = trim ∙ ap (λ hs. trimmed timelines (length fs) (state_of hs b.left b.stub_at)) same in
     rw not (ap (λ hs. state_of hs left b.stub_at) put ∙ ap (λ s. with_fences s (imported usage fs)) trimmed_is)
 
 -- an import puts in what was pending, whether the table is trimmed or not
 pub import-agrees : (timelines : ℕ → Option Timeline) (usage : Usage) (fs : List Fence) (b : BufferState) (reach : List ℕ) → IsReachOf timelines b.fences reach → AgreesAbove reach (entries_of (import_into timelines usage fs b).fences) (entries_of (b.fences ++ imported usage fs))
-import-agrees timelines usage fs b reach of = go (cases_Bool (are_signalled fs)) (cases_Bool (has_grown b))
+import-agrees timelines usage fs b reach of = go (cases_Bool (are_signalled fs)) (cases_Bool (has_grown (length fs) b))
   where
-    go : (are_signalled fs ≡ true) ⊎ (are_signalled fs ≡ false) → (has_grown b ≡ true) ⊎ (has_grown b ≡ false) → AgreesAbove reach (entries_of (import_into timelines usage fs b).fences) (entries_of (b.fences ++ imported usage fs))
+    go : (are_signalled fs ≡ true) ⊎ (are_signalled fs ≡ false) → (has_grown (length fs) b ≡ true) ⊎ (has_grown (length fs) b ≡ false) → AgreesAbove reach (entries_of (import_into timelines usage fs b).fences) (entries_of (b.fences ++ imported usage fs))
     go (inl is) grown = rw is (AgreesAbove-none reach usage b.fences fs is)
     go (inr not) (inl grown) =
         let kept = filter (is_waiting timelines) b.fences in
         rw (not, grown) (AgreesAbove-put_after reach b.fences kept (fold with_buffer_fence kept (imported usage fs)) (imported usage fs) (AgreesAbove-trimmed timelines b.fences reach of) (put_each-agrees reach (imported usage fs) kept))
     go (inr not) (inr small) = rw (not, small) (put_each-agrees reach (imported usage fs) b.fences)
+
+-- a table has no more fences than it may have
+abbrev pub HasRoom : BufferState → Type 0
+HasRoom b = length b.fences ≤ GROWTH * max b.left UNTRIMMED
+
+length-with : (hs : List BufferFence) (g : BufferFence) → length (with_buffer_fence hs g) ≤ length hs + 1
+length-with [] g = omega arith
+length-with (h ∷ hs) g = go (cases_Bool (covers (entry_of g) (entry_of h))) (length-with hs g)
+  where
+    go : (covers (entry_of g) (entry_of h) ≡ true) ⊎ (covers (entry_of g) (entry_of h) ≡ false) → length (with_buffer_fence hs g) ≤ length hs + 1 → length (with_buffer_fence (h ∷ hs) g) ≤ length (h ∷ hs) + 1
+    go (inl covered) rest = rw covered (omega arith)
+    go (inr other) rest = rw other (omega (arith, rest))
+
+length-put : (gs hs : List BufferFence) → length (fold with_buffer_fence hs gs) ≤ length hs + length gs
+length-put [] hs = omega arith
+length-put (g ∷ gs) hs =
+    let one = length-with hs g in
+    let rest = length-put gs (with_buffer_fence hs g) in
+    omega (arith, one, rest)
+
+length-imported : (usage : Usage) (fs : List Fence) → length (imported usage fs) ≤ length fs
+length-imported usage [] = omega arith
+length-imported usage (f ∷ fs) = go (cases_Bool (is_pending f)) (length-imported usage fs)
+  where
+    go : (is_pending f ≡ true) ⊎ (is_pending f ≡ false) → length (imported usage fs) ≤ length fs → length (imported usage (f ∷ fs)) ≤ length (f ∷ fs)
+    go (inl pending) rest = rw pending (omega (arith, rest))
+    go (inr signalled) rest = rw signalled (omega (arith, rest))
+
+pub HasRoom-import : (timelines : ℕ → Option Timeline) (usage : Usage) (fs : List Fence) (b : BufferState) → HasRoom b → HasRoom (import_into timelines usage fs b)
+HasRoom-import timelines usage fs b few = go (cases_Bool (are_signalled fs)) (cases_Bool (has_grown (length fs) b))
+  where
+    most : length (imported usage fs) ≤ length fs
+    most = length-imported usage fs
+
+    go : (are_signalled fs ≡ true) ⊎ (are_signalled fs ≡ false) → (has_grown (length fs) b ≡ true) ⊎ (has_grown (length fs) b ≡ false) → HasRoom (import_into timelines usage fs b)
+    go (inl is) grown = rw is few
+    go (inr not) (inl grown) =
+        let kept = filter (is_waiting timelines) b.fences in
+        let put = length-put (imported usage fs) kept in
+        rw (not, grown) (omega (arith, put, most))
+    go (inr not) (inr small) =
+        let put = length-put (imported usage fs) b.fences in
+        let low = ltb-false (GROWTH * max b.left UNTRIMMED) (length b.fences + length fs) small in
+        rw (not, small) (omega (arith, put, most, low))

@@ -1,5 +1,5 @@
 -- The fences of a buffer, each with what it is for.
-use Rattle.std.specs.Prelude.{◌≡◌, ℕ, ◌/◌, max, ◌==◌, ◌≤◌, ◌<◌, ◌%◌, ◌^◌, Bool, false, not, ◌||◌, nat_le, nat_lt, if◌then◌else◌, List, [], ◌∷◌, length, map, filter, fold, Option, None, Some, All, Contains, Result, Ok, Err}
+use Rattle.std.specs.Prelude.{◌≡◌, ℕ, ◌+◌, ◌*◌, max, ◌==◌, ◌≤◌, ◌<◌, ◌%◌, ◌^◌, Bool, false, not, ◌||◌, nat_le, nat_lt, if◌then◌else◌, List, [], ◌∷◌, length, map, filter, fold, Option, None, Some, All, Contains, Result, Ok, Err}
 use Rattle.std.specs.List.{filter_map, list_all}
 use Rattle.point_core.specs.declared.entry.Entry.{Entry}
 use Rattle.point_core.specs.declared.entry.Usage.{Usage}
@@ -15,7 +15,7 @@ use Rattle.device_core.specs.declared.refusal.Refusal.{Refusal}
 use Rattle.device_core.specs.declared.refusal.Refusal.TheVariants.{Invalid}
 use Rattle.device_core.specs.Fences.{are_signalled, fence_of, pending_of, with_fence}
 
--- a buffer: its fences, how many of them the last trim left, and the time of the stub of an idle buffer
+-- a buffer: its fences, how many it had after its last trim at most, and the time of the stub of an idle buffer
 pub record BufferState : Type 0 where
   pub fences : List BufferFence
   pub left : ℕ
@@ -68,15 +68,15 @@ abbrev pub with_buffer_fence : List BufferFence → BufferFence → List BufferF
 with_buffer_fence [] g = g ∷ []
 with_buffer_fence (h ∷ hs) g = if covers (entry_of g) (entry_of h) then g ∷ hs else h ∷ with_buffer_fence hs g
 
--- it has grown so much since its last trim that it is time for another
-abbrev pub has_grown : BufferState → Bool
-has_grown b = nat_le (max b.left UNTRIMMED) (length b.fences / GROWTH)
+-- with so many more it would have grown too much since its last trim
+abbrev pub has_grown : ℕ → BufferState → Bool
+has_grown more b = nat_lt (GROWTH * max b.left UNTRIMMED) (length b.fences + more)
 
--- what is waiting, if it is time for a trim
-abbrev pub trimmed : (ℕ → Option Timeline) → BufferState → BufferState
-trimmed timelines b =
-    if has_grown b
-    then (let kept = filter (is_waiting timelines) b.fences in record b { fences = kept; left = length kept })
+-- what is waiting, if it is time for a trim before so many more are put in
+abbrev pub trimmed : (ℕ → Option Timeline) → ℕ → BufferState → BufferState
+trimmed timelines more b =
+    if has_grown more b
+    then (let kept = filter (is_waiting timelines) b.fences in record b { fences = kept; left = length kept + more })
     else b
 
 abbrev pub with_fences : BufferState → List BufferFence → BufferState
@@ -85,7 +85,7 @@ with_fences b put = record b { fences = fold with_buffer_fence b.fences put }
 -- the buffer, once a file was imported: a file of which nothing is pending changes nothing
 abbrev pub import_into : (ℕ → Option Timeline) → Usage → List Fence → BufferState → BufferState
 import_into timelines usage fs b =
-    if are_signalled fs then b else with_fences (trimmed timelines b) (imported usage fs)
+    if are_signalled fs then b else with_fences (trimmed timelines (length fs) b) (imported usage fs)
 
 -- it is of the usage or a stronger one
 abbrev pub is_within : Usage → Entry → Bool

@@ -2,6 +2,7 @@ pub mod Wrapping
 pub mod Fences
 pub mod Buffers
 pub mod State
+pub mod Floors
 pub mod Woken
 pub mod Names
 pub mod Info
@@ -11,3 +12,4 @@ pub mod History
 pub mod Sound
 pub mod Times
 pub mod Headline
+pub mod Memory

@@ -1,6 +1,9 @@
 -- A device, as contracts see it.
 use Rattle.std.specs.Prelude.{◌≡◌, ℕ, ◌+◌, ◌≤◌, ◌==◌, length, max, replicate, nat_eq, nat_le, Bool, true, false, ◌&&◌, if◌then◌else◌, List, [], ◌∷◌, Option, None, Some, is_some, option_map, Result, Ok, Err, ◌||◌}
 use Rattle.std.specs.List.{list_any}
+use Rattle.std.specs.List.Sorted.{IsStrictlySortedBy}
+use Rattle.std.specs.declared.cmp.Ordering.{Ordering}
+use Rattle.std.specs.Ordering.{nat_cmp, ordering_then}
 use Rattle.std.specs.Map.{lookup}
 use Rattle.point_core.specs.declared.entry.Usage.{Usage}
 use Rattle.device_core.specs.declared.fence.Text.{Text}
@@ -29,9 +32,11 @@ pub record DeviceState : Type 0 where
   pub timelines : List (ℕ × Timeline)
   pub files : List (ℕ × FileState)
   pub buffers : List (ℕ × BufferState)
+  -- the points at which files wait, in order
+  pub index : List Waiting
 
 abbrev pub nothing : DeviceState
-nothing = record { next = 1; timelines = []; files = []; buffers = [] }
+nothing = record { next = 1; timelines = []; files = []; buffers = []; index = [] }
 
 abbrev pub at : {X : Type 0} → List (ℕ × X) → ℕ → Option X
 at es number = lookup (nat_eq number) es
@@ -130,6 +135,14 @@ is_same a b = nat_eq a.timeline b.timeline && (nat_eq a.value b.value && nat_eq 
 
 abbrev pub holds : List Waiting → Waiting → Bool
 holds ks k = list_any (is_same k) ks
+
+-- by timeline, then by value, then by file
+abbrev pub order : Waiting → Waiting → Ordering
+order a b =
+    ordering_then (nat_cmp a.timeline b.timeline) (ordering_then (nat_cmp a.value b.value) (nat_cmp a.file b.file))
+
+abbrev pub AreInOrder : List Waiting → Type 0
+AreInOrder ks = IsStrictlySortedBy order ks
 
 -- it is of that timeline, at or below the value
 abbrev pub is_due_at : ℕ → ℕ → Waiting → Bool

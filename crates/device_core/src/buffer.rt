@@ -8,19 +8,19 @@ ghost use Rattle.device_core.specs.Buffers.{empty_buffer, exported, import_into,
 ghost use Rattle.device_core.specs.State.{at};
 
 use crate::buffer_fence::BufferFence;
-use crate::fence::{Fence, Timeline};
+use crate::fence::Fence;
 use crate::file::all_signalled;
 use crate::merging::put as put_later;
 use crate::refusal::Refusal;
+use crate::timelines::Timelines;
 use point_core::Usage;
 use std::alloc::Global;
-use std::collections::HashMap;
 use std::marker::Model;
 
-/// A table is trimmed when it has so many times the fences that its last trim left.
+/// A table is trimmed before it has more than so many times the fences that it had after its last trim.
 const GROWTH: usize = 2;
 
-/// A table of fewer than `GROWTH` times so many fences is not trimmed.
+/// A table of `GROWTH` times so many fences or fewer is not trimmed.
 const UNTRIMMED: usize = 8;
 
 const _: () = prove!(GROWTH == 2);
@@ -63,7 +63,7 @@ impl Buffer {
     /// Fails with `NoMemory` alone, and then leaves all as it was.
     pub(crate) fn import(
         &mut self,
-        timelines: &HashMap<u64, Timeline>,
+        timelines: &Timelines,
         fences: &[Fence],
         usage: Usage,
     ) -> Result<(), Refusal>
@@ -77,7 +77,7 @@ impl Buffer {
         let Ok(_room) = self.fences.reserve(fences.len()) else {
             return Err(Refusal::NoMemory);
         };
-        self.left = trim_grown(&mut self.fences, self.left, timelines);
+        self.left = trim_grown(&mut self.fences, self.left, fences.len(), timelines);
         put_pending(&mut self.fences, fences, usage);
         let most = GROWTH.saturating_mul(self.fences.len().max(UNTRIMMED));
         self.fences.shrink_to(most);
@@ -91,7 +91,7 @@ impl Buffer {
     pub(crate) fn export(
         &self,
         alloc: Global,
-        timelines: &HashMap<u64, Timeline>,
+        timelines: &Timelines,
         usage: Usage,
     ) -> Result<Vec<Fence>, Refusal>
         ensures exported { IfOk result (λ fs. fs.items ≡ exported (at timelines.now.entries) usage self.now.fences) }
@@ -104,7 +104,7 @@ impl Buffer {
 
     /// Whether every fence of the usage or a stronger one has signalled, as Linux's `dma_resv_test_signaled`. Takes no
     /// memory.
-    pub(crate) fn test(&self, timelines: &HashMap<u64, Timeline>, usage: Usage) -> bool
+    pub(crate) fn test(&self, timelines: &Timelines, usage: Usage) -> bool
         ensures { result ≡ none_waits_of (at timelines.now.entries) usage self.now.fences }
     {
         none_waits(self.fences.as_slice(), timelines, usage)
@@ -119,7 +119,7 @@ impl Buffer {
     }
 }
 
-fn none_waits(fences: &[BufferFence], timelines: &HashMap<u64, Timeline>, usage: Usage) -> bool
+fn none_waits(fences: &[BufferFence], timelines: &Timelines, usage: Usage) -> bool
     ensures { result ≡ none_waits_of (at timelines.now.entries) usage fences.now }
 {
     for fence in fences {
@@ -133,7 +133,7 @@ fn none_waits(fences: &[BufferFence], timelines: &HashMap<u64, Timeline>, usage:
 fn list_waiting(
     listed: &mut Vec<Fence>,
     fences: &[BufferFence],
-    timelines: &HashMap<u64, Timeline>,
+    timelines: &Timelines,
     usage: Usage,
 ) -> Result<(), Refusal>
     ensures listed { OnOk result (listed.new.items ≡
@@ -156,23 +156,26 @@ fn put_option(listed: &mut Vec<Fence>, fence: Option<Fence>) -> Result<(), Refus
     }
 }
 
-/// Drops what no longer waits if the table has grown so much since its last trim, and gives how many its last trim
-/// left.
+/// Drops what no longer waits if the table would grow too much by so many more since its last trim, and gives how many
+/// it then had after its last trim.
 fn trim_grown(
     fences: &mut Vec<BufferFence>,
     left: usize,
-    timelines: &HashMap<u64, Timeline>,
+    more: usize,
+    timelines: &Timelines,
 ) -> usize
+    requires room { vec_len fences.old + more ≤ vec_capacity fences.old }
     ensures trimmed { (stub_at : ℕ) → state_of fences.new.items result stub_at ≡
-        trimmed_of (at timelines.now.entries) (state_of fences.old.items left stub_at) }
+        trimmed_of (at timelines.now.entries) more (state_of fences.old.items left stub_at) }
     ensures fewer { vec_len fences.new ≤ vec_len fences.old }
     ensures places { vec_capacity fences.new ≡ vec_capacity fences.old }
 {
-    if fences.len() / GROWTH < left.max(UNTRIMMED) {
+    let most = GROWTH.saturating_mul(left.max(UNTRIMMED));
+    if fences.len() + more <= most {
         return left;
     }
     fences.retain(|fence| fence.is_waiting(timelines));
-    fences.len()
+    fences.len() + more
 }
 
 fn put_pending(fences: &mut Vec<BufferFence>, put: &[Fence], usage: Usage)

@@ -5,8 +5,8 @@ ghost use Rattle.device_core.specs.Buffers.{entry_of, fence_waiting, is_waiting,
 ghost use Rattle.device_core.specs.State.{at};
 
 use crate::fence::{Fence, Timeline};
+use crate::timelines::Timelines;
 use point_core::Usage;
-use std::collections::HashMap;
 
 /// A fence that was put into a buffer: its timeline, its point, and what it is for. It has signalled once the timeline
 /// has reached the point, or is closed.
@@ -40,7 +40,7 @@ impl BufferFence {
     }
 
     /// Whether its timeline is open, and has not reached the point.
-    pub(crate) fn is_waiting(&self, timelines: &HashMap<u64, Timeline>) -> bool
+    pub(crate) fn is_waiting(&self, timelines: &Timelines) -> bool
         ensures { result ≡ is_waiting (at timelines.now.entries) self.now }
     {
         match timelines.get(&self.timeline) {
@@ -50,7 +50,7 @@ impl BufferFence {
     }
 
     /// The fence of a file that it is, if it waits and is of the usage or a stronger one.
-    pub(crate) fn waiting(&self, timelines: &HashMap<u64, Timeline>, usage: Usage) -> Option<Fence>
+    pub(crate) fn waiting(&self, timelines: &Timelines, usage: Usage) -> Option<Fence>
         ensures { result ≡ waiting_fence (at timelines.now.entries) usage self.now }
     {
         if self.usage.number() > usage.number() {

@@ -1,11 +1,12 @@
 // The device.
-ghost use Rattle.std.specs.Prelude.{◌≡◌, ◌⊎◌, ℕ, ◌+◌, ◌^◌, ◌≤◌, nat_eq, if◌then◌else◌, Some, None, is_some, option_map, ◌||◌, IsSome, IfSome, IfNone, OnOk, OnErr, IfOk, IfErr, MatchOption, Ok, Err, true, false, ◌<◌, ◌↔◌, Contains};
+ghost use Rattle.std.specs.Prelude.{◌≡◌, ◌⊎◌, ℕ, ◌+◌, ◌^◌, ◌≤◌, nat_eq, if◌then◌else◌, Some, None, is_some, option_map, ◌||◌, IsSome, IfSome, IfNone, OnOk, OnErr, IfOk, IfErr, MatchOption, Ok, Err, true, false, ◌<◌, ◌↔◌, Contains, length};
 ghost use Rattle.std.specs.List.Sorted.{IsStrictlyIncreasing};
 ghost use Rattle.device_core.specs.declared.refusal.Refusal.TheVariants.{NoEntry, NoMemory, Overflow};
 ghost use Rattle.device_core.specs.declared.fence.Text.{Text as Name};
 ghost use Rattle.point_core.specs.Reach.{GREATEST};
 ghost use Rattle.device_core.specs.Fences.{are_signalled, signal_at, status_of};
 ghost use Rattle.device_core.specs.Info.{IsInfo};
+ghost use Rattle.device_core.specs.Memory.{KeepsWhatIsAlive, kept_of};
 ghost use Rattle.device_core.specs.Woken.{file_wakes};
 ghost use Rattle.device_core.specs.Wrapping.{unwrapped as unwrapped_of};
 ghost use Rattle.device_core.specs.State.{nothing, at, timeline_at, file_at, file_of, new_timeline, raised, merged_files, one_fence_file, missing_timeline, missing_file, buffer_at, objects_of, AreSignalled};
@@ -18,10 +19,11 @@ use crate::buffer::Buffer;
 use crate::fence::{Fence, Signal, Text, Timeline, one_fence};
 use crate::file::File;
 use crate::info::{FileInfo, info as info_of};
+use crate::kept::Kept;
 use crate::merging::{merged, merged_time};
 use crate::refusal::Refusal;
-use crate::signalling::signal_due;
-use crate::waiting::WaitingFiles;
+use crate::room::give_room_back;
+use crate::timelines::Timelines;
 use point_core::Status;
 use std::alloc::Global;
 use std::collections::HashMap;
@@ -32,10 +34,9 @@ use std::marker::Model;
 pub struct Device {
     alloc: Global,
     next: u64,
-    timelines: HashMap<u64, Timeline>,
+    timelines: Timelines,
     files: HashMap<u64, File>,
     buffers: HashMap<u64, Buffer>,
-    waiting: WaitingFiles,
 }
 
 impl Model for Device {
@@ -48,9 +49,11 @@ impl Model for Device {
       timelines = d.timelines.entries;
       files = d.files.entries;
       buffers = d.buffers.entries;
+      index = d.timelines.index;
     } };
 
-    ghost invariant = { λ d. IsKept d.next d.timelines.entries d.files.entries d.buffers.entries d.waiting };
+    ghost invariant = { λ d.
+        IsKept d.next d.timelines.entries d.files.entries d.buffers.entries d.timelines.index };
 }
 
 impl Device {
@@ -61,10 +64,9 @@ impl Device {
         Device {
             alloc,
             next: 1,
-            timelines: HashMap::new(alloc),
+            timelines: Timelines::new(alloc),
             files: HashMap::new(alloc),
             buffers: HashMap::new(alloc),
-            waiting: WaitingFiles::new(alloc),
         }
     }
 
@@ -144,19 +146,22 @@ impl Device {
         ensures fits { OnOk result (IfSome (timeline_at self.old timeline) (λ t. t.value + n < 2 ^ 64)) }
         ensures unchanged { OnErr result (self.new ≡ self.old) }
     {
+        if self.timelines.rise_quietly(timeline, n) {
+            return Ok(Vec::new(self.alloc));
+        }
         let known = self.timeline(timeline)?;
         let Some(value) = known.value.checked_add(u64::from(n)) else {
             return Err(Refusal::Overflow);
         };
         let woken = self
-            .waiting
+            .timelines
             .woken_by(self.alloc, &self.files, timeline, value)?;
-        set_value(&mut self.timelines, timeline, value);
         let signal = Signal {
             at: now,
             is_cancelled: false,
         };
-        signal_due(&mut self.waiting, &mut self.files, timeline, value, signal);
+        self.timelines
+            .raise_to(&mut self.files, timeline, value, signal);
         Ok(woken)
     }
 
@@ -203,20 +208,13 @@ impl Device {
     {
         let _known = self.timeline(timeline)?;
         let woken = self
-            .waiting
+            .timelines
             .woken_by(self.alloc, &self.files, timeline, u64::MAX)?;
-        self.timelines.remove(&timeline);
         let signal = Signal {
             at: now,
             is_cancelled: true,
         };
-        signal_due(
-            &mut self.waiting,
-            &mut self.files,
-            timeline,
-            u64::MAX,
-            signal,
-        );
+        self.timelines.close(&mut self.files, timeline, signal);
         Ok(woken)
     }
 
@@ -236,13 +234,15 @@ impl Device {
         ensures unchanged { OnErr result (self.new ≡ self.old) }
     {
         if let Some(closed) = self.files.remove(&number) {
-            self.waiting.take_all(number, closed.fences.as_slice());
+            self.timelines.take_all(number, closed.fences.as_slice());
+            give_room_back(&mut self.files);
             return Ok(());
         }
-        match self.buffers.remove(&number) {
-            Some(_closed) => Ok(()),
-            None => Err(Refusal::NoEntry),
-        }
+        let Some(_closed) = self.buffers.remove(&number) else {
+            return Err(Refusal::NoEntry);
+        };
+        give_room_back(&mut self.buffers);
+        Ok(())
     }
 
     /// Merges two files, which both stay, as `SYNC_IOC_MERGE` does: the latest pending fence of each timeline. If
@@ -334,6 +334,54 @@ impl Device {
         }
     }
 
+    /// How many files are open.
+    pub fn open_files(&self) -> usize
+        ensures { result ≡ length self.now.files }
+    {
+        self.files.len()
+    }
+
+    /// Whether a file has that number.
+    pub fn is_file(&self, number: u64) -> bool
+        ensures { result ≡ is_some (file_at self.now number) }
+    {
+        self.files.contains_key(&number)
+    }
+
+    /// Whether a timeline has that number.
+    pub fn is_timeline(&self, number: u64) -> bool
+        ensures { result ≡ is_some (timeline_at self.now number) }
+    {
+        self.timelines.contains_key(&number)
+    }
+
+    /// What an increment is refused with if there is no memory for what it would wake: `NoMemory`, unless something
+    /// else refuses it.
+    pub fn inc_refusal(&self, timeline: u64, n: u32) -> Refusal
+        ensures { (now : ℕ) → IsCause (cause_of (objects_of self.now) (request.Inc timeline n now)) true result }
+    {
+        match self.timeline(timeline) {
+            Ok(known) => match known.value.checked_add(u64::from(n)) {
+                Some(_) => Refusal::NoMemory,
+                None => Refusal::Overflow,
+            },
+            Err(refusal) => refusal,
+        }
+    }
+
+    /// How much it keeps, which is no more than what is alive. Takes no memory.
+    pub fn kept(&self) -> Kept
+        ensures counts { result ≡ kept_of self.now }
+        ensures alive { KeepsWhatIsAlive self.now }
+    {
+        Kept {
+            timelines: self.timelines.len(),
+            files: self.files.len(),
+            buffers: self.buffers.len(),
+            waiting: self.timelines.waiting(),
+        }
+    }
+
     // The timeline of that number.
     fn timeline(&self, number: u64) -> Result<Timeline, Refusal>
         ensures found { IfOk result (λ t. timeline_at self.now number ≡ Some t) }
@@ -372,7 +420,7 @@ impl Device {
         if number == u64::MAX {
             return Err(Refusal::NoMemory);
         }
-        self.waiting.put_all(number, fences.as_slice())?;
+        self.timelines.put_all(number, fences.as_slice())?;
         let file = File {
             name,
             fences,
@@ -384,7 +432,7 @@ impl Device {
                 Ok(number)
             }
             Err(failed) => {
-                self.waiting
+                self.timelines
                     .take_all(number, failed.value.1.fences.as_slice());
                 Err(Refusal::NoMemory)
             }
@@ -400,15 +448,5 @@ impl Device {
         } else {
             Refusal::NoEntry
         }
-    }
-}
-
-fn set_value(timelines: &mut HashMap<u64, Timeline>, number: u64, value: u64)
-    ensures { IfSome (at timelines.old.entries number) (λ t. (q : ℕ) →
-        at timelines.new.entries q
-        ≡ (if nat_eq number q then Some (record t { value = value }) else at timelines.old.entries q)) }
-{
-    if let Some(timeline) = timelines.get_mut(&number) {
-        timeline.value = value;
     }
 }

@@ -2,6 +2,8 @@
 ghost use Rattle.std.specs.Prelude.{◌≡◌, [], IfOk, IfErr};
 ghost use Rattle.device_core.specs.declared.refusal.Refusal.TheVariants.{NoMemory};
 ghost use Rattle.device_core.specs.History.{AreAnswers, HasHistory, history_of};
+ghost use Rattle.device_core.specs.State.{objects_of};
+ghost use Rattle.device_core.specs.Memory.{AreTrimmed, KeepsWhatIsAlive};
 ghost use Rattle.device_core.specs.Headline.{ReportsSums, ReportsWhatWasPut, ReportsBuffers, ReportsNumbers, ReportsEachWaking};
 
 use crate::device::Device;
@@ -23,6 +25,8 @@ pub fn run(
     ensures buffers { IfOk result (λ r. ReportsBuffers r.0 (history_of [] requests.now r.1.items)) }
     ensures numbers { IfOk result (λ r. ReportsNumbers r.0 r.1.items) }
     ensures wakings { IfOk result (λ r. ReportsEachWaking r.0 (history_of [] requests.now r.1.items) r.1.items) }
+    ensures kept { IfOk result (λ r. KeepsWhatIsAlive r.0) }
+    ensures trimmed { IfOk result (λ r. AreTrimmed (objects_of r.0)) }
     ensures memory { IfErr result (λ e. e ≡ NoMemory) }
 {
     let Ok(mut answers) = Vec::with_capacity(alloc, requests.len()) else {
@@ -32,5 +36,7 @@ pub fn run(
     for request in requests {
         answers.push_reserved(device.serve(*request));
     }
+    // For the proof: what the device keeps.
+    let _kept = device.kept();
     Ok((device, answers))
 }

@@ -16,6 +16,7 @@ impl Device {
     /// The answer to one request: the first refusal whose cause holds, else what the request gives. `NoMemory` comes
     /// last, where a growth was really refused; `Status`, `IsSignalled`, `Test` and the closing of a file or a buffer are
     /// never answered it. A refused request changes nothing.
+    #[inline(always)]
     pub fn serve(&mut self, request: Request) -> Result<Answer, Refusal>
         ensures answer { IsAnswer (objects_of self.old) request result }
         ensures done { OnOk result (objects_of self.new ≡ after (objects_of self.old) request) }
@@ -26,6 +27,7 @@ impl Device {
         self.answer_to(request)
     }
 
+    #[inline(always)]
     fn answer_to(&mut self, request: Request) -> Result<Answer, Refusal>
         ensures answer { IsAnswer (objects_of self.old) request result }
         ensures done { OnOk result (objects_of self.new ≡ after (objects_of self.old) request) }
@@ -47,6 +49,7 @@ impl Device {
         }
     }
 
+    #[inline(always)]
     fn serve_open(&mut self, name: Text) -> Result<Answer, Refusal>
         ensures answer { IsAnswer (objects_of self.old) (request.Open name) result }
         ensures done { OnOk result (objects_of self.new ≡ after (objects_of self.old) (request.Open name)) }
@@ -58,6 +61,7 @@ impl Device {
         }
     }
 
+    #[inline(always)]
     fn serve_fence(&mut self, timeline: u64, point: u32, now: u64) -> Result<Answer, Refusal>
         ensures answer { IsAnswer (objects_of self.old) (request.Fence timeline point now) result }
         ensures done { OnOk result
@@ -70,6 +74,7 @@ impl Device {
         }
     }
 
+    #[inline(always)]
     fn serve_inc(&mut self, timeline: u64, n: u32, now: u64) -> Result<Answer, Refusal>
         ensures answer { IsAnswer (objects_of self.old) (request.Inc timeline n now) result }
         ensures done { OnOk result (objects_of self.new ≡ after (objects_of self.old) (request.Inc timeline n now)) }
@@ -81,6 +86,7 @@ impl Device {
         }
     }
 
+    #[inline(always)]
     fn serve_merge(&mut self, a: u64, b: u64, name: Text) -> Result<Answer, Refusal>
         ensures answer { IsAnswer (objects_of self.old) (request.Merge a b name) result }
         ensures done { OnOk result (objects_of self.new ≡ after (objects_of self.old) (request.Merge a b name)) }
@@ -92,6 +98,7 @@ impl Device {
         }
     }
 
+    #[inline(always)]
     fn serve_status(&self, file: u64) -> Result<Answer, Refusal>
         ensures { IsAnswer (objects_of self.now) (request.Status file) result }
     {
@@ -101,6 +108,7 @@ impl Device {
         }
     }
 
+    #[inline(always)]
     fn serve_is_signalled(&self, file: u64) -> Result<Answer, Refusal>
         ensures { IsAnswer (objects_of self.now) (request.IsSignalled file) result }
     {
@@ -110,6 +118,7 @@ impl Device {
         }
     }
 
+    #[inline(always)]
     fn serve_info(&self, file: u64) -> Result<Answer, Refusal>
         ensures { IsAnswer (objects_of self.now) (request.Info file) result }
     {
@@ -119,6 +128,7 @@ impl Device {
         }
     }
 
+    #[inline(always)]
     fn serve_close(&mut self, number: u64, now: u64) -> Result<Answer, Refusal>
         ensures answer { IsAnswer (objects_of self.old) (request.Close number now) result }
         ensures done { OnOk result (objects_of self.new ≡ after (objects_of self.old) (request.Close number now)) }
@@ -130,6 +140,7 @@ impl Device {
         }
     }
 
+    #[inline(always)]
     fn serve_buffer(&mut self, now: u64) -> Result<Answer, Refusal>
         ensures answer { IsAnswer (objects_of self.old) (request.Buffer now) result }
         ensures done { OnOk result (objects_of self.new ≡ after (objects_of self.old) (request.Buffer now)) }
@@ -141,6 +152,7 @@ impl Device {
         }
     }
 
+    #[inline(always)]
     fn serve_export(&mut self, buffer: u64, flags: u32) -> Result<Answer, Refusal>
         ensures answer { IsAnswer (objects_of self.old) (request.Export buffer flags) result }
         ensures done { OnOk result (objects_of self.new ≡ after (objects_of self.old) (request.Export buffer flags)) }
@@ -152,6 +164,7 @@ impl Device {
         }
     }
 
+    #[inline(always)]
     fn serve_import(&mut self, buffer: u64, file: u64, flags: u32) -> Result<Answer, Refusal>
         ensures answer { IsAnswer (objects_of self.old) (request.Import buffer file flags) result }
         ensures done { OnOk result
@@ -164,6 +177,7 @@ impl Device {
         }
     }
 
+    #[inline(always)]
     fn serve_test(&self, buffer: u64, usage: Usage) -> Result<Answer, Refusal>
         ensures { IsAnswer (objects_of self.now) (request.Test buffer usage) result }
     {

@@ -1,6 +1,7 @@
 // What a timeline's rise or closing signals.
-ghost use Rattle.std.specs.Prelude.{◌≡◌, ℕ, nat_eq, if◌then◌else◌, option_map};
-ghost use Rattle.device_core.specs.State.{AreSignalled, IsIndexed, at, file_signalled};
+ghost use Rattle.std.specs.Prelude.{◌≡◌, ℕ, nat_eq, if◌then◌else◌, option_map, true};
+ghost use Rattle.device_core.specs.declared.waiting.Waiting.{Waiting as Key};
+ghost use Rattle.device_core.specs.State.{AreInOrder, AreSignalled, IsIndexed, at, file_signalled, holds};
 
 use crate::fence::Signal;
 use crate::file::File;
@@ -16,8 +17,11 @@ pub(crate) fn signal_due(
     signal: Signal,
 )
     requires indexed { IsIndexed waiting.old files.old.entries }
+    requires ordered { AreInOrder waiting.old }
     ensures signalled { AreSignalled timeline value signal files.old.entries files.new.entries }
     ensures indexed { IsIndexed waiting.new files.new.entries }
+    ensures ordered { AreInOrder waiting.new }
+    ensures fewer { (k : Key) → holds waiting.new k ≡ true → holds waiting.old k ≡ true }
 {
     while let Some(due) = waiting.first_due(timeline, value) {
         waiting.take(due);

@@ -3,7 +3,7 @@ ghost use Rattle.std.specs.Prelude.{◌≡◌, ℕ, ◌≤◌, None, IfOk, ◌+�
 ghost use Rattle.std.specs.List.Sorted.{IsStrictlyIncreasing};
 ghost use Rattle.device_core.specs.declared.waiting.Waiting.{Waiting as Key};
 ghost use Rattle.device_core.specs.declared.refusal.Refusal.TheVariants.{NoMemory};
-ghost use Rattle.device_core.specs.State.{is_same, holds, is_due_at, waits_of, IsIndexed, at};
+ghost use Rattle.device_core.specs.State.{AreInOrder, is_same, holds, is_due_at, waits_of, IsIndexed, at};
 ghost use Rattle.device_core.specs.Woken.{file_wakes};
 ghost use Rattle.device_core.specs.Fences.{waiting};
 
@@ -94,11 +94,19 @@ impl WaitingFiles {
         }
     }
 
+    /// How many points there are.
+    pub(crate) fn len(&self) -> usize
+        ensures len { result ≡ length self.now }
+    {
+        self.points.len()
+    }
+
     /// Puts one in.
     ///
     /// Fails with `NoMemory` alone, and then leaves all as it was.
     pub(crate) fn put(&mut self, waiting: Waiting) -> Result<(), Refusal>
         ensures put { OnOk result ((k : Key) → holds self.new k ≡ (is_same waiting k || holds self.old k)) }
+        ensures ordered { AreInOrder self.new }
         ensures memory { IfErr result (λ e. e ≡ NoMemory) }
         ensures unchanged { OnErr result (self.new ≡ self.old) }
     {
@@ -133,9 +141,11 @@ impl WaitingFiles {
     /// Fails with `NoMemory` alone, and then leaves all as it was.
     pub(crate) fn put_all(&mut self, file: u64, fences: &[Fence]) -> Result<(), Refusal>
         requires new { (k : Key) → k.file ≡ file → holds self.old k ≡ false }
+        requires ordered { AreInOrder self.old }
         ensures put { OnOk result ((k : Key) → holds self.new k ≡ (waits_of file fences.now k || holds self.old k)) }
+        ensures ordered { AreInOrder self.new }
         ensures memory { IfErr result (λ e. e ≡ NoMemory) }
-        ensures unchanged { OnErr result ((k : Key) → holds self.new k ≡ holds self.old k) }
+        ensures unchanged { OnErr result (self.new ≡ self.old) }
     {
         for fence in fences {
             let Ok(_done) = self.put_pending(file, fence) else {
@@ -148,8 +158,10 @@ impl WaitingFiles {
 
     // Fails with `NoMemory` alone, and then leaves all as it was.
     fn put_pending(&mut self, file: u64, fence: &Fence) -> Result<(), Refusal>
+        requires ordered { AreInOrder self.old }
         ensures put { OnOk result ((k : Key) →
             holds self.new k ≡ (waits_of file (fence.now ∷ []) k || holds self.old k)) }
+        ensures ordered { AreInOrder self.new }
         ensures memory { IfErr result (λ e. e ≡ NoMemory) }
         ensures unchanged { OnErr result ((k : Key) → holds self.new k ≡ holds self.old k) }
     {
@@ -160,7 +172,9 @@ impl WaitingFiles {
     }
 
     fn take_pending(&mut self, file: u64, fence: &Fence)
+        requires ordered { AreInOrder self.old }
         ensures taken { (k : Key) → holds self.new k ≡ (not (waits_of file (fence.now ∷ []) k) && holds self.old k) }
+        ensures ordered { AreInOrder self.new }
     {
         if fence.signal.is_none() {
             self.take(Waiting::of(file, fence));
@@ -169,7 +183,9 @@ impl WaitingFiles {
 
     /// Takes a file out at each of its pending fences.
     pub(crate) fn take_all(&mut self, file: u64, fences: &[Fence])
+        requires ordered { AreInOrder self.old }
         ensures taken { (k : Key) → holds self.new k ≡ (not (waits_of file fences.now k) && holds self.old k) }
+        ensures ordered { AreInOrder self.new }
     {
         for fence in fences {
             self.take_pending(file, fence);
@@ -180,6 +196,7 @@ impl WaitingFiles {
     pub(crate) fn take(&mut self, waiting: Waiting)
         ensures taken { (k : Key) → holds self.new k ≡ (not (is_same waiting k) && holds self.old k) }
         ensures fewer { holds self.old waiting ≡ true → length self.new + 1 ≡ length self.old }
+        ensures ordered { AreInOrder self.new }
     {
         self.points.remove(&waiting);
     }
@@ -187,11 +204,23 @@ impl WaitingFiles {
     /// The first of the timeline at or below the value.
     pub(crate) fn first_due(&self, timeline: u64, value: u64) -> Option<Waiting>
         ensures some { IfSome result (λ k. (is_due_at timeline value k ≡ true) × (holds self.now k ≡ true)) }
+        ensures least { IfSome result (λ first. (k : Key) →
+            is_due_at timeline value k ≡ true → holds self.now k ≡ true → first.value ≤ k.value) }
         ensures none { IfNone result ((k : Key) → is_due_at timeline value k ≡ true → holds self.now k ≡ false) }
     {
         match self.points.range(Waiting::first(timeline)..).next() {
             Some(first) => first.if_due(timeline, value),
             None => None,
+        }
+    }
+
+    /// The least point of a timeline at which a file waits, or the greatest of all if there is none.
+    pub(crate) fn floor(&self, timeline: u64) -> u64
+        ensures { (k : Key) → k.timeline ≡ timeline → holds self.now k ≡ true → result ≤ k.value }
+    {
+        match self.first_due(timeline, u64::MAX) {
+            Some(first) => first.value,
+            None => u64::MAX,
         }
     }
 }

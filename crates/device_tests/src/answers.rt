@@ -1,11 +1,11 @@
 // What is answered, against what it should be.
-use device_core::{Answer, Driver, FenceInfo, FileInfo, Refusal, Request};
+use device_core::{Answer, Driver, FenceInfo, FileInfo, Kept, Refusal, Request};
 use point_core::Status;
 use std::process::Abort;
 
 /// An answer, or a refusal.
 #[derive(Clone, Copy, Debug, PartialEq, Eq)]
-pub(crate) enum Told {
+pub(crate) enum Wanted {
     Number(u64),
     Woken(&'static [u64]),
     Status(Status),
@@ -22,51 +22,57 @@ pub(crate) type Row = (&'static [u8], Driver, Status, u64);
 pub(crate) fn check(
     rt: &impl Abort,
     answers: &[Result<Answer, Refusal>],
-    asked: &[(Request, Told)],
+    asked: &[(Request, Wanted)],
 ) {
     let mut left = asked;
     for answer in answers {
         let Some((first, rest)) = left.split_first() else {
             break;
         };
-        holds(rt, is_told(answer, &first.1));
+        holds(rt, is_wanted(answer, &first.1));
         left = rest;
     }
     holds(rt, left.is_empty() && answers.len() == asked.len());
 }
 
-fn holds(rt: &impl Abort, is: bool) {
+/// Checks how many timelines, files and buffers are kept, and at how many points files wait.
+pub(crate) fn check_kept(rt: &impl Abort, kept: &Kept, wanted: [usize; 4]) {
+    let counts = [kept.timelines, kept.files, kept.buffers, kept.waiting];
+    holds(rt, counts == wanted);
+}
+
+pub(crate) fn holds(rt: &impl Abort, is: bool) {
     assert!(rt; is);
 }
 
-fn is_told(given: &Result<Answer, Refusal>, told: &Told) -> bool {
+fn is_wanted(given: &Result<Answer, Refusal>, wanted: &Wanted) -> bool {
     match given {
-        Ok(answer) => is_answer(answer, told),
-        Err(refusal) => *told == Told::Refused(*refusal),
+        Ok(answer) => is_answer(answer, wanted),
+        Err(refusal) => *wanted == Wanted::Refused(*refusal),
     }
 }
 
-fn is_answer(answer: &Answer, told: &Told) -> bool {
+fn is_answer(answer: &Answer, wanted: &Wanted) -> bool {
     match answer {
-        Answer::Number(number) => *told == Told::Number(*number),
-        Answer::Woken(woken) => is_woken(woken.as_slice(), told),
-        Answer::Status(status) => *told == Told::Status(*status),
-        Answer::Signalled(signalled) => *told == Told::Signalled(*signalled),
-        Answer::Info(info) => is_info(info, told),
-        Answer::Done => *told == Told::Done,
+        Answer::Number(number) => *wanted == Wanted::Number(*number),
+        Answer::Woken(woken) => is_woken(woken.as_slice(), wanted),
+        Answer::Status(status) => *wanted == Wanted::Status(*status),
+        Answer::Signalled(signalled) => *wanted == Wanted::Signalled(*signalled),
+        Answer::Info(info) => is_info(info, wanted),
+        Answer::Done => *wanted == Wanted::Done,
     }
 }
 
-fn is_woken(woken: &[u64], told: &Told) -> bool {
-    match told {
-        Told::Woken(files) => woken == *files,
+fn is_woken(woken: &[u64], wanted: &Wanted) -> bool {
+    match wanted {
+        Wanted::Woken(files) => woken == *files,
         _ => false,
     }
 }
 
-fn is_info(info: &FileInfo, told: &Told) -> bool {
-    match told {
-        Told::Info(name, status, rows) => {
+fn is_info(info: &FileInfo, wanted: &Wanted) -> bool {
+    match wanted {
+        Wanted::Info(name, status, rows) => {
             info.name.as_bytes() == *name
                 && info.status == *status
                 && are_rows(info.fences.as_slice(), rows)

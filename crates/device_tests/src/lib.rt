@@ -9,3 +9,5 @@ mod answers;
 mod buffers;
 #[cfg(test)]
 mod requests;
+#[cfg(test)]
+mod room;

@@ -5,7 +5,7 @@ use Rattle.point_core.specs.Clocks.{open_clock, reached_by}
 use Rattle.point_core.specs.declared.entry.Point.{Point}
 use Rattle.words_core.specs.declared.trace.Step.{Step}
 use Rattle.words_core.specs.Layout.{flag_word}
-use Rattle.words_core.specs.Loads.{clock_seen, loads_at}
+use Rattle.words_core.specs.Loads.{clock_seen, loads_at, KeepsClosing}
 use Rattle.words_core.specs.Seat.{SeatModel, with_step, with_steps}
 use Rattle.words_core.specs.Won.{WonModel}
 use Rattle.fence_core.specs.SharedFence.{SharedFenceModel}
@@ -27,12 +27,13 @@ IfAlready (NotYet ctx value) P = Unit {0}
 IfAlready (First token) P = Unit {0}
 IfAlready Already P = P
 
--- the clock of a point's context was loaded, no less than the seat had seen, and had reached the point
+-- the clock of a point's context was loaded, no less than the seat had seen, and had reached the point. A closing stays
 pub record HasFound (p : Point) (before after : SeatModel) : Type 0 where
   pub clock : Clock
   pub entered : after ≡ with_steps before (loads_at p.ctx clock)
   pub found : clock ≡ clock_seen after p.ctx
   pub later : reached_by (clock_seen before p.ctx) ≤ reached_by clock
+  pub closing : KeepsClosing before after p.ctx
   pub reached : p.value ≤ reached_by clock
 
 -- so was that of each of the points, one after another, and no other step was made

@@ -1,5 +1,5 @@
 -- What is told of files beside running timelines.
-use Rattle.std.proofs.Common.{◌≡◌, ℕ, suc, ◌+◌, ◌<◌, ◌≤◌, ◌≢◌, ◌↔◌, true, false, nat_le, refl, sym, subst, List, [], ◌∷◌, ◌++◌, All, Ok, Err, Result, arith}
+use Rattle.std.proofs.Common.{◌≡◌, ℕ, suc, ◌+◌, ◌<◌, ◌≤◌, ◌≢◌, ◌↔◌, true, false, nat_le, refl, sym, ◌∙◌, subst, List, [], ◌∷◌, ◌++◌, All, Ok, Err, Result, arith}
 use Rattle.std.specs.Prelude.{IfErr, IfOk, OnOk}
 use Rattle.std.specs.List.{list_all}
 use Rattle.std.proofs.lemmas.Bool.{false≢true, and_parts, and_from, leb-true, le-leb}
@@ -17,6 +17,7 @@ use Rattle.point_core.specs.declared.status.Status.TheVariants.{Active, Signalle
 use Rattle.point_core.specs.Agreement.{IsReached}
 use Rattle.point_core.specs.Clocks.{common_status}
 use Rattle.words_core.proofs.LoadingAll.{reach_seen-is}
+use Rattle.words_core.proofs.Staying.{common_status-stays}
 use Rattle.words_core.specs.Loads.{clocks_seen, reach_seen, HasLoadedClocks}
 use Rattle.words_core.specs.Seat.{SeatModel}
 use Rattle.syncfile_core.specs.SyncFile.{File, StandsFor}
@@ -69,6 +70,12 @@ pub polled-stands_for : (seat : SeatModel) (f : File) (result : Result Status Re
     → IfOk result (λ status. (set : List Entry) → StandsFor f set → (status ≢ Active) ↔ IsReached set 0 (reach_seen seat))
 polled-stands_for seat f (Ok status) is out = λ set stands. subst (λ (s : Status). (s ≢ Active) ↔ IsReached set 0 (reach_seen seat)) (sym is) (polled-stands seat f out set stands)
 polled-stands_for seat f (Err e) is out = tt
+
+-- what was no longer active stays as it is
+pub polled-stays : (before seat : SeatModel) (f : File) (result : Result Status Refusal) → HasLoadedClocks before seat (clocks_seen seat) → IfOk result (λ status. status ≡ common_status (clocks_seen seat) f.points)
+    → IfOk result (λ status. common_status (clocks_seen before) f.points ≢ Active → status ≡ common_status (clocks_seen before) f.points)
+polled-stays before seat f (Ok status) loaded is = λ settled. is ∙ common_status-stays loaded.all f.points settled
+polled-stays before seat f (Err e) loaded is = tt
 
 -- a refusal for the want of one thing is one for the want of another that needs it
 pub foreign-stronger : {X P Q : Type 0} (result : Result X Refusal) → (Q → P) → IfErr result (λ e. (e ≡ Foreign) × (¬ P)) → IfErr result (λ e. (e ≡ Foreign) × (¬ Q))

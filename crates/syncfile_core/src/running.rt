@@ -59,8 +59,9 @@ impl SyncFile {
     }
 
     /// The file's status, by one load of each clock: active while a point is, else cancelled where the timeline of one was
-    /// closed before it was reached, else signalled. What is no longer Active stays as it is; what is Active was so at a
-    /// load of this call. It is the status of Linux's `struct sync_file_info`.
+    /// closed before it was reached, else signalled. What is no longer Active by what the seat has seen stays as it is: no
+    /// signalled point is cancelled later, and a closed timeline keeps its value. What is Active was so at a load of this
+    /// call. It is the status of Linux's `struct sync_file_info`.
     ///
     /// Fails with `Foreign`, as `merge_with` does. Takes no memory.
     pub fn poll(&self, words: &Words, seat: &mut Seat) -> Result<Status, Refusal>
@@ -68,6 +69,8 @@ impl SyncFile {
         ensures kept { (seat.new.words ≡ seat.old.words) × (seat.new.parts ≡ seat.old.parts) }
         ensures loaded { HasLoadedClocks seat.old seat.new (clocks_seen seat.new) }
         ensures status { IfOk result (λ status. status ≡ common_status (clocks_seen seat.new) self.now.points) }
+        ensures stays { IfOk result (λ status. common_status (clocks_seen seat.old) self.now.points ≢ Active →
+            status ≡ common_status (clocks_seen seat.old) self.now.points) }
         ensures borne_out { OnOk result (IsBorneOut seat.new self.now) }
         ensures stands { IfOk result (λ status. (set : List Entry) →
             StandsFor self.now set → ((status ≢ Active) ↔ IsReached set 0 (reach_seen seat.new))) }

@@ -16,6 +16,7 @@ mod Adding
 mod Marking
 mod Gathering
 pub mod LoadingAll
+pub mod Staying
 pub mod Seen
 pub mod Knowing
 pub mod Laying

@@ -19,9 +19,9 @@ use Rattle.words_core.specs.Layout.{value_word, mark_word}
 use Rattle.words_core.specs.Trace.{load, on, greatest}
 use Rattle.words_core.specs.Words.{WordsModel}
 use Rattle.words_core.specs.Seat.{SeatModel, seen, with_steps}
-use Rattle.words_core.specs.Loads.{clock_marked, clock_seen, known_clock, clocks_seen, value_seen, reach_seen, loads_at, loads_of, HasLoadedAll, HasLoadedClocks}
+use Rattle.words_core.specs.Loads.{clock_marked, clock_seen, known_clock, clocks_seen, value_seen, reach_seen, loads_at, loads_of, KeepsClosing, HasLoadedAll, HasLoadedClocks}
 use Rattle.words_core.proofs.Traces.{on-append_other}
-use Rattle.words_core.proofs.Seen.{seen-with_steps}
+use Rattle.words_core.proofs.Seen.{seen-with_steps, seen_stays}
 
 -- the loads of one context leave what is seen of the others
 
@@ -91,18 +91,42 @@ pub record HasLoaded (first seat : SeatModel) (n : ℕ) : Type 0 where
   pub entered : seat ≡ with_steps first (loads_of (clock_seen seat) n)
   pub later : (c : ℕ) → 1 ≤ c → c ≤ n → reached_by (clock_seen first c) ≤ reached_by (clock_seen seat c)
   pub past : (c : ℕ) → n < c → clock_seen seat c ≡ clock_seen first c
+  pub closings : (c : ℕ) → 1 ≤ c → c ≤ n → KeepsClosing first seat c
 
 pub HasLoaded-none : (seat : SeatModel) → HasLoaded seat seat 0
 HasLoaded-none seat = record {
   entered = ap (λ (steps : List Step). record seat { trace = steps }) (sym (append-nil seat.trace));
   later = λ c low high. absurd (omega arith);
   past = λ c low. refl;
+  closings = λ c low high. absurd (omega arith);
 }
+
+-- the same of a seat whose clock of the context is the same
+KeepsClosing-later : (first seat after : SeatModel) (c : ℕ) → clock_seen after c ≡ clock_seen seat c → KeepsClosing first seat c → KeepsClosing first after c
+KeepsClosing-later first seat after c same h = record {
+  stays = λ closed. same ∙ h.stays closed;
+  last = λ closed. subst (λ (k : Clock). seen first (value_word c) ≤ k.value) (sym same) (h.last (ap (λ (k : Clock). k.closed) (sym same) ∙ closed));
+}
+
+-- the clock of a context that had not been loaded yet
+KeepsClosing-loaded : (first seat after : SeatModel) (ctx : ℕ) (clock : Clock) → clock_seen seat ctx ≡ clock_seen first ctx → seen first (value_word ctx) ≤ seen seat (value_word ctx) → clock ≡ clock_seen after ctx
+    → ((clock_seen seat ctx).closed ≡ true → clock ≡ clock_seen seat ctx) → (clock.closed ≡ true → seen seat (value_word ctx) ≤ clock.value) → KeepsClosing first after ctx
+KeepsClosing-loaded first seat after ctx clock unloaded more found stays last = record {
+  stays = λ closed. sym found ∙ stays (ap (λ (k : Clock). k.closed) unloaded ∙ closed) ∙ unloaded;
+  last = λ closed.
+      let low : seen seat (value_word ctx) ≤ clock.value = last (ap (λ (k : Clock). k.closed) found ∙ closed) in
+      let all : seen first (value_word ctx) ≤ clock.value = omega arith in
+      subst (λ (k : Clock). seen first (value_word ctx) ≤ k.value) found all;
+}
+
+-- what a load of one clock says of it
+pub KeepsClosing-clock : (seat after : SeatModel) (ctx : ℕ) (clock : Clock) → clock ≡ clock_seen after ctx → (clock.closed ≡ true → seen seat (value_word ctx) ≤ clock.value) → ((clock_seen seat ctx).closed ≡ true → clock ≡ clock_seen seat ctx) → KeepsClosing seat after ctx
+KeepsClosing-clock seat after ctx clock found last stays = KeepsClosing-loaded seat seat after ctx clock refl (omega arith) found stays last
 
 -- the next context's clock was loaded
 pub HasLoaded-more : (first seat after : SeatModel) (n ctx : ℕ) (clock : Clock) → ctx ≡ n + 1 → HasLoaded first seat n → after ≡ with_steps seat (loads_at ctx clock) → clock ≡ clock_seen after ctx
-    → reached_by (clock_seen seat ctx) ≤ reached_by clock → HasLoaded first after (n + 1)
-HasLoaded-more first seat after n ctx clock is h entered found later =
+    → reached_by (clock_seen seat ctx) ≤ reached_by clock → (clock.closed ≡ true → seen seat (value_word ctx) ≤ clock.value) → ((clock_seen seat ctx).closed ≡ true → clock ≡ clock_seen seat ctx) → HasLoaded first after (n + 1)
+HasLoaded-more first seat after n ctx clock is h entered found later last_value stays =
     let next : n + 1 ≡ suc n = omega arith in
     let others : (c : ℕ) → 1 ≤ c → c ≢ ctx → clock_seen after c ≡ clock_seen seat c = λ c low ne. ap (λ (s : SeatModel). clock_seen s c) entered ∙ clock_seen-other seat ctx c clock (omega arith) low ne in
     let before : loads_of (clock_seen seat) n ≡ loads_of (clock_seen after) n = loads_of-same (clock_seen seat) (clock_seen after) n (λ c low high. sym (others c low (λ bad. absurd (omega arith)))) in
@@ -121,6 +145,11 @@ HasLoaded-more first seat after n ctx clock is h entered found later =
           subst (λ (k : ℕ). reached_by (clock_seen first k) ≤ reached_by (clock_seen after k)) (sym same) a)
           (λ other. subst (λ (k : Clock). reached_by (clock_seen first c) ≤ reached_by k) (sym (others c low other)) (h.later c low (omega arith)));
       past = λ c low. others c (omega arith) (λ bad. absurd (omega arith)) ∙ h.past c (omega arith);
+      closings = λ c low high. dite (ℕ_discrete c ctx)
+          (λ same.
+          let more : seen first (value_word ctx) ≤ seen seat (value_word ctx) = subst (λ (s : SeatModel). seen first (value_word ctx) ≤ seen s (value_word ctx)) (sym h.entered) (seen_stays first (value_word ctx) (loads_of (clock_seen seat) n)) in
+          subst (KeepsClosing first after) (sym same) (KeepsClosing-loaded first seat after ctx clock (h.past ctx (omega arith)) more found stays last_value))
+          (λ other. KeepsClosing-later first seat after c (others c low other) (h.closings c low (omega arith)));
     }
 
 -- a list has f of the first n contexts, and d of the others
@@ -173,10 +202,10 @@ module _ {A : Type 0} where
   unfolding contexts
   map-contexts f n is = ap (λ k. map f (range_with_len 1 k)) is
 
-  length-contexts : (f : ℕ → A) (n : ℕ) → n ≡ CONTEXTS → length (map f contexts) ≡ n
+  pub length-contexts : (f : ℕ → A) (n : ℕ) → n ≡ CONTEXTS → length (map f contexts) ≡ n
   length-contexts f n is = ap length (sym (map-contexts f n is)) ∙ length-map-range_with_len f 1 n
 
-  at-contexts : (f : ℕ → A) (d : A) (n k : ℕ) → n ≡ CONTEXTS → k < n → get_or (map f contexts) k d ≡ f (k + 1)
+  pub at-contexts : (f : ℕ → A) (d : A) (n k : ℕ) → n ≡ CONTEXTS → k < n → get_or (map f contexts) k d ≡ f (k + 1)
   at-contexts f d n k is low = ap (λ l. get_or l k d) (sym (map-contexts f n is)) ∙ get_or-map-range_with_len f 1 n k (k + 1) d low (omega arith)
 
   -- a list that has f of the contexts up to n, and d past them, which is what g says
@@ -192,10 +221,10 @@ module _ {A : Type 0} where
       ] in
       there ∙ is ∙ sym (at-contexts g d CONTEXTS k refl (let full = h.full in omega arith)))
 
-known_clock-within : (seat : SeatModel) (c : ℕ) → c ≤ seat.words.contexts → known_clock seat c ≡ clock_seen seat c
+pub known_clock-within : (seat : SeatModel) (c : ℕ) → c ≤ seat.words.contexts → known_clock seat c ≡ clock_seen seat c
 known_clock-within seat c le = rw (le-leb c seat.words.contexts le) refl
 
-known_clock-past : (seat : SeatModel) (c : ℕ) → seat.words.contexts < c → known_clock seat c ≡ new_clock
+pub known_clock-past : (seat : SeatModel) (c : ℕ) → seat.words.contexts < c → known_clock seat c ≡ new_clock
 known_clock-past seat c lt = rw (lt-leb c seat.words.contexts lt) refl
 
 -- of a context of the words, and of one past them
@@ -242,6 +271,7 @@ HasLoadedAll-loaded before after n reach all loaded found =
       entered = subst (λ (k : ℕ). after ≡ with_steps before (loads_of (clock_seen after) k)) all loaded.entered;
       found = is;
       later = subst (λ (r : List ℕ). IsAtLeast r (reach_seen before)) (sym is) (reach_seen-before before after own (subst (HasLoaded before after) all loaded));
+      closings = (subst (HasLoaded before after) all loaded).closings;
     }
 
 -- once each context was loaded, all were
@@ -254,6 +284,7 @@ HasLoadedClocks-all before after n all loaded =
         entered = subst (λ (k : ℕ). after ≡ with_steps before (loads_of (clock_seen after) k)) all loaded.entered;
         found = reach;
         later = subst (λ (r : List ℕ). IsAtLeast r (reach_seen before)) (sym reach) (reach_seen-before before after own (subst (HasLoaded before after) all loaded));
+        closings = (subst (HasLoaded before after) all loaded).closings;
       };
       found = refl;
     }

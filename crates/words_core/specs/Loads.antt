@@ -1,5 +1,5 @@
 -- What a seat has seen of the clocks of all contexts, and a load of each.
-use Rattle.std.specs.Prelude.{◌≡◌, ℕ, zero, suc, ◌+◌, ◌-◌, ◌==◌, true, nat_le, if◌then◌else◌, List, [], ◌∷◌, ◌++◌, map}
+use Rattle.std.specs.Prelude.{◌≡◌, ℕ, zero, suc, ◌+◌, ◌-◌, ◌≤◌, ◌==◌, true, nat_le, if◌then◌else◌, List, [], ◌∷◌, ◌++◌, map}
 use Rattle.point_core.specs.declared.clocks.Clock.{Clock}
 use Rattle.point_core.specs.Agreement.{contexts}
 use Rattle.point_core.specs.Clocks.{clock_of, open_clock, new_clock, reached_by, reach_of_clocks}
@@ -43,12 +43,20 @@ abbrev pub loads_of : (ℕ → Clock) → ℕ → List Step
 loads_of clock zero = []
 loads_of clock (suc n) = loads_of clock n ++ loads_at (suc n) (clock (suc n))
 
+-- A context that was seen closed has the same clock now, and one that is closed now has been left at no less than any value
+-- that was seen of it before
+pub record KeepsClosing (before after : SeatModel) (ctx : ℕ) : Type 0 where
+  pub stays : (clock_seen before ctx).closed ≡ true → clock_seen after ctx ≡ clock_seen before ctx
+  pub last : (clock_seen after ctx).closed ≡ true → seen before (value_word ctx) ≤ (clock_seen after ctx).value
+
 -- The loads of each context of the words were entered in the seat's trace, by rising number, and nothing else. The reach is
--- what the clocks that they found reach, which are those that the seat has now seen, and no less than what it had seen before
+-- what the clocks that they found reach, which are those that the seat has now seen, and no less than what it had seen before.
+-- Of each context a closing stays
 pub record HasLoadedAll (before after : SeatModel) (reach : List ℕ) : Type 0 where
   pub entered : after ≡ with_steps before (loads_of (clock_seen after) before.words.contexts)
   pub found : reach ≡ reach_seen after
   pub later : IsAtLeast reach (reach_seen before)
+  pub closings : (ctx : ℕ) → 1 ≤ ctx → ctx ≤ before.words.contexts → KeepsClosing before after ctx
 
 -- the same, with the clocks that were found
 pub record HasLoadedClocks (before after : SeatModel) (clocks : List Clock) : Type 0 where

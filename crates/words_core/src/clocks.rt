@@ -25,13 +25,15 @@ impl Words {
     }
 
     /// The clock of a context, by one load of its mark, which has both where it is closed, and one of its value where it
-    /// is open. It reaches no less than what the seat has seen, and a closed one stays as it is.
+    /// is open. It reaches no less than what the seat has seen. A closed one stays as it is, at no less than any value that
+    /// the seat has seen.
     pub fn clock(&self, seat: &mut Seat, ctx: Context) -> Clock
         requires own { seat.old.words ≡ self.now }
         requires context { ctx ≤ self.now.contexts }
         ensures entered { seat.new ≡ with_steps seat.old (loads_at ctx result) }
         ensures found { result ≡ clock_seen seat.new ctx }
         ensures later { reached_by (clock_seen seat.old ctx) ≤ reached_by result }
+        ensures last { result.closed ≡ true → seen seat.old (value_word ctx) ≤ result.value }
         ensures stays { (clock_seen seat.old ctx).closed ≡ true → result ≡ clock_seen seat.old ctx }
     {
         let mark = self.mark(seat, ctx);
@@ -49,8 +51,8 @@ impl Words {
         }
     }
 
-    /// The clocks of all contexts, by the loads of each, in rising order: no one moment need have had them all. Those past
-    /// the last context are open at 0.
+    /// The clocks of all contexts, by the loads of each, in rising order: no one moment need have had them all. Each is as
+    /// `clock` finds it, so a point that was signalled or cancelled stays so. Those past the last context are open at 0.
     pub fn load_clocks(&self, seat: &mut Seat) -> Clocks
         requires own { seat.old.words ≡ self.now }
         ensures loaded { HasLoadedClocks seat.old seat.new result }

@@ -1,10 +1,14 @@
 //! What holds of all words and seats: each law is the contract of a function with an empty body.
-ghost use Rattle.std.specs.Prelude.{◌≡◌, ℕ, ◌+◌, ◌/◌, ◌<◌, ◌≤◌, ◌⊎◌};
+ghost use Rattle.std.specs.Prelude.{◌≡◌, ◌≢◌, ℕ, ◌+◌, ◌/◌, ◌<◌, ◌≤◌, ◌⊎◌, List};
+ghost use Rattle.point_core.specs.Clocks.{common_status};
+ghost use Rattle.point_core.specs.declared.entry.Point.{Point};
 ghost use Rattle.point_core.specs.declared.entry.Usage.{Usage};
+ghost use Rattle.point_core.specs.declared.status.Status.TheVariants.{Active};
 ghost use Rattle.words_core.specs.declared.trace.Step.{Step};
 ghost use Rattle.words_core.specs.declared.words.TheConstants.{LINE_WORDS};
 ghost use Rattle.words_core.specs.declared.words.Sizes.{Sizes};
 ghost use Rattle.words_core.specs.Layout.{board_word, word_count, IsValueOf, IsMarkOf, IsClaimOrFlag, IsBoardWord, IsUnused};
+ghost use Rattle.words_core.specs.Loads.{clocks_seen, HasLoadedAll};
 ghost use Rattle.words_core.specs.Seat.{SeatModel, seen, tests_of, with_step, parted, both_of};
 ghost use Rattle.words_core.specs.Words.{WordsModel};
 
@@ -36,4 +40,12 @@ pub fn what_is_known_stays_known()
     ensures later { (seat : SeatModel) (s : Step) (w : ℕ) → tests_of seat w ≤ tests_of (with_step seat s) w }
     ensures parted { (seat : SeatModel) (n w : ℕ) → tests_of (parted seat n) w ≡ tests_of seat w }
     ensures joined { (seat other : SeatModel) (w : ℕ) → tests_of (both_of seat other) w ≡ tests_of seat w + tests_of other w }
+{}
+
+/// Points that were signalled by what a seat had seen are signalled by each later load of all clocks, and none of them is
+/// cancelled by one; those of which one was cancelled stay cancelled.
+pub fn what_is_settled_stays_so()
+    ensures { (before after : SeatModel) (reach : List ℕ) (points : List Point) →
+        HasLoadedAll before after reach → common_status (clocks_seen before) points ≢ Active →
+        common_status (clocks_seen after) points ≡ common_status (clocks_seen before) points }
 {}

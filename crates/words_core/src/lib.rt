@@ -20,7 +20,9 @@ mod words;
 
 pub use driver::Driver;
 pub use flags::{Once, Won};
-pub use laws::{each_word_has_a_kind, entries_lie_apart, what_is_known_stays_known};
+pub use laws::{
+    each_word_has_a_kind, entries_lie_apart, what_is_known_stays_known, what_is_settled_stays_so,
+};
 pub use seat::{PARTS, Seat};
 pub use whole::Whole;
 pub use words::{FLAGS, LINE_WORDS, USAGES, Words, WordsId};

@@ -8,9 +8,10 @@ ghost use Rattle.device_core.specs.Request.{IsCause, cause_of};
 
 use super::Device;
 use crate::buffer::Buffer;
-use crate::fence::{Fence, Text, Timeline};
+use crate::fence::{Fence, Text};
 use crate::refusal::Refusal;
 use crate::sync_flags::{export_usage, import_usage};
+use crate::timelines::Timelines;
 use point_core::Usage;
 use std::collections::HashMap;
 
@@ -143,7 +144,7 @@ impl Device {
 fn import_into(
     buffers: &mut HashMap<u64, Buffer>,
     number: u64,
-    timelines: &HashMap<u64, Timeline>,
+    timelines: &Timelines,
     fences: &[Fence],
     usage: Usage,
 ) -> Result<(), Refusal>

@@ -2,6 +2,7 @@ use Rattle.std.proofs.Common.{[], get_or, arith}
 use Rattle.device_core.specs.declared.request.Request.TheVariants.{Open}
 use Rattle.std.proofs.lemmas.List.{take_more, take_all}
 use Rattle.device_core.proofs.Histories.{HasRun-push}
+use Rattle.device_core.proofs.Tables.{AreTrimmed-stands}
 use Rattle.device_core.proofs.Counting.{ReportsNumbers-run, ReportsEachWaking-run}
 use Rattle.device_core.proofs.Reporting.{ReportsSums-stands, ReportsWhatWasPut-stands, ReportsBuffers-stands}
 use Rattle.device_core.proofs.runs.run.Goals as goal
@@ -37,3 +38,8 @@ pub returns-clause-wakings : goal.returns-clause-wakings
 returns-clause-wakings c =
     let all = take_all c.loop-request.request-index c.args.requests.now c.loop-request-test.false in
     ReportsEachWaking-run _ _ _ (rw all at c.loop-request.invariant.0.answers) (rw all at c.loop-request.invariant.0.stands)
+
+pub returns-clause-trimmed : goal.returns-clause-trimmed
+returns-clause-trimmed c =
+    let all = take_all c.loop-request.request-index c.args.requests.now c.loop-request-test.false in
+    AreTrimmed-stands _ _ (rw all at c.loop-request.invariant.0.stands)

@@ -2,6 +2,7 @@ use Rattle.std.proofs.Common.{◌≡◌, ◌≤◌, ap, ◌∙◌, subst}
 use Rattle.point_core.specs.Clocks.{reached_by}
 use Rattle.words_core.specs.Loads.{clock_seen, loads_at}
 use Rattle.words_core.specs.Seat.{SeatModel, with_steps}
+use Rattle.words_core.proofs.LoadingAll.{KeepsClosing-clock}
 use Rattle.fence_core.specs.SharedFence.{SharedFenceModel}
 use Rattle.fence_core.specs.Signal.{IsPendingAt}
 use Rattle.fence_core.proofs.Signalling.{HaveFound-more, IsPendingAt-next}
@@ -19,7 +20,14 @@ loop-point-preserved c =
     let before = c.loop-point.invariant in
     record {
       found = HaveFound-more c.args.seat.now c.loop-point.seat c.clock-clock.new.seat c.members-point-items.result.now c.loop-point.point-index c.point-item.result c.loop-point-test.true c.point-item.is before.found
-          (record { clock = c.clock-clock.result; entered = load.entered; found = load.found; later = load.later; reached = c.is_pending.ensures.reached c.if-is_pending.false });
+          (record {
+            clock = c.clock-clock.result;
+            entered = load.entered;
+            found = load.found;
+            later = load.later;
+            closing = KeepsClosing-clock c.loop-point.seat c.clock-clock.new.seat c.point-item.result.ctx c.clock-clock.result load.found load.last load.stays;
+            reached = c.is_pending.ensures.reached c.if-is_pending.false;
+          });
       words = ap (λ (s : SeatModel). s.words) load.entered ∙ before.words;
       parts = ap (λ (s : SeatModel). s.parts) load.entered ∙ before.parts;
     }

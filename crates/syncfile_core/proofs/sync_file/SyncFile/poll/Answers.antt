@@ -7,7 +7,7 @@ use Rattle.words_core.proofs.Loads.{kept-loaded}
 use Rattle.words_core.proofs.LoadingAll.{clock_at-seen, clock_at-past, clock_seen-kept, reach_seen-is, HasLoaded-none, HasLoaded-more, HasLoadedClocks-all}
 use Rattle.syncfile_core.specs.Running.{HasFoundTo, IsBorneOut, IsBorneOutAt}
 use Rattle.syncfile_core.proofs.Passing.{HasFoundTo-same}
-use Rattle.syncfile_core.proofs.Polling.{IsBorneOut-seen, IsBorneOut-found, polled-stands_for, foreign-stronger}
+use Rattle.syncfile_core.proofs.Polling.{IsBorneOut-seen, IsBorneOut-found, polled-stands_for, polled-stays, foreign-stronger}
 use Rattle.syncfile_core.proofs.Standing.{OnOk-from}
 use Rattle.syncfile_core.proofs.sync_file.SyncFile.poll.Goals as goal
 
@@ -40,7 +40,7 @@ loop-index-preserved c =
     ∙ sym (clock_at-seen after c' low (omega arith) (omega arith)) in
     record {
       own = words ∙ before.own;
-      loaded = HasLoaded-more c.args.seat.now seat after n ctx clock is before.loaded load.entered load.found load.later;
+      loaded = HasLoaded-more c.args.seat.now seat after n ctx clock is before.loaded load.entered load.found load.later load.last load.stays;
       found = c.take_in.ensures.more (clocks_seen after) n is here (HasFoundTo-same (clocks_seen seat) (clocks_seen after) c.args.self.now n c.loop-index.found kept before.found);
     }
 
@@ -65,6 +65,7 @@ returns c =
       kept = kept-loaded loaded.all;
       loaded = loaded;
       status = status;
+      stays = polled-stays first last c.args.self.now result loaded status;
       borne_out = out;
       stands = polled-stands_for last c.args.self.now result status out;
       foreign = foreign-stronger result (IsBorneOut-found last c.args.self.now (reach_seen-is last) same) (c.status_of.ensures.foreign (clocks_seen last) made.within.0 found past);

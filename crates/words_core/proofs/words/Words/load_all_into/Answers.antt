@@ -27,7 +27,7 @@ loop-index-preserved c =
     let is : ctx ≡ n + 1 = c.at-ctx.ensures in
     let raised : c.raise_to.new.self ≡ with_value reach ctx value = c.raise_to.ensures.value ∙ raised_from_zero reach ctx value (before.found.past ctx (omega arith)) in
     record {
-      loaded = HasLoaded-more c.args.seat.now seat after n ctx clock is before.loaded load.entered load.found load.later;
+      loaded = HasLoaded-more c.args.seat.now seat after n ctx clock is before.loaded load.entered load.found load.later load.last load.stays;
       found = subst (λ (r : List ℕ). HasFound (reached_seen after) 0 (n + 1) r) (sym raised)
           (HasFound-more (reached_seen seat) (reached_seen after) 0 value n ctx reach is (omega arith) before.found
           (λ k low high. ap reached_by (clock_seen-kept seat after n ctx clock is load.entered k low high))

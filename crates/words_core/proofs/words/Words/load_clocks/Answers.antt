@@ -28,7 +28,7 @@ loop-index-preserved c =
     let load = c.clock-clock.ensures in
     let is : ctx ≡ n + 1 = c.at-ctx.ensures in
     record {
-      loaded = HasLoaded-more c.args.seat.now seat after n ctx clock is before.loaded load.entered load.found load.later;
+      loaded = HasLoaded-more c.args.seat.now seat after n ctx clock is before.loaded load.entered load.found load.later load.last load.stays;
       found = subst (λ (clocks : List Clock). HasFound (clock_seen after) new_clock (n + 1) clocks) (sym c.put.ensures.put)
           (HasFound-more (clock_seen seat) (clock_seen after) new_clock clock n ctx c.loop-index.clocks is c.put.ensures.context before.found
           (clock_seen-kept seat after n ctx clock is load.entered) load.found);

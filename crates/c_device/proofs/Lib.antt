@@ -1,0 +1,5 @@
+mod AsBox
+mod Few
+mod Opened
+mod Queued
+mod Stepped

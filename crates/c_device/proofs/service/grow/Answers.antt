@@ -1,0 +1,9 @@
+use Rattle.std.proofs.Common.{◌∙◌}
+use Rattle.c_device.proofs.Stepped.{given-dropped, open-dropped}
+use Rattle.c_device.proofs.service.grow.Goals as goal
+
+pub returns-clause-kept : goal.returns-clause-kept
+returns-clause-kept c = open-dropped c.args.device.now c.args.woken.now.items _ (c.reserve.ensures.items ∙ c.drop_released.ensures)
+
+pub returns-clause-given : goal.returns-clause-given
+returns-clause-given c = given-dropped c.args.device.now c.args.woken.now.items _ (c.reserve.ensures.items ∙ c.drop_released.ensures)

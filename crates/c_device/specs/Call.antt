@@ -1,0 +1,103 @@
+-- What a call from C comes to: an answer, its number, and what it stores.
+use Rattle.std.specs.Prelude.{◌≡◌, ◌⊎◌, ℕ, ℤ, pos, Bool, true, false, List, [], length, drop, min, Option, None, Some, Result, Ok, Err}
+use Rattle.device_core.specs.declared.refusal.Refusal.{Refusal}
+use Rattle.device_core.specs.declared.refusal.Refusal.TheVariants.{NoEntry, NoMemory, Invalid, WrongKind, Overflow}
+use Rattle.device_core.specs.declared.request.Request.{Request}
+use Rattle.device_core.specs.declared.request.Answer.{Answer}
+use Rattle.device_core.specs.State.{nothing}
+use Rattle.c_device.specs.declared.handle.DeviceHandle.{DeviceHandle}
+use Rattle.c_device.specs.Handle.{is_open}
+use Rattle.c_parts.specs.Rows.{over}
+use Rattle.c_device.specs.Service.{IsStep}
+
+-- what a call is answered: nothing by a closed handle
+abbrev pub Given : Type 0
+Given = Option (Result Answer Refusal)
+
+-- the errno that Linux gives
+abbrev pub errno_of : Refusal → ℤ
+errno_of NoEntry = pos 2
+errno_of NoMemory = pos 12
+errno_of Invalid = pos 22
+errno_of WrongKind = pos 25
+errno_of Overflow = pos 75
+
+-- 0 if the request was accepted, else why it was refused: a closed handle with EBADF
+abbrev pub number_of : Given → ℤ
+number_of None = pos 9
+number_of (Some (Ok answer)) = pos 0
+number_of (Some (Err refusal)) = errno_of refusal
+
+-- the handle is closed, and stays as it is
+pub record IsClosed (old new : DeviceHandle) (given : Given) : Type 0 where
+  pub is : given ≡ None
+  pub unchanged : new ≡ old
+
+-- the arguments are refused, and nothing has changed
+pub record IsRefusal (refusal : Refusal) (old new : DeviceHandle) (given : Given) : Type 0 where
+  pub is : given ≡ Some (Err refusal)
+  pub unchanged : new ≡ old
+
+-- the open handle's service made one step
+pub record IsStepOf (old new : DeviceHandle) (asked : Request) (given : Given) : Type 0 where
+  pub answer : Result Answer Refusal
+  pub is : given ≡ Some answer
+  pub opened : is_open new ≡ true
+  pub step : IsStep old.service new.service asked answer
+
+-- an open handle answers what was asked for
+abbrev pub IsAskedOpen : DeviceHandle → DeviceHandle → Result Request Refusal → Given → Type 0
+IsAskedOpen old new (Ok asked) given = IsStepOf old new asked given
+IsAskedOpen old new (Err refusal) given = IsRefusal refusal old new given
+
+-- a closed handle is refused, whatever is asked for
+abbrev pub IsAskedIf : Bool → DeviceHandle → DeviceHandle → Result Request Refusal → Given → Type 0
+IsAskedIf true old new asked given = IsAskedOpen old new asked given
+IsAskedIf false old new asked given = IsClosed old new given
+
+abbrev pub IsAsked : DeviceHandle → DeviceHandle → Result Request Refusal → Given → Type 0
+IsAsked old new asked given = IsAskedIf (is_open old) old new asked given
+
+-- what the call was answered, the number that it returns, and what it stores
+pub record IsCall (old new : DeviceHandle) (asked : Result Request Refusal) (returned : ℤ) (Stores : Given → Type 0)
+    : Type 0 where
+  pub given : Given
+  pub answered : IsAsked old new asked given
+  pub number : returned ≡ number_of given
+  pub stores : Stores given
+
+-- an open handle, with nothing in its device
+pub record IsNew (h : DeviceHandle) : Type 0 where
+  pub opened : is_open h ≡ true
+  pub device : h.service.device ≡ nothing
+  pub woken : h.service.woken ≡ []
+
+-- an open handle is refused with EEXIST; a closed one is open then, or stays closed for want of memory
+abbrev pub IsOpeningIf : Bool → DeviceHandle → DeviceHandle → ℤ → Type 0
+IsOpeningIf true old new returned = (returned ≡ pos 17) × (new ≡ old)
+IsOpeningIf false old new returned =
+    ((returned ≡ pos 0) × IsNew new) ⊎ ((returned ≡ errno_of NoMemory) × (new ≡ old))
+
+abbrev pub IsOpening : DeviceHandle → DeviceHandle → ℤ → Type 0
+IsOpening old new returned = IsOpeningIf (is_open old) old new returned
+
+-- the first files that waited were written over the start of the room, and the others still wait
+pub record IsTakingOf (old new : DeviceHandle) (room files : List ℕ) (returned : ℕ) : Type 0 where
+  pub opened : is_open new ≡ true
+  pub count : returned ≡ min (length room) (length old.service.woken)
+  pub taken : files ≡ over old.service.woken room
+  pub left : new.service.woken ≡ drop returned old.service.woken
+  pub device : new.service.device ≡ old.service.device
+
+-- a closed handle has no files
+pub record IsTakingNone (old new : DeviceHandle) (room files : List ℕ) (returned : ℕ) : Type 0 where
+  pub none : returned ≡ 0
+  pub untouched : files ≡ room
+  pub unchanged : new ≡ old
+
+abbrev pub IsTakingIf : Bool → DeviceHandle → DeviceHandle → List ℕ → List ℕ → ℕ → Type 0
+IsTakingIf true old new room files returned = IsTakingOf old new room files returned
+IsTakingIf false old new room files returned = IsTakingNone old new room files returned
+
+abbrev pub IsTaking : DeviceHandle → DeviceHandle → List ℕ → List ℕ → ℕ → Type 0
+IsTaking old new room files returned = IsTakingIf (is_open old) old new room files returned

@@ -1,0 +1,7 @@
+pub mod Asked
+pub mod Call
+pub mod Handle
+pub mod Lending
+pub mod Owning
+pub mod Reported
+pub mod Service

@@ -1,0 +1,85 @@
+-- What an answer reports, as C programs see it.
+use Rattle.std.specs.Prelude.{◌≡◌, ℕ, ℤ, pos, ◌-◌, if◌then◌else◌, List, ◌++◌, length, map, replicate, None, Some, Ok, Err}
+use Rattle.point_core.specs.Status.{status_number}
+use Rattle.device_core.specs.declared.request.Answer.{Answer}
+use Rattle.device_core.specs.declared.request.Answer.TheVariants as answer
+use Rattle.device_core.specs.declared.info.Driver.{Driver}
+use Rattle.device_core.specs.declared.info.FenceInfo.{FenceInfo}
+use Rattle.device_core.specs.declared.info.FileInfo.{FileInfo}
+use Rattle.device_core.specs.Info.{driver_name}
+use Rattle.c_device.specs.declared.rows.TheConstants.{DRIVER_TEXT_BYTES}
+use Rattle.c_device.specs.declared.rows.FenceRow.{FenceRow}
+use Rattle.c_device.specs.declared.rows.FileRow.{FileRow}
+use Rattle.c_device.specs.Call.{Given}
+use Rattle.c_parts.specs.Rows.{over}
+
+-- what an answer says in place of what stood there; a refusal leaves that
+abbrev said_or : {A : Type 0} → (Answer → A → A) → Given → A → A
+said_or said None old = old
+said_or said (Some (Ok given)) old = said given old
+said_or said (Some (Err refusal)) old = old
+
+abbrev number_in : Answer → ℕ → ℕ
+number_in (answer.Number n) old = n
+number_in (answer.Woken woken) old = old
+number_in (answer.Status status) old = old
+number_in (answer.Signalled signalled) old = old
+number_in (answer.Info info) old = old
+number_in answer.Done old = old
+
+-- the number of what was made, or what stood there
+abbrev pub number_or : Given → ℕ → ℕ
+number_or given old = said_or number_in given old
+
+abbrev status_in : Answer → ℤ → ℤ
+status_in (answer.Number n) old = old
+status_in (answer.Woken woken) old = old
+status_in (answer.Status status) old = status_number status
+status_in (answer.Signalled signalled) old = old
+status_in (answer.Info info) old = old
+status_in answer.Done old = old
+
+-- the status of a file, or what stood there
+abbrev pub status_or : Given → ℤ → ℤ
+status_or given old = said_or status_in given old
+
+abbrev yes_in : Answer → ℤ → ℤ
+yes_in (answer.Number n) old = old
+yes_in (answer.Woken woken) old = old
+yes_in (answer.Status status) old = old
+yes_in (answer.Signalled signalled) old = if signalled then pos 1 else pos 0
+yes_in (answer.Info info) old = old
+yes_in answer.Done old = old
+
+-- 1 for an answer of yes, 0 for one of no, or what stood there
+abbrev pub yes_or : Given → ℤ → ℤ
+yes_or given old = said_or yes_in given old
+
+-- the name of a driver, and zeros after it
+abbrev pub driver_text : Driver → List ℕ
+driver_text driver = driver_name driver ++ replicate (DRIVER_TEXT_BYTES - length (driver_name driver)) 0
+
+abbrev pub fence_row : FenceInfo → FenceRow
+fence_row f = record {
+  timeline = f.timeline.bytes;
+  at = f.at;
+  driver = driver_text f.driver;
+  status = status_number f.status;
+}
+
+-- the number of a file's fences is that of all, however many there is room for
+abbrev pub file_row : FileInfo → FileRow
+file_row i = record { name = i.name.bytes; fences = length i.fences.items; status = status_number i.status }
+
+abbrev info_in : {A : Type 0} → (FileInfo → A → A) → Answer → A → A
+info_in said (answer.Number n) old = old
+info_in said (answer.Woken woken) old = old
+info_in said (answer.Status status) old = old
+info_in said (answer.Signalled signalled) old = old
+info_in said (answer.Info info) old = said info old
+info_in said answer.Done old = old
+
+-- what is reported of a file and of as many of its fences as there is room for, or what stood there
+pub record StoresInfo (given : Given) (old_info new_info : FileRow) (old_rows new_rows : List FenceRow) : Type 0 where
+  pub info : new_info ≡ said_or (info_in (λ i old. file_row i)) given old_info
+  pub rows : new_rows ≡ said_or (info_in (λ i old. over (map fence_row i.fences.items) old)) given old_rows

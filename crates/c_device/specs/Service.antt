@@ -1,0 +1,56 @@
+-- A device and the files that it woke, and what one request makes of both.
+use Rattle.std.specs.Prelude.{◌≡◌, ℕ, ◌<◌, Bool, true, false, List, ◌++◌, filter, is_some, All, Result, OnErr}
+use Rattle.device_core.specs.declared.refusal.Refusal.{Refusal}
+use Rattle.device_core.specs.declared.request.Request.{Request}
+use Rattle.device_core.specs.declared.request.Request.TheVariants as request
+use Rattle.device_core.specs.declared.request.Answer.{Answer}
+use Rattle.device_core.specs.State.{DeviceState, file_at, timeline_at, objects_of}
+use Rattle.device_core.specs.Request.{IsAnswer}
+use Rattle.device_core.specs.History.{HasHistory, history_after}
+use Rattle.device_core.specs.Times.{in_accepted, woken_in}
+
+-- the files that were woken, in their order, but those that were taken or released since
+pub record ServiceState : Type 0 where
+  pub device : DeviceState
+  pub woken : List ℕ
+
+-- the numbers that are those of open files
+abbrev pub open_among : DeviceState → List ℕ → List ℕ
+open_among d numbers = filter (λ n. is_some (file_at d n)) numbers
+
+-- the files that the answer wakes
+abbrev pub woken_of : Result Answer Refusal → List ℕ
+woken_of given = in_accepted woken_in given
+
+-- the numbers were given before the next one
+abbrev pub AreGiven : ℕ → List ℕ → Type 0
+AreGiven next numbers = All (λ n. n < next) numbers
+
+-- the request was answered as a device answers it, and the files that it woke wait after those that waited before
+pub record IsStep (old new : ServiceState) (asked : Request) (given : Result Answer Refusal) : Type 0 where
+  pub answered : IsAnswer (objects_of old.device) asked given
+  pub stands : (history : List Request) →
+      HasHistory old.device history → HasHistory new.device (history_after history asked given)
+  pub unchanged : OnErr given (new ≡ old)
+  pub kept : new.woken ≡ open_among new.device (old.woken ++ woken_of given)
+
+-- what a service keeps: its device has come about, and what waits has numbers that were given
+pub record IsKept (d : DeviceState) (queue : List ℕ) : Type 0 where
+  pub history : List Request
+  pub stands : HasHistory d history
+  pub given : AreGiven d.next queue
+
+-- the request may wake files: it raises a timeline, or closes one that is open
+abbrev pub may_wake : DeviceState → Request → Bool
+may_wake d (request.Inc timeline n now) = true
+may_wake d (request.Close number now) = is_some (timeline_at d number)
+may_wake d (request.Open name) = false
+may_wake d (request.Fence timeline point now) = false
+may_wake d (request.Merge a b name) = false
+may_wake d (request.Status file) = false
+may_wake d (request.IsSignalled file) = false
+may_wake d (request.Info file) = false
+may_wake d (request.Buffer now) = false
+may_wake d (request.Export buffer flags) = false
+may_wake d (request.Import buffer file flags) = false
+may_wake d (request.Test buffer usage) = false

@@ -1,0 +1,80 @@
+// What an answer says to a C program.
+ghost use Rattle.std.specs.Prelude.{◌≡◌};
+ghost use Rattle.c_device.specs.Call.{errno_of, number_of};
+ghost use Rattle.c_device.specs.Reported.{StoresInfo, number_or, status_or, yes_or};
+
+use crate::handle::Given;
+use crate::rows::{FenceRow, FileRow, put};
+use device_core::{Answer, Refusal};
+
+/// Of a closed handle, as of a bad descriptor.
+const EBADF: i32 = 9;
+
+/// Of an open handle that is to be opened.
+pub const EEXIST: i32 = 17;
+
+/// 0, or why the call is refused.
+#[inline(always)]
+pub fn number(given: &Given) -> i32
+    ensures { result ≡ number_of given.now }
+{
+    match given {
+        None => EBADF,
+        Some(Ok(_)) => 0,
+        Some(Err(refusal)) => errno(*refusal),
+    }
+}
+
+/// The errno that Linux gives.
+#[inline(always)]
+pub fn errno(refusal: Refusal) -> i32
+    ensures { result ≡ errno_of refusal }
+{
+    refusal as i32
+}
+
+/// Stores the number of what was made, and nothing if nothing was.
+#[inline(always)]
+pub fn store(given: &Given, number: &mut u64)
+    ensures { number.new ≡ number_or given.now number.old }
+{
+    if let Some(Ok(Answer::Number(made))) = given {
+        *number = *made;
+    }
+}
+
+/// Stores a status, and nothing if the answer is none.
+#[inline(always)]
+pub fn store_status(given: &Given, status: &mut i32)
+    ensures { status.new ≡ status_or given.now status.old }
+{
+    if let Some(Ok(Answer::Status(told))) = given {
+        *status = told.number();
+    }
+}
+
+/// Stores 1 for yes and 0 for no, and nothing if the answer is neither.
+#[inline(always)]
+pub fn store_if(given: &Given, yes: &mut i32)
+    ensures { yes.new ≡ yes_or given.now yes.old }
+{
+    if let Some(Ok(Answer::Signalled(signalled))) = given {
+        *yes = i32::from(*signalled);
+    }
+}
+
+/// Stores what is reported of a file, and of its fences as many as there is room for, and nothing if the answer is no
+/// report.
+pub fn store_info(given: &Given, info: &mut FileRow, rows: &mut [FenceRow])
+    ensures { StoresInfo given.now info.old info.new rows.old rows.new }
+{
+    if let Some(Ok(Answer::Info(report))) = given {
+        let fences = report.fences.as_slice();
+        *info = FileRow {
+            name: report.name.bytes,
+            fences: fences.len() as u64,
+            status: report.status.number(),
+        };
+        put(fences, rows);
+    }
+}

@@ -1,0 +1,27 @@
+// The request that the arguments of a call ask for, if not each number is an argument of it.
+ghost use Rattle.std.specs.Prelude.{◌≡◌};
+ghost use Rattle.c_device.specs.Asked.{asked_test, usage_of};
+
+use device_core::{Refusal, Request};
+use point_core::Usage;
+
+/// The usage of that number, as Linux's `enum dma_resv_usage` counts.
+#[inline(always)]
+fn usage(number: i32) -> Result<Usage, Refusal>
+    ensures { result ≡ usage_of number }
+{
+    match number {
+        0 => Ok(Usage::Kernel),
+        1 => Ok(Usage::Write),
+        2 => Ok(Usage::Read),
+        3 => Ok(Usage::Bookkeep),
+        _ => Err(Refusal::Invalid),
+    }
+}
+
+#[inline(always)]
+pub fn test(buffer: u64, number: i32) -> Result<Request, Refusal>
+    ensures { result ≡ asked_test buffer number }
+{
+    Ok(Request::Test(buffer, usage(number)?))
+}

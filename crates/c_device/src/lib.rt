@@ -1,0 +1,245 @@
+//! The device for C programs: one export for each request, and one that takes the files that were woken.
+//!
+//! `include/bimphlai.h` has the signatures. A name is a pointer and a length.
+#![tactic(auto)]
+
+ghost use Rattle.std.specs.Prelude.{◌≡◌, false, IfOk, IfErr, Ok, ⊤};
+ghost use Rattle.device_core.specs.declared.refusal.Refusal.TheVariants.{NoMemory};
+ghost use Rattle.device_core.specs.declared.request.Request.TheVariants as request;
+ghost use Rattle.device_core.specs.Names.{as_text};
+ghost use Rattle.c_device.specs.Asked.{asked_test};
+ghost use Rattle.c_device.specs.Call.{IsCall, IsNew, IsOpening, IsTaking};
+ghost use Rattle.c_device.specs.Handle.{is_open};
+ghost use Rattle.c_device.specs.Reported.{StoresInfo, number_or, status_or, yes_or};
+
+mod answers;
+mod asked;
+mod handle;
+mod rows;
+mod service;
+
+use crate::answers::{EEXIST, errno, number, store, store_if, store_info, store_status};
+use crate::handle::DeviceHandle;
+use crate::rows::{FenceRow, FileRow};
+use crate::service::Service;
+use device_core::{Refusal, Request, Text};
+use std::alloc::Global;
+
+/// Opens a device with nothing in it at a closed handle.
+///
+/// Fails with EEXIST if the handle is open, then with ENOMEM; the handle stays as it was then.
+#[unsafe(no_mangle)]
+pub extern "C" fn bim_device_open(alloc: Global, device: &mut DeviceHandle) -> i32
+    ensures { IsOpening device.old device.new result }
+{
+    if device.is_open() {
+        return EEXIST;
+    }
+    match open(alloc) {
+        Ok(handle) => {
+            *device = handle;
+            0
+        }
+        Err(refusal) => errno(refusal),
+    }
+}
+
+fn open(alloc: Global) -> Result<DeviceHandle, Refusal>
+    ensures done { IfOk result (λ handle. IsNew handle) }
+    ensures memory { IfErr result (λ e. e ≡ NoMemory) }
+{
+    match Box::new(alloc, Service::new(alloc)) {
+        Ok(service) => Ok(DeviceHandle::of(service)),
+        Err(_) => Err(Refusal::NoMemory),
+    }
+}
+
+/// Closes a device, with all that is in it. Its memory is free again. A closed handle stays closed.
+#[unsafe(no_mangle)]
+pub extern "C" fn bim_device_close(alloc: Global, device: &mut DeviceHandle)
+    ensures { is_open device.new ≡ false }
+{
+    if device.is_open() {
+        device.close(alloc);
+    }
+}
+
+/// Opens a timeline at 0, as opening `sync/sw_sync` does, and stores its number. The name of the task is cut as the
+/// kernel's is.
+#[unsafe(no_mangle)]
+pub extern "C" fn bim_device_timeline_n(
+    device: &mut DeviceHandle,
+    task: &[u8],
+    timeline: &mut u64,
+) -> i32
+    ensures { IsCall device.old device.new (Ok (request.Open (as_text task.now))) result (λ given.
+        timeline.new ≡ number_or given timeline.old) }
+{
+    let given = device.ask(Ok(Request::Open(Text::of(task))));
+    store(&given, timeline);
+    number(&given)
+}
+
+/// `SW_SYNC_IOC_CREATE_FENCE`: makes a file of one point, and stores its number.
+#[unsafe(no_mangle)]
+pub extern "C" fn bim_device_fence(
+    device: &mut DeviceHandle,
+    timeline: u64,
+    point: u32,
+    now: u64,
+    file: &mut u64,
+) -> i32
+    ensures { IsCall device.old device.new (Ok (request.Fence timeline point now)) result (λ given.
+        file.new ≡ number_or given file.old) }
+{
+    let given = device.ask(Ok(Request::Fence(timeline, point, now)));
+    store(&given, file);
+    number(&given)
+}
+
+/// `SW_SYNC_IOC_INC`. The files that signal by it wait to be taken.
+#[unsafe(no_mangle)]
+pub extern "C" fn bim_device_inc(device: &mut DeviceHandle, timeline: u64, n: u32, now: u64) -> i32
+    ensures { IsCall device.old device.new (Ok (request.Inc timeline n now)) result (λ _. ⊤) }
+{
+    number(&device.ask(Ok(Request::Inc(timeline, n, now))))
+}
+
+/// `SYNC_IOC_MERGE`: makes a file of what two files wait for, and stores its number. The name is cut as the kernel's is.
+#[unsafe(no_mangle)]
+pub extern "C" fn bim_device_merge_n(
+    device: &mut DeviceHandle,
+    a: u64,
+    b: u64,
+    name: &[u8],
+    file: &mut u64,
+) -> i32
+    ensures { IsCall device.old device.new (Ok (request.Merge a b (as_text name.now))) result (λ given.
+        file.new ≡ number_or given file.old) }
+{
+    let given = device.ask(Ok(Request::Merge(a, b, Text::of(name))));
+    store(&given, file);
+    number(&given)
+}
+
+/// The status that `SYNC_IOC_FILE_INFO` reports of a file.
+#[unsafe(no_mangle)]
+pub extern "C" fn bim_device_status(device: &mut DeviceHandle, file: u64, status: &mut i32) -> i32
+    ensures { IsCall device.old device.new (Ok (request.Status file)) result (λ given.
+        status.new ≡ status_or given status.old) }
+{
+    let given = device.ask(Ok(Request::Status(file)));
+    store_status(&given, status);
+    number(&given)
+}
+
+/// A look at a file, as poll's: stores 1 for yes and 0 for no.
+#[unsafe(no_mangle)]
+pub extern "C" fn bim_device_is_signalled(
+    device: &mut DeviceHandle,
+    file: u64,
+    signalled: &mut i32,
+) -> i32
+    ensures { IsCall device.old device.new (Ok (request.IsSignalled file)) result (λ given.
+        signalled.new ≡ yes_or given signalled.old) }
+{
+    let given = device.ask(Ok(Request::IsSignalled(file)));
+    store_if(&given, signalled);
+    number(&given)
+}
+
+/// `SYNC_IOC_FILE_INFO`: stores what is reported of a file, the number of its fences with it, and the first of them, as
+/// many as there is room for.
+#[unsafe(no_mangle)]
+pub extern "C" fn bim_device_info_n(
+    device: &mut DeviceHandle,
+    file: u64,
+    info: &mut FileRow,
+    rows: &mut [FenceRow],
+) -> i32
+    ensures { IsCall device.old device.new (Ok (request.Info file)) result (λ given.
+        StoresInfo given info.old info.new rows.old rows.new) }
+{
+    let given = device.ask(Ok(Request::Info(file)));
+    store_info(&given, info, rows);
+    number(&given)
+}
+
+/// The last close of a timeline, a file or a buffer. The files that signal by it wait to be taken.
+#[unsafe(no_mangle)]
+pub extern "C" fn bim_device_release(device: &mut DeviceHandle, object: u64, now: u64) -> i32
+    ensures { IsCall device.old device.new (Ok (request.Close object now)) result (λ _. ⊤) }
+{
+    number(&device.ask(Ok(Request::Close(object, now))))
+}
+
+/// Makes a buffer, and stores its number.
+#[unsafe(no_mangle)]
+pub extern "C" fn bim_device_buffer(device: &mut DeviceHandle, now: u64, buffer: &mut u64) -> i32
+    ensures { IsCall device.old device.new (Ok (request.Buffer now)) result (λ given.
+        buffer.new ≡ number_or given buffer.old) }
+{
+    let given = device.ask(Ok(Request::Buffer(now)));
+    store(&given, buffer);
+    number(&given)
+}
+
+/// `DMA_BUF_IOCTL_EXPORT_SYNC_FILE`: makes a file of what an access with these flags waits for, and stores its number.
+#[unsafe(no_mangle)]
+pub extern "C" fn bim_device_export(
+    device: &mut DeviceHandle,
+    buffer: u64,
+    flags: u32,
+    file: &mut u64,
+) -> i32
+    ensures { IsCall device.old device.new (Ok (request.Export buffer flags)) result (λ given.
+        file.new ≡ number_or given file.old) }
+{
+    let given = device.ask(Ok(Request::Export(buffer, flags)));
+    store(&given, file);
+    number(&given)
+}
+
+/// `DMA_BUF_IOCTL_IMPORT_SYNC_FILE`.
+#[unsafe(no_mangle)]
+pub extern "C" fn bim_device_import(
+    device: &mut DeviceHandle,
+    buffer: u64,
+    file: u64,
+    flags: u32,
+) -> i32
+    ensures { IsCall device.old device.new (Ok (request.Import buffer file flags)) result (λ _. ⊤) }
+{
+    number(&device.ask(Ok(Request::Import(buffer, file, flags))))
+}
+
+/// A look at a buffer, as poll's: stores 1 for yes and 0 for no. The usage is a number of Linux's `enum dma_resv_usage`.
+#[unsafe(no_mangle)]
+pub extern "C" fn bim_device_test(
+    device: &mut DeviceHandle,
+    buffer: u64,
+    usage: i32,
+    signalled: &mut i32,
+) -> i32
+    ensures { IsCall device.old device.new (asked_test buffer usage) result (λ given.
+        signalled.new ≡ yes_or given signalled.old) }
+{
+    let given = device.ask(asked::test(buffer, usage));
+    store_if(&given, signalled);
+    number(&given)
+}
+
+/// Takes the first files that were woken and are still open, as many as there is room for, and returns how many. A closed
+/// handle has none.
+///
+/// Takes no memory.
+#[unsafe(no_mangle)]
+pub extern "C" fn bim_device_take_woken(device: &mut DeviceHandle, files: &mut [u64]) -> usize
+    ensures { IsTaking device.old device.new files.old files.new result }
+{
+    if device.is_open() {
+        device.get_mut().take(files)
+    } else {
+        0
+    }
+}

@@ -1,0 +1,57 @@
+// Rows, as C programs see them.
+ghost use Rattle.std.specs.Prelude.{◌≡◌, map};
+ghost use Rattle.c_parts.specs.Rows.{over};
+ghost use Rattle.c_device.specs.Reported.{driver_text, fence_row};
+
+use device_core::{Driver, FenceInfo, TEXT_BYTES};
+
+/// The bytes of a driver's name, with zeros after it, of which there is one at least.
+pub const DRIVER_TEXT_BYTES: usize = 8;
+
+/// What is reported of a fence: `struct bim_device_fence_info`.
+#[repr(C)]
+#[derive(Clone, Copy, Drop)]
+pub struct FenceRow {
+    pub timeline: [u8; TEXT_BYTES],
+    pub at: u64,
+    pub driver: [u8; DRIVER_TEXT_BYTES],
+    pub status: i32,
+}
+
+/// What is reported of a file: `struct bim_device_file_info`.
+#[repr(C)]
+#[derive(Clone, Copy, Drop)]
+pub struct FileRow {
+    pub name: [u8; TEXT_BYTES],
+    pub fences: u64,
+    pub status: i32,
+}
+
+/// Stores the first rows, as many as there is room for.
+pub fn put(fences: &[FenceInfo], rows: &mut [FenceRow])
+    ensures { rows.new ≡ over (map fence_row fences.now) rows.old }
+{
+    for index in 0..fences.len().min(rows.len()) {
+        rows[index] = row_of(&fences[index]);
+    }
+}
+
+fn row_of(fence: &FenceInfo) -> FenceRow
+    ensures { result ≡ fence_row fence.now }
+{
+    FenceRow {
+        timeline: fence.timeline.bytes,
+        at: fence.at,
+        driver: driver_text(fence.driver),
+        status: fence.status.number(),
+    }
+}
+
+fn driver_text(driver: Driver) -> [u8; DRIVER_TEXT_BYTES]
+    ensures { result ≡ driver_text driver }
+{
+    match driver {
+        Driver::SwSync => *b"sw_sync\0",
+        Driver::Stub => *b"stub\0\0\0\0",
+    }
+}

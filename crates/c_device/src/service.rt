@@ -1,0 +1,233 @@
+// A device, and the files that it woke.
+ghost use Rattle.std.specs.Prelude.{◌≡◌, ◌≤◌, ◌-◌, ℕ, [], ◌++◌, true, length, drop, min, is_some, option_to_list, IfErr, IfNone, OnOk, Err};
+ghost use Rattle.std.specs.VecDeque.{deque_len, deque_capacity};
+ghost use Rattle.device_core.specs.declared.refusal.Refusal.TheVariants.{NoMemory};
+ghost use Rattle.device_core.specs.declared.request.Request.TheVariants as request;
+ghost use Rattle.device_core.specs.Request.{IsAnswer};
+ghost use Rattle.device_core.specs.State.{nothing, objects_of, timeline_at};
+ghost use Rattle.c_parts.specs.Rows.{over};
+ghost use Rattle.c_device.specs.Service.{IsStep, AreGiven, may_wake, open_among, woken_of};
+
+use device_core::{Answer, Device, Refusal, Request};
+use std::alloc::Global;
+use std::collections::VecDeque;
+use std::marker::Model;
+
+/// For fewer open files the queue has the room of so many.
+const LEAST_FILES: usize = 16;
+
+/// A device, and the files that it woke, until they are taken or released.
+#[derive(Drop)]
+pub struct Service {
+    device: Device,
+    woken: VecDeque<u64>,
+}
+
+impl Model for Service {
+    ghost use Rattle.c_device.specs.Service.{ServiceState, IsKept, open_among};
+
+    ghost Value = { ServiceState };
+
+    ghost view = { λ s. record { device = s.device; woken = open_among s.device s.woken.items } };
+
+    ghost invariant = { λ s. IsKept s.device s.woken.items };
+}
+
+impl Service {
+    /// A device with nothing in it. It takes no memory yet.
+    pub fn new(alloc: Global) -> Service
+        ensures device { result.device ≡ nothing }
+        ensures woken { result.woken ≡ [] }
+    {
+        Service {
+            device: Device::new(alloc),
+            woken: VecDeque::new(alloc),
+        }
+    }
+
+    /// The answer to one request, as `Device::serve`. The files that it wakes wait in the queue.
+    #[inline(always)]
+    pub fn step(&mut self, request: Request) -> Result<Answer, Refusal>
+        ensures { IsStep self.old self.new request result }
+    {
+        if let Err(refusal) = make_room(&mut self.woken, &self.device, &request) {
+            return Err(refusal);
+        }
+        let given = self.device.serve(request);
+        keep(&mut self.woken, &given);
+        given
+    }
+
+    /// Takes the first files that were woken and are still open, as many as there is room for, and returns how many.
+    ///
+    /// Takes no memory.
+    pub fn take(&mut self, files: &mut [u64]) -> usize
+        ensures count { result ≡ min (length files.old) (length self.old.woken) }
+        ensures taken { files.new ≡ over self.old.woken files.old }
+        ensures left { self.new.woken ≡ drop result self.old.woken }
+        ensures device { self.new.device ≡ self.old.device }
+    {
+        take(&mut self.woken, &self.device, files)
+    }
+}
+
+/// Makes room in the queue for what the request may wake.
+///
+/// Fails with what the device refuses the request for, and with `NoMemory` if that is nothing.
+#[inline(always)]
+fn make_room(woken: &mut VecDeque<u64>, device: &Device, request: &Request) -> Result<(), Refusal>
+    ensures kept { open_among device.now woken.new.items ≡ open_among device.now woken.old.items }
+    ensures given { (next : ℕ) → AreGiven next woken.old.items → AreGiven next woken.new.items }
+    ensures ready { OnOk result (may_wake device.now request.now ≡ true →
+        length device.now.files ≤ deque_capacity woken.new - deque_len woken.new) }
+    ensures refused { IfErr result (λ e. IsAnswer (objects_of device.now) request.now (Err e)) }
+{
+    match request {
+        Request::Inc(timeline, n, _) => room_for_inc(woken, device, *timeline, *n),
+        Request::Close(number, _) => room_for_close(woken, device, *number),
+        _ => Ok(()),
+    }
+}
+
+#[inline(always)]
+fn room_for_inc(
+    woken: &mut VecDeque<u64>,
+    device: &Device,
+    timeline: u64,
+    n: u32,
+) -> Result<(), Refusal>
+    ensures kept { open_among device.now woken.new.items ≡ open_among device.now woken.old.items }
+    ensures given { (next : ℕ) → AreGiven next woken.old.items → AreGiven next woken.new.items }
+    ensures ready { OnOk result (length device.now.files ≤ deque_capacity woken.new - deque_len woken.new) }
+    ensures refused { IfErr result (λ e. (now : ℕ) →
+        IsAnswer (objects_of device.now) (request.Inc timeline n now) (Err e)) }
+{
+    if has_room(woken, device) || grow(woken, device) {
+        return Ok(());
+    }
+    Err(device.inc_refusal(timeline, n))
+}
+
+// The closing of a file or a buffer wakes nothing, and takes no memory. It may leave the queue with too much room.
+#[inline(always)]
+fn room_for_close(woken: &mut VecDeque<u64>, device: &Device, number: u64) -> Result<(), Refusal>
+    ensures kept { open_among device.now woken.new.items ≡ open_among device.now woken.old.items }
+    ensures given { (next : ℕ) → AreGiven next woken.old.items → AreGiven next woken.new.items }
+    ensures ready { OnOk result (is_some (timeline_at device.now number) ≡ true →
+        length device.now.files ≤ deque_capacity woken.new - deque_len woken.new) }
+    ensures refused { IfErr result (λ e.
+        (e ≡ NoMemory) × (is_some (timeline_at device.now number) ≡ true)) }
+{
+    if has_too_much(woken, device) {
+        give_room_back(woken, device);
+    }
+    if has_room(woken, device) || !device.is_timeline(number) {
+        return Ok(());
+    }
+    if grow(woken, device) {
+        Ok(())
+    } else {
+        Err(Refusal::NoMemory)
+    }
+}
+
+/// Whether the queue has room for every open file.
+#[inline(always)]
+fn has_room(woken: &VecDeque<u64>, device: &Device) -> bool
+    ensures { result ≡ true → length device.now.files ≤ deque_capacity woken.now - deque_len woken.now }
+{
+    device.open_files() <= woken.capacity() - woken.len()
+}
+
+/// Drops what was released, and makes room. Returns whether there is some for every open file.
+#[cold]
+fn grow(woken: &mut VecDeque<u64>, device: &Device) -> bool
+    ensures kept { open_among device.now woken.new.items ≡ open_among device.now woken.old.items }
+    ensures given { (next : ℕ) → AreGiven next woken.old.items → AreGiven next woken.new.items }
+    ensures ready { result ≡ true → length device.now.files ≤ deque_capacity woken.new - deque_len woken.new }
+{
+    drop_released(woken, device);
+    woken.reserve(usual_room(device)).is_ok()
+}
+
+/// Whether the queue has so much room that the open files have no use for most of it.
+#[inline(always)]
+fn has_too_much(woken: &VecDeque<u64>, device: &Device) -> bool {
+    woken.capacity() / 2 > usual_room(device)
+}
+
+/// Drops what was released, and gives room back.
+#[cold]
+fn give_room_back(woken: &mut VecDeque<u64>, device: &Device)
+    ensures kept { open_among device.now woken.new.items ≡ open_among device.now woken.old.items }
+    ensures given { (next : ℕ) → AreGiven next woken.old.items → AreGiven next woken.new.items }
+{
+    drop_released(woken, device);
+    woken.shrink_to(usual_room(device));
+}
+
+/// Room for twice the open files: so the queue is gone through only when their number has doubled or halved, or as many
+/// have been woken.
+#[inline(always)]
+fn usual_room(device: &Device) -> usize
+    ensures { length device.now.files ≤ result }
+{
+    device.open_files().max(LEAST_FILES).saturating_mul(2)
+}
+
+fn drop_released(woken: &mut VecDeque<u64>, device: &Device)
+    ensures { woken.new.items ≡ open_among device.now woken.old.items }
+{
+    woken.retain(|file| device.is_file(*file));
+}
+
+/// Puts the files that the answer wakes into the queue.
+#[inline(always)]
+fn keep(woken: &mut VecDeque<u64>, given: &Result<Answer, Refusal>)
+    requires room { length (woken_of given.now) ≤ deque_capacity woken.old - deque_len woken.old }
+    ensures items { woken.new.items ≡ woken.old.items ++ woken_of given.now }
+{
+    if let Ok(Answer::Woken(files)) = given {
+        push_all(woken, files.as_slice());
+    }
+}
+
+#[inline(always)]
+fn push_all(woken: &mut VecDeque<u64>, files: &[u64])
+    requires room { length files.now ≤ deque_capacity woken.old - deque_len woken.old }
+    ensures items { woken.new.items ≡ woken.old.items ++ files.now }
+{
+    for file in files {
+        woken.push_back_reserved(*file);
+    }
+}
+
+fn take(woken: &mut VecDeque<u64>, device: &Device, files: &mut [u64]) -> usize
+    ensures count { result ≡ min (length files.old) (length (open_among device.now woken.old.items)) }
+    ensures taken { files.new ≡ over (open_among device.now woken.old.items) files.old }
+    ensures left { open_among device.now woken.new.items ≡ drop result (open_among device.now woken.old.items) }
+    ensures given { (next : ℕ) → AreGiven next woken.old.items → AreGiven next woken.new.items }
+{
+    for count in 0..files.len() {
+        let Some(file) = next_open(woken, device) else {
+            return count;
+        };
+        files[count] = file;
+    }
+    files.len()
+}
+
+/// Takes the first file that is still open out of the queue, and those before it.
+fn next_open(woken: &mut VecDeque<u64>, device: &Device) -> Option<u64>
+    ensures first { open_among device.now woken.old.items
+        ≡ option_to_list result ++ open_among device.now woken.new.items }
+    ensures none { IfNone result (open_among device.now woken.new.items ≡ []) }
+    ensures given { (next : ℕ) → AreGiven next woken.old.items → AreGiven next woken.new.items }
+{
+    while let Some(file) = woken.pop_front() {
+        if device.is_file(file) {
+            return Some(file);
+        }
+    }
+    None
+}

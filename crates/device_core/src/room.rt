@@ -1,0 +1,29 @@
+//! Room that a map no longer needs.
+ghost use Rattle.std.specs.Prelude.{◌≡◌, ℕ};
+ghost use Rattle.device_core.specs.State.{at};
+
+use std::collections::HashMap;
+
+/// A map with more than so many places for each entry gives some back.
+const MOST_PLACES: usize = 4;
+
+/// How many places for each entry it then keeps.
+const KEPT_PLACES: usize = 2;
+
+/// A map with at most so many places keeps them all.
+const FEW_PLACES: usize = 64;
+
+const _: () = prove!(KEPT_PLACES < MOST_PLACES);
+
+/// Gives back what a map has no use for. A removal then costs the same on average, since between two times that the
+/// entries move their number has halved.
+pub fn give_room_back<T>(map: &mut HashMap<u64, T>)
+    ensures { (q : ℕ) → at map.new.entries q ≡ at map.old.entries q }
+{
+    let places = map.capacity();
+    if places <= FEW_PLACES || map.len() > places / MOST_PLACES {
+        return;
+    }
+    let kept = map.len() * KEPT_PLACES;
+    map.shrink_to(kept);
+}
