@@ -58,7 +58,7 @@ struct bim_request {
     uint32_t value;
     uint32_t flags;
     uint64_t a;
-    union {
+    __extension__ union {
         uint64_t b;
         uint64_t size;
     };

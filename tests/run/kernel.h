@@ -45,7 +45,7 @@ struct deadline {
 };
 #define IOC_SET_DEADLINE _IOW('>', 5, struct deadline)
 
-enum { NAME = 32, ROWS = 64, SOON = 3000 };
+enum { NAME = 32, ROWS = 64, SOON = 10000 };
 
 /* Expects that a call fails with an errno. */
 #define FAILS(call, error) EXPECT((errno = 0, (call) < 0 ? errno : 0), error)

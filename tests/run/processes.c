@@ -45,11 +45,14 @@ static void inherited(void)
     close(t);
 }
 
+static int told[2];
+
+/* Says when it has merged, and waits for both. */
 static int wait_and_merge(int f, int g)
 {
     int both = merge("both", f, g);
 
-    return ready(both, POLLIN, SOON) != POLLIN || status(both) != 1 || size(both) != 2;
+    return write(told[1], "", 1) != 1 || ready(both, POLLIN, SOON) != POLLIN || status(both) != 1 || size(both) != 2;
 }
 
 /* The child waits, and the parent signals. */
@@ -57,8 +60,9 @@ static void waited_for(void)
 {
     int t = timeline(), u = timeline(), f = fence(t, 1), g = fence(u, 1);
     pid_t child = child_of(wait_and_merge, f, g);
+    char byte;
 
-    pause_for(20);
+    EXPECT(read(told[0], &byte, 1), 1);
     inc(t, 1);
     inc(u, 1);
     EXPECT(end_of(child), 0);
@@ -66,8 +70,6 @@ static void waited_for(void)
     for (int i = 0; i < 4; i++)
         close(files[i]);
 }
-
-static int told[2];
 
 /* Ends once it is told to. */
 static int hold(int t, int how)
@@ -93,7 +95,6 @@ static void ends(void)
     static const int ways[] = { 0, 1, 2, SIGKILL, SIGTERM };
     static const int wanted[] = { 0, 0, 0, 128 + SIGKILL, 128 + SIGTERM };
 
-    EXPECT(pipe2(told, O_CLOEXEC), 0);
     for (int i = 0; i < 5; i++) {
         int t = timeline(), f = fence(t, 1);
         fflush(stdout);
@@ -105,8 +106,6 @@ static void ends(void)
         EXPECT(end_of(child), wanted[i]);
         close(f);
     }
-    close(told[0]);
-    close(told[1]);
 }
 
 static int open_and_hand_over(int socket, int killed)
@@ -360,6 +359,7 @@ int main(int argc, char **argv)
     alarm(40);
     if (argc == 3)
         return after_exec(atoi(argv[1]), atoi(argv[2]));
+    EXPECT(pipe2(told, O_CLOEXEC), 0);
     inherited();
     waited_for();
     ends();
