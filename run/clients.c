@@ -109,10 +109,17 @@ static int give_bell(struct server *server, struct client *client, int *gives)
     return *gives < 0 ? errno : 0;
 }
 
-/* Increments and new points are the same before and after what was closed. */
+/* Increments and new points are the same before and after what was closed, and so is a connection. */
 static bool follows_closings(const struct bim_request *request)
 {
-    return request->op != BIM_OP_INC && request->op != BIM_OP_FENCE;
+    switch (request->op) {
+    case BIM_OP_HELLO:
+    case BIM_OP_LANE:
+    case BIM_OP_BELL:
+    case BIM_OP_INC:
+    case BIM_OP_FENCE: return false;
+    default: return true;
+    }
 }
 
 /* Returns whether the client took the answer. */

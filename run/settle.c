@@ -9,16 +9,24 @@
 /* How many ends are polled at once. */
 enum { AT_ONCE = 64 };
 
+static void note_teller(struct object *object, bool is_told)
+{
+    object->is_told |= is_told;
+    if (object->kind == TIMELINE)
+        object->line.ends = !object->is_told;
+}
+
 void keeper_look(struct keeper *keeper, struct object *object, bool is_told)
 {
+    /* It may have been seen before it was told. */
+    if (object->is_closing)
+        note_teller(object, is_told);
     if (object->is_closing || object->end < 0 || !end_is_alone(object->end))
         return;
     object->is_closing = true;
-    object->is_told = is_told;
     object->next_closing = keeper->closing;
     keeper->closing = object;
-    if (object->kind == TIMELINE)
-        object->line.ends = !is_told;
+    note_teller(object, is_told);
 }
 
 /* Who closes it: whoever said so, or else whoever made it, as far as the trace knows. */
