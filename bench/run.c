@@ -4,8 +4,9 @@
  * The calls of sw_sync and sync files, beside getppid, the least of a system call, and a pipe with two closes, which is what a file
  * costs at least. */
 #include "../tests/run/kernel.h"
+#include <sys/syscall.h>
 
-enum { TRIES = 7 };
+enum { TRIES = 100 };
 
 static int line, pending, other, reached;
 
@@ -14,14 +15,15 @@ static void get_parent(void)
     getppid();
 }
 
+/* By system calls, which the tool doesn't see. */
 static void bare_pipe(void)
 {
     int ends[2];
 
-    if (pipe(ends))
+    if (syscall(SYS_pipe2, ends, 0))
         abort();
-    close(ends[0]);
-    close(ends[1]);
+    syscall(SYS_close, ends[0]);
+    syscall(SYS_close, ends[1]);
 }
 
 static void increment(void)
@@ -56,9 +58,8 @@ static const struct call {
     void (*run)(void);
     int count;
 } calls[] = {
-    { "getppid", get_parent, 20000 },     { "pipe", bare_pipe, 3000 }, { "inc", increment, 10000 },
-    { "create", create, 2000 },           { "merge", join, 2000 },     { "info", report_file, 5000 },
-    { "poll", poll_file, 20000 },
+    { "getppid", get_parent, 1000 }, { "pipe", bare_pipe, 200 }, { "inc", increment, 1000 }, { "create", create, 100 },
+    { "merge", join, 100 },          { "info", report_file, 300 }, { "poll", poll_file, 1000 },
 };
 enum { CALLS = sizeof calls / sizeof *calls };
 

@@ -198,6 +198,56 @@ static void interrupted(void)
     close(t);
 }
 
+enum { SIGNALS = 60 };
+
+static int handled_timeline;
+static volatile int handled, refused, is_over;
+
+static void raise_one(int signal)
+{
+    (void)signal;
+    if (inc(handled_timeline, 1) == 0)
+        handled++;
+    else
+        refused++;
+}
+
+static void *signal_often(void *given)
+{
+    for (int i = 0; i < SIGNALS; i++) {
+        pthread_kill(*(pthread_t *)given, SIGUSR1);
+        pause_for(1);
+    }
+    is_over = 1;
+    return NULL;
+}
+
+/* A signal's handler calls, while its thread may be in a call itself. */
+static void in_handlers(void)
+{
+    struct sigaction action = { .sa_handler = raise_one, .sa_flags = SA_RESTART };
+    int other = timeline(), wrong = 0;
+    pthread_t me = pthread_self(), thread;
+
+    handled_timeline = timeline();
+    sigaction(SIGUSR1, &action, NULL);
+    EXPECT(pthread_create(&thread, NULL, signal_often, &me), 0);
+    for (__u32 i = 1; !is_over; i++) {
+        int f = fence(other, i), both = merge("both", f, f);
+        wrong += f < 0 || both < 0 || inc(other, 1) || !is_signalled(both) || status(f) != 1 || close(f) || close(both);
+    }
+    pthread_join(thread, NULL);
+    EXPECT(wrong, 0);
+    EXPECT(refused, 0);
+    HOLDS(handled > 0);
+    int last = fence(handled_timeline, (__u32)handled), next = fence(handled_timeline, (__u32)handled + 1);
+    EXPECT(is_signalled(last), 1);
+    EXPECT(is_signalled(next), 0);
+    int files[] = { last, next, other, handled_timeline };
+    for (int i = 0; i < 4; i++)
+        close(files[i]);
+}
+
 enum { THREADS = 8, ROUNDS = 60 };
 
 static int shared[THREADS], wrong[THREADS];
@@ -242,6 +292,7 @@ int main(void)
     epolls();
     epoll_of_closed();
     interrupted();
+    in_handlers();
     threads();
     return report("polls");
 }
