@@ -3,11 +3,14 @@
 #include "keeper.h"
 
 #include <errno.h>
+#include <fcntl.h>
+#include <stdio.h>
 #include <stdlib.h>
 #include <string.h>
 
-/* How many ends are polled at once. */
-enum { AT_ONCE = 64 };
+/* How many ends are polled at once; how often a process that ends is looked at, a millisecond apart; and its flag in
+ * /proc/N/stat, PF_EXITING. */
+enum { AT_ONCE = 64, LOOKS = 200, IS_ENDING = 4 };
 
 static void note_teller(struct object *object, bool is_told)
 {
@@ -76,6 +79,42 @@ static void settle(struct keeper *keeper, bool timelines, const struct who *tell
     }
 }
 
+/* Whether a process is ending, and may have closed only some of its descriptors. */
+static bool is_ending(int process)
+{
+    char path[32], text[512] = { 0 }, state = 'X';
+    const char *after_name;
+    unsigned flags = 0;
+    int file;
+
+    snprintf(path, sizeof path, "/proc/%d/stat", process);
+    file = open(path, O_RDONLY | O_CLOEXEC);
+    if (file < 0)
+        return false;
+    if (call_read(file, text, sizeof text - 1) > 0 && (after_name = strrchr(text, ')')))
+        sscanf(after_name, ") %c %*d %*d %*d %*d %*d %u", &state, &flags);
+    call_close(file);
+    return state != 'Z' && state != 'X' && flags & IS_ENDING;
+}
+
+static void look_at_all(struct keeper *keeper, bool timelines);
+
+/* The trace tells what a process leaves at its end by all of its closings, which come one after another. */
+static void await_ends(struct keeper *keeper)
+{
+    bool any = false;
+
+    for (const struct object *object = keeper->closing; object; object = object->next_closing)
+        for (int looks = 0; !object->is_told && looks < LOOKS && is_ending(object->maker.thread); looks++) {
+            any = true;
+            call_poll(NULL, 0, 1);
+        }
+    if (!any)
+        return;
+    look_at_all(keeper, false);
+    look_at_all(keeper, true);
+}
+
 /* Files go first: a timeline that is closed with them cancels nothing that only they held. */
 void keeper_settle(struct keeper *keeper)
 {
@@ -83,8 +122,10 @@ void keeper_settle(struct keeper *keeper)
 
     if (!keeper->closing)
         return;
-    if (keeper->trace)
+    if (keeper->trace) {
+        await_ends(keeper);
         teller = keeper->trace->who;
+    }
     keeper->now = keeper_now();
     settle(keeper, false, &teller);
     settle(keeper, true, &teller);

@@ -42,7 +42,10 @@ int main(int argc, char **argv)
     alarm(20);
     prctl(PR_SET_NAME, argc > 1 ? argv[1] : "first");
     EXPECT(pipe(told), 0);
-    int t = timeline(), one = fence(t, 1), two = fence(t, 2), three = fence(t, 3);
+    int low = timeline(), t = fcntl(low, F_DUPFD_CLOEXEC, 100);
+    close(low);
+    /* The system closes by rising number: files go before their timeline when the process ends. */
+    int one = fence(t, 1), two = fence(t, 2), three = fence(t, 3);
     pid_t second = begin(see, one, told), third = begin(hang, three, told);
     pause_for(50);
     EXPECT(inc(t, 1), 0);
