@@ -1,7 +1,10 @@
 -- What came of the checks of scripts.
-use Rattle.std.specs.Prelude.{◌≡◌, ◌==◌, ◌&&◌, ◌||◌, ℕ, nat_lt, Bool, true, false, not, if◌then◌else◌, List, [], ◌∷◌, length}
-use Rattle.std.specs.List.{All, list_any}
-use Rattle.check_core.specs.Check.{ChecksScript}
+use Rattle.std.specs.Prelude.{◌≡◌, ◌⊎◌, ◌==◌, ◌&&◌, ◌||◌, ℕ, nat_lt, Bool, true, false, not, if◌then◌else◌, List, [], ◌∷◌, length, Option, Some, slice_get}
+use Rattle.std.specs.List.{list_any}
+use Rattle.point_core.specs.declared.refusal.Refusal.TheVariants.{Limit, Read as ReadFault}
+use Rattle.point_core.specs.declared.refusal.LimitKind.TheVariants.{Script}
+use Rattle.line_core.specs.Reading.{IsInput}
+use Rattle.check_core.specs.Check.{ChecksScript, IsTooLong}
 use Rattle.check_core.specs.declared.outcome.Outcome.{Outcome}
 use Rattle.check_core.specs.declared.outcome.Outcome.TheVariants as outcome
 use Rattle.check_core.specs.declared.outcome.Verdict.{Verdict}
@@ -27,14 +30,31 @@ verdict_of outcomes allows_empty =
     else if list_any (is_wrong allows_empty) outcomes || (is_none outcomes && not allows_empty) then Differs
     else Passed
 
--- if it was checked to its end, the counts are those of the bytes that were read
-abbrev pub IsOutcome : Outcome → Type 0
-IsOutcome (outcome.Checked tally) = (script : List ℕ) × ChecksScript script tally
-IsOutcome (outcome.Failed refusal) = Unit {0}
+-- What came of a script whose reader had these bytes unread, where that is known: the counts are those of the script that was
+-- read, which is all of them; or a read failed; or more bytes were read than a script may have.
+abbrev pub IsOutcome : Option (List ℕ) → Outcome → Type 0
+IsOutcome unread (outcome.Checked tally) = (script : List ℕ) × IsInput unread script × ChecksScript script tally
+IsOutcome unread (outcome.Failed refusal) =
+    (refusal ≡ ReadFault) ⊎ ((refusal ≡ Limit Script) × ((left : Option (List ℕ)) × IsTooLong unread left))
 
--- each of so many scripts has its outcome, and this is what came of all of them
-pub record ComesOf (scripts : ℕ) (allows_empty : Bool) (verdict : Verdict) : Type 0 where
+-- which bytes a script's reader may have unread when the script is opened
+abbrev pub Opens : Type 1
+Opens = Option (List ℕ) → Type 0
+
+-- what came of a script: it could not be opened, or this came of its reader
+abbrev pub CameOf : Opens → Outcome → Type 0
+CameOf opens o =
+    (o ≡ outcome.Failed ReadFault) ⊎ ((unread : Option (List ℕ)) × opens unread × IsOutcome unread o)
+
+-- this came of each of these scripts, in order
+abbrev pub CameOfEach : {N : Type 0} → (N → Opens) → List N → List Outcome → Type 0
+CameOfEach {N} opens names outcomes =
+    (index : ℕ) (name : N) (o : Outcome) → slice_get names index ≡ Some name → slice_get outcomes index ≡ Some o
+    → CameOf (opens name) o
+
+-- each of the scripts has its outcome, and this is what came of all of them
+pub record ComesOf {N : Type 0} (opens : N → Opens) (names : List N) (allows_empty : Bool) (verdict : Verdict) : Type 0 where
   pub outcomes : List Outcome
-  pub each : length outcomes ≡ scripts
-  pub checked : All IsOutcome outcomes
+  pub count : length outcomes ≡ length names
+  pub each : CameOfEach opens names outcomes
   pub is : verdict ≡ verdict_of outcomes allows_empty

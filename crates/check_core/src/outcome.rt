@@ -1,9 +1,7 @@
 // What came of the checks of scripts.
-ghost use Rattle.std.specs.Prelude.{◌≡◌, ◌⊎◌, List, ℕ, IfOk, IfErr};
+ghost use Rattle.std.specs.Prelude.{◌≡◌};
 ghost use Rattle.std.specs.List.{list_any};
-ghost use Rattle.point_core.specs.declared.refusal.Refusal.TheVariants.{Write as WriteFault, Memory};
-ghost use Rattle.check_core.specs.Check.{ChecksScript};
-ghost use Rattle.check_core.specs.Outcome.{IsOutcome, is_failed, is_wrong, verdict_of};
+ghost use Rattle.check_core.specs.Outcome.{is_failed, is_wrong, verdict_of};
 
 use crate::tally::Tally;
 use point_core::Refusal;
@@ -13,7 +11,7 @@ use point_core::Refusal;
 pub enum Outcome {
     /// It was checked to its end.
     Checked(Tally),
-    /// It could not be opened, or not be checked to its end.
+    /// It could not be opened, or not be checked to its end: with `Read` or with `Limit` of a script.
     Failed(Refusal),
 }
 
@@ -29,22 +27,6 @@ pub enum Verdict {
 }
 
 impl Outcome {
-    /// Of a check that ended so.
-    ///
-    /// Fails with `Write` or `Memory` if the check did.
-    pub(crate) fn of(checked: Result<Tally, Refusal>) -> Result<Outcome, Refusal>
-        requires script { IfOk checked (λ tally. (script : List ℕ) × ChecksScript script tally) }
-        ensures outcome { IfOk result IsOutcome }
-        ensures refusals { IfErr result (λ refusal. (refusal ≡ WriteFault) ⊎ (refusal ≡ Memory)) }
-    {
-        match checked {
-            Ok(tally) => Ok(Outcome::Checked(tally)),
-            Err(Refusal::Write) => Err(Refusal::Write),
-            Err(Refusal::Memory) => Err(Refusal::Memory),
-            Err(refusal) => Ok(Outcome::Failed(refusal)),
-        }
-    }
-
     pub(crate) fn is_failed(self) -> bool
         ensures { result ≡ is_failed self }
     {

@@ -1,8 +1,9 @@
 // Scripts of files and of standard input, checked one after another.
-ghost use Rattle.std.specs.Prelude.{◌≡◌, ◌⊎◌, ◌++◌, ◌∷◌, [], IfOk, OnOk, IfErr, length};
-ghost use Rattle.std.specs.List.{All};
+ghost use Rattle.std.specs.Prelude.{◌≡◌, ◌⊎◌, ◌++◌, ◌∷◌, [], Ok, Some, IfOk, OnOk, IfErr, length, string_bytes};
 ghost use Rattle.point_core.specs.declared.refusal.Refusal.TheVariants.{Write as WriteFault, Memory};
-ghost use Rattle.check_core.specs.Outcome.{ComesOf, IsOutcome};
+ghost use Rattle.source_core.specs.Script.{file_named};
+ghost use Rattle.source_core.specs.Source.{HasUnread};
+ghost use Rattle.check_core.specs.Outcome.{CameOf, CameOfEach, ComesOf, IsOutcome};
 
 use crate::form::{Form, Place};
 use crate::outcome::{Outcome, Verdict, verdict_of};
@@ -36,7 +37,8 @@ pub fn check_scripts<R: Files + Eprint + AllocGlobal, S: Read + Copy + Drop, O: 
     output: &mut O,
     errors: &mut W,
 ) -> Result<Verdict, Refusal>
-    ensures verdict { IfOk result (ComesOf (length names.now) plan.now.allows_empty) }
+    ensures verdict { IfOk result (ComesOf (λ name. HasUnread R.File.remaining S.remaining
+        (file_named (Some (string_bytes name))) standard_input) names.now plan.now.allows_empty) }
     ensures refusals { IfErr result (λ refusal. (refusal ≡ WriteFault) ⊎ (refusal ≡ Memory)) }
 {
     let mut outcomes = Vec::new(rt.alloc());
@@ -62,7 +64,8 @@ fn check_all<R: Files + Eprint + AllocGlobal, S: Read + Copy + Drop, O: Write, W
     errors: &mut W,
 ) -> Result<Verdict, Refusal>
     requires none { outcomes.old.items ≡ [] }
-    ensures verdict { IfOk result (ComesOf (length names.now) plan.now.allows_empty) }
+    ensures verdict { IfOk result (ComesOf (λ name. HasUnread R.File.remaining S.remaining
+        (file_named (Some (string_bytes name))) standard_input) names.now plan.now.allows_empty) }
     ensures refusals { IfErr result (λ refusal. (refusal ≡ WriteFault) ⊎ (refusal ≡ Memory)) }
 {
     write_plan(rt.alloc(), plan.form, names.len(), output)?;
@@ -82,16 +85,16 @@ fn check_each<R: Files + Eprint + AllocGlobal, S: Read + Copy + Drop, O: Write, 
     errors: &mut W,
 ) -> Result<(), Refusal>
     requires none { outcomes.old.items ≡ [] }
-    ensures each { OnOk result (length outcomes.new.items ≡ length names.now) }
-    ensures checked { OnOk result (All IsOutcome outcomes.new.items) }
+    ensures count { OnOk result (length outcomes.new.items ≡ length names.now) }
+    ensures each { OnOk result (CameOfEach (λ name. HasUnread R.File.remaining S.remaining
+        (file_named (Some (string_bytes name))) standard_input) names.now outcomes.new.items) }
     ensures refusals { IfErr result (λ refusal. (refusal ≡ WriteFault) ⊎ (refusal ≡ Memory)) }
 {
-    for name in names {
-        let before = outcomes.len();
+    for (index, name) in names.iter().enumerate() {
         let outcome = check_script(
             rt,
             plan,
-            before,
+            index,
             name.as_str(),
             standard_input,
             output,
@@ -119,7 +122,8 @@ fn check_script<R: Files + Eprint + AllocGlobal, S: Read + Drop, O: Write, W: Wr
     output: &mut O,
     errors: &mut W,
 ) -> Result<Outcome, Refusal>
-    ensures outcome { IfOk result IsOutcome }
+    ensures outcome { IfOk result (CameOf (HasUnread R.File.remaining S.remaining
+        (file_named (Some name.now)) standard_input)) }
     ensures refusals { IfErr result (λ refusal. (refusal ≡ WriteFault) ⊎ (refusal ≡ Memory)) }
 {
     let form = plan.form;
@@ -155,8 +159,7 @@ fn report_test<'a, O: Write>(
     differences: &'a [u8],
     output: &mut O,
 ) -> Result<Outcome, Refusal>
-    requires outcome { IfOk outcome IsOutcome }
-    ensures outcome { IfOk result IsOutcome }
+    ensures outcome { IfOk result (λ reported. outcome ≡ Ok reported) }
     ensures refusals { IfErr result (λ refusal. (refusal ≡ WriteFault) ⊎ (refusal ≡ Memory)) }
 {
     let Ok(outcome) = outcome else {
@@ -196,11 +199,32 @@ fn outcome_of<R: Files + Eprint + AllocGlobal, S: Read + Drop, W: Write>(
     standard_input: S,
     sink: &mut Sink<'_, W>,
 ) -> Result<Outcome, Refusal>
-    ensures outcome { IfOk result IsOutcome }
+    ensures outcome { IfOk result (CameOf (HasUnread R.File.remaining S.remaining
+        (file_named (Some place.now.name.now)) standard_input)) }
     ensures refusals { IfErr result (λ refusal. (refusal ≡ WriteFault) ⊎ (refusal ≡ Memory)) }
 {
     match Source::open(rt, Script::named(place.name), standard_input) {
-        Ok(mut source) => Outcome::of(check(rt.alloc(), place, &mut source, sink)),
+        Ok(mut source) => outcome_of_reader(rt.alloc(), place, &mut source, sink),
+        Err(refusal) => Ok(Outcome::Failed(refusal)),
+    }
+}
+
+/// What comes of the script of a reader.
+///
+/// Fails with `Write` and with `Memory`.
+fn outcome_of_reader<R: Read, W: Write>(
+    alloc: Global,
+    place: &Place<'_>,
+    reader: &mut R,
+    sink: &mut Sink<'_, W>,
+) -> Result<Outcome, Refusal>
+    ensures outcome { IfOk result (IsOutcome (R.remaining reader.old)) }
+    ensures refusals { IfErr result (λ refusal. (refusal ≡ WriteFault) ⊎ (refusal ≡ Memory)) }
+{
+    match check(alloc, place, reader, sink) {
+        Ok(tally) => Ok(Outcome::Checked(tally)),
+        Err(Refusal::Write) => Err(Refusal::Write),
+        Err(Refusal::Memory) => Err(Refusal::Memory),
         Err(refusal) => Ok(Outcome::Failed(refusal)),
     }
 }

@@ -1,17 +1,24 @@
 // Scripts of files, each put in the place of what it was.
+ghost use Rattle.std.specs.Prelude.{◌≡◌, ◌⊎◌, ◌<◌, ◌≤◌, ◌^◌, ◌++◌, [], ◌∷◌, IfOk, OnOk, IfErr, length, string_bytes};
+ghost use Rattle.std.specs.Io.KnownBytes.{Appends};
+ghost use Rattle.std.specs.List.{list_any};
+ghost use Rattle.point_core.specs.declared.refusal.Refusal.TheVariants.{Write as WriteFault, Memory};
+ghost use Rattle.check_core.specs.Update.{HasReported, Passes, failure_text, is_failed, one_if_written, update_text, updates_text, update_totals, verdict_of_updates, written_count};
+
 use crate::outcome::Verdict;
-use crate::parts::{Part, write_parts};
 use crate::update::updated;
+use itoa::Buffer;
 use line_core::SCRIPT_BYTES;
 use point_core::Refusal;
+use report_core::write_whole;
 use source_core::{read_file, replace_file, reported};
-use std::alloc::Global;
+use std::alloc::{AllocError, Global};
 use std::io::Write;
 use std::rt::Files;
 
 /// What an update makes of a file.
 #[derive(Clone, Copy)]
-enum Update {
+pub enum Update {
     /// It is as it was.
     Same,
     Written,
@@ -27,23 +34,49 @@ pub fn update_scripts<R: Files + Eprint + AllocGlobal, W: Write>(
     rt: &R,
     names: &[String],
     errors: &mut W,
-) -> Result<Verdict, Refusal> {
-    let mut verdict = Verdict::Passed;
-    let mut written: u64 = 0;
+) -> Result<Verdict, Refusal>
+    ensures reported { IfOk result (HasReported (λ name. string_bytes name) names.now
+        (W.contents errors.old) (W.contents errors.new)) }
+    ensures refusals { IfErr result (λ refusal. (refusal ≡ WriteFault) ⊎ (refusal ≡ Memory)) }
+{
+    let mut updates = Vec::new(rt.alloc());
+    update_each(rt, names, &mut updates, errors)?;
+    let updates = updates.as_slice();
+    report_updates(rt.alloc(), names.len(), written_count(updates), errors)?;
+    Ok(verdict_of_updates(updates))
+}
+
+/// Updates each file, reports it, and appends what the update made of it.
+fn update_each<R: Files + Eprint + AllocGlobal, W: Write>(
+    rt: &R,
+    names: &[String],
+    updates: &mut Vec<Update>,
+    errors: &mut W,
+) -> Result<(), Refusal>
+    requires none { updates.old.items ≡ [] }
+    ensures count { OnOk result (length updates.new.items ≡ length names.now) }
+    ensures reported { OnOk result (Appends (W.contents errors.old) (W.contents errors.new)
+        (updates_text (λ name. string_bytes name) names.now updates.new.items)) }
+    ensures refusals { IfErr result (λ refusal. (refusal ≡ WriteFault) ⊎ (refusal ≡ Memory)) }
+{
     for name in names {
         let update = update_script(rt, name.as_str())?;
         report_update(rt.alloc(), name.as_str(), update, errors)?;
-        match update {
-            Update::Same => {}
-            Update::Written => written = written.saturating_add(1),
-            Update::Failed(_) => verdict = Verdict::Failed,
-        }
+        push(updates, update)?;
     }
-    report_updates(rt.alloc(), names.len(), written, errors)?;
-    Ok(verdict)
+    Ok(())
 }
 
-fn update_script<R: Files + Eprint + AllocGlobal>(rt: &R, name: &str) -> Result<Update, Refusal> {
+fn push(updates: &mut Vec<Update>, update: Update) -> Result<(), AllocError>
+    ensures { OnOk result (updates.new.items ≡ updates.old.items ++ update ∷ []) }
+{
+    updates.push(update)?;
+    Ok(())
+}
+
+fn update_script<R: Files + Eprint + AllocGlobal>(rt: &R, name: &str) -> Result<Update, Refusal>
+    ensures memory { IfErr result (λ refusal. refusal ≡ Memory) }
+{
     match reported(rt, name, read_file(rt, name, SCRIPT_BYTES as u64)) {
         Ok(script) => rewrite_file(rt, name, script.as_slice()),
         Err(_) => Ok(Update::Failed(Refusal::Read)),
@@ -54,7 +87,9 @@ fn rewrite_file<R: Files + Eprint + AllocGlobal>(
     rt: &R,
     name: &str,
     script: &[u8],
-) -> Result<Update, Refusal> {
+) -> Result<Update, Refusal>
+    ensures memory { IfErr result (λ refusal. refusal ≡ Memory) }
+{
     match updated(rt.alloc(), script) {
         Ok(text) => Ok(put_text(rt, name, script, text.as_slice())),
         Err(Refusal::Memory) => Err(Refusal::Memory),
@@ -62,12 +97,15 @@ fn rewrite_file<R: Files + Eprint + AllocGlobal>(
     }
 }
 
+/// Puts a text that passes in the place of the script.
 fn put_text<R: Files + Eprint + AllocGlobal>(
     rt: &R,
     name: &str,
     script: &[u8],
     text: &[u8],
-) -> Update {
+) -> Update
+    requires passes { Passes text.now }
+{
     if text == script {
         return Update::Same;
     }
@@ -77,45 +115,123 @@ fn put_text<R: Files + Eprint + AllocGlobal>(
     }
 }
 
+/// How many of the files were written.
+fn written_count(updates: &[Update]) -> u64
+    ensures { result ≡ written_count updates.now }
+{
+    let mut written = 0;
+    for update in updates {
+        written += update.one_if_written();
+    }
+    written
+}
+
+fn verdict_of_updates(updates: &[Update]) -> Verdict
+    ensures { result ≡ verdict_of_updates updates.now }
+{
+    if some_failed(updates) {
+        Verdict::Failed
+    } else {
+        Verdict::Passed
+    }
+}
+
+fn some_failed(updates: &[Update]) -> bool
+    ensures { result ≡ list_any is_failed updates.now }
+{
+    updates.iter().any(|update| update.is_failed())
+}
+
+impl Update {
+    /// What it adds to the count of files that were written.
+    fn one_if_written(self) -> u64
+        ensures one { result ≡ one_if_written self }
+        ensures few { result ≤ 1 }
+    {
+        match self {
+            Update::Written => 1,
+            Update::Same | Update::Failed(_) => 0,
+        }
+    }
+
+    fn is_failed(self) -> bool
+        ensures { result ≡ is_failed self }
+    {
+        match self {
+            Update::Same | Update::Written => false,
+            Update::Failed(_) => true,
+        }
+    }
+}
+
+/// Writes the line that says what was made of a file, by one write. Of one that is as it was there is none.
 fn report_update<W: Write>(
     alloc: Global,
     name: &str,
     update: Update,
     errors: &mut W,
-) -> Result<(), Refusal> {
+) -> Result<(), Refusal>
+    ensures ok { OnOk result (Appends (W.contents errors.old) (W.contents errors.new) (update_text name.now update)) }
+    ensures refusals { IfErr result (λ refusal. (refusal ≡ WriteFault) ⊎ (refusal ≡ Memory)) }
+{
+    let mut text = Vec::new(alloc);
+    push_update(name, update, &mut text)?;
+    write_whole(errors, text.as_slice())
+}
+
+fn push_update(name: &str, update: Update, text: &mut Vec<u8>) -> Result<(), AllocError>
+    requires none { text.old.items ≡ [] }
+    ensures text { OnOk result (text.new.items ≡ update_text name.now update) }
+{
     match update {
         Update::Same => Ok(()),
-        Update::Written => write_parts(
-            alloc,
-            &[Part::Text(name), Part::Text(": updated\n")],
-            errors,
-        ),
-        Update::Failed(refusal) => {
-            let parts = [
-                Part::Text(name),
-                Part::Text(": not updated: "),
-                Part::Number(u64::from(refusal.number())),
-                Part::Text(" "),
-                Part::Text(refusal.name()),
-                Part::Text("\n"),
-            ];
-            write_parts(alloc, &parts, errors)
+        Update::Written => {
+            text.extend_from_slice(name.as_bytes())?;
+            text.extend_from_slice(b": updated\n")
         }
+        Update::Failed(refusal) => push_failure(name, refusal, text),
     }
 }
 
+fn push_failure(name: &str, refusal: Refusal, text: &mut Vec<u8>) -> Result<(), AllocError>
+    requires none { text.old.items ≡ [] }
+    ensures text { OnOk result (text.new.items ≡ failure_text name.now refusal) }
+{
+    let mut number = Buffer::new();
+    text.extend_from_slice(name.as_bytes())?;
+    text.extend_from_slice(b": not updated: ")?;
+    text.extend_from_slice(number.format(refusal.number()).as_bytes())?;
+    text.extend_from_slice(b" ")?;
+    text.extend_from_slice(refusal.name().as_bytes())?;
+    text.extend_from_slice(b"\n")?;
+    Ok(())
+}
+
+/// Writes the line of counts, by one write.
 fn report_updates<W: Write>(
     alloc: Global,
     files: usize,
     written: u64,
     errors: &mut W,
-) -> Result<(), Refusal> {
-    let parts = [
-        Part::Text("files: "),
-        Part::Number(files as u64),
-        Part::Text(", updated: "),
-        Part::Number(written),
-        Part::Text("\n"),
-    ];
-    write_parts(alloc, &parts, errors)
+) -> Result<(), Refusal>
+    requires files { files < 2 ^ 64 }
+    ensures ok { OnOk result (Appends (W.contents errors.old) (W.contents errors.new) (update_totals files written)) }
+    ensures refusals { IfErr result (λ refusal. (refusal ≡ WriteFault) ⊎ (refusal ≡ Memory)) }
+{
+    let mut text = Vec::new(alloc);
+    push_totals(files as u64, written, &mut text)?;
+    write_whole(errors, text.as_slice())
+}
+
+fn push_totals(files: u64, written: u64, text: &mut Vec<u8>) -> Result<(), AllocError>
+    requires none { text.old.items ≡ [] }
+    ensures text { OnOk result (text.new.items ≡ update_totals files written) }
+{
+    let mut digits = Buffer::new();
+    text.extend_from_slice(b"files: ")?;
+    text.extend_from_slice(digits.format(files).as_bytes())?;
+    text.extend_from_slice(b", updated: ")?;
+    text.extend_from_slice(digits.format(written).as_bytes())?;
+    text.extend_from_slice(b"\n")?;
+    Ok(())
 }

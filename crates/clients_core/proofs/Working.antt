@@ -1,48 +1,179 @@
 -- The workers of plans, and what each has worked off.
-use Rattle.std.proofs.Common.{◌≡◌, ℕ, zero, suc, ◌+◌, ◌<◌, All, List, [], ◌∷◌, length, Some, Result, Ok, Err, OnOk, refl, sym, ◌∙◌, subst, arith}
+use Rattle.std.proofs.Common.{◌≡◌, ℕ, zero, suc, ◌+◌, All, List, [], ◌∷◌, ◌++◌, length, Some, Result, Ok, Err, OnOk, IfErr, ◌⊎◌, inl, inr, refl, sym, ap, ◌∙◌, subst, append_assoc, append-nil, arith}
 use Rattle.std.specs.Prelude.{slice_get}
 use Rattle.std.specs.Result.{result_and}
 use Rattle.std.specs.declared.thread.PromisedHandle.{PromisedHandle}
-use Rattle.std.proofs.lemmas.Option.{same_Some, slice_get_within}
+use Rattle.std.proofs.lemmas.List.Elements.{All-head, All-tail}
+use Rattle.std.proofs.lemmas.Option.{none-some, same_Some}
 use Rattle.point_core.specs.declared.refusal.Refusal.{Refusal}
+use Rattle.point_core.specs.declared.refusal.Refusal.TheVariants.{Memory}
+use Rattle.words_core.specs.declared.trace.Step.{Step}
+use Rattle.words_core.specs.Seat.{SeatModel, both_of}
 use Rattle.words_core.specs.Words.{WordsModel}
 use Rattle.resv_core.specs.declared.plan.Act.{Act}
 use Rattle.clients_core.specs.declared.workers.Ended.{Ended}
 use Rattle.clients_core.specs.declared.workers.Loan.{Loan}
-use Rattle.clients_core.specs.Acting.{Puts, Exports}
-use Rattle.clients_core.specs.Working.{AreWorkedOff, AreWorkers, HasWorked, HasWorkedOff, IsWorkerOf}
-use Rattle.clients_core.proofs.Acting.{All-get}
+use Rattle.clients_core.specs.Acting.{ClientModel, Puts, Exports}
+use Rattle.clients_core.specs.Working.{AreWorkedOff, AreWorkers, HasEnded, HasKept, HasRefused, HasWorked, HaveEnded, HaveJoined, HaveKept, HaveWorked, IsWorkerOf, answer_of, joined_of, steps_of, steps_of_all}
 
-element-at : {X : Type 0} (xs : List X) (i : ℕ) → i < length xs → (x : X) × (slice_get xs i ≡ Some x)
-element-at [] i low = absurd (omega arith)
-element-at (x ∷ xs) zero low = (x, refl)
-element-at (x ∷ xs) (suc i) low = element-at xs i (omega arith)
+-- ---- workers that are joined one after another
 
--- one more was joined: what follows once the rest have worked off follows once those behind it have
-pub worked-joined : (Rest Behind Whole Here : Type 0) (answer ended : Result (Unit {0}) Refusal) → OnOk answer (Rest → Whole) → OnOk ended Here → (Here → Behind → Rest) → OnOk (result_and answer ended) (Behind → Whole)
-worked-joined Rest Behind Whole Here (Ok x) (Ok y) whole here more = λ behind. whole (more here behind)
-worked-joined Rest Behind Whole Here (Ok x) (Err e) whole here more = tt
-worked-joined Rest Behind Whole Here (Err e) ended whole here more = tt
+and-ok : (r : Result (Unit {0}) Refusal) → result_and r (Ok tt) ≡ r
+and-ok (Ok x) = refl
+and-ok (Err e) = refl
 
--- both are Ok where the one that is answered is
-pub both-ok : (Ended Started : Type 0) (ended started : Result (Unit {0}) Refusal) → OnOk ended Ended → OnOk started Started → OnOk (result_and ended started) (Ended × Started)
-both-ok Ended Started (Ok x) (Ok y) all begun = (all, begun)
-both-ok Ended Started (Ok x) (Err e) all begun = tt
-both-ok Ended Started (Err e) started all begun = tt
+and-assoc : (a b c : Result (Unit {0}) Refusal) → result_and a (result_and b c) ≡ result_and (result_and a b) c
+and-assoc (Ok x) b c = refl
+and-assoc (Err e) b c = refl
 
--- there is a worker for each plan, and each has kept its promise
-pub AreWorkedOff-workers : {T : Type 0} (puts : T → Puts) (exports : T → Exports) (words : WordsModel) (table : T) (plans : List (List Act)) (workers : List (PromisedHandle Ended (Loan T))) → All (IsWorkerOf words) workers → AreWorkers table plans workers → length workers ≡ length plans → All (HasWorkedOff puts exports) workers → AreWorkedOff (puts table) (exports table) words plans
-AreWorkedOff-workers {T} puts exports words table plans workers lent are all worked = λ index plan at.
-    let low : index < length workers = omega (arith, slice_get_within plans index plan at, all) in
-    let found = element-at workers index low in
-    let worker = found.0 in
-    let loan = worker.promise in
-    let is = are index worker found.1 in
-    let plan-is : loan.plan.now ≡ plan = same_Some loan.plan.now plan (sym is.plan_is ∙ at) in
-    let h = All-get (HasWorkedOff puts exports) workers index worker worked found.1 in (
-      h.0,
-      subst (λ (acts : List Act). HasWorked (puts table) (exports table) words (index + 1) acts h.0) plan-is
-          (subst (λ (n : ℕ). HasWorked (puts table) (exports table) words (n + 1) loan.plan.now h.0) is.index_is
-          (subst (λ (w : WordsModel). HasWorked (puts table) (exports table) w (loan.index + 1) loan.plan.now h.0) (All-get (IsWorkerOf words) workers index worker lent found.1)
-          (subst (λ (t : T). HasWorked (puts t) (exports t) loan.words.now (loan.index + 1) loan.plan.now h.0) is.table_is h.1))),
+answer_of-push : (es : List Ended) (e : Ended) → answer_of (es ++ e ∷ []) ≡ result_and (answer_of es) e.answer
+answer_of-push [] e = and-ok e.answer
+answer_of-push (f ∷ fs) e = ap (result_and f.answer) (answer_of-push fs e) ∙ and-assoc f.answer (answer_of fs) e.answer
+
+joined_of-push : (seat : SeatModel) (es : List Ended) (e : Ended) → joined_of seat (es ++ e ∷ []) ≡ both_of (both_of (joined_of seat es) e.driving) e.looking
+joined_of-push seat [] e = refl
+joined_of-push seat (f ∷ fs) e = joined_of-push (both_of (both_of seat f.driving) f.looking) fs e
+
+-- of all workers, these are still to be joined; the others have given back what was taken in
+pub record AreJoined {T : Type 0} (puts : T → Puts) (exports : T → Exports) (rest whole : List (PromisedHandle Ended (Loan T)))
+    (before after : SeatModel) (answer : Result (Unit {0}) Refusal) : Type 0 where
+  pub endings : List Ended
+  pub kept : (more : List Ended) → HaveKept puts exports rest more → HaveKept puts exports whole (endings ++ more)
+  pub seat : after ≡ joined_of before endings
+  pub first : answer ≡ answer_of endings
+
+pub AreJoined-none : {T : Type 0} (puts : T → Puts) (exports : T → Exports) (rest whole : List (PromisedHandle Ended (Loan T))) (seat : SeatModel) → rest ≡ whole → AreJoined puts exports rest whole seat seat (Ok tt)
+AreJoined-none {T} puts exports rest whole seat same = record {
+  endings = [];
+  kept = λ more held. subst (λ (workers : List (PromisedHandle Ended (Loan T))). HaveKept puts exports workers more) same held;
+  seat = refl;
+  first = refl;
+}
+
+pub AreJoined-next : {T : Type 0} (puts : T → Puts) (exports : T → Exports) (rest behind whole : List (PromisedHandle Ended (Loan T))) (worker : PromisedHandle Ended (Loan T)) (ended : Ended) (before after after' : SeatModel) (answer answer' : Result (Unit {0}) Refusal) → rest ≡ worker ∷ behind → HasKept puts exports worker ended → after' ≡ both_of (both_of after ended.driving) ended.looking → answer' ≡ result_and answer ended.answer → AreJoined puts exports rest whole before after answer → AreJoined puts exports behind whole before after' answer'
+AreJoined-next {T} puts exports rest behind whole worker ended before after after' answer answer' first held taken joined was = record {
+  endings = was.endings ++ ended ∷ [];
+  kept = λ more later.
+      subst (HaveKept puts exports whole) (sym (append_assoc was.endings (ended ∷ []) more))
+      (was.kept (ended ∷ more) (subst (λ (workers : List (PromisedHandle Ended (Loan T))). HaveKept puts exports workers (ended ∷ more)) (sym first) (held, later)));
+  seat = taken ∙ ap (λ (s : SeatModel). both_of (both_of s ended.driving) ended.looking) was.seat ∙ sym (joined_of-push before was.endings ended);
+  first = joined ∙ ap (λ r. result_and r ended.answer) was.first ∙ sym (answer_of-push was.endings ended);
+}
+
+pub empty-list : {X : Type 0} (xs : List X) → length xs ≡ 0 → xs ≡ []
+empty-list [] none = refl
+empty-list (x ∷ xs) none = absurd (omega (arith, none))
+
+pub AreJoined-all : {T : Type 0} (puts : T → Puts) (exports : T → Exports) (rest whole : List (PromisedHandle Ended (Loan T))) (before after : SeatModel) (answer : Result (Unit {0}) Refusal) → rest ≡ [] → AreJoined puts exports rest whole before after answer → HaveJoined puts exports whole before after answer
+AreJoined-all {T} puts exports rest whole before after answer none was = record {
+  endings = was.endings;
+  kept = subst (HaveKept puts exports whole) (append-nil was.endings) (was.kept [] (subst (λ (workers : List (PromisedHandle Ended (Loan T))). HaveKept puts exports workers []) (sym none) tt));
+  seat = was.seat;
+  first = was.first;
+}
+
+-- ---- what the clients of the plans have come to
+
+-- the worker at each place is that of the plan there, the first being of this number
+ended-from : {T : Type 0} (puts : T → Puts) (exports : T → Exports) (words : WordsModel) (table : T) (number : ℕ) (plans : List (List Act)) (workers : List (PromisedHandle Ended (Loan T))) (endings : List Ended) → All (IsWorkerOf words) workers → ((index : ℕ) (w : PromisedHandle Ended (Loan T)) → slice_get workers index ≡ Some w → (w.promise.table.now ≡ table) × (w.promise.index ≡ number + index) × (slice_get plans index ≡ Some w.promise.plan.now)) → HaveKept puts exports workers endings → HaveEnded (puts table) (exports table) words (number + 1) plans endings
+ended-from puts exports words table number plans [] [] lent are kept = tt
+ended-from puts exports words table number plans [] (e ∷ es) lent are kept = absurd kept
+ended-from puts exports words table number plans (w ∷ ws) [] lent are kept = absurd kept
+ended-from puts exports words table number [] (w ∷ ws) (e ∷ es) lent are kept = absurd (none-some w.promise.plan.now (are zero w refl).2)
+ended-from {T} puts exports words table number (p ∷ ps) (w ∷ ws) (e ∷ es) lent are kept =
+    let loan = w.promise in
+    let here = are zero w refl in
+    let place : loan.index ≡ number = omega (arith, here.1) in
+    let plan-is : loan.plan.now ≡ p = sym (same_Some p loan.plan.now here.2) in (
+      subst (λ (acts : List Act). HasEnded (puts table) (exports table) words (number + 1) acts e) plan-is
+          (subst (λ (n : ℕ). HasEnded (puts table) (exports table) words (n + 1) loan.plan.now e) place
+          (subst (λ (v : WordsModel). HasEnded (puts table) (exports table) v (loan.index + 1) loan.plan.now e) (All-head (IsWorkerOf words) w ws lent)
+          (subst (λ (t : T). HasEnded (puts t) (exports t) loan.words.now (loan.index + 1) loan.plan.now e) here.0 kept.0))),
+      ended-from puts exports words table (number + 1) ps ws es (All-tail (IsWorkerOf words) w ws lent)
+          (λ index v at. let it = are (suc index) v at in (it.0, omega (arith, it.1), it.2)) kept.1,
     )
+
+pub HaveEnded-workers : {T : Type 0} (puts : T → Puts) (exports : T → Exports) (words : WordsModel) (table : T) (plans : List (List Act)) (workers : List (PromisedHandle Ended (Loan T))) (endings : List Ended) → All (IsWorkerOf words) workers → AreWorkers table plans workers → HaveKept puts exports workers endings → HaveEnded (puts table) (exports table) words 1 plans endings
+HaveEnded-workers puts exports words table plans workers endings lent are kept =
+    let first : 0 + 1 ≡ 1 = omega arith in
+    subst (λ (n : ℕ). HaveEnded (puts table) (exports table) words n plans endings) first
+    (ended-from puts exports words table 0 plans workers endings lent (λ index w at. let it = are index w at in (it.table_is, omega (arith, it.index_is), it.plan_is)) kept)
+
+length-kept : {T : Type 0} (puts : T → Puts) (exports : T → Exports) (workers : List (PromisedHandle Ended (Loan T))) (endings : List Ended) → HaveKept puts exports workers endings → length endings ≡ length workers
+length-kept puts exports [] [] kept = refl
+length-kept puts exports [] (e ∷ es) kept = absurd kept
+length-kept puts exports (w ∷ ws) [] kept = absurd kept
+length-kept puts exports (w ∷ ws) (e ∷ es) kept = ap suc (length-kept puts exports ws es kept.1)
+
+abbrev steps_of_endings : List Ended → List Step
+steps_of_endings [] = []
+steps_of_endings (e ∷ es) = (e.driving.trace ++ e.looking.trace) ++ steps_of_endings es
+
+joined-trace : (seat : SeatModel) (es : List Ended) → (joined_of seat es).trace ≡ seat.trace ++ steps_of_endings es
+joined-trace seat [] = sym (append-nil seat.trace)
+joined-trace seat (e ∷ es) =
+    let rest = steps_of_endings es in
+    let driving = e.driving.trace in
+    let looking = e.looking.trace in
+    joined-trace (both_of (both_of seat e.driving) e.looking) es
+    ∙ append_assoc (seat.trace ++ driving) looking rest
+    ∙ append_assoc seat.trace driving (looking ++ rest)
+    ∙ ap (λ steps. seat.trace ++ steps) (sym (append_assoc driving looking rest))
+
+err-ok : (r : Result (Unit {0}) Refusal) (e : Refusal) → r ≡ Err e → r ≡ Ok tt → ⊥
+err-ok r e refused ok = subst (λ (s : Result (Unit {0}) Refusal). OnOk s ⊥) (sym refused ∙ ok) tt
+
+both-ok : (a b : Result (Unit {0}) Refusal) → result_and a b ≡ Ok tt → (a ≡ Ok tt) × (b ≡ Ok tt)
+both-ok (Ok x) b is = (refl, is)
+both-ok (Err e) b is = absurd (err-ok (Err e) e refl is)
+
+record Worked (puts : Puts) (exports : Exports) (words : WordsModel) (number : ℕ) (plans : List (List Act)) (endings : List Ended) : Type 0 where
+  clients : List ClientModel
+  worked : HaveWorked puts exports words number plans clients
+  steps : steps_of_endings endings ≡ steps_of_all clients
+
+worked-from : (puts : Puts) (exports : Exports) (words : WordsModel) (number : ℕ) (plans : List (List Act)) (endings : List Ended) → HaveEnded puts exports words number plans endings → answer_of endings ≡ Ok tt → length endings ≡ length plans → Worked puts exports words number plans endings
+worked-from puts exports words number [] [] ended ok even = record { clients = []; worked = tt; steps = refl }
+worked-from puts exports words number (p ∷ ps) [] ended ok even = absurd (omega (arith, even))
+worked-from puts exports words number [] (e ∷ es) ended ok even = absurd ended
+worked-from puts exports words number (p ∷ ps) (e ∷ es) ended ok even =
+    let both = both-ok e.answer (answer_of es) ok in
+    let here = subst (λ (r : Result (Unit {0}) Refusal). OnOk r ((after : ClientModel) × HasWorked puts exports words number p after × (e.driving ≡ after.driver.seat) × (e.looking ≡ after.seat))) both.0 ended.0.1 in
+    let rest = worked-from puts exports words (number + 1) ps es ended.1 both.1 (omega (arith, even)) in
+    let after = here.0 in
+    record {
+      clients = after ∷ rest.clients;
+      worked = (here.1, rest.worked);
+      steps =
+          ap (λ (s : SeatModel). (s.trace ++ e.looking.trace) ++ steps_of_endings es) here.2
+          ∙ ap (λ (s : SeatModel). (after.driver.seat.trace ++ s.trace) ++ steps_of_endings es) here.3
+          ∙ ap (λ steps. steps_of after ++ steps) rest.steps;
+    }
+
+-- ---- what comes of all of them
+
+-- all were started, and none was refused
+pub AreWorkedOff-joined : {T : Type 0} (puts : T → Puts) (exports : T → Exports) (words : WordsModel) (table : T) (plans : List (List Act)) (workers : List (PromisedHandle Ended (Loan T))) (before after : SeatModel) (ended started : Result (Unit {0}) Refusal) → All (IsWorkerOf words) workers → AreWorkers table plans workers → before.trace ≡ [] → OnOk started (length workers ≡ length plans) → HaveJoined puts exports workers before after ended → result_and ended started ≡ Ok tt → AreWorkedOff (puts table) (exports table) words plans after
+AreWorkedOff-joined puts exports words table plans workers before after ended started lent are fresh begun joined ok =
+    let both = both-ok ended started ok in
+    let all : length workers ≡ length plans = subst (λ (r : Result (Unit {0}) Refusal). OnOk r (length workers ≡ length plans)) both.1 begun in
+    let endings = joined.endings in
+    let worked = worked-from (puts table) (exports table) words 1 plans endings (HaveEnded-workers puts exports words table plans workers endings lent are joined.kept) (sym joined.first ∙ both.0) (length-kept puts exports workers endings joined.kept ∙ all) in
+    record {
+      clients = worked.clients;
+      worked = worked.worked;
+      steps = ap (λ (s : SeatModel). s.trace) joined.seat ∙ joined-trace before endings ∙ ap (λ steps. steps ++ steps_of_endings endings) fresh ∙ worked.steps;
+    }
+
+first-refusal : (ended started : Result (Unit {0}) Refusal) (endings : List Ended) (e : Refusal) → ended ≡ answer_of endings → IfErr started (λ f. f ≡ Memory) → result_and ended started ≡ Err e → (answer_of endings ≡ Err e) ⊎ ((answer_of endings ≡ Ok tt) × (e ≡ Memory))
+first-refusal (Err f) started endings e first memory is = inl (sym first ∙ is)
+first-refusal (Ok x) (Err f) endings e first memory is = inr (sym first, subst (λ (r : Result (Unit {0}) Refusal). IfErr r (λ f. f ≡ Memory)) is memory)
+first-refusal (Ok x) (Ok y) endings e first memory is = absurd (err-ok (Ok y) e is refl)
+
+-- one of them was refused, or a worker could not be started
+pub HasRefused-joined : {T : Type 0} (puts : T → Puts) (exports : T → Exports) (words : WordsModel) (table : T) (plans : List (List Act)) (workers : List (PromisedHandle Ended (Loan T))) (before after : SeatModel) (ended started : Result (Unit {0}) Refusal) (e : Refusal) → All (IsWorkerOf words) workers → AreWorkers table plans workers → IfErr started (λ f. f ≡ Memory) → HaveJoined puts exports workers before after ended → result_and ended started ≡ Err e → HasRefused (puts table) (exports table) words plans e
+HasRefused-joined puts exports words table plans workers before after ended started e lent are memory joined is = record {
+  endings = joined.endings;
+  ended = HaveEnded-workers puts exports words table plans workers joined.endings lent are joined.kept;
+  first = first-refusal ended started joined.endings e joined.first memory is;
+}

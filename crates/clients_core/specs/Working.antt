@@ -1,9 +1,13 @@
 -- Clients that have worked their plans off, and the promises of their threads.
-use Rattle.std.specs.Prelude.{◌≡◌, ℕ, ◌+◌, List, [], Some, slice_get, OnOk}
+use Rattle.std.specs.Prelude.{◌≡◌, ◌⊎◌, ℕ, ◌+◌, List, [], ◌∷◌, ◌++◌, Some, slice_get, Result, Ok, Err, OnOk}
+use Rattle.std.specs.Result.{result_and}
 use Rattle.std.specs.declared.thread.PromisedHandle.{PromisedHandle}
+use Rattle.point_core.specs.declared.refusal.Refusal.{Refusal}
+use Rattle.point_core.specs.declared.refusal.Refusal.TheVariants.{Memory}
+use Rattle.words_core.specs.declared.trace.Step.{Step}
 use Rattle.words_core.specs.Driver.{DriverModel}
 use Rattle.words_core.specs.Layout.{claim_word}
-use Rattle.words_core.specs.Seat.{SeatModel, with_step}
+use Rattle.words_core.specs.Seat.{SeatModel, both_of, with_step}
 use Rattle.words_core.specs.Trace.{won}
 use Rattle.words_core.specs.Words.{WordsModel}
 use Rattle.resv_core.specs.declared.plan.Act.{Act}
@@ -16,22 +20,43 @@ use Rattle.clients_core.specs.Clients.{IsSinglePart, IsGivenBack}
 abbrev pub claimed_by : SeatModel → ℕ → DriverModel
 claimed_by seat ctx = record { seat = with_step seat (won (claim_word ctx)); ctx = ctx; value = 0 }
 
--- a client whose driver has just claimed the context of that number, with two seats of one part of these words
+-- a seat of one part of these words, which has made no step
+abbrev pub IsFreshPart : WordsModel → SeatModel → Type 0
+IsFreshPart words seat = IsSinglePart words seat × (seat.trace ≡ [])
+
+-- a client whose driver has just claimed the context of that number, with two seats of one part of these words, which have made
+-- no other step
 abbrev pub HasClaimed : WordsModel → ℕ → ClientModel → Type 0
 HasClaimed words number client =
-    IsSinglePart words client.seat
-    × ((seat : SeatModel) × IsSinglePart words seat × (client.driver ≡ claimed_by seat number))
+    IsFreshPart words client.seat
+    × ((seat : SeatModel) × IsFreshPart words seat × (client.driver ≡ claimed_by seat number))
 
 -- the client of that number has claimed its context and then made the acts of its plan, in order, each of them accepted
 abbrev pub HasWorked : Puts → Exports → WordsModel → ℕ → List Act → ClientModel → Type 0
 HasWorked puts exports words number plan after =
     (before : ClientModel) × HasClaimed words number before × HaveActed puts exports [] plan before after
 
--- each plan was worked off, by the client of its number
-abbrev pub AreWorkedOff : Puts → Exports → WordsModel → List (List Act) → Type 0
-AreWorkedOff puts exports words plans =
-    (index : ℕ) (plan : List Act) → slice_get plans index ≡ Some plan
-    → (after : ClientModel) × HasWorked puts exports words (index + 1) plan after
+-- each plan was worked off, by the client of its number, which is this one for the first
+abbrev pub HaveWorked : Puts → Exports → WordsModel → ℕ → List (List Act) → List ClientModel → Type 0
+HaveWorked puts exports words number [] [] = Unit {0}
+HaveWorked puts exports words number [] (c ∷ cs) = ⊥
+HaveWorked puts exports words number (plan ∷ plans) [] = ⊥
+HaveWorked puts exports words number (plan ∷ plans) (c ∷ cs) =
+    HasWorked puts exports words number plan c × HaveWorked puts exports words (number + 1) plans cs
+
+-- all steps of a client: those of its driver, and its puts and looks
+abbrev pub steps_of : ClientModel → List Step
+steps_of client = client.driver.seat.trace ++ client.seat.trace
+
+abbrev pub steps_of_all : List ClientModel → List Step
+steps_of_all [] = []
+steps_of_all (c ∷ cs) = steps_of c ++ steps_of_all cs
+
+-- each plan was worked off, by the client of its number, and the seat has just the steps of these clients
+pub record AreWorkedOff (puts : Puts) (exports : Exports) (words : WordsModel) (plans : List (List Act)) (all : SeatModel) : Type 0 where
+  pub clients : List ClientModel
+  pub worked : HaveWorked puts exports words 1 plans clients
+  pub steps : all.trace ≡ steps_of_all clients
 
 -- both seats came back, and no other refusal; where the answer is Ok, they are those of the client once it had worked its
 -- plan off
@@ -58,9 +83,47 @@ AreWorkers {T} table plans workers =
     (index : ℕ) (worker : PromisedHandle Ended (Loan T)) →
     slice_get workers index ≡ Some worker → IsWorkerAt table plans index worker
 
--- the plan that it was promised for was worked off
-abbrev pub HasWorkedOff : {T : Type 0} → (T → Puts) → (T → Exports) → PromisedHandle Ended (Loan T) → Type 0
-HasWorkedOff puts exports worker =
-    (after : ClientModel)
-    × HasWorked (puts worker.promise.table.now) (exports worker.promise.table.now) worker.promise.words.now
-    (worker.promise.index + 1) worker.promise.plan.now after
+-- the worker has given this back, as it has promised
+abbrev pub HasKept : {T : Type 0} → (T → Puts) → (T → Exports) → PromisedHandle Ended (Loan T) → Ended → Type 0
+HasKept puts exports worker ended =
+    HasEnded (puts worker.promise.table.now) (exports worker.promise.table.now) worker.promise.words.now
+    (worker.promise.index + 1) worker.promise.plan.now ended
+
+-- each worker has given back one of these
+abbrev pub HaveKept : {T : Type 0} → (T → Puts) → (T → Exports) → List (PromisedHandle Ended (Loan T)) → List Ended → Type 0
+HaveKept puts exports [] [] = Unit {0}
+HaveKept puts exports [] (e ∷ es) = ⊥
+HaveKept puts exports (w ∷ ws) [] = ⊥
+HaveKept puts exports (w ∷ ws) (e ∷ es) = HasKept puts exports w e × HaveKept puts exports ws es
+
+-- the refusal of the first that was refused, where one was
+abbrev pub answer_of : List Ended → Result (Unit {0}) Refusal
+answer_of [] = Ok tt
+answer_of (e ∷ es) = result_and e.answer (answer_of es)
+
+-- a seat that has taken both seats of each in
+abbrev pub joined_of : SeatModel → List Ended → SeatModel
+joined_of seat [] = seat
+joined_of seat (e ∷ es) = joined_of (both_of (both_of seat e.driving) e.looking) es
+
+-- all workers were joined, in order: the seat has taken in what they gave back, and the answer is of the first that was refused
+pub record HaveJoined {T : Type 0} (puts : T → Puts) (exports : T → Exports) (workers : List (PromisedHandle Ended (Loan T)))
+    (before after : SeatModel) (answer : Result (Unit {0}) Refusal) : Type 0 where
+  pub endings : List Ended
+  pub kept : HaveKept puts exports workers endings
+  pub seat : after ≡ joined_of before endings
+  pub first : answer ≡ answer_of endings
+
+-- the clients of the first of these plans have ended so; the number is that of the first
+abbrev pub HaveEnded : Puts → Exports → WordsModel → ℕ → List (List Act) → List Ended → Type 0
+HaveEnded puts exports words number plans [] = Unit {0}
+HaveEnded puts exports words number [] (e ∷ es) = ⊥
+HaveEnded puts exports words number (plan ∷ plans) (e ∷ es) =
+    HasEnded puts exports words number plan e × HaveEnded puts exports words (number + 1) plans es
+
+-- clients were started, in the order of the plans; the refusal is that of the first of them that was refused, or else memory was
+-- refused to start the next
+pub record HasRefused (puts : Puts) (exports : Exports) (words : WordsModel) (plans : List (List Act)) (refusal : Refusal) : Type 0 where
+  pub endings : List Ended
+  pub ended : HaveEnded puts exports words 1 plans endings
+  pub first : (answer_of endings ≡ Err refusal) ⊎ ((answer_of endings ≡ Ok tt) × (refusal ≡ Memory))

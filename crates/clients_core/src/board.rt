@@ -193,6 +193,7 @@ impl SharedTable for Board {
         self.export_into(alloc, words, seat, buffer, usage, listing)
     }
 
+    /// Torn exactly as the board's own `settle` is.
     fn settle<R: Wait>(
         &self,
         _rt: &R,
@@ -200,7 +201,16 @@ impl SharedTable for Board {
         words: &Words,
         all: &mut Whole,
         plans: &[Plan],
-    ) -> Result<Settled, Refusal> {
+    ) -> Result<Settled, Refusal>
+        requires own { (all.old.words ≡ words.now) × (self.now ≡ words.now) }
+        ensures stepped { HasStepped all.old all.new }
+        ensures none_closed { IfOk result (λ settled. HasClosedNone words.now.contexts all.old) }
+        ensures torn { (result ≡ Err refusal.Torn) ↔ (¬ (HasClosedNone words.now.contexts all.old ×
+            AreAsPlanned words.now all.old plans.now (gathered_values words.now.contexts all.old))) }
+        ensures values { IfOk result (λ settled. settled.values ≡ gathered_values words.now.contexts all.old) }
+        ensures tables { IfOk result (λ settled. settled.tables ≡ tables_of words.now.buffers plans.now settled.values) }
+        ensures refusals { IfErr result (λ e. (e ≡ refusal.Torn) ⊎ (e ≡ refusal.Memory)) }
+    {
         self.settle(alloc, words, all, plans)
     }
 }

@@ -4,6 +4,7 @@ ghost use Rattle.std.specs.List.{range_with_len};
 ghost use Rattle.point_core.specs.declared.context.TheConstants.{CONTEXTS};
 ghost use Rattle.point_core.specs.Reach.{value_at};
 ghost use Rattle.words_core.specs.declared.seat.TheConstants.{PARTS};
+ghost use Rattle.words_core.specs.Seat.{SeatModel};
 ghost use Rattle.resv_core.specs.Settled.{increments_of, values_of};
 ghost use Rattle.clients_core.specs.Clients.{IsClientRefusal, ArePlans};
 ghost use Rattle.clients_core.specs.Plans.{cause_to_refuse_plans, settled_of};
@@ -43,7 +44,8 @@ pub fn run_clients<R: Threads + Wait + Sync, T: SharedTable, G: Gate>(
     ensures settled { IfOk result (λ r. r.0 ≡ settled_of buffers plans.now) }
     ensures made { IfOk result (λ r.
         ((T.made_for r.1).contexts ≡ length plans.now) × ((T.made_for r.1).buffers ≡ buffers)) }
-    ensures worked { IfOk result (λ r. AreWorkedOff (T.puts r.1) (T.exports r.1) (T.made_for r.1) plans.now) }
+    ensures worked { IfOk result (λ r. (all : SeatModel) × (all.words ≡ T.made_for r.1) × (all.parts ≡ PARTS)
+        × AreWorkedOff (T.puts r.1) (T.exports r.1) (T.made_for r.1) plans.now all) }
     ensures refused { IfSome (cause_to_refuse_plans buffers plans.now) (λ e. result ≡ Err e) }
     ensures started { cause_to_refuse_plans buffers plans.now ≡ None → IfErr result IsClientRefusal }
 {

@@ -1,7 +1,9 @@
 // Buffers that clients share, each under a lock of its own.
-ghost use Rattle.std.specs.Prelude.{◌≡◌, ◌⊎◌, vec_len, IfErr, IfOk, OnOk};
-ghost use Rattle.point_core.specs.Agreement.{AllAbove, HasRisingContexts};
+ghost use Rattle.std.specs.Prelude.{◌≡◌, ◌⊎◌, ◌++◌, ◌∷◌, [], vec_len, IfErr, IfOk, OnErr, OnOk};
+ghost use Rattle.point_core.specs.Agreement.{AllAbove, HasRisingContexts, listing as pending_of};
 ghost use Rattle.point_core.specs.declared.refusal.Refusal.TheVariants as refusal;
+ghost use Rattle.point_core.specs.Usage.{usage_number};
+ghost use Rattle.resv_core.specs.Resv.{entry_of};
 ghost use Rattle.words_core.specs.Loads.{reach_seen, HasLoadedAll};
 
 use crate::expected::expected_in;
@@ -155,6 +157,8 @@ impl Locked {
     ) -> Result<(), Refusal>
         requires own { seat.old.words ≡ words.now }
         ensures loaded { HasLoadedAll seat.old seat.new (reach_seen seat.new) }
+        ensures put { OnOk result (self.new.buffer.journal ≡ self.old.buffer.journal ++ entry_of point usage ∷ []) }
+        ensures refused { OnErr result (self.new.buffer.journal ≡ self.old.buffer.journal) }
         ensures refusals { IfErr result (λ e. (e ≡ refusal.Torn) ⊎ (e ≡ refusal.Memory)) }
     {
         self.loaded.clear();
@@ -174,6 +178,9 @@ impl Locked {
         requires own { seat.old.words ≡ words.now }
         ensures loaded { HasLoadedAll seat.old seat.new (reach_seen seat.new) }
         ensures floor { OnOk result (HasLoadedAll seat.old seat.new listing.new.floor) }
+        ensures journal { self.new.buffer.journal ≡ self.old.buffer.journal }
+        ensures points { OnOk result
+            (listing.new.points ≡ pending_of self.old.buffer.journal (usage_number usage) listing.new.floor) }
         ensures rising { OnOk result (HasRisingContexts listing.new.points) }
         ensures above { OnOk result (AllAbove listing.new.floor listing.new.points) }
         ensures refusals { IfErr result (λ e. (e ≡ refusal.Torn) ⊎ (e ≡ refusal.Memory)) }

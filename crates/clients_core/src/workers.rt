@@ -1,8 +1,10 @@
 // A thread for each plan.
-ghost use Rattle.std.specs.Prelude.{◌≡◌, ◌+◌, ◌*◌, ◌^◌, ◌<◌, ◌≤◌, length, All, IfErr, IfOk, OnOk, vec_len, vec_capacity};
+ghost use Rattle.std.specs.Prelude.{◌≡◌, ◌+◌, ◌*◌, ◌^◌, ◌<◌, ◌≤◌, [], length, All, IfErr, IfOk, OnOk, vec_len, vec_capacity};
+ghost use Rattle.point_core.specs.declared.refusal.Refusal.TheVariants as refusal;
+ghost use Rattle.words_core.specs.Seat.{both_of};
 ghost use Rattle.point_core.specs.declared.context.TheConstants.{CONTEXTS};
 ghost use Rattle.clients_core.specs.Clients.{IsClientRefusal, IsSinglePart, IsGivenBack, IsPlan, ArePlans};
-ghost use Rattle.clients_core.specs.Working.{AreWorkedOff, AreWorkers, HasEnded, HasWorkedOff, IsWorkerOf};
+ghost use Rattle.clients_core.specs.Working.{AreWorkedOff, AreWorkers, HasEnded, HasRefused, HaveJoined, IsFreshPart, IsWorkerOf};
 ghost use Rattle.resv_core.specs.Settled.{IsWithin, increments_of};
 
 use crate::client::{Shared, act_all};
@@ -51,7 +53,7 @@ fn work<R: Wait, T: SharedTable, G: Gate>(
     mut looking: Seat,
 ) -> Ended
     requires own { T.made_for shared.now.table.now ≡ shared.now.words.now }
-    requires seats { IsSinglePart shared.now.words.now driving × IsSinglePart shared.now.words.now looking }
+    requires seats { IsFreshPart shared.now.words.now driving × IsFreshPart shared.now.words.now looking }
     requires client { (index < shared.now.words.now.contexts) × (index < CONTEXTS) }
     requires plan { IsPlan shared.now.words.now plan.now }
     ensures { HasEnded (T.puts shared.now.table.now) (T.exports shared.now.table.now)
@@ -87,13 +89,13 @@ fn start<'s, E, R: Wait + Sync, T: SharedTable, G: Gate>(
     looking: Seat,
 ) -> Result<PromisedHandle<Ended, Loan<'s, T>>, Refusal>
     requires own { T.made_for shared.now.table.now ≡ shared.now.words.now }
-    requires seats { IsSinglePart shared.now.words.now driving × IsSinglePart shared.now.words.now looking }
+    requires seats { IsFreshPart shared.now.words.now driving × IsFreshPart shared.now.words.now looking }
     requires client { (index < shared.now.words.now.contexts) × (index < CONTEXTS) }
     requires plan { IsPlan shared.now.words.now plan.now }
     ensures promise { IfOk result (λ worker. worker.promise.words.now ≡ shared.now.words.now) }
     ensures table { IfOk result (λ worker. worker.promise.table.now ≡ shared.now.table.now) }
     ensures plan { IfOk result (λ worker. (worker.promise.index ≡ index) × (worker.promise.plan.now ≡ plan.now)) }
-    ensures refusals { IfErr result IsClientRefusal }
+    ensures memory { IfErr result (λ e. e ≡ refusal.Memory) }
 {
     let Shared {
         rt,
@@ -111,7 +113,7 @@ fn start<'s, E, R: Wait + Sync, T: SharedTable, G: Gate>(
         },
         move || -> Ended
             requires own { T.made_for table.now ≡ words.now }
-            requires seats { IsSinglePart words.now driving × IsSinglePart words.now looking }
+            requires seats { IsFreshPart words.now driving × IsFreshPart words.now looking }
             requires client { (index < words.now.contexts) × (index < CONTEXTS) }
             requires plan { IsPlan words.now plan.now }
             ensures { HasEnded (T.puts table.entry.now) (T.exports table.entry.now)
@@ -152,7 +154,8 @@ fn start_all<'s, E, R: Wait + Sync, T: SharedTable, G: Gate>(
     ensures plans { AreWorkers shared.now.table.now plans.now workers.new.items }
     ensures all { OnOk result (length workers.new.items ≡ length plans.now) }
     ensures parts { OnOk result (all.new.parts + 2 * vec_len workers.new ≡ all.old.parts) }
-    ensures refusals { IfErr result IsClientRefusal }
+    ensures trace { all.new.trace ≡ all.old.trace }
+    ensures memory { IfErr result (λ e. e ≡ refusal.Memory) }
 {
     for (index, plan) in plans.iter().enumerate() {
         let driving = shared.words.part(all, 1);
@@ -174,7 +177,7 @@ fn join_all<R: Threads, T: SharedTable>(
     requires promises { All (IsWorkerOf words.now) workers.items }
     ensures words { all.new.words ≡ all.old.words }
     ensures parts { all.new.parts ≡ all.old.parts + 2 * vec_len workers.entry }
-    ensures worked { OnOk result (All (HasWorkedOff T.puts T.exports) workers.entry.items) }
+    ensures joined { HaveJoined T.puts T.exports workers.entry.items all.old all.new result }
     ensures refusals { IfErr result IsClientRefusal }
 {
     let mut answer = Ok(());
@@ -190,6 +193,7 @@ fn take_in(words: &Words, ended: Ended, all: &mut Seat) -> Result<(), Refusal>
     requires own { (all.old.words ≡ words.now) × IsGivenBack words.now ended }
     ensures words { all.new.words ≡ all.old.words }
     ensures parts { all.new.parts ≡ all.old.parts + 2 }
+    ensures both { all.new ≡ both_of (both_of all.old ended.driving) ended.looking }
     ensures answer { result ≡ ended.answer }
 {
     let Ended {
@@ -212,8 +216,11 @@ fn work_in<'s, E, R: Threads + Wait + Sync, T: SharedTable, G: Gate>(
     requires own { (T.made_for shared.now.table.now ≡ shared.now.words.now) × (all.words ≡ shared.now.words.now) }
     requires plans { ArePlans shared.now.words.now plans.now }
     requires parts { 2 * CONTEXTS < all.parts }
+    requires fresh { all.trace ≡ [] }
     ensures whole { IfOk result (λ seat. (seat.words ≡ all.words) × (seat.parts ≡ all.parts)) }
-    ensures worked { OnOk result (AreWorkedOff (T.puts shared.now.table.now) (T.exports shared.now.table.now)
+    ensures worked { IfOk result (AreWorkedOff (T.puts shared.now.table.now) (T.exports shared.now.table.now)
+        shared.now.words.now plans.now) }
+    ensures refused { IfErr result (HasRefused (T.puts shared.now.table.now) (T.exports shared.now.table.now)
         shared.now.words.now plans.now) }
     ensures refusals { IfErr result IsClientRefusal }
 {
@@ -240,8 +247,10 @@ pub(crate) fn work_all<R: Threads + Wait + Sync, T: SharedTable, G: Gate>(
     requires own { (T.made_for table.now ≡ words.now) × (all.words ≡ words.now) }
     requires plans { ArePlans words.now plans.now }
     requires parts { 2 * CONTEXTS < all.parts }
+    requires fresh { all.trace ≡ [] }
     ensures whole { IfOk result (λ seat. (seat.words ≡ all.words) × (seat.parts ≡ all.parts)) }
-    ensures worked { OnOk result (AreWorkedOff (T.puts table.now) (T.exports table.now) words.now plans.now) }
+    ensures worked { IfOk result (AreWorkedOff (T.puts table.now) (T.exports table.now) words.now plans.now) }
+    ensures refused { IfErr result (HasRefused (T.puts table.now) (T.exports table.now) words.now plans.now) }
     ensures refusals { IfErr result IsClientRefusal }
 {
     thread::scope(
@@ -251,8 +260,11 @@ pub(crate) fn work_all<R: Threads + Wait + Sync, T: SharedTable, G: Gate>(
             requires own { (T.made_for table.now ≡ words.now) × (all.words ≡ words.now) }
             requires plans { ArePlans words.now plans.now }
             requires parts { 2 * CONTEXTS < all.parts }
+            requires fresh { all.trace ≡ [] }
             ensures whole { IfOk result (λ seat. (seat.words ≡ all.words) × (seat.parts ≡ all.parts)) }
-            ensures worked { OnOk result (AreWorkedOff (T.puts table.entry.now) (T.exports table.entry.now)
+            ensures worked { IfOk result (AreWorkedOff (T.puts table.entry.now) (T.exports table.entry.now)
+                words.entry.now plans.entry.now) }
+            ensures refused { IfErr result (HasRefused (T.puts table.entry.now) (T.exports table.entry.now)
                 words.entry.now plans.entry.now) }
             ensures refusals { IfErr result IsClientRefusal }
         {

@@ -1,11 +1,17 @@
-// Merges of many files.
-use crate::calls::{Calls, name, point};
-use point_core::{Name, Point, Reach, Refusal};
+// Merges of many files, and a listing that becomes a file.
+ghost use Rattle.std.specs.Prelude.{IfOk};
+ghost use Rattle.point_core.specs.Agreement.{HasRisingContexts};
+
+use crate::calls::{Calls, name, point, reach_at};
+use point_core::{Clocks, Items, Listing, Name, Point, Reach, Refusal};
 use syncfile_core::Files;
 
 pub(crate) fn make_calls(rt: &HostRuntime, calls: &mut Calls) {
     if let Ok(mut files) = Files::new(rt.alloc()) {
         drop(create_and_merge(rt, calls, &mut files));
+    }
+    if let Ok(mut files) = Files::new(rt.alloc()) {
+        drop(adopt_and_close(rt, calls, &mut files));
     }
 }
 
@@ -46,5 +52,62 @@ fn show_points(rt: &HostRuntime, calls: &mut Calls, files: &Files, file: &Name) 
     match files.get(file) {
         Some(file) => calls.tell(rt, "get", &file.points.as_slice()),
         None => calls.tell(rt, "get", &Refusal::NoEntry),
+    }
+}
+
+fn show_floor(rt: &HostRuntime, calls: &mut Calls, files: &Files, file: &Name) {
+    match files.get(file) {
+        Some(file) => calls.tell(rt, "floor", &file.floor),
+        None => calls.tell(rt, "floor", &Refusal::NoEntry),
+    }
+}
+
+/// A file of a listing, which is closed.
+fn adopt_and_close(rt: &HostRuntime, calls: &mut Calls, files: &mut Files) -> Result<(), Refusal> {
+    let m = name(b'm')?;
+    adopt(rt, calls, files, m);
+    show_points(rt, calls, files, &m);
+    show_floor(rt, calls, files, &m);
+    names(rt, calls, files);
+    show_state(rt, calls, files, &m);
+    calls.tell(rt, "close", &files.close(&m));
+    show_state(rt, calls, files, &m);
+    Ok(())
+}
+
+/// Makes a file of a pending point, above a floor.
+fn adopt(rt: &HostRuntime, calls: &mut Calls, files: &mut Files, file: Name) {
+    let adopted = match listing(rt, calls) {
+        Ok(listing) => files.adopt(file, listing),
+        Err(refusal) => Err(refusal),
+    };
+    calls.tell(rt, "adopt", &adopted);
+}
+
+fn listing(rt: &HostRuntime, calls: &Calls) -> Result<Listing, Refusal>
+    ensures rising { IfOk result (λ listing. HasRisingContexts listing.points) }
+{
+    calls.allow()?;
+    let points = Vec::from_slice(rt.alloc(), &[point(0, 5)])?;
+    Ok(Listing {
+        points: Items::of(points),
+        floor: reach_at(4),
+    })
+}
+
+fn names(rt: &HostRuntime, calls: &mut Calls, files: &Files) {
+    let names = match calls.allow() {
+        Ok(()) => files.names(),
+        Err(refusal) => Err(refusal),
+    };
+    calls.tell(rt, "names", &names);
+}
+
+/// Whether the name is free, and the file's status at its floor and once its point is reached.
+fn show_state(rt: &HostRuntime, calls: &mut Calls, files: &Files, file: &Name) {
+    calls.tell(rt, "free", &files.free(file));
+    for value in [4, 5] {
+        let clocks = Clocks::open(&reach_at(value));
+        calls.tell(rt, "status", &files.status(file, &clocks));
     }
 }

@@ -13,6 +13,7 @@ mod reservations;
 mod running;
 mod scripts;
 mod seats;
+mod timelines;
 
 use calls::Calls;
 use clients_core::{Board, LockedTable};
@@ -20,6 +21,7 @@ use std::process::ExitCode;
 
 fn main(rt: HostRuntime) -> ExitCode {
     let mut calls = Calls::read(&mut rt.stdin());
+    timelines::make_calls(&rt, &mut calls);
     files::make_calls(&rt, &mut calls);
     reservations::make_calls(&rt, &mut calls);
     buffers::make_calls(&rt, &mut calls);

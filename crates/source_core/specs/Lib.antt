@@ -1,1 +1,2 @@
 pub mod Script
+pub mod Source

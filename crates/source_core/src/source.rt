@@ -1,5 +1,8 @@
 // Where a script is read from.
-ghost use Rattle.std.specs.Prelude.{◌≡◌};
+ghost use Rattle.std.specs.Prelude.{◌≡◌, IfOk, IfErr};
+ghost use Rattle.point_core.specs.declared.refusal.Refusal.TheVariants.{Read as ReadFault};
+ghost use Rattle.source_core.specs.Script.{file_of};
+ghost use Rattle.source_core.specs.Source.{HasUnread, bytes_of};
 
 use crate::script::Script;
 use point_core::Refusal;
@@ -26,7 +29,11 @@ impl<'r, 'a, R: Files + Eprint, S: Read + Drop> Source<'r, 'a, R, S> {
         rt: &'r R,
         script: Script<'a>,
         standard_input: S,
-    ) -> Result<Source<'r, 'a, R, S>, Refusal> {
+    ) -> Result<Source<'r, 'a, R, S>, Refusal>
+        ensures unread { IfOk result (λ source. HasUnread R.File.remaining S.remaining (file_of script.entry) standard_input
+            (bytes_of R.File.remaining S.remaining source)) }
+        ensures refusal { IfErr result (λ e. e ≡ ReadFault) }
+    {
         match script {
             Script::StandardInput => Ok(Source::StandardInput(standard_input)),
             Script::File(name) => match reported(rt, name, fs::open(rt, name)) {
@@ -38,6 +45,10 @@ impl<'r, 'a, R: Files + Eprint, S: Read + Drop> Source<'r, 'a, R, S> {
 }
 
 impl<'r, 'a, R: Files + Eprint, S: Read + Drop> Read for Source<'r, 'a, R, S> {
+    ghost use Rattle.source_core.specs.Source.{bytes_of};
+
+    ghost remaining = { bytes_of R.File.remaining S.remaining };
+
     fn read(&mut self, buf: &mut [u8]) -> io::Result<usize> {
         match self {
             Source::StandardInput(reader) => reader.read(buf),

@@ -9,5 +9,6 @@ invariant-loop-index g l = record {
   len : vec_len l.workers ≡ l.index;
   places : vec_capacity l.workers ≡ length l.plans;
   promises : All (IsWorkerOf l.shared.words.now) l.workers.items;
+  trace : l.all.trace ≡ l.initial.all.trace;
   plans : AreWorkers l.shared.table.now l.plans l.workers.items;
 }

@@ -1,17 +1,22 @@
-use Rattle.std.proofs.Common.{◌≡◌, ◌∙◌, All, length, sym}
-use Rattle.std.proofs.lemmas.Result.{IfOk-at_ok}
-use Rattle.clients_core.specs.Working.{HasWorkedOff}
-use Rattle.clients_core.proofs.Working.{AreWorkedOff-workers, both-ok}
+use Rattle.std.proofs.Common.{◌∙◌, sym}
+use Rattle.std.proofs.lemmas.Result.{err_from_is_err_and}
+use Rattle.clients_core.proofs.Working.{AreWorkedOff-joined, HasRefused-joined}
 use Rattle.clients_core.proofs.workers.work_in.Goals as goal
 
 pub returns-clause-worked : goal.returns-clause-worked
 returns-clause-worked g c =
-    let puts = g.T.SharedTable.puts in
-    let exports = g.T.SharedTable.exports in
     let shared = c.args.shared.now in
-    let plans = c.args.plans.now in
-    let workers = c.start_all-started.new.workers.items in
-    let Worked = All (HasWorkedOff puts exports) workers in
-    let Begun = length workers ≡ length plans in
-    let both = IfOk-at_ok (λ _. Worked × Begun) (sym c.and.ensures ∙ c.in_ok-and.was) (both-ok Worked Begun c.join_all-ended.result c.start_all-started.result c.join_all-ended.ensures.worked c.start_all-started.ensures.all) in
-    AreWorkedOff-workers puts exports shared.words.now shared.table.now plans workers c.start_all-started.ensures.promises c.start_all-started.ensures.plans both.1 both.0
+    let started = c.start_all-started in
+    let ended = c.join_all-ended in
+    AreWorkedOff-joined g.T.SharedTable.puts g.T.SharedTable.exports shared.words.now shared.table.now c.args.plans.now started.new.workers.items started.new.all ended.new.all ended.result started.result
+    started.ensures.promises started.ensures.plans (started.ensures.trace ∙ c.requires.fresh) started.ensures.all ended.ensures.joined (sym c.and.ensures ∙ c.in_ok-and.was)
+
+pub returns-in_err-and-clause-refused : goal.returns-in_err-and-clause-refused
+returns-in_err-and-clause-refused g c =
+    let shared = c.args.shared.now in
+    let started = c.start_all-started in
+    let ended = c.join_all-ended in
+    let refused = HasRefused-joined g.T.SharedTable.puts g.T.SharedTable.exports shared.words.now shared.table.now c.args.plans.now started.new.workers.items started.new.all ended.new.all ended.result started.result _
+    started.ensures.promises started.ensures.plans started.ensures.memory ended.ensures.joined (sym c.and.ensures ∙ c.in_err-and.was) in
+    let p = err_from_is_err_and c.from_residual-in_err-and.result c.from_residual-in_err-and.ensures.1 in
+    rw (p.1, p.2) refused

@@ -1,0 +1,19 @@
+use Rattle.std.proofs.Common.{◌≡◌, ℕ, List, ◌++◌, String, Global, string_bytes, subst}
+use Rattle.std.specs.Io.KnownBytes.{Appends}
+use Rattle.check_core.specs.Update.{update_text}
+use Rattle.check_core.proofs.Reported.{reported-next}
+use Rattle.check_core.proofs.updates.update_each.Goals as goal
+
+pub loop-name-preserved : goal.loop-name-preserved
+loop-name-preserved g c =
+    let text_of : String Global → List ℕ = λ name. string_bytes name in
+    let was = c.loop-name.invariant in
+    let update = c.in_ok-update.update in
+    let contents = g.W.Write.contents in
+    let before = contents c.args.errors.now in
+    let middle = contents c.loop-name.errors in
+    let after = contents c.report_update.new.errors in
+    let written = subst (λ (text : List ℕ). Appends middle after (update_text text update)) c.as_str-in-loop-name.ensures.value c.in_ok-report_update.ensures.ok in
+    let next = reported-next text_of c.args.names.now c.loop-name.name-index c.name-item.result c.loop-name.updates.items c.push.new.updates.items update before middle after
+    c.loop-name-test.true c.name-item.is was.count was.reported written c.in_ok-push.ensures in
+    record { count = next.0; reported = next.1 }

@@ -1,0 +1,56 @@
+// Two timelines by name.
+use crate::calls::{Calls, name};
+use point_core::{Context, Name, Refusal};
+use timeline_core::Timelines;
+
+pub(crate) fn make_calls(rt: &HostRuntime, calls: &mut Calls) {
+    if let Ok(mut timelines) = Timelines::new(rt.alloc()) {
+        drop(name_and_advance(rt, calls, &mut timelines));
+    }
+}
+
+fn name_and_advance(
+    rt: &HostRuntime,
+    calls: &mut Calls,
+    timelines: &mut Timelines,
+) -> Result<(), Refusal> {
+    let (a, b, z) = (name(b'a')?, name(b'b')?, name(b'z')?);
+    create(rt, calls, timelines, a);
+    create(rt, calls, timelines, b);
+    create(rt, calls, timelines, a);
+    calls.tell(rt, "inc", &timelines.inc(&b, 3));
+    calls.tell(rt, "inc", &timelines.inc(&z, 1));
+    calls.tell(rt, "value", &timelines.value(&b));
+    show(rt, calls, timelines, &b);
+    rows(rt, calls, timelines);
+    Ok(())
+}
+
+fn create(rt: &HostRuntime, calls: &mut Calls, timelines: &mut Timelines, timeline: Name) {
+    let context = match calls.allow() {
+        Ok(()) => timelines.create(timeline),
+        Err(refusal) => Err(refusal),
+    };
+    calls.tell(rt, "create", &context);
+}
+
+/// What both timelines have reached, the context of one by its name, and the names of three contexts.
+fn show(rt: &HostRuntime, calls: &mut Calls, timelines: &Timelines, timeline: &Name) {
+    let reach = timelines.reach();
+    calls.tell(rt, "reach", &[reach.at(0), reach.at(1), reach.at(2)]);
+    calls.tell(rt, "context", &timelines.context(timeline));
+    for place in 0..3 {
+        match timelines.name(Context::at(place)) {
+            Some(name) => calls.tell(rt, "name", &name.as_bytes()),
+            None => calls.tell(rt, "name", &Refusal::NoEntry),
+        }
+    }
+}
+
+fn rows(rt: &HostRuntime, calls: &mut Calls, timelines: &Timelines) {
+    let rows = match calls.allow() {
+        Ok(()) => timelines.rows(),
+        Err(refusal) => Err(refusal),
+    };
+    calls.tell(rt, "rows", &rows);
+}
