@@ -18,7 +18,7 @@ timelines_in es = map (λ e. (e.0, e.1.timeline)) es
 abbrev pub timelines_state : List (ℕ × OpenTimeline) → List Waiting → TimelinesState
 timelines_state es index = record { entries = timelines_in es; index = index }
 
--- what is kept of them
+-- no file waits for an open timeline below its floor, and the index is in order
 pub record HasFloors (es : List (ℕ × OpenTimeline)) (index : List Waiting) : Type 0 where
   pub floors : (k : Waiting) → holds index k ≡ true → IfSome (at es k.timeline) (λ o. o.floor ≤ k.value)
   pub ordered : AreInOrder index

@@ -4,7 +4,7 @@ ghost use Rattle.device_core.specs.State.{at};
 
 use std::collections::HashMap;
 
-/// A map with more than so many places for each entry gives some back.
+/// A map with at least so many places for each entry gives some back.
 const MOST_PLACES: usize = 4;
 
 /// How many places for each entry it then keeps.
@@ -15,8 +15,8 @@ const FEW_PLACES: usize = 64;
 
 const _: () = prove!(KEPT_PLACES < MOST_PLACES);
 
-/// Gives back what a map has no use for. A removal then costs the same on average, since between two times that the
-/// entries move their number has halved.
+/// Gives back room that a map has no use for, and keeps its entries. The entries move once their number has halved since
+/// they last did, so on average a removal costs the same.
 pub fn give_room_back<T>(map: &mut HashMap<u64, T>)
     ensures { (q : ℕ) → at map.new.entries q ≡ at map.old.entries q }
 {
