@@ -1,3 +1,4 @@
+mod Active
 mod Edges
 mod Entering
 mod Lines

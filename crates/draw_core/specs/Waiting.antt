@@ -1,5 +1,5 @@
 -- What waits for what after the lines that were run.
-use Rattle.std.specs.Prelude.{◌≡◌, ℕ, Bool, ◌&&◌, not, nat_lt, List, [], ◌++◌, map, filter, flat_map, option_map, unwrap_or, is_some}
+use Rattle.std.specs.Prelude.{ℕ, Bool, ◌&&◌, not, nat_lt, List, [], ◌++◌, map, filter, flat_map, option_map, unwrap_or, is_some}
 use Rattle.point_core.specs.Clocks.{status_at}
 use Rattle.point_core.specs.Status.{is_signalled}
 use Rattle.point_core.specs.declared.entry.Point.{Point}

@@ -2,6 +2,8 @@
 ghost use Rattle.std.specs.Prelude.{◌≡◌, ◌<◌, ◌≤◌, ◌+◌, ◌∷◌, ◌++◌, [], List, All, length, true, IfOk, OnOk};
 ghost use Rattle.desk_core.specs.Answer.{is_refused};
 ghost use Rattle.desk_core.specs.Desk.{HasHistory};
+ghost use Rattle.desk_core.specs.History.{world_of};
+ghost use Rattle.command_core.specs.declared.command.Command.{Command as CommandModel};
 ghost use Rattle.line_core.specs.declared.line.Line.{Line as LineModel};
 ghost use Rattle.line_core.specs.Script.{script_of};
 ghost use Rattle.picture_core.specs.Bars.{bars_after};
@@ -10,7 +12,7 @@ ghost use Rattle.draw_core.specs.Progress.{AddsWaits, AreAskedFirst, HasDrawn, I
 ghost use Rattle.draw_core.specs.Drawn.{AreAsked};
 ghost use Rattle.draw_core.specs.Shown.{AreRising, ShowsRun};
 ghost use Rattle.draw_core.specs.Found.{IsReportOf, edges_by};
-ghost use Rattle.draw_core.specs.Waiting.{StandsAfter};
+ghost use Rattle.draw_core.specs.Waiting.{StandsAfter, edges_in};
 
 use crate::asking::ask_all;
 use crate::graph::enter_all;
@@ -78,28 +80,29 @@ impl Run {
     /// What waits for what after the last line that was run.
     ///
     /// Fails with `Memory` alone.
-    pub fn graph(&mut self) -> Result<Graph, Refusal> {
-        let mut graph = Graph::new(self.alloc);
+    pub fn graph(&mut self) -> Result<Graph, Refusal>
+        ensures edges { (history : List CommandModel) → HasHistory self.old.desk history →
+            IfOk result (λ graph. graph.edges.items ≡ edges_in (world_of history) self.old.history.lanes.watches.items) }
+    {
         let answer = self.desk.step(Command::Report);
-        self.enter_graph(&answer, &mut graph)?;
-        Ok(graph)
+        self.graph_of(&answer)
     }
 
-    fn enter_graph(&self, answer: &Answer, graph: &mut Graph) -> Result<(), Refusal>
-        ensures edges { OnOk result (IsReportOf answer.now (λ report. graph.new.edges.items
-            ≡ graph.old.edges.items ++ edges_by self.now.desk report self.now.history.lanes.watches.items)) }
+    fn graph_of(&self, answer: &Answer) -> Result<Graph, Refusal>
+        ensures edges { IfOk result (λ graph. IsReportOf answer.now (λ report.
+            graph.edges.items ≡ edges_by self.now.desk report self.now.history.lanes.watches.items)) }
     {
-        match answer {
-            Answer::Report(report) => {
-                enter_all(
-                    graph,
-                    &self.desk,
-                    report,
-                    self.history.lanes.watches.as_slice(),
-                )
-            }
-            _ => Err(Refusal::Memory),
-        }
+        let Answer::Report(report) = answer else {
+            return Err(Refusal::Memory);
+        };
+        let mut graph = Graph::new(self.alloc);
+        enter_all(
+            &mut graph,
+            &self.desk,
+            report,
+            self.history.lanes.watches.as_slice(),
+        )?;
+        Ok(graph)
     }
 
     fn new(alloc: Global, window: &Window) -> Result<Run, Refusal>
