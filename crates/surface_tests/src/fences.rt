@@ -5,7 +5,7 @@ ghost use Rattle.point_core.specs.Reach.{IsAtLeast};
 ghost use Rattle.fence_core.specs.SharedFence.{token_of};
 
 use fence_core::{CallbackList, Fence, SharedFence, Signal, Watches};
-use point_core::{Point, Reach, Refusal};
+use point_core::{Context, Point, Reach, Refusal};
 use std::alloc::Global;
 use std::sync::Wait;
 use words_core::{Seat, Won, Words};
@@ -65,6 +65,13 @@ pub fn signal(fence: &SharedFence, words: &Words, seat: &mut Seat) -> Signal
     requires seat { seat.old.words ≡ words.now }
 {
     fence.signal(words, seat)
+}
+
+pub fn pending(signal: Signal) -> Option<(Context, u64)> {
+    match signal {
+        Signal::NotYet { ctx, value } => Some((ctx, value)),
+        Signal::First(_) | Signal::Already => None,
+    }
 }
 
 pub fn add_callback<R: Wait>(fence: &SharedFence, rt: &R) -> Result<(), Refusal> {

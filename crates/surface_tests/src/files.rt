@@ -2,9 +2,9 @@
 ghost use Rattle.std.specs.Prelude.{◌≡◌};
 ghost use Rattle.point_core.specs.Agreement.{HasRisingContexts};
 
-use point_core::{Clocks, Floor, Items, Listing, Name, Point, Reach, Refusal, Status};
+use point_core::{Clocks, Context, Floor, Items, Listing, Name, Point, Reach, Refusal, Status};
 use std::alloc::Global;
-use syncfile_core::{FileInfo, Files, SyncFile};
+use syncfile_core::{FenceInfo, FileInfo, Files, SyncFile};
 use words_core::{Seat, Words};
 
 pub fn new(alloc: Global) -> Result<Files, Refusal> {
@@ -68,8 +68,21 @@ pub fn plain(alloc: Global, name: Name, point: Point) -> Result<SyncFile, Refusa
     SyncFile::plain(alloc, name, point)
 }
 
-pub fn points(file: &SyncFile) -> &Items<Point> {
-    &file.points
+pub fn name(file: &SyncFile) -> &Name {
+    &file.name
+}
+
+pub fn points(file: &SyncFile) -> &[Point] {
+    let points: &Items<Point> = &file.points;
+    points.as_slice()
+}
+
+pub fn fences(info: &FileInfo) -> (&Name, Status, &[FenceInfo]) {
+    (&info.name, info.status, info.fences.as_slice())
+}
+
+pub fn fence(info: &FenceInfo) -> (Option<Context>, u64, Status) {
+    (info.ctx, info.point, info.status)
 }
 
 /// A file's floor is kept in few bytes, and is a reach for whoever asks.

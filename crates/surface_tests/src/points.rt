@@ -1,6 +1,7 @@
 // Points, reaches and clocks.
 use point_core::{
-    Clocks, Context, Entry, Name, Point, Reach, Refusal, Status, Usage, canon, covers, is_signalled,
+    Clocks, Context, Entry, Items, LimitKind, Listing, Name, Point, Reach, Refusal, Status, TopRow,
+    Usage, canon, covers, is_signalled,
 };
 use std::alloc::Global;
 
@@ -14,6 +15,32 @@ pub fn new_context(number: u16) -> Option<Context> {
 
 pub fn usage_number(usage: Usage) -> u8 {
     usage.number()
+}
+
+pub fn entry(ctx: Context, value: u64, usage: Usage) -> Entry {
+    let point = Point { ctx, value };
+    Entry { point, usage }
+}
+
+pub fn row(usage: Usage, ctx: Context, point: u64) -> TopRow {
+    TopRow { usage, ctx, point }
+}
+
+pub fn listing(points: Vec<Point>, floor: Reach) -> Listing {
+    let points = Items::of(points);
+    Listing { points, floor }
+}
+
+pub fn listed_points(listing: &Listing) -> &[Point] {
+    listing.points.as_slice()
+}
+
+pub fn refusal(refusal: &Refusal) -> (u8, &'static str) {
+    (refusal.number(), refusal.name())
+}
+
+pub fn limit(kind: LimitKind) -> &'static str {
+    kind.word()
 }
 
 pub fn zero() -> Reach {

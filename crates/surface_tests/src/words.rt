@@ -86,6 +86,13 @@ pub fn set_once(words: &Words, seat: &mut Seat, flag: usize) -> Once
     words.set_once(seat, flag)
 }
 
+pub fn won(once: Once) -> Option<Won> {
+    match once {
+        Once::First(token) => Some(token),
+        Once::Already => None,
+    }
+}
+
 pub fn flag_of(token: &Won) -> usize {
     token.flag()
 }
