@@ -15,7 +15,7 @@ import threading
 TOGETHER = 6
 
 # The body of a `const fn` may be in a constant, which other functions see.
-FUNCTION = re.compile(r"^ *(?:pub(?:\([a-z]+\))? +)?(?:unsafe +)?fn +(\w+)", re.M)
+FUNCTION = re.compile(r"^ *(?:pub(?:\([a-z]+\))? +)?(?:unsafe +)?(?:extern +\S+ +)?fn +(\w+)", re.M)
 
 
 def functions_of(text):
