@@ -314,7 +314,7 @@ int main(void)
 {
     int before = lowest();
 
-    alarm(30);
+    give_up_after(30);
     allocation();
     memory();
     wrong_calls();

@@ -246,9 +246,10 @@ static void too_many(void)
     close(t);
 }
 
-int main(void)
+int main(int argc, char **argv)
 {
-    alarm(30);
+    (void)argv;
+    give_up_after(30);
     wrong_kinds();
     bad_pointers_of_timelines();
     bad_pointers_of_files();
@@ -256,6 +257,7 @@ int main(void)
     bad_reports();
     reads();
     flags();
-    too_many();
+    if (argc == 1)
+        too_many();
     return report("errors");
 }

@@ -285,7 +285,7 @@ static void threads(void)
 
 int main(void)
 {
-    alarm(40);
+    give_up_after(40);
     events_of_polls();
     timeouts();
     wakes();

@@ -269,7 +269,7 @@ static void text_of_all(void)
 
 int main(void)
 {
-    alarm(30);
+    give_up_after(30);
     names();
     names_of_threads();
     given_names();
