@@ -8,7 +8,7 @@
 #include <stdlib.h>
 #include <string.h>
 
-/* How many ends are polled at once; how often a process that ends is looked at, a millisecond apart; and its flag in
+/* How many ends are polled at once; how often processes that end are looked at, a millisecond apart; and their flag in
  * /proc/N/stat, PF_EXITING. */
 enum { AT_ONCE = 64, LOOKS = 200, IS_ENDING = 4 };
 
@@ -102,14 +102,12 @@ static void look_at_all(struct keeper *keeper, bool timelines);
 /* The trace tells what a process leaves at its end by all of its closings, which come one after another. */
 static void await_ends(struct keeper *keeper)
 {
-    bool any = false;
+    int looks = 0;
 
     for (const struct object *object = keeper->closing; object; object = object->next_closing)
-        for (int looks = 0; !object->is_told && looks < LOOKS && is_ending(object->maker.thread); looks++) {
-            any = true;
+        for (; !object->is_told && looks < LOOKS && is_ending(object->maker.thread); looks++)
             call_poll(NULL, 0, 1);
-        }
-    if (!any)
+    if (looks == 0)
         return;
     look_at_all(keeper, false);
     look_at_all(keeper, true);
