@@ -37,6 +37,8 @@ static int serve_timeline(struct keeper *keeper, const struct bim_request *reque
         object->line = record_timeline(&keeper->lines, object->number, request->name, length);
         error = object->line ? 0 : ENOMEM;
     }
+    /* The kernel's has no poll of its own, so it is always readable. */
+    end_signal(object->end);
     return keeper_finish(keeper, object, error, gives);
 }
 
