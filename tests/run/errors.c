@@ -77,10 +77,11 @@ static void bad_pointers_of_timelines(void)
     /* As long as what is needed is there, it may end anywhere and begin at any address. */
     memcpy(end - sizeof create, &create, sizeof create);
     EXPECT(ioctl(t, SW_SYNC_IOC_CREATE_FENCE, end - sizeof create), 0);
+    memcpy(&create, end - sizeof create, sizeof create);
+    EXPECT(is_signalled(create.fence), 0);
     memcpy(end - 5, &(__u32){ 1 }, 4);
     EXPECT(ioctl(t, SW_SYNC_IOC_INC, end - 5), 0);
     EXPECT(is_signalled(f), 1);
-    memcpy(&create, end - sizeof create, sizeof create);
     EXPECT(is_signalled(create.fence), 1);
     close(create.fence);
     close(f);
