@@ -80,6 +80,7 @@ static void wrong_calls(void)
     FAILS(ioctl(b, DMA_BUF_IOCTL_IMPORT_SYNC_FILE, NULL), EFAULT);
     FAILS(ioctl(b, DMA_BUF_IOCTL_SYNC, NULL), EFAULT);
     FAILS(ioctl(b, SW_SYNC_IOC_INC, &one), ENOTTY);
+    FAILS(ioctl(b, FIONREAD, &one), ENOTTY);
     FAILS(ioctl(b, SYNC_IOC_FILE_INFO, &(struct sync_file_info){ .num_fences = 0 }), ENOTTY);
     FAILS(ioctl(b, SYNC_IOC_MERGE, &(struct sync_merge_data){ .fd2 = f }), ENOTTY);
     FAILS(merge("", f, b), ENOENT);
@@ -314,7 +315,7 @@ int main(void)
 {
     int before = lowest();
 
-    alarm(30);
+    give_up_after(30);
     allocation();
     memory();
     wrong_calls();

@@ -156,7 +156,7 @@ int main(void)
 {
     int before = lowest();
 
-    alarm(30);
+    give_up_after(30);
     plainly();
     with_copies();
     taken_over();

@@ -198,6 +198,29 @@ static void interrupted(void)
     close(t);
 }
 
+/* A timeline has no poll of its own, so it is always readable, and an epoll doesn't take it. */
+static void timelines(void)
+{
+    int t = timeline(), f = fence(t, 1), group = epoll_create1(EPOLL_CLOEXEC);
+    struct epoll_event event = { .events = EPOLLIN };
+    fd_set readable;
+
+    for (int i = 0; i < 2; i++) {
+        EXPECT(ready(t, POLLIN, 0), POLLIN);
+        EXPECT(ready(t, 0, 0), 0);
+        FD_ZERO(&readable);
+        FD_SET(t, &readable);
+        EXPECT(select(t + 1, &readable, NULL, NULL, &(struct timeval){ 0 }), 1);
+        FAILS(epoll_ctl(group, EPOLL_CTL_ADD, t, &event), EPERM);
+        EXPECT(is_signalled(f), i);
+        inc(t, 1);
+    }
+    EXPECT(epoll_ctl(group, EPOLL_CTL_ADD, f, &event), 0);
+    close(group);
+    close(f);
+    close(t);
+}
+
 enum { SIGNALS = 60 };
 
 static int handled_timeline;
@@ -285,12 +308,13 @@ static void threads(void)
 
 int main(void)
 {
-    alarm(40);
+    give_up_after(40);
     events_of_polls();
     timeouts();
     wakes();
     epolls();
     epoll_of_closed();
+    timelines();
     interrupted();
     in_handlers();
     threads();
