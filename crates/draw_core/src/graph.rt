@@ -82,12 +82,7 @@ fn enter_buffer(graph: &mut Graph, desk: &Desk, buffer: &BufferRows) -> Result<(
     enter_rows(graph, desk, buffer.name, buffer.rows.as_slice())
 }
 
-fn enter_rows(
-    graph: &mut Graph,
-    desk: &Desk,
-    buffer: Name,
-    rows: &[ShowRow],
-) -> Result<(), Refusal>
+fn enter_rows(graph: &mut Graph, desk: &Desk, buffer: Name, rows: &[ShowRow]) -> Result<(), Refusal>
     ensures edges { OnOk result (graph.new.edges.items ≡ graph.old.edges.items
         ++ buffer_edges desk.now.timelines (record { name = buffer; rows = rows.now })) }
 {
