@@ -14,6 +14,7 @@ use words_core::{Seat, Whole, Words};
 
 /// A put of this value waits until another is recorded, or so many turns have passed.
 const SLOW: u64 = 9;
+
 const TURNS: u32 = 1_000_000;
 
 /// Records each put that its table has accepted. It lists nothing for `Bookkeep`, and never settles the plan of a client alone.

@@ -3,7 +3,7 @@
 #![tactic(auto)]
 
 use point_core::Refusal;
-use run_core::{FAULT, tell_fault, report_unread_word, run_script};
+use run_core::{FAULT, report_unread_word, run_script, tell_fault};
 use source_core::{Script, Source};
 use std::env;
 use std::process::ExitCode;
