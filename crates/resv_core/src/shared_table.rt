@@ -36,7 +36,7 @@ pub trait SharedTable: Sync + Sized + Drop {
     ghost exports: { Self → ℕ → Usage → SeatModel → SeatModel → Result Listing Refusal → Type 0 };
 
     // What it says of its settlement of plans, by the gathered seat before it, and the answer.
-    ghost settles: { Self → SeatModel → List (List Act) → Result Settled Refusal → Type 0 } = { λ _ _ _ _. Unit {0} };
+    ghost settles: { Self → SeatModel → List (List Act) → Result Settled Refusal → Type 0 } = { λ table before plans answer. Unit {0} };
 
     /// The table of as many buffers as the words have. Nothing was put.
     ///
