@@ -6,7 +6,7 @@ use point_core::Refusal;
 use std::io::Write;
 
 /// Whether the line's number stands out.
-#[derive(Clone, Copy, Debug, PartialEq, Eq)]
+#[derive(Clone, Copy, PartialEq, Eq)]
 pub enum Look {
     Plain,
     /// In bold, by the codes of a terminal.

@@ -4,7 +4,7 @@ use desk_core::{Command, Desk};
 use point_core::Name;
 
 /// What a name stands for: each has a name space of its own.
-#[derive(Clone, Copy, Debug, PartialEq, Eq)]
+#[derive(Clone, Copy, PartialEq, Eq)]
 pub(crate) enum Space {
     Timeline,
     File,
@@ -22,7 +22,7 @@ impl Space {
 }
 
 /// The names of a command, by what it does with them.
-#[derive(Clone, Copy, Debug)]
+#[derive(Clone, Copy)]
 pub(crate) struct Names {
     /// The name that it makes if it is accepted.
     pub(crate) made: Option<(Space, Name)>,

@@ -14,7 +14,7 @@ use syncfile_core::FILES;
 const UNSIGNALLED: Part<'static> = Part::Text("the file is not signalled");
 
 /// Why a command was refused, with the line that matters.
-#[derive(Clone, Copy, Debug)]
+#[derive(Clone, Copy)]
 enum Reason {
     /// There is nothing of that name.
     Missing(Space, Name),
