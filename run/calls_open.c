@@ -104,29 +104,29 @@ static bool makes_files(int flags)
         va_end(words);                \
     }
 
-#define OPEN(name)                                                           \
-    EXPORT int name(const char *path, int flags, ...)                        \
-    {                                                                        \
-        NEXT(name);                                                          \
-        MODE_OF(flags)                                                       \
-        enum path which = makes_files(flags) ? path_before(path) : NOT_OURS; \
-        int file = which ? -1 : next(path, flags, mode);                     \
-                                                                             \
-        if (!which && !makes_files(flags))                                   \
-            which = path_after(path, file < 0);                              \
+#define OPEN(name)                                                                   \
+    EXPORT int name(const char *path, int flags, ...)                                \
+    {                                                                                \
+        NEXT(name);                                                                  \
+        MODE_OF(flags)                                                               \
+        enum path which = makes_files(flags) ? path_before(path) : NOT_OURS;         \
+        int file = which ? -1 : next(path, flags, mode);                             \
+                                                                                     \
+        if (!which && !makes_files(flags))                                           \
+            which = path_after(path, file < 0);                                      \
         return which ? replace_file(which, flags, file) : reopen(path, flags, file); \
     }
 
-#define OPENAT(name)                                                         \
-    EXPORT int name(int folder, const char *path, int flags, ...)            \
-    {                                                                        \
-        NEXT(name);                                                          \
-        MODE_OF(flags)                                                       \
-        enum path which = makes_files(flags) ? path_before(path) : NOT_OURS; \
-        int file = which ? -1 : next(folder, path, flags, mode);             \
-                                                                             \
-        if (!which && !makes_files(flags))                                   \
-            which = path_after(path, file < 0);                              \
+#define OPENAT(name)                                                                 \
+    EXPORT int name(int folder, const char *path, int flags, ...)                    \
+    {                                                                                \
+        NEXT(name);                                                                  \
+        MODE_OF(flags)                                                               \
+        enum path which = makes_files(flags) ? path_before(path) : NOT_OURS;         \
+        int file = which ? -1 : next(folder, path, flags, mode);                     \
+                                                                                     \
+        if (!which && !makes_files(flags))                                           \
+            which = path_after(path, file < 0);                                      \
         return which ? replace_file(which, flags, file) : reopen(path, flags, file); \
     }
 

@@ -121,7 +121,7 @@ EXPORT int pselect(int count, fd_set *readable, fd_set *writable, fd_set *others
     return result;
 }
 
-/* What has no poll of its own, like a timeline, isn't taken. */
+/* Linux's epoll takes nothing that has no poll of its own, and a timeline has none. */
 EXPORT int epoll_ctl(int set, int how, int file, struct epoll_event *event)
 {
     NEXT(epoll_ctl);

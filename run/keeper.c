@@ -28,6 +28,8 @@ static int open_page_and_trace(struct keeper *keeper, const char *trace_path)
     if (!keeper->page)
         return errno;
     keeper->trace = trace_path ? trace_open(trace_path) : NULL;
+    if (keeper->trace)
+        keeper->trace->file = keeper->host->place(keeper->trace->file);
     if (keeper->trace || !trace_path)
         return 0;
     error = errno;

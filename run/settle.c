@@ -140,6 +140,8 @@ void keeper_place_all(struct keeper *keeper)
         if (object && object->kind == BUFFER)
             object->buffer.memory = keeper->host->place(object->buffer.memory);
     }
+    if (keeper->trace)
+        keeper->trace->file = keeper->host->place(keeper->trace->file);
 }
 
 /* Looks at all but timelines, or at timelines. */

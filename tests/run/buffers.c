@@ -287,10 +287,15 @@ static void note(int signal)
     (void)signal;
 }
 
+static volatile int was_interrupted;
+
+/* Sends a signal until it comes within the wait. */
 static void *interrupt_later(void *given)
 {
-    pause_for(LATER);
-    pthread_kill(*(pthread_t *)given, SIGUSR1);
+    while (!was_interrupted) {
+        pause_for(LATER);
+        pthread_kill(*(pthread_t *)given, SIGUSR1);
+    }
     return NULL;
 }
 
@@ -305,6 +310,7 @@ static void interrupted(void)
     import(b, writer, DMA_BUF_SYNC_WRITE);
     EXPECT(pthread_create(&thread, NULL, interrupt_later, &me), 0);
     FAILS(poll(&polled, 1, SOON), EINTR);
+    was_interrupted = 1;
     pthread_join(thread, NULL);
     close(writer);
     close(t);

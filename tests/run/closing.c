@@ -126,6 +126,24 @@ static void ranges(void)
     close(g);
 }
 
+/* A program that closes all numbers but the first has no more of its own, and can go on. */
+static void all_numbers(void)
+{
+    int t = timeline(), f = fence(t, 1), kept = dup2(f, 1000);
+
+    close(f);
+    close(t);
+    for (int fd = 3; fd < 1000; fd++)
+        close(fd);
+    EXPECT(status(kept), -ENOENT);
+    close(kept);
+    t = timeline(), f = fence(t, 1);
+    EXPECT(inc(t, 1), 0);
+    EXPECT(is_signalled(f), 1);
+    close(f);
+    close(t);
+}
+
 /* Files outlive what they are made of, and timelines outlive files. */
 static void in_any_order(void)
 {
@@ -163,6 +181,7 @@ int main(void)
     in_vain();
     unseen();
     ranges();
+    all_numbers();
     in_any_order();
     EXPECT(lowest(), before);
     return report("closing");

@@ -172,10 +172,15 @@ static void note(int signal)
     (void)signal;
 }
 
+static volatile int was_interrupted;
+
+/* Sends a signal until it comes within the wait. */
 static void *interrupt_later(void *given)
 {
-    pause_for(LATER);
-    pthread_kill(*(pthread_t *)given, SIGUSR1);
+    while (!was_interrupted) {
+        pause_for(LATER);
+        pthread_kill(*(pthread_t *)given, SIGUSR1);
+    }
     return NULL;
 }
 
@@ -190,6 +195,7 @@ static void interrupted(void)
     sigaction(SIGUSR1, &action, NULL);
     EXPECT(pthread_create(&thread, NULL, interrupt_later, &me), 0);
     FAILS(poll(&polled, 1, SOON), EINTR);
+    was_interrupted = 1;
     pthread_join(thread, NULL);
     EXPECT(is_signalled(f), 0);
     inc(t, 1);
