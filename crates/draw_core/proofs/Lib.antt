@@ -1,3 +1,5 @@
+mod Active
+mod Edges
 mod Entering
 mod Lines
 mod Picturing

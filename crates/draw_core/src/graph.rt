@@ -1,9 +1,12 @@
 // What waits for what, asked of a desk.
+ghost use Rattle.std.specs.Prelude.{◌≡◌, ◌++◌, OnOk};
+ghost use Rattle.draw_core.specs.Found.{buffers_edges, edges_by, edges_of, file_edges, files_edges};
+ghost use Rattle.draw_core.specs.Waiting.{buffer_edges, watch_edges, watches_edges};
 
 use crate::waiting::{waiting_for, waiting_on};
-use desk_core::{BufferRows, Desk, FileRow, Report};
+use desk_core::{BufferRows, Desk, FileRow, Report, ShowRow};
 use picture_core::{Graph, Node, Waiter, WatchEnd, WatchLane};
-use point_core::{Point, Refusal};
+use point_core::{Name, Point, Refusal, TimelineRow};
 
 /// Enters what a desk has, of which that is a report, and those of the watches that are pending.
 ///
@@ -13,23 +16,57 @@ pub(crate) fn enter_all(
     desk: &Desk,
     report: &Report,
     watches: &[WatchLane],
-) -> Result<(), Refusal> {
-    for timeline in report.timelines.as_slice() {
+) -> Result<(), Refusal>
+    ensures edges { OnOk result (graph.new.edges.items
+        ≡ graph.old.edges.items ++ edges_by desk.now report.now watches.now) }
+{
+    enter_timelines(graph, report.timelines.as_slice())?;
+    enter_files(graph, desk, report.files.as_slice())?;
+    enter_buffers(graph, desk, report.buffers.as_slice())?;
+    enter_watches(graph, desk, watches)
+}
+
+fn enter_timelines(graph: &mut Graph, timelines: &[TimelineRow]) -> Result<(), Refusal>
+    ensures edges { graph.new.edges ≡ graph.old.edges }
+{
+    for timeline in timelines {
         graph.add_node(Node::Timeline(*timeline))?;
     }
-    for file in report.files.as_slice() {
+    Ok(())
+}
+
+fn enter_files(graph: &mut Graph, desk: &Desk, files: &[FileRow]) -> Result<(), Refusal>
+    ensures edges { OnOk result (graph.new.edges.items ≡ graph.old.edges.items ++ files_edges desk.now files.now) }
+{
+    for file in files {
         enter_file(graph, desk, file)?;
     }
-    for buffer in report.buffers.as_slice() {
+    Ok(())
+}
+
+fn enter_buffers(graph: &mut Graph, desk: &Desk, buffers: &[BufferRows]) -> Result<(), Refusal>
+    ensures edges { OnOk result (graph.new.edges.items
+        ≡ graph.old.edges.items ++ buffers_edges desk.now.timelines buffers.now) }
+{
+    for buffer in buffers {
         enter_buffer(graph, desk, buffer)?;
     }
+    Ok(())
+}
+
+fn enter_watches(graph: &mut Graph, desk: &Desk, watches: &[WatchLane]) -> Result<(), Refusal>
+    ensures edges { OnOk result (graph.new.edges.items
+        ≡ graph.old.edges.items ++ watches_edges (edges_of desk.now.timelines) watches.now) }
+{
     for watch in watches {
         enter_watch(graph, desk, watch)?;
     }
     Ok(())
 }
 
-fn enter_file(graph: &mut Graph, desk: &Desk, file: &FileRow) -> Result<(), Refusal> {
+fn enter_file(graph: &mut Graph, desk: &Desk, file: &FileRow) -> Result<(), Refusal>
+    ensures edges { OnOk result (graph.new.edges.items ≡ graph.old.edges.items ++ file_edges desk.now file.now) }
+{
     graph.add_node(Node::File(*file))?;
     match desk.file_points(&file.name) {
         Some(points) => enter_waits(graph, desk, &Waiter::File(file.name), points),
@@ -37,17 +74,35 @@ fn enter_file(graph: &mut Graph, desk: &Desk, file: &FileRow) -> Result<(), Refu
     }
 }
 
-fn enter_buffer(graph: &mut Graph, desk: &Desk, buffer: &BufferRows) -> Result<(), Refusal> {
+fn enter_buffer(graph: &mut Graph, desk: &Desk, buffer: &BufferRows) -> Result<(), Refusal>
+    ensures edges { OnOk result (graph.new.edges.items
+        ≡ graph.old.edges.items ++ buffer_edges desk.now.timelines buffer.now) }
+{
     graph.add_node(Node::Buffer(buffer.name))?;
-    for row in buffer.rows.as_slice() {
+    enter_rows(graph, desk, buffer.name, buffer.rows.as_slice())
+}
+
+fn enter_rows(
+    graph: &mut Graph,
+    desk: &Desk,
+    buffer: Name,
+    rows: &[ShowRow],
+) -> Result<(), Refusal>
+    ensures edges { OnOk result (graph.new.edges.items ≡ graph.old.edges.items
+        ++ buffer_edges desk.now.timelines (record { name = buffer; rows = rows.now })) }
+{
+    for row in rows {
         if let Some(waiting) = waiting_on(desk, &row.timeline, row.point) {
-            graph.add_wait(&Waiter::Buffer(buffer.name, row.usage), &waiting)?;
+            graph.add_wait(&Waiter::Buffer(buffer, row.usage), &waiting)?;
         }
     }
     Ok(())
 }
 
-fn enter_watch(graph: &mut Graph, desk: &Desk, watch: &WatchLane) -> Result<(), Refusal> {
+fn enter_watch(graph: &mut Graph, desk: &Desk, watch: &WatchLane) -> Result<(), Refusal>
+    ensures edges { OnOk result (graph.new.edges.items
+        ≡ graph.old.edges.items ++ watch_edges (edges_of desk.now.timelines) watch.now) }
+{
     let WatchEnd::Pending = watch.end else {
         return Ok(());
     };
@@ -65,7 +120,10 @@ fn enter_waits(
     desk: &Desk,
     waiter: &Waiter,
     points: &[Point],
-) -> Result<(), Refusal> {
+) -> Result<(), Refusal>
+    ensures edges { OnOk result (graph.new.edges.items
+        ≡ graph.old.edges.items ++ edges_of desk.now.timelines waiter.now points.now) }
+{
     for point in points {
         if let Some(waiting) = waiting_for(desk, point) {
             graph.add_wait(waiter, &waiting)?;

@@ -2,6 +2,8 @@
 ghost use Rattle.std.specs.Prelude.{◌≡◌, ◌<◌, ◌≤◌, ◌+◌, ◌∷◌, ◌++◌, [], List, All, length, true, IfOk, OnOk};
 ghost use Rattle.desk_core.specs.Answer.{is_refused};
 ghost use Rattle.desk_core.specs.Desk.{HasHistory};
+ghost use Rattle.desk_core.specs.History.{world_of};
+ghost use Rattle.command_core.specs.declared.command.Command.{Command as CommandModel};
 ghost use Rattle.line_core.specs.declared.line.Line.{Line as LineModel};
 ghost use Rattle.line_core.specs.Script.{script_of};
 ghost use Rattle.picture_core.specs.Bars.{bars_after};
@@ -9,6 +11,8 @@ ghost use Rattle.draw_core.specs.Columns.{drawn_lines, is_in_window, lines_drawn
 ghost use Rattle.draw_core.specs.Progress.{AddsWaits, AreAskedFirst, HasDrawn, IsWaitBy, bars_after_line};
 ghost use Rattle.draw_core.specs.Drawn.{AreAsked};
 ghost use Rattle.draw_core.specs.Shown.{AreRising, ShowsRun};
+ghost use Rattle.draw_core.specs.Found.{IsReportOf, edges_by};
+ghost use Rattle.draw_core.specs.Waiting.{StandsAfter, edges_in};
 
 use crate::asking::ask_all;
 use crate::graph::enter_all;
@@ -57,6 +61,7 @@ impl Run {
             lines_drawn run.history.columns.items ≡ drawn_lines window.now (script_of script.now)) }
         ensures shown { IfOk result (λ run. ShowsRun window.now (script_of script.now)
             run.history.columns.items run.history.bars.items run.history.waits.items) }
+        ensures stands { IfOk result (λ run. StandsAfter window.now (script_of script.now) run.desk) }
     {
         let lines = read_script(alloc, script)?;
         let mut run = Run::new(alloc, window)?;
@@ -75,14 +80,20 @@ impl Run {
     /// What waits for what after the last line that was run.
     ///
     /// Fails with `Memory` alone.
-    pub fn graph(&mut self) -> Result<Graph, Refusal> {
+    pub fn graph(&mut self) -> Result<Graph, Refusal>
+        ensures edges { (history : List CommandModel) → HasHistory self.old.desk history →
+            IfOk result (λ graph. graph.edges.items ≡ edges_in (world_of history) self.old.history.lanes.watches.items) }
+    {
         let mut graph = Graph::new(self.alloc);
         let answer = self.desk.step(Command::Report);
         self.enter_graph(&answer, &mut graph)?;
         Ok(graph)
     }
 
-    fn enter_graph(&self, answer: &Answer, graph: &mut Graph) -> Result<(), Refusal> {
+    fn enter_graph(&self, answer: &Answer, graph: &mut Graph) -> Result<(), Refusal>
+        ensures edges { OnOk result (IsReportOf answer.now (λ report. graph.new.edges.items
+            ≡ graph.old.edges.items ++ edges_by self.now.desk report self.now.history.lanes.watches.items)) }
+    {
         match answer {
             Answer::Report(report) => {
                 enter_all(
@@ -299,6 +310,7 @@ impl Run {
             self.old.history.bars.items self.new.history.bars.items) }
         ensures waits { OnOk result (All (IsWaitBy self.old.desk self.new.history.bars.items) self.new.history.waits.items) }
         ensures columns { self.new.history.columns ≡ self.old.history.columns }
+        ensures desk { self.new.desk ≡ self.old.desk }
     {
         self.ask_first();
         self.wait_for_all()

@@ -1,6 +1,8 @@
 // What a pending file still waits for.
-ghost use Rattle.std.specs.Prelude.{◌≡◌, IfSome};
+ghost use Rattle.std.specs.Prelude.{◌≡◌, IfSome, is_some};
 ghost use Rattle.draw_core.specs.Drawn.{IsToGo, IsWaitingFor};
+ghost use Rattle.draw_core.specs.Found.{is_waited_for};
+ghost use Rattle.draw_core.specs.Waiting.{is_to_come};
 
 use desk_core::Desk;
 use picture_core::Waiting;
@@ -8,7 +10,8 @@ use point_core::{Name, Point};
 
 /// How far a point is from being reached. None of a point that is, or that is cancelled.
 pub fn waiting_for(desk: &Desk, point: &Point) -> Option<Waiting>
-    ensures { IfSome result (λ waiting. IsWaitingFor desk.now point.now waiting) }
+    ensures waits { IfSome result (λ waiting. IsWaitingFor desk.now point.now waiting) }
+    ensures some { is_some result ≡ is_waited_for desk.now.timelines point.now }
 {
     let timeline = desk.timeline_name(point.ctx)?;
     if desk.point_status(*point).is_signalled() {
@@ -19,7 +22,8 @@ pub fn waiting_for(desk: &Desk, point: &Point) -> Option<Waiting>
 
 /// How far a timeline is from that value. None where it is there.
 pub fn waiting_on(desk: &Desk, timeline: &Name, point: u64) -> Option<Waiting>
-    ensures { IfSome result (λ waiting. IsToGo desk.now timeline.now point waiting) }
+    ensures waits { IfSome result (λ waiting. IsToGo desk.now timeline.now point waiting) }
+    ensures some { is_some result ≡ is_to_come desk.now.timelines timeline.now point }
 {
     let value = desk.timeline_value(timeline)?;
     let to_go = point.saturating_sub(value);

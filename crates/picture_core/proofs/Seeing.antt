@@ -1,14 +1,24 @@
 -- What the shapes of bars show at a point.
-use Rattle.std.proofs.Common.{ℕ, zero, suc, ◌≡◌, ◌≢◌, ◌⊎◌, inl, inr, ◌∙◌, ◌+◌, ◌-◌, ◌*◌, ◌<◌, ◌≤◌, Bool, true, false, cond, ◌&&◌, not, nat_le, nat_lt, min, max, List, [], ◌∷◌, ◌++◌, length, get_or, ap, refl, append-nil, arith, All}
+use Rattle.std.proofs.Common.{ℕ, zero, suc, ◌≡◌, ◌≢◌, ◌⊎◌, inl, inr, ◌∙◌, ◌+◌, ◌-◌, ◌*◌, ◌^◌, ◌<◌, ◌≤◌, ◌==◌, Bool, true, false, cond, ◌&&◌, not, nat_le, nat_lt, min, max, List, [], ◌∷◌, ◌++◌, length, get_or, ap, refl, append-nil, arith, All}
 use Rattle.std.specs.Prelude.{flat_map, Option, None, Some}
 use Rattle.std.specs.List.{enumerate_from, cons_option}
 use Rattle.std.proofs.lemmas.Bool.Decides.{nat_tests}
 use Rattle.std.proofs.lemmas.List.Elements.{All-head, All-tail, filter_map-append}
 use Rattle.picture_core.specs.declared.bar.Bar.{Bar}
 use Rattle.picture_core.specs.declared.bar.Settled.{Settled}
+use Rattle.picture_core.specs.declared.history.BufferMark.{BufferMark}
+use Rattle.picture_core.specs.declared.history.History.{History}
+use Rattle.picture_core.specs.declared.history.Lane.{Lane}
+use Rattle.picture_core.specs.declared.history.Lane.TheVariants as lane
+use Rattle.picture_core.specs.declared.history.Link.{Link}
+use Rattle.picture_core.specs.declared.history.WatchEnd.{WatchEnd}
+use Rattle.picture_core.specs.declared.history.WatchEnd.TheVariants as end
+use Rattle.picture_core.specs.declared.history.WatchLane.{WatchLane}
 use Rattle.picture_core.specs.declared.lanes.TheConstants.{HALF_BAR}
 use Rattle.picture_core.specs.declared.shapes.Fill.{Fill}
 use Rattle.picture_core.specs.declared.shapes.Fill.TheVariants as fill
+use Rattle.picture_core.specs.declared.shapes.Mark.{Mark}
+use Rattle.picture_core.specs.declared.shapes.Mark.TheVariants as mark
 use Rattle.picture_core.specs.declared.shapes.Shape.{Shape}
 use Rattle.picture_core.specs.declared.shapes.Shape.TheVariants as shape
 use Rattle.point_core.specs.declared.status.Status.{Status}
@@ -16,28 +26,29 @@ use Rattle.point_core.specs.declared.status.Status.TheVariants as status
 use Rattle.picture_core.specs.Bars.{is_closed_by, settled_at}
 use Rattle.picture_core.specs.Legend.{IsFrom}
 use Rattle.picture_core.proofs.Numbered.{numbered}
-use Rattle.picture_core.specs.Shapes.{bar_shapes, edge_of, end_of, fill_at, fill_of, fills_at, is_bar_fill, is_of_bar, part_of, parts_of, seen_of, shapes_of}
+use Rattle.picture_core.specs.Picture.{shapes_of_history}
+use Rattle.picture_core.specs.Shapes.{arrow, arrow_of, arrows_of_all, edge_of, end_of, end_sign, fill_at, fill_of, fills_at, is_bar_fill, is_told, part_of, parts_of, registered_sign, room_at, seen_of, shapes_of, shapes_of_all, signs_of_all, told_shapes, watch_signs, watch_signs_of_all}
 
--- the shapes of bars show all
+-- the shapes that tell what happened show all
 
-fill-other : (x y : ℕ) (s : Shape) → is_of_bar s ≡ false → fill_at x y s ≡ None
+fill-other : (x y : ℕ) (s : Shape) → is_told s ≡ false → fill_at x y s ≡ None
 fill-other x y (shape.Area f at width height) is = rw is refl
 fill-other x y (shape.Edge at width height ends) is = refl
-fill-other x y (shape.Line stroke from to) is = refl
-fill-other x y (shape.Mark mark at) is = refl
+fill-other x y (shape.Line s from to) is = refl
+fill-other x y (shape.Mark m at) is = refl
 
-fills-if : (b : Bool) (x y : ℕ) (s : Shape) (shapes : List Shape) → is_of_bar s ≡ b
+fills-if : (b : Bool) (x y : ℕ) (s : Shape) (shapes : List Shape) → is_told s ≡ b
     → cons_option (fill_at x y s) (fills_at x y shapes) ≡ fills_at x y (cond b (s ∷ shapes) shapes)
 fills-if true x y s shapes is = refl
 fills-if false x y s shapes is = ap (λ o. cons_option o (fills_at x y shapes)) (fill-other x y s is)
 
-pub fills-bars : (x y : ℕ) (shapes : List Shape) → fills_at x y shapes ≡ fills_at x y (bar_shapes shapes)
-fills-bars x y [] = refl
-fills-bars x y (s ∷ shapes) =
-    fills-if (is_of_bar s) x y s shapes refl ∙ fills-both (is_of_bar s) x y s shapes (fills-bars x y shapes)
+pub fills-told : (x y : ℕ) (shapes : List Shape) → fills_at x y shapes ≡ fills_at x y (told_shapes shapes)
+fills-told x y [] = refl
+fills-told x y (s ∷ shapes) =
+    fills-if (is_told s) x y s shapes refl ∙ fills-both (is_told s) x y s shapes (fills-told x y shapes)
   where
-    fills-both : (b : Bool) (x y : ℕ) (s : Shape) (shapes : List Shape) → fills_at x y shapes ≡ fills_at x y (bar_shapes shapes)
-        → fills_at x y (cond b (s ∷ shapes) shapes) ≡ fills_at x y (cond b (s ∷ bar_shapes shapes) (bar_shapes shapes))
+    fills-both : (b : Bool) (x y : ℕ) (s : Shape) (shapes : List Shape) → fills_at x y shapes ≡ fills_at x y (told_shapes shapes)
+        → fills_at x y (cond b (s ∷ shapes) shapes) ≡ fills_at x y (cond b (s ∷ told_shapes shapes) (told_shapes shapes))
     fills-both true x y s shapes same = ap (cons_option (fill_at x y s)) same
     fills-both false x y s shapes same = same
 
@@ -62,6 +73,62 @@ fills-below x y from [] low all = refl
 fills-below x y from (s ∷ shapes) low all =
     ap (λ o. cons_option o (fills_at x y shapes)) (fill-below x y from s low (All-head (IsFrom from) s shapes all))
     ∙ fills-below x y from shapes low (All-tail (IsFrom from) s shapes all)
+
+-- arrows and marks show nothing of bars
+
+arrow-shows : (x y : ℕ) (b : Bool) (m n : Mark) (at from end end' : ℕ) → fills_at x y (cond b (arrow m at from end) (arrow n at from end')) ≡ []
+arrow-shows x y true m n at from end end' = refl
+arrow-shows x y false m n at from end end' = refl
+
+module _ (x y : ℕ) (middle : ℕ → ℕ) (height : Lane → ℕ) where
+  pub arrows-show : (links : List Link) → fills_at x y (arrows_of_all middle height links) ≡ []
+  arrows-show [] = refl
+  arrows-show (l ∷ links) =
+      filter_map-append (fill_at x y) (arrow_of middle height l) (arrows_of_all middle height links)
+      ∙ ap (λ (fs : List Fill). fs ++ fills_at x y (arrows_of_all middle height links))
+      (arrow-shows x y (nat_le (height l.from) (height l.to)) mark.Down mark.Up (middle l.column) (height l.from) (height l.to - room_at l.to) (min (height l.to + room_at l.to) (2 ^ 64 - 1)))
+      ∙ arrows-show links
+
+  pub signs-show : (marks : List BufferMark) → fills_at x y (signs_of_all middle height marks) ≡ []
+  signs-show [] = refl
+  signs-show (m ∷ marks) = signs-show marks
+
+  registered-shows : (b : Bool) (at high : ℕ) → fills_at x y (cond b [] (shape.Mark mark.Registered (record { x = at; y = high }) ∷ [])) ≡ []
+  registered-shows true at high = refl
+  registered-shows false at high = refl
+
+  end-shows : (high : ℕ) (e : WatchEnd) → fills_at x y (end_sign middle high e) ≡ []
+  end-shows high end.Pending = refl
+  end-shows high (end.Fired column) = refl
+  end-shows high (end.Removed column) = refl
+
+  watch-shows : (p : ℕ × WatchLane) → fills_at x y (watch_signs middle height p) ≡ []
+  watch-shows p =
+      let high = height (lane.Watch p.0) in
+      filter_map-append (fill_at x y) (registered_sign p.1.made (middle p.1.made) high) (end_sign middle high p.1.end)
+      ∙ ap (λ (fs : List Fill). fs ++ fills_at x y (end_sign middle high p.1.end)) (registered-shows (p.1.made == 0) (middle p.1.made) high)
+      ∙ end-shows high p.1.end
+
+  pub watches-show : (n : ℕ) (watches : List WatchLane) → fills_at x y (flat_map (watch_signs middle height) (enumerate_from n watches)) ≡ []
+  watches-show n [] = refl
+  watches-show n (w ∷ watches) =
+      filter_map-append (fill_at x y) (watch_signs middle height (n, w)) (flat_map (watch_signs middle height) (enumerate_from (n + 1) watches))
+      ∙ ap (λ (fs : List Fill). fs ++ fills_at x y (flat_map (watch_signs middle height) (enumerate_from (n + 1) watches))) (watch-shows (n, w))
+      ∙ watches-show (n + 1) watches
+
+  -- what a history shows is what its bars show
+  pub history-shows : (right : ℕ) (h : History) → fills_at x y (shapes_of_history middle right height h) ≡ fills_at x y (shapes_of_all middle right (λ place. height (lane.Bar place)) h.bars.items)
+  history-shows right h =
+      let bars = shapes_of_all middle right (λ place. height (lane.Bar place)) h.bars.items in
+      let arrows = arrows_of_all middle height h.lanes.links.items in
+      let signs = signs_of_all middle height h.lanes.marks.items in
+      let watches = watch_signs_of_all middle height h.lanes.watches.items in
+      filter_map-append (fill_at x y) bars (arrows ++ (signs ++ watches))
+      ∙ ap (λ (fs : List Fill). fills_at x y bars ++ fs)
+      (filter_map-append (fill_at x y) arrows (signs ++ watches)
+      ∙ (λ i. arrows-show h.lanes.links.items i ++ filter_map-append (fill_at x y) signs watches i)
+      ∙ (λ i. signs-show h.lanes.marks.items i ++ watches-show 0 h.lanes.watches.items i))
+      ∙ append-nil (fills_at x y bars)
 
 -- one bar at the height of its middle
 

@@ -37,12 +37,12 @@ fill_in (shape.Edge at width height ends) = None
 fill_in (shape.Line stroke from to) = None
 fill_in (shape.Mark mark at) = None
 
--- an area has its top at that height or below it
+-- an area has its top at that height or below it, and a mark its middle
 abbrev pub IsFrom : ℕ → Shape → Type 0
 IsFrom y (shape.Area f at width height) = y ≤ at.y
 IsFrom y (shape.Edge at width height ends) = ⊤
 IsFrom y (shape.Line stroke from to) = ⊤
-IsFrom y (shape.Mark mark at) = ⊤
+IsFrom y (shape.Mark mark at) = y ≤ at.y
 
 -- shapes are added whose areas have these fills, at that height or below it
 pub record AddsSamples (y : ℕ) (fills : List Fill) (old new : List Shape) : Type 0 where

@@ -1,6 +1,9 @@
 pub mod Bars
 pub mod Escape
+pub mod Lanes
 pub mod Legend
 pub mod Picture
 pub mod Shapes
 pub mod Sheet
+pub mod Waits
+pub mod Watches

@@ -1,20 +1,34 @@
--- The shapes of a picture, and which of them show bars.
-use Rattle.std.specs.Prelude.{ℕ, ◌+◌, ◌-◌, ◌*◌, nat_le, nat_lt, min, max, Bool, true, false, ◌&&◌, if◌then◌else◌, List, [], ◌∷◌, ◌++◌, map, filter, filter_map, flat_map, Option, None, Some}
+-- The shapes of a picture, and which of them tell what happened.
+use Rattle.std.specs.Prelude.{ℕ, ◌+◌, ◌-◌, ◌*◌, ◌^◌, ◌==◌, nat_le, nat_lt, min, max, Bool, true, false, ◌&&◌, if◌then◌else◌, List, [], ◌∷◌, ◌++◌, map, filter, filter_map, flat_map, Option, None, Some}
 use Rattle.std.specs.List.{enumerate_from}
 use Rattle.point_core.specs.declared.status.Status.{Status}
 use Rattle.point_core.specs.declared.status.Status.TheVariants as status
 use Rattle.picture_core.specs.declared.bar.Bar.{Bar}
 use Rattle.picture_core.specs.declared.bar.Settled.{Settled}
+use Rattle.picture_core.specs.declared.history.Access.{Access}
+use Rattle.picture_core.specs.declared.history.Access.TheVariants as access
 use Rattle.picture_core.specs.declared.history.BarWait.{BarWait}
+use Rattle.picture_core.specs.declared.history.BufferMark.{BufferMark}
+use Rattle.picture_core.specs.declared.history.Lane.{Lane}
+use Rattle.picture_core.specs.declared.history.Lane.TheVariants as lane
+use Rattle.picture_core.specs.declared.history.Link.{Link}
+use Rattle.picture_core.specs.declared.history.WatchEnd.{WatchEnd}
+use Rattle.picture_core.specs.declared.history.WatchEnd.TheVariants as end
+use Rattle.picture_core.specs.declared.history.WatchLane.{WatchLane}
 use Rattle.picture_core.specs.declared.lanes.TheConstants.{HALF_BAR}
+use Rattle.picture_core.specs.declared.links.TheConstants.{HALF_SIGN, HALF_WATCH}
 use Rattle.picture_core.specs.declared.shapes.Canvas.{Canvas}
 use Rattle.picture_core.specs.declared.shapes.Fill.{Fill}
 use Rattle.picture_core.specs.declared.shapes.Fill.TheVariants as fill
 use Rattle.picture_core.specs.declared.shapes.Label.{Label}
 use Rattle.picture_core.specs.declared.shapes.Label.TheVariants as label
+use Rattle.picture_core.specs.declared.shapes.Mark.{Mark}
+use Rattle.picture_core.specs.declared.shapes.Mark.TheVariants as mark
 use Rattle.picture_core.specs.declared.shapes.Shape.{Shape}
 use Rattle.picture_core.specs.declared.shapes.Shape.TheVariants as shape
 use Rattle.picture_core.specs.declared.shapes.Spot.{Spot}
+use Rattle.picture_core.specs.declared.shapes.Stroke.{Stroke}
+use Rattle.picture_core.specs.declared.shapes.Stroke.TheVariants as stroke
 use Rattle.picture_core.specs.declared.shapes.Text.{Text}
 use Rattle.picture_core.specs.declared.waiting.Waiting.{Waiting}
 use Rattle.picture_core.specs.Bars.{drawn_at, goes_on, is_there}
@@ -27,26 +41,51 @@ is_bar_fill fill.Pending = true
 is_bar_fill fill.Signalled = true
 is_bar_fill fill.Cancelled = true
 
--- an area that is filled as bars are, or the edge of a bar
-abbrev pub is_of_bar : Shape → Bool
-is_of_bar (shape.Area f at width height) = is_bar_fill f
-is_of_bar (shape.Edge at width height gone) = true
-is_of_bar (shape.Line stroke from to) = false
-is_of_bar (shape.Mark mark at) = false
+-- the line of an arrow
+abbrev pub is_link : Stroke → Bool
+is_link stroke.Link = true
+is_link stroke.Lane = false
+is_link stroke.Value = false
+is_link stroke.Closed = false
+is_link stroke.Watch = false
 
--- the shapes of bars, in the order in which they are put one over another
-abbrev pub bar_shapes : List Shape → List Shape
-bar_shapes shapes = filter is_of_bar shapes
+-- the mark of what a command did with a buffer, of an end of an arrow, or of what became of a watch
+abbrev pub is_told_mark : Mark → Bool
+is_told_mark mark.Add = true
+is_told_mark mark.Import = true
+is_told_mark mark.Export = true
+is_told_mark mark.Trim = true
+is_told_mark mark.From = true
+is_told_mark mark.Down = true
+is_told_mark mark.Up = true
+is_told_mark mark.Registered = true
+is_told_mark mark.Fired = true
+is_told_mark mark.Removed = true
+is_told_mark mark.Refused = false
+is_told_mark mark.Shut = false
+is_told_mark mark.Closed = false
+is_told_mark mark.GoesOn = false
 
-abbrev pub bars_on : Canvas → List Shape
-bars_on canvas = bar_shapes canvas.shapes.items
+-- an area that is filled as bars are, the edge of a bar, the line of an arrow, or such a mark
+abbrev pub is_told : Shape → Bool
+is_told (shape.Area f at width height) = is_bar_fill f
+is_told (shape.Edge at width height gone) = true
+is_told (shape.Line s from to) = is_link s
+is_told (shape.Mark m at) = is_told_mark m
+
+-- the shapes that tell what happened, in the order in which they are put one over another
+abbrev pub told_shapes : List Shape → List Shape
+told_shapes shapes = filter is_told shapes
+
+abbrev pub told_on : Canvas → List Shape
+told_on canvas = told_shapes canvas.shapes.items
 
 -- what a text says is waited for
 abbrev pub waiting_in : Label → Option Waiting
 waiting_in (label.Waiting w) = Some w
 waiting_in (label.Command place) = None
 waiting_in (label.Heading heading) = None
-waiting_in (label.Access access) = None
+waiting_in (label.Access a) = None
 waiting_in (label.Meaning meaning) = None
 waiting_in (label.Name name) = None
 waiting_in (label.Number number) = None
@@ -94,13 +133,72 @@ edge_of left right y b =
 abbrev pub shapes_of : (ℕ → ℕ) → ℕ → ℕ → Bar → List Shape
 shapes_of middle right height b =
     let left = middle b.made in
-    let end = end_of middle right b.closed in
-    parts_of middle left end (height - HALF_BAR) b.settled ++ edge_of left end (height - HALF_BAR) b ∷ []
+    let last = end_of middle right b.closed in
+    parts_of middle left last (height - HALF_BAR) b.settled ++ edge_of left last (height - HALF_BAR) b ∷ []
 
 -- the shapes of the bars, one bar after another
 abbrev pub shapes_of_all : (ℕ → ℕ) → ℕ → (ℕ → ℕ) → List Bar → List Shape
 shapes_of_all middle right height bars =
     flat_map (λ (p : ℕ × Bar). shapes_of middle right (height p.0) p.1) (enumerate_from 0 bars)
+
+-- the mark of what was done with a buffer
+abbrev pub mark_of : Access → Mark
+mark_of (access.Add usage) = mark.Add
+mark_of (access.Import flags) = mark.Import
+mark_of (access.Export flags) = mark.Export
+mark_of access.Trim = mark.Trim
+
+-- what was done with a buffer, as its mark on the buffer's lane in the column of the command
+abbrev pub sign_of : (ℕ → ℕ) → (Lane → ℕ) → BufferMark → Shape
+sign_of middle height m = shape.Mark (mark_of m.access) (record { x = middle m.column; y = height (lane.Buffer m.buffer) })
+
+abbrev pub signs_of_all : (ℕ → ℕ) → (Lane → ℕ) → List BufferMark → List Shape
+signs_of_all middle height marks = map (sign_of middle height) marks
+
+-- how far what stands on a lane reaches above and below the lane's middle
+abbrev pub room_at : Lane → ℕ
+room_at (lane.Timeline place) = 0
+room_at (lane.Bar place) = HALF_BAR
+room_at (lane.Buffer place) = HALF_SIGN
+room_at (lane.Watch place) = HALF_WATCH
+
+-- a line in one column, its beginning, and its end, which is that mark
+abbrev pub arrow : Mark → ℕ → ℕ → ℕ → List Shape
+arrow m x from end =
+    shape.Line stroke.Link (record { x = x; y = from }) (record { x = x; y = end })
+    ∷ shape.Mark mark.From (record { x = x; y = from }) ∷ shape.Mark m (record { x = x; y = end }) ∷ []
+
+-- an arrow to what reaches so far above and below its middle, from above or from below
+abbrev pub arrow_to : ℕ → ℕ → ℕ → ℕ → List Shape
+arrow_to x from to room =
+    if nat_le from to then arrow mark.Down x from (to - room) else arrow mark.Up x from (min (to + room) (2 ^ 64 - 1))
+
+-- the arrow of a link, in the middle of its column: from the middle of the lane where it begins to the edge of what stands on the
+-- one where it ends
+abbrev pub arrow_of : (ℕ → ℕ) → (Lane → ℕ) → Link → List Shape
+arrow_of middle height l = arrow_to (middle l.column) (height l.from) (height l.to) (room_at l.to)
+
+abbrev pub arrows_of_all : (ℕ → ℕ) → (Lane → ℕ) → List Link → List Shape
+arrows_of_all middle height links = flat_map (arrow_of middle height) links
+
+-- a watch that was registered in a column; one that stood before the first has no such mark
+abbrev pub registered_sign : ℕ → ℕ → ℕ → List Shape
+registered_sign made x y =
+    if made == 0 then [] else shape.Mark mark.Registered (record { x = x; y = y }) ∷ []
+
+-- what became of a watch, in the column where it fired or was removed
+abbrev pub end_sign : (ℕ → ℕ) → ℕ → WatchEnd → List Shape
+end_sign middle y end.Pending = []
+end_sign middle y (end.Fired column) = shape.Mark mark.Fired (record { x = middle column; y = y }) ∷ []
+end_sign middle y (end.Removed column) = shape.Mark mark.Removed (record { x = middle column; y = y }) ∷ []
+
+-- the marks of the watch at that place
+abbrev pub watch_signs : (ℕ → ℕ) → (Lane → ℕ) → ℕ × WatchLane → List Shape
+watch_signs middle height p =
+    let y = height (lane.Watch p.0) in registered_sign p.1.made (middle p.1.made) y ++ end_sign middle y p.1.end
+
+abbrev pub watch_signs_of_all : (ℕ → ℕ) → (Lane → ℕ) → List WatchLane → List Shape
+watch_signs_of_all middle height watches = flat_map (watch_signs middle height) (enumerate_from 0 watches)
 
 -- whether a point lies in an area
 abbrev pub covers : ℕ → ℕ → Spot → ℕ → ℕ → Bool
@@ -111,8 +209,8 @@ covers x y at width height =
 abbrev pub fill_at : ℕ → ℕ → Shape → Option Fill
 fill_at x y (shape.Area f at width height) = if is_bar_fill f && covers x y at width height then Some f else None
 fill_at x y (shape.Edge at width height gone) = None
-fill_at x y (shape.Line stroke from to) = None
-fill_at x y (shape.Mark mark at) = None
+fill_at x y (shape.Line s from to) = None
+fill_at x y (shape.Mark m at) = None
 
 -- what shapes show of bars at a point, one over another
 abbrev pub fills_at : ℕ → ℕ → List Shape → List Fill

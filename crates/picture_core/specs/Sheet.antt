@@ -1,8 +1,10 @@
 -- Where columns and the lanes of bars lie.
-use Rattle.std.specs.Prelude.{◌≡◌, ℕ, ◌+◌, ◌-◌, ◌/◌, ◌^◌, ◌<◌, ◌≤◌, min, ◌==◌, if◌then◌else◌, List, length, get_or, All}
+use Rattle.std.specs.Prelude.{◌≡◌, ℕ, ◌+◌, ◌-◌, ◌*◌, ◌/◌, ◌^◌, ◌<◌, ◌≤◌, min, ◌==◌, if◌then◌else◌, List, length, get_or, All}
 use Rattle.picture_core.specs.declared.history.History.{History}
 use Rattle.picture_core.specs.declared.sheet.Sheet.{Sheet}
-use Rattle.picture_core.specs.declared.sheet.TheConstants.{BAR}
+use Rattle.picture_core.specs.declared.history.Lane.{Lane}
+use Rattle.picture_core.specs.declared.history.Lane.TheVariants as lane
+use Rattle.picture_core.specs.declared.sheet.TheConstants.{AXIS, BAR, BUFFER, TIMELINE, WATCH}
 
 -- the left edge of a column; past the last one it is the right end
 abbrev pub left_of : Sheet → ℕ → ℕ
@@ -17,6 +19,26 @@ middle_of s column =
 -- the height of the middle of a bar, from the top
 abbrev pub height_of_bar : Sheet → ℕ → ℕ
 height_of_bar s place = min (get_or s.bars.items place s.bottom + BAR / 2) (2 ^ 64 - 1)
+
+-- the top of a lane: those of a kind lie one below another
+abbrev pub below : ℕ → ℕ → ℕ → ℕ
+below top place size = min (top + min (place * size) (2 ^ 64 - 1)) (2 ^ 64 - 1)
+
+abbrev pub top_of_lane : Sheet → Lane → ℕ
+top_of_lane s (lane.Timeline place) = below s.timelines place TIMELINE
+top_of_lane s (lane.Bar place) = get_or s.bars.items place s.bottom
+top_of_lane s (lane.Buffer place) = below s.buffers place BUFFER
+top_of_lane s (lane.Watch place) = below s.watches place WATCH
+
+-- from the top of a lane to where its marks lie, and arrows meet it
+abbrev pub half_lane : Lane → ℕ
+half_lane (lane.Timeline place) = AXIS
+half_lane (lane.Bar place) = BAR / 2
+half_lane (lane.Buffer place) = BUFFER / 2
+half_lane (lane.Watch place) = WATCH / 2
+
+abbrev pub height_of_lane : Sheet → Lane → ℕ
+height_of_lane s l = min (top_of_lane s l + half_lane l) (2 ^ 64 - 1)
 
 -- each number is more than the ones ahead of it, by so much at least
 abbrev pub AreApart : ℕ → List ℕ → Type 0
@@ -34,7 +56,25 @@ pub record AreLanes (h : History) (tops : List ℕ) (bottom : ℕ) : Type 0 wher
   pub apart : AreApart BAR tops
   pub low : All (λ top. top ≤ bottom) tops
 
--- where the columns of a history lie, and the lanes of its bars
+-- below so many lanes that begin there, where that is a place
+abbrev pub end_of_lanes : ℕ → ℕ → ℕ → ℕ
+end_of_lanes first count size = min (first + count * size) (2 ^ 64 - 1)
+
+-- the lanes of each kind begin below those of the kind ahead of it: timelines, bars, buffers, watches
+pub record AreStacked (h : History) (s : Sheet) : Type 0 where
+  -- the place below the timelines, and the one below the bars
+  pub from : ℕ
+  pub to : ℕ
+  pub timelines : end_of_lanes s.timelines (length h.lanes.timelines.items) TIMELINE ≤ from
+  pub bars : All (λ top. from ≤ top) s.bars.items
+  pub bars_end : All (λ top. top ≤ to) s.bars.items
+  pub between : from ≤ to
+  pub buffers : to ≤ s.buffers
+  pub buffers_end : end_of_lanes s.buffers (length h.lanes.buffers.items) BUFFER ≤ s.watches
+  pub watches_end : end_of_lanes s.watches (length h.lanes.watches.items) WATCH ≤ s.bottom
+
+-- where the columns of a history lie, and its lanes
 pub record IsSheetOf (h : History) (s : Sheet) : Type 0 where
   pub columns : AreEdges h s.edges.items s.end
   pub bars : AreLanes h s.bars.items s.bottom
+  pub stacked : AreStacked h s

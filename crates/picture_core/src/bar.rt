@@ -1,6 +1,7 @@
 // The bars of sync files.
 ghost use Rattle.std.specs.Prelude.{◌≡◌};
 ghost use Rattle.picture_core.specs.Bars.{bar_of, closed_if, goes_on, is_open_of};
+ghost use Rattle.picture_core.specs.Lanes.{bar_place};
 
 use point_core::{Name, Status};
 
@@ -62,7 +63,9 @@ impl Bar {
 }
 
 /// The place of the bar of the file of that name which is not closed.
-pub(crate) fn open_place(bars: &[Bar], name: &Name) -> Option<usize> {
+pub(crate) fn open_place(bars: &[Bar], name: &Name) -> Option<usize>
+    ensures { result ≡ bar_place bars.now name.now }
+{
     for (place, bar) in bars.iter().enumerate() {
         if bar.is_open_of(name) {
             return Some(place);

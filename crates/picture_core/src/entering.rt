@@ -1,6 +1,8 @@
 // What an accepted command did, entered into the history.
-ghost use Rattle.std.specs.Prelude.{◌≡◌, ◌∷◌, ◌++◌, [], suc, map, OnOk};
+ghost use Rattle.std.specs.Prelude.{◌≡◌, ◌∷◌, ◌++◌, [], suc, map, if◌then◌else◌, ◌==◌, OnOk};
 ghost use Rattle.picture_core.specs.Bars.{bar_of, bars_after, closed_if, with_closed};
+ghost use Rattle.picture_core.specs.Watches.{AreWatchesAfter, IsRegistered, ended_if, fired_all, fired_by, with_ended};
+ghost use Rattle.picture_core.specs.Lanes.{bar_lane, buffer_lane, buffer_place, joined, joined_all, last_watch, links_after, marked, marks_after, sources, target, timeline_lane};
 
 use crate::bar::{Bar, open_place};
 use crate::history::{
@@ -28,6 +30,12 @@ impl History {
         ensures columns { self.new.columns ≡ self.old.columns }
         ensures bars { OnOk result (self.new.bars.items ≡ bars_after column command.now self.old.bars.items) }
         ensures waits { self.new.waits ≡ self.old.waits }
+        ensures marks { OnOk result (self.new.lanes.marks.items
+            ≡ marks_after column self.new.lanes.buffers.items command.now self.old.lanes.marks.items) }
+        ensures links { OnOk result (self.new.lanes.links.items
+            ≡ links_after column self.new.lanes self.new.bars.items command.now self.old.lanes.links.items) }
+        ensures watches { OnOk result (AreWatchesAfter column points.now command.now answer.now
+            self.old.lanes.watches.items self.new.lanes.watches.items) }
     {
         enter_file(&mut self.bars, column, command)?;
         self.lanes.enter(alloc, column, command, answer, points)?;
@@ -101,7 +109,13 @@ impl Lanes {
         command: &Command,
         answer: &Answer,
         points: &[Point],
-    ) -> Result<(), AllocError> {
+    ) -> Result<(), AllocError>
+        ensures marks { OnOk result (self.new.marks.items
+            ≡ marks_after column self.new.buffers.items command.now self.old.marks.items) }
+        ensures links { self.new.links ≡ self.old.links }
+        ensures watches { OnOk result (AreWatchesAfter column points.now command.now answer.now
+            self.old.watches.items self.new.watches.items) }
+    {
         match command {
             Command::Timeline(name) => push_timeline(&mut self.timelines, alloc, column, name),
             Command::Inc(name, _) => self.raise(column, name, answer),
@@ -115,7 +129,12 @@ impl Lanes {
                 push_watch(&mut self.watches, alloc, column, *cookie, points)
             }
             Command::Unwatch(cookie) => {
-                end_watch(&mut self.watches, *cookie, WatchEnd::Removed(column));
+                end_watch(
+                    &mut self.watches,
+                    column,
+                    *cookie,
+                    WatchEnd::Removed(column),
+                );
                 Ok(())
             }
             Command::Value(_)
@@ -131,7 +150,11 @@ impl Lanes {
     }
 
     /// The new value of a timeline, and the watches that fired.
-    fn raise(&mut self, column: usize, name: &Name, answer: &Answer) -> Result<(), AllocError> {
+    fn raise(&mut self, column: usize, name: &Name, answer: &Answer) -> Result<(), AllocError>
+        ensures watches { self.new.watches.items ≡ fired_by column answer.now self.old.watches.items }
+        ensures marks { self.new.marks ≡ self.old.marks }
+        ensures links { self.new.links ≡ self.old.links }
+    {
         let Answer::Raised(value, fired) = answer else {
             return Ok(());
         };
@@ -143,13 +166,23 @@ impl Lanes {
         push_step(self.timelines.as_mut_slice(), name, step)
     }
 
-    fn shut(&mut self, column: usize, name: &Name, answer: &Answer) -> Result<(), AllocError> {
+    fn shut(&mut self, column: usize, name: &Name, answer: &Answer) -> Result<(), AllocError>
+        ensures watches { self.new.watches.items ≡ fired_by column answer.now self.old.watches.items }
+        ensures marks { self.new.marks ≡ self.old.marks }
+        ensures links { self.new.links ≡ self.old.links }
+    {
         self.raise(column, name, answer)?;
         close_timeline(self.timelines.as_mut_slice(), column, name);
         Ok(())
     }
 
-    fn access(&mut self, column: usize, name: &Name, access: Access) -> Result<(), AllocError> {
+    fn access(&mut self, column: usize, name: &Name, access: Access) -> Result<(), AllocError>
+        ensures marks { OnOk result (self.new.marks.items ≡ if column == 0 then self.old.marks.items
+            else marked column (buffer_place self.old.buffers.items name.now) access self.old.marks.items) }
+        ensures buffers { self.new.buffers ≡ self.old.buffers }
+        ensures links { self.new.links ≡ self.old.links }
+        ensures watches { self.new.watches ≡ self.old.watches }
+    {
         if column == 0 {
             return Ok(());
         }
@@ -167,12 +200,12 @@ impl Lanes {
     }
 
     /// From what the command used to what it made or changed.
-    fn link_all(
-        &mut self,
-        column: usize,
-        command: &Command,
-        bars: &[Bar],
-    ) -> Result<(), AllocError> {
+    fn link_all(&mut self, column: usize, command: &Command, bars: &[Bar]) -> Result<(), AllocError>
+        ensures links { OnOk result (self.new.links.items
+            ≡ joined_all column (sources self.old bars.now command.now) (target self.old bars.now command.now)
+            self.old.links.items) }
+        ensures others { self.new ≡ record self.old { links = self.new.links } }
+    {
         match command {
             Command::Fence(name, timeline, _) => {
                 self.link(column, self.timeline_lane(timeline), bar_lane(bars, name))
@@ -214,7 +247,10 @@ impl Lanes {
         column: usize,
         from: Option<Lane>,
         to: Option<Lane>,
-    ) -> Result<(), AllocError> {
+    ) -> Result<(), AllocError>
+        ensures links { OnOk result (self.new.links.items ≡ joined column from to self.old.links.items) }
+        ensures others { self.new ≡ record self.old { links = self.new.links } }
+    {
         let Some(from) = from else {
             return Ok(());
         };
@@ -224,7 +260,9 @@ impl Lanes {
         push(&mut self.links, Link { column, from, to })
     }
 
-    fn timeline_lane(&self, name: &Name) -> Option<Lane> {
+    fn timeline_lane(&self, name: &Name) -> Option<Lane>
+        ensures { result ≡ timeline_lane self.now name.now }
+    {
         for (place, lane) in self.timelines.iter().enumerate() {
             if lane.name == *name {
                 return Some(Lane::Timeline(place));
@@ -233,7 +271,9 @@ impl Lanes {
         None
     }
 
-    fn buffer_place(&self, name: &Name) -> Option<usize> {
+    fn buffer_place(&self, name: &Name) -> Option<usize>
+        ensures { result ≡ buffer_place self.now.buffers.items name.now }
+    {
         for (place, lane) in self.buffers.iter().enumerate() {
             if lane.name == *name {
                 return Some(place);
@@ -242,16 +282,22 @@ impl Lanes {
         None
     }
 
-    fn buffer_lane(&self, name: &Name) -> Option<Lane> {
+    fn buffer_lane(&self, name: &Name) -> Option<Lane>
+        ensures { result ≡ buffer_lane self.now name.now }
+    {
         Some(Lane::Buffer(self.buffer_place(name)?))
     }
 
-    fn last_watch(&self) -> Option<Lane> {
+    fn last_watch(&self) -> Option<Lane>
+        ensures { result ≡ last_watch self.now }
+    {
         Some(Lane::Watch(self.watches.len().checked_sub(1)?))
     }
 }
 
-fn bar_lane(bars: &[Bar], name: &Name) -> Option<Lane> {
+fn bar_lane(bars: &[Bar], name: &Name) -> Option<Lane>
+    ensures { result ≡ bar_lane bars.now name.now }
+{
     Some(Lane::Bar(open_place(bars, name)?))
 }
 
@@ -321,7 +367,9 @@ fn push_watch(
     column: usize,
     cookie: u64,
     points: &[Point],
-) -> Result<(), AllocError> {
+) -> Result<(), AllocError>
+    ensures { OnOk result (IsRegistered column cookie points.now watches.old.items watches.new.items) }
+{
     let points = Vec::from_slice(alloc, points)?;
     push(
         watches,
@@ -335,26 +383,29 @@ fn push_watch(
 }
 
 /// Watches that fired in that column.
-fn end_watches(watches: &mut Vec<WatchLane>, cookies: &[u64], column: usize) {
+fn end_watches(watches: &mut Vec<WatchLane>, cookies: &[u64], column: usize)
+    ensures { watches.new.items ≡ fired_all column cookies.now watches.old.items }
+{
     for cookie in cookies {
-        end_watch(watches, *cookie, WatchEnd::Fired(column));
+        end_watch(watches, column, *cookie, WatchEnd::Fired(column));
     }
 }
 
 /// A watch that ended before the first column is not drawn.
-fn end_watch(watches: &mut Vec<WatchLane>, cookie: u64, end: WatchEnd) {
-    match end {
-        WatchEnd::Fired(0) | WatchEnd::Removed(0) => {
-            watches.retain(|watch| watch.cookie != cookie);
-        }
-        _ => end_drawn_watch(watches, cookie, end),
+fn end_watch(watches: &mut Vec<WatchLane>, column: usize, cookie: u64, end: WatchEnd)
+    ensures { watches.new.items ≡ with_ended column cookie end watches.old.items }
+{
+    if column == 0 {
+        watches.retain(|watch| watch.cookie != cookie);
+    } else {
+        end_drawn_watch(watches.as_mut_slice(), cookie, end);
     }
 }
 
-fn end_drawn_watch(watches: &mut [WatchLane], cookie: u64, end: WatchEnd) {
+fn end_drawn_watch(watches: &mut [WatchLane], cookie: u64, end: WatchEnd)
+    ensures { watches.new ≡ map (ended_if cookie end) watches.old }
+{
     for watch in watches.iter_mut() {
-        if watch.cookie == cookie && matches!(watch.end, WatchEnd::Pending) {
-            watch.end = end;
-        }
+        watch.end_if(cookie, end);
     }
 }

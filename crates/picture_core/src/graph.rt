@@ -1,4 +1,6 @@
 // What waits for what.
+ghost use Rattle.std.specs.Prelude.{◌≡◌, ◌∷◌, ◌++◌, [], OnOk};
+ghost use Rattle.picture_core.specs.Waits.{edge_to};
 
 use crate::list::push;
 use crate::waiting::Waiting;
@@ -54,7 +56,9 @@ pub struct Graph {
 
 impl Graph {
     /// An empty graph.
-    pub fn new(alloc: Global) -> Graph {
+    pub fn new(alloc: Global) -> Graph
+        ensures edges { result.edges.items ≡ [] }
+    {
         Graph {
             nodes: Vec::new(alloc),
             edges: Vec::new(alloc),
@@ -65,21 +69,26 @@ impl Graph {
     /// One node more.
     ///
     /// Fails with `Memory` alone.
-    pub fn add_node(&mut self, node: Node) -> Result<(), Refusal> {
+    pub fn add_node(&mut self, node: Node) -> Result<(), Refusal>
+        ensures edges { self.new.edges ≡ self.old.edges }
+    {
         Ok(push(&mut self.nodes, node)?)
     }
 
     /// One edge more, to a point, which becomes a node where it is none yet.
     ///
     /// Fails with `Memory` alone.
-    pub fn add_wait(&mut self, waiter: &Waiter, waiting: &Waiting) -> Result<(), Refusal> {
+    pub fn add_wait(&mut self, waiter: &Waiter, waiting: &Waiting) -> Result<(), Refusal>
+        ensures edges { OnOk result (self.new.edges.items
+            ≡ self.old.edges.items ++ edge_to waiter.now waiting.now.timeline waiting.now.point ∷ []) }
+    {
         let point = NamedPoint {
             timeline: waiting.timeline,
             value: waiting.point,
         };
         let new = self.points.insert(point).map_err(|_| Refusal::Memory)?;
         if new {
-            push(&mut self.nodes, Node::Point(*waiting))?;
+            self.add_node(Node::Point(*waiting))?;
         }
         let edge = Edge {
             waiter: *waiter,

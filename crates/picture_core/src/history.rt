@@ -1,5 +1,6 @@
 // What a run did, column by column.
 ghost use Rattle.std.specs.Prelude.{◌≡◌, ◌∷◌, ◌++◌, [], OnOk};
+ghost use Rattle.picture_core.specs.Watches.{ended_if, is_pending};
 
 use crate::bar::Bar;
 use crate::list::push;
@@ -73,6 +74,17 @@ pub enum WatchEnd {
     Removed(usize),
 }
 
+impl WatchEnd {
+    fn is_pending(self) -> bool
+        ensures { result ≡ is_pending self }
+    {
+        match self {
+            WatchEnd::Pending => true,
+            WatchEnd::Fired(_) | WatchEnd::Removed(_) => false,
+        }
+    }
+}
+
 /// A watch.
 #[derive(Drop)]
 pub struct WatchLane {
@@ -82,6 +94,17 @@ pub struct WatchLane {
     pub end: WatchEnd,
     /// The points that its file listed then.
     pub points: Vec<Point>,
+}
+
+impl WatchLane {
+    /// Ends it so, where it is pending and has that cookie.
+    pub(crate) fn end_if(&mut self, cookie: u64, end: WatchEnd)
+        ensures { self.new ≡ ended_if cookie end self.old }
+    {
+        if self.cookie == cookie && self.end.is_pending() {
+            self.end = end;
+        }
+    }
 }
 
 /// A lane, by its place among those of its kind.

@@ -1,7 +1,7 @@
 // The lanes of timelines, files, buffers and watches.
-ghost use Rattle.std.specs.Prelude.{◌≡◌, ◌++◌, true, OnOk, None};
-ghost use Rattle.picture_core.specs.Shapes.{bars_on, end_of, fill_of, is_bar_fill, part_of, parts_of, shapes_of, shapes_of_all, waiting_in, waitings, waits_on};
-ghost use Rattle.picture_core.specs.Sheet.{height_of_bar, middle_of};
+ghost use Rattle.std.specs.Prelude.{◌≡◌, ◌++◌, ◌∷◌, [], true, false, OnOk, None};
+ghost use Rattle.picture_core.specs.Shapes.{end_of, end_sign, fill_of, is_bar_fill, is_link, is_told_mark, mark_of, part_of, parts_of, registered_sign, shapes_of, shapes_of_all, sign_of, signs_of_all, told_on, waiting_in, waitings, waits_on, watch_signs, watch_signs_of_all};
+ghost use Rattle.picture_core.specs.Sheet.{height_of_bar, height_of_lane, middle_of};
 
 use crate::bar::{Bar, Settled};
 use crate::history::{
@@ -21,7 +21,7 @@ const FLOOR: u64 = 40;
 /// Where a timeline's numbers stand in its lane.
 const VALUES: u64 = 15;
 /// Half the height of a bar.
-const HALF_BAR: u64 = 7;
+pub(crate) const HALF_BAR: u64 = 7;
 /// From the middle of a lane to the foot of a text there.
 const FOOT: u64 = 4;
 
@@ -33,7 +33,7 @@ fn push_level(
     y: u64,
     canvas: &mut Canvas,
 ) -> Result<(), AllocError>
-    ensures bars { bars_on canvas.new ≡ bars_on canvas.old }
+    ensures told { is_link stroke ≡ false → told_on canvas.new ≡ told_on canvas.old }
     ensures waits { waits_on canvas.new ≡ waits_on canvas.old }
 {
     canvas.line(stroke, &Spot { x: left, y }, &Spot { x: right, y })
@@ -46,7 +46,7 @@ fn push_name(
     label: &Label,
     canvas: &mut Canvas,
 ) -> Result<(), AllocError>
-    ensures bars { bars_on canvas.new ≡ bars_on canvas.old }
+    ensures told { told_on canvas.new ≡ told_on canvas.old }
     ensures waits { waiting_in label.now ≡ None → waits_on canvas.new ≡ waits_on canvas.old }
 {
     let y = sheet.middle_of(lane).saturating_add(FOOT);
@@ -58,7 +58,7 @@ pub(crate) fn push_timelines(
     sheet: &Sheet,
     canvas: &mut Canvas,
 ) -> Result<(), AllocError>
-    ensures bars { bars_on canvas.new ≡ bars_on canvas.old }
+    ensures told { told_on canvas.new ≡ told_on canvas.old }
     ensures waits { waits_on canvas.new ≡ waits_on canvas.old }
 {
     for (place, lane) in history.lanes.timelines.iter().enumerate() {
@@ -77,7 +77,7 @@ fn push_axis(
     lane: &TimelineLane,
     canvas: &mut Canvas,
 ) -> Result<(), AllocError>
-    ensures bars { bars_on canvas.new ≡ bars_on canvas.old }
+    ensures told { told_on canvas.new ≡ told_on canvas.old }
     ensures waits { waits_on canvas.new ≡ waits_on canvas.old }
 {
     match lane.steps.first() {
@@ -99,7 +99,7 @@ fn push_values(
     lane: &TimelineLane,
     canvas: &mut Canvas,
 ) -> Result<(), AllocError>
-    ensures bars { bars_on canvas.new ≡ bars_on canvas.old }
+    ensures told { told_on canvas.new ≡ told_on canvas.old }
     ensures waits { waits_on canvas.new ≡ waits_on canvas.old }
 {
     let greatest = lane.steps.last().map_or(0, |step| step.value);
@@ -130,7 +130,7 @@ fn rise(value: u64, greatest: u64) -> u64 {
 }
 
 fn push_step(before: &Spot, next: &Spot, canvas: &mut Canvas) -> Result<(), AllocError>
-    ensures bars { bars_on canvas.new ≡ bars_on canvas.old }
+    ensures told { told_on canvas.new ≡ told_on canvas.old }
     ensures waits { waits_on canvas.new ≡ waits_on canvas.old }
 {
     push_level(Stroke::Value, before.x, next.x, before.y, canvas)?;
@@ -147,7 +147,7 @@ fn push_value(
     step: &ValueStep,
     canvas: &mut Canvas,
 ) -> Result<(), AllocError>
-    ensures bars { bars_on canvas.new ≡ bars_on canvas.old }
+    ensures told { told_on canvas.new ≡ told_on canvas.old }
     ensures waits { waits_on canvas.new ≡ waits_on canvas.old }
 {
     let x = sheet.text_middle(step.column);
@@ -162,7 +162,7 @@ fn push_end(
     last: &Spot,
     canvas: &mut Canvas,
 ) -> Result<(), AllocError>
-    ensures bars { bars_on canvas.new ≡ bars_on canvas.old }
+    ensures told { told_on canvas.new ≡ told_on canvas.old }
     ensures waits { waits_on canvas.new ≡ waits_on canvas.old }
 {
     let Some(closed) = lane.closed else {
@@ -179,7 +179,7 @@ pub(crate) fn push_bars(
     sheet: &Sheet,
     canvas: &mut Canvas,
 ) -> Result<(), AllocError>
-    ensures bars { OnOk result (bars_on canvas.new ≡ bars_on canvas.old
+    ensures told { OnOk result (told_on canvas.new ≡ told_on canvas.old
         ++ shapes_of_all (middle_of sheet.now) sheet.now.end (height_of_bar sheet.now) history.now.bars.items) }
     ensures waits { OnOk result (waits_on canvas.new ≡ waits_on canvas.old ++ waitings history.now.waits.items) }
 {
@@ -188,7 +188,7 @@ pub(crate) fn push_bars(
 }
 
 fn push_lanes(bars: &[Bar], sheet: &Sheet, canvas: &mut Canvas) -> Result<(), AllocError>
-    ensures bars { OnOk result (bars_on canvas.new ≡ bars_on canvas.old
+    ensures told { OnOk result (told_on canvas.new ≡ told_on canvas.old
         ++ shapes_of_all (middle_of sheet.now) sheet.now.end (height_of_bar sheet.now) bars.now) }
     ensures waits { waits_on canvas.new ≡ waits_on canvas.old }
 {
@@ -200,7 +200,7 @@ fn push_lanes(bars: &[Bar], sheet: &Sheet, canvas: &mut Canvas) -> Result<(), Al
 
 /// The name of a file, and its bar.
 fn push_lane(sheet: &Sheet, place: usize, bar: &Bar, canvas: &mut Canvas) -> Result<(), AllocError>
-    ensures bars { OnOk result (bars_on canvas.new ≡ bars_on canvas.old
+    ensures told { OnOk result (told_on canvas.new ≡ told_on canvas.old
         ++ shapes_of (middle_of sheet.now) sheet.now.end (height_of_bar sheet.now place) bar.now) }
     ensures waits { waits_on canvas.new ≡ waits_on canvas.old }
 {
@@ -209,7 +209,7 @@ fn push_lane(sheet: &Sheet, place: usize, bar: &Bar, canvas: &mut Canvas) -> Res
 }
 
 fn push_bar(sheet: &Sheet, middle: u64, bar: &Bar, canvas: &mut Canvas) -> Result<(), AllocError>
-    ensures bars { OnOk result (bars_on canvas.new ≡ bars_on canvas.old
+    ensures told { OnOk result (told_on canvas.new ≡ told_on canvas.old
         ++ shapes_of (middle_of sheet.now) sheet.now.end middle bar.now) }
     ensures waits { waits_on canvas.new ≡ waits_on canvas.old }
 {
@@ -241,7 +241,7 @@ fn push_parts(
     y: u64,
     canvas: &mut Canvas,
 ) -> Result<(), AllocError>
-    ensures bars { OnOk result (bars_on canvas.new ≡ bars_on canvas.old
+    ensures told { OnOk result (told_on canvas.new ≡ told_on canvas.old
         ++ parts_of (middle_of sheet.now) left right y settled) }
     ensures waits { waits_on canvas.new ≡ waits_on canvas.old }
 {
@@ -260,8 +260,8 @@ fn push_part(
     y: u64,
     canvas: &mut Canvas,
 ) -> Result<(), AllocError>
-    ensures bars { is_bar_fill fill ≡ true →
-        OnOk result (bars_on canvas.new ≡ bars_on canvas.old ++ part_of fill left right y) }
+    ensures told { is_bar_fill fill ≡ true →
+        OnOk result (told_on canvas.new ≡ told_on canvas.old ++ part_of fill left right y) }
     ensures waits { waits_on canvas.new ≡ waits_on canvas.old }
 {
     if left >= right {
@@ -283,7 +283,7 @@ fn fill_of(status: Status) -> Fill
 }
 
 fn push_bar_end(bar: &Bar, right: u64, middle: u64, canvas: &mut Canvas) -> Result<(), AllocError>
-    ensures bars { bars_on canvas.new ≡ bars_on canvas.old }
+    ensures told { told_on canvas.new ≡ told_on canvas.old }
     ensures waits { waits_on canvas.new ≡ waits_on canvas.old }
 {
     if bar.goes_on() {
@@ -297,7 +297,7 @@ fn push_bar_end(bar: &Bar, right: u64, middle: u64, canvas: &mut Canvas) -> Resu
 
 /// What bars wait for, a line of text each, right of the columns.
 fn push_waits(waits: &[BarWait], sheet: &Sheet, canvas: &mut Canvas) -> Result<(), AllocError>
-    ensures bars { bars_on canvas.new ≡ bars_on canvas.old }
+    ensures told { told_on canvas.new ≡ told_on canvas.old }
     ensures waits { OnOk result (waits_on canvas.new ≡ waits_on canvas.old ++ waitings waits.now) }
 {
     let x = sheet.end.saturating_add(PAD * 2);
@@ -320,7 +320,8 @@ pub(crate) fn push_buffers(
     sheet: &Sheet,
     canvas: &mut Canvas,
 ) -> Result<(), AllocError>
-    ensures bars { bars_on canvas.new ≡ bars_on canvas.old }
+    ensures told { OnOk result (told_on canvas.new ≡ told_on canvas.old
+        ++ signs_of_all (middle_of sheet.now) (height_of_lane sheet.now) history.now.lanes.marks.items) }
     ensures waits { waits_on canvas.new ≡ waits_on canvas.old }
 {
     push_buffer_lanes(history.lanes.buffers.as_slice(), sheet, canvas)?;
@@ -332,7 +333,7 @@ fn push_buffer_lanes(
     sheet: &Sheet,
     canvas: &mut Canvas,
 ) -> Result<(), AllocError>
-    ensures bars { bars_on canvas.new ≡ bars_on canvas.old }
+    ensures told { told_on canvas.new ≡ told_on canvas.old }
     ensures waits { waits_on canvas.new ≡ waits_on canvas.old }
 {
     for (place, lane) in lanes.iter().enumerate() {
@@ -342,7 +343,8 @@ fn push_buffer_lanes(
 }
 
 fn push_accesses(marks: &[BufferMark], sheet: &Sheet, canvas: &mut Canvas) -> Result<(), AllocError>
-    ensures bars { bars_on canvas.new ≡ bars_on canvas.old }
+    ensures told { OnOk result (told_on canvas.new ≡ told_on canvas.old
+        ++ signs_of_all (middle_of sheet.now) (height_of_lane sheet.now) marks.now) }
     ensures waits { waits_on canvas.new ≡ waits_on canvas.old }
 {
     for mark in marks {
@@ -357,7 +359,7 @@ fn push_buffer(
     lane: &BufferLane,
     canvas: &mut Canvas,
 ) -> Result<(), AllocError>
-    ensures bars { bars_on canvas.new ≡ bars_on canvas.old }
+    ensures told { told_on canvas.new ≡ told_on canvas.old }
     ensures waits { waits_on canvas.new ≡ waits_on canvas.old }
 {
     push_name(sheet, here, &Label::Name(lane.name), canvas)?;
@@ -367,7 +369,8 @@ fn push_buffer(
 }
 
 fn push_access(sheet: &Sheet, access: &BufferMark, canvas: &mut Canvas) -> Result<(), AllocError>
-    ensures bars { bars_on canvas.new ≡ bars_on canvas.old }
+    ensures told { OnOk result (told_on canvas.new ≡ told_on canvas.old
+        ++ sign_of (middle_of sheet.now) (height_of_lane sheet.now) access.now ∷ []) }
     ensures waits { waits_on canvas.new ≡ waits_on canvas.old }
 {
     let x = sheet.middle(access.column);
@@ -377,7 +380,10 @@ fn push_access(sheet: &Sheet, access: &BufferMark, canvas: &mut Canvas) -> Resul
     canvas.text(Face::Letter, x, y.saturating_add(FOOT), &letter)
 }
 
-fn mark_of(access: Access) -> Mark {
+fn mark_of(access: Access) -> Mark
+    ensures value { result ≡ mark_of access }
+    ensures told { is_told_mark result ≡ true }
+{
     match access {
         Access::Add(_) => Mark::Add,
         Access::Import(_) => Mark::Import,
@@ -387,39 +393,77 @@ fn mark_of(access: Access) -> Mark {
 }
 
 pub(crate) fn push_watches(
-    history: &History,
+    lanes: &[WatchLane],
     sheet: &Sheet,
     canvas: &mut Canvas,
 ) -> Result<(), AllocError>
-    ensures bars { bars_on canvas.new ≡ bars_on canvas.old }
+    ensures told { OnOk result (told_on canvas.new ≡ told_on canvas.old
+        ++ watch_signs_of_all (middle_of sheet.now) (height_of_lane sheet.now) lanes.now) }
     ensures waits { waits_on canvas.new ≡ waits_on canvas.old }
 {
-    for (place, lane) in history.lanes.watches.iter().enumerate() {
-        push_watch(sheet, Lane::Watch(place), lane, canvas)?;
+    for (place, lane) in lanes.iter().enumerate() {
+        push_watch(sheet, place, lane, canvas)?;
     }
     Ok(())
 }
 
 fn push_watch(
     sheet: &Sheet,
-    here: Lane,
+    place: usize,
     lane: &WatchLane,
     canvas: &mut Canvas,
 ) -> Result<(), AllocError>
-    ensures bars { bars_on canvas.new ≡ bars_on canvas.old }
+    ensures told { OnOk result (told_on canvas.new ≡ told_on canvas.old
+        ++ watch_signs (middle_of sheet.now) (height_of_lane sheet.now) (place, lane.now)) }
     ensures waits { waits_on canvas.new ≡ waits_on canvas.old }
 {
+    let here = Lane::Watch(place);
     push_name(sheet, here, &Label::Watch(lane.cookie), canvas)?;
     let left = sheet.middle(lane.made);
     let y = sheet.height_of(here);
-    let (right, end) = match lane.end {
-        WatchEnd::Pending => (sheet.end, Mark::GoesOn),
-        WatchEnd::Fired(column) => (sheet.middle(column), Mark::Fired),
-        WatchEnd::Removed(column) => (sheet.middle(column), Mark::Removed),
-    };
-    push_level(Stroke::Watch, left, right, y, canvas)?;
-    if lane.made > 0 {
-        canvas.mark(Mark::Registered, left, y)?;
+    push_level(
+        Stroke::Watch,
+        left,
+        end_of_watch(sheet, lane.end),
+        y,
+        canvas,
+    )?;
+    push_registered(lane.made, left, y, canvas)?;
+    push_watch_end(sheet, lane.end, y, canvas)
+}
+
+/// Where the line of a watch ends.
+fn end_of_watch(sheet: &Sheet, end: WatchEnd) -> u64 {
+    match end {
+        WatchEnd::Pending => sheet.end,
+        WatchEnd::Fired(column) | WatchEnd::Removed(column) => sheet.middle(column),
     }
-    canvas.mark(end, right, y)
+}
+
+/// A watch that stood before the first column has no mark where it begins.
+fn push_registered(made: usize, x: u64, y: u64, canvas: &mut Canvas) -> Result<(), AllocError>
+    ensures told { OnOk result (told_on canvas.new ≡ told_on canvas.old ++ registered_sign made x y) }
+    ensures waits { waits_on canvas.new ≡ waits_on canvas.old }
+{
+    if made == 0 {
+        return Ok(());
+    }
+    canvas.mark(Mark::Registered, x, y)
+}
+
+/// What became of a watch.
+fn push_watch_end(
+    sheet: &Sheet,
+    end: WatchEnd,
+    y: u64,
+    canvas: &mut Canvas,
+) -> Result<(), AllocError>
+    ensures told { OnOk result (told_on canvas.new ≡ told_on canvas.old ++ end_sign (middle_of sheet.now) y end) }
+    ensures waits { waits_on canvas.new ≡ waits_on canvas.old }
+{
+    match end {
+        WatchEnd::Pending => canvas.mark(Mark::GoesOn, sheet.end, y),
+        WatchEnd::Fired(column) => canvas.mark(Mark::Fired, sheet.middle(column), y),
+        WatchEnd::Removed(column) => canvas.mark(Mark::Removed, sheet.middle(column), y),
+    }
 }

@@ -1,7 +1,7 @@
 // What the signs of a picture mean.
 ghost use Rattle.std.specs.Prelude.{◌≡◌, ◌-◌, ◌∷◌, [], true, flat_map, OnOk};
 ghost use Rattle.picture_core.specs.Legend.{AddsSamples, fills_of_legend, sample_of, top_of_samples};
-ghost use Rattle.picture_core.specs.Shapes.{bars_on, is_bar_fill, waits_on};
+ghost use Rattle.picture_core.specs.Shapes.{told_on, is_bar_fill, waits_on};
 
 use crate::history::Access;
 use crate::measure::text_width;
@@ -31,8 +31,8 @@ const BESIDE: u64 = 22;
 
 /// The legend, below what lies there.
 pub(crate) fn push_legend(top: u64, canvas: &mut Canvas) -> Result<(), AllocError>
-    ensures bars { OnOk result (AddsSamples (top_of_samples top) fills_of_legend
-        (bars_on canvas.old) (bars_on canvas.new)) }
+    ensures told { OnOk result (AddsSamples (top_of_samples top) fills_of_legend
+        (told_on canvas.old) (told_on canvas.new)) }
     ensures waits { waits_on canvas.new ≡ waits_on canvas.old }
 {
     let first = [
@@ -56,8 +56,8 @@ pub(crate) fn push_legend(top: u64, canvas: &mut Canvas) -> Result<(), AllocErro
 }
 
 fn push_meanings(y: u64, meanings: &[Meaning], canvas: &mut Canvas) -> Result<(), AllocError>
-    ensures bars { OnOk result (AddsSamples (y - HALF_SAMPLE) (flat_map sample_of meanings.now)
-        (bars_on canvas.old) (bars_on canvas.new)) }
+    ensures told { OnOk result (AddsSamples (y - HALF_SAMPLE) (flat_map sample_of meanings.now)
+        (told_on canvas.old) (told_on canvas.new)) }
     ensures waits { waits_on canvas.new ≡ waits_on canvas.old }
 {
     let mut x = PAD;
@@ -77,8 +77,8 @@ fn push_meanings(y: u64, meanings: &[Meaning], canvas: &mut Canvas) -> Result<()
 }
 
 fn push_sign(meaning: Meaning, x: u64, y: u64, canvas: &mut Canvas) -> Result<(), AllocError>
-    ensures bars { OnOk result (AddsSamples (y - HALF_SAMPLE) (sample_of meaning)
-        (bars_on canvas.old) (bars_on canvas.new)) }
+    ensures told { OnOk result (AddsSamples (y - HALF_SAMPLE) (sample_of meaning)
+        (told_on canvas.old) (told_on canvas.new)) }
     ensures waits { waits_on canvas.new ≡ waits_on canvas.old }
 {
     match meaning {
@@ -98,7 +98,7 @@ fn push_sign(meaning: Meaning, x: u64, y: u64, canvas: &mut Canvas) -> Result<()
 }
 
 fn push_mark(mark: Mark, x: u64, y: u64, canvas: &mut Canvas) -> Result<(), AllocError>
-    ensures bars { bars_on canvas.new ≡ bars_on canvas.old }
+    ensures told { OnOk result (AddsSamples (y - HALF_SAMPLE) [] (told_on canvas.old) (told_on canvas.new)) }
     ensures waits { waits_on canvas.new ≡ waits_on canvas.old }
 {
     canvas.mark(mark, x.saturating_add(MIDDLE), y)
@@ -106,7 +106,7 @@ fn push_mark(mark: Mark, x: u64, y: u64, canvas: &mut Canvas) -> Result<(), Allo
 
 /// A letter stands in a mark for the usage or the access.
 fn push_letters(x: u64, y: u64, canvas: &mut Canvas) -> Result<(), AllocError>
-    ensures bars { bars_on canvas.new ≡ bars_on canvas.old }
+    ensures told { OnOk result (AddsSamples (y - HALF_SAMPLE) [] (told_on canvas.old) (told_on canvas.new)) }
     ensures waits { waits_on canvas.new ≡ waits_on canvas.old }
 {
     push_mark(Mark::Add, x, y, canvas)?;
@@ -120,8 +120,8 @@ fn push_letters(x: u64, y: u64, canvas: &mut Canvas) -> Result<(), AllocError>
 }
 
 fn push_sample(fill: Fill, x: u64, y: u64, canvas: &mut Canvas) -> Result<(), AllocError>
-    ensures bars { is_bar_fill fill ≡ true →
-        OnOk result (AddsSamples (y - HALF_SAMPLE) (fill ∷ []) (bars_on canvas.old) (bars_on canvas.new)) }
+    ensures told { is_bar_fill fill ≡ true →
+        OnOk result (AddsSamples (y - HALF_SAMPLE) (fill ∷ []) (told_on canvas.old) (told_on canvas.new)) }
     ensures waits { waits_on canvas.new ≡ waits_on canvas.old }
 {
     let at = Spot {

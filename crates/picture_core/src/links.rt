@@ -1,21 +1,29 @@
 // From what commands used to what they made or changed.
-ghost use Rattle.std.specs.Prelude.{◌≡◌};
-ghost use Rattle.picture_core.specs.Shapes.{bars_on, waits_on};
+ghost use Rattle.std.specs.Prelude.{◌≡◌, ◌++◌, true, OnOk};
+ghost use Rattle.picture_core.specs.Shapes.{arrow, arrow_of, arrow_to, arrows_of_all, is_told_mark, room_at, told_on, waits_on};
+ghost use Rattle.picture_core.specs.Sheet.{height_of_lane, middle_of};
 
-use crate::history::{History, Lane, Link};
+use crate::history::{Lane, Link};
+use crate::lanes::HALF_BAR;
 use crate::shapes::{Canvas, Mark, Spot, Stroke};
 use crate::sheet::Sheet;
 use std::alloc::AllocError;
 
+/// Half the height of a mark on a buffer's lane, and of one on a watch's.
+const HALF_SIGN: u64 = 10;
+
+const HALF_WATCH: u64 = 6;
+
 pub(crate) fn push_links(
-    history: &History,
+    links: &[Link],
     sheet: &Sheet,
     canvas: &mut Canvas,
 ) -> Result<(), AllocError>
-    ensures bars { bars_on canvas.new ≡ bars_on canvas.old }
+    ensures told { OnOk result (told_on canvas.new ≡ told_on canvas.old
+        ++ arrows_of_all (middle_of sheet.now) (height_of_lane sheet.now) links.now) }
     ensures waits { waits_on canvas.new ≡ waits_on canvas.old }
 {
-    for link in &history.lanes.links {
+    for link in links {
         push_link(sheet, link, canvas)?;
     }
     Ok(())
@@ -23,28 +31,58 @@ pub(crate) fn push_links(
 
 /// From the middle of one lane to the edge of what stands on the other.
 fn push_link(sheet: &Sheet, link: &Link, canvas: &mut Canvas) -> Result<(), AllocError>
-    ensures bars { bars_on canvas.new ≡ bars_on canvas.old }
+    ensures told { OnOk result (told_on canvas.new ≡ told_on canvas.old
+        ++ arrow_of (middle_of sheet.now) (height_of_lane sheet.now) link.now) }
     ensures waits { waits_on canvas.new ≡ waits_on canvas.old }
 {
     let x = sheet.middle(link.column);
     let from = sheet.height_of(link.from);
     let to = sheet.height_of(link.to);
-    let (end, mark) = if from <= to {
-        (to.saturating_sub(room_at(link.to)), Mark::Down)
+    push_arrow_to(x, from, to, room_at(link.to), canvas)
+}
+
+/// To what reaches so far above and below its middle.
+fn push_arrow_to(
+    x: u64,
+    from: u64,
+    to: u64,
+    room: u64,
+    canvas: &mut Canvas,
+) -> Result<(), AllocError>
+    ensures told { OnOk result (told_on canvas.new ≡ told_on canvas.old ++ arrow_to x from to room) }
+    ensures waits { waits_on canvas.new ≡ waits_on canvas.old }
+{
+    if from <= to {
+        push_arrow(Mark::Down, x, from, to.saturating_sub(room), canvas)
     } else {
-        (to.saturating_add(room_at(link.to)), Mark::Up)
-    };
+        push_arrow(Mark::Up, x, from, to.saturating_add(room), canvas)
+    }
+}
+
+fn push_arrow(
+    mark: Mark,
+    x: u64,
+    from: u64,
+    end: u64,
+    canvas: &mut Canvas,
+) -> Result<(), AllocError>
+    ensures told { is_told_mark mark ≡ true →
+        OnOk result (told_on canvas.new ≡ told_on canvas.old ++ arrow mark x from end) }
+    ensures waits { waits_on canvas.new ≡ waits_on canvas.old }
+{
     canvas.line(Stroke::Link, &Spot { x, y: from }, &Spot { x, y: end })?;
     canvas.mark(Mark::From, x, from)?;
     canvas.mark(mark, x, end)
 }
 
 /// What stands on a lane above and below its middle.
-fn room_at(lane: Lane) -> u64 {
+fn room_at(lane: Lane) -> u64
+    ensures { result ≡ room_at lane }
+{
     match lane {
         Lane::Timeline(_) => 0,
-        Lane::Bar(_) => 7,
-        Lane::Buffer(_) => 10,
-        Lane::Watch(_) => 6,
+        Lane::Bar(_) => HALF_BAR,
+        Lane::Buffer(_) => HALF_SIGN,
+        Lane::Watch(_) => HALF_WATCH,
     }
 }

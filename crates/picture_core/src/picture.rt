@@ -3,7 +3,7 @@ ghost use Rattle.std.specs.Prelude.{◌≡◌, ◌+◌, ◌++◌, ◌<◌, ◌^�
 ghost use Rattle.std.specs.List.{range_with_len};
 ghost use Rattle.point_core.specs.declared.refusal.Refusal.TheVariants.{Memory};
 ghost use Rattle.picture_core.specs.Picture.{AddsAll, IsPictureOn, ShowsHistory, area_of_column, areas_of_columns};
-ghost use Rattle.picture_core.specs.Shapes.{bars_on, waitings, waits_on};
+ghost use Rattle.picture_core.specs.Shapes.{told_on, waitings, waits_on};
 ghost use Rattle.picture_core.specs.Sheet.{IsSheetOf};
 
 use crate::history::{Column, History, Lane};
@@ -68,9 +68,9 @@ fn push_all(
     push_heads(history, sheet, canvas)?;
     push_timelines(history, sheet, canvas)?;
     push_bars(history, sheet, canvas)?;
-    push_links(history, sheet, canvas)?;
+    push_links(history.lanes.links.as_slice(), sheet, canvas)?;
     push_buffers(history, sheet, canvas)?;
-    push_watches(history, sheet, canvas)?;
+    push_watches(history.lanes.watches.as_slice(), sheet, canvas)?;
     push_legend(sheet.bottom, canvas)
 }
 
@@ -100,7 +100,7 @@ fn push_stripes(
     width: u64,
     canvas: &mut Canvas,
 ) -> Result<(), AllocError>
-    ensures bars { bars_on canvas.new ≡ bars_on canvas.old }
+    ensures told { told_on canvas.new ≡ told_on canvas.old }
     ensures waits { waits_on canvas.new ≡ waits_on canvas.old }
 {
     for (kind, count) in kinds_of(history) {
@@ -116,7 +116,7 @@ fn push_stripes_of(
     count: usize,
     canvas: &mut Canvas,
 ) -> Result<(), AllocError>
-    ensures bars { bars_on canvas.new ≡ bars_on canvas.old }
+    ensures told { told_on canvas.new ≡ told_on canvas.old }
     ensures waits { waits_on canvas.new ≡ waits_on canvas.old }
 {
     for place in 0..count {
@@ -128,7 +128,7 @@ fn push_stripes_of(
 }
 
 fn push_stripe(sheet: &Sheet, width: u64, lane: Lane, canvas: &mut Canvas) -> Result<(), AllocError>
-    ensures bars { bars_on canvas.new ≡ bars_on canvas.old }
+    ensures told { told_on canvas.new ≡ told_on canvas.old }
     ensures waits { waits_on canvas.new ≡ waits_on canvas.old }
 {
     let at = Spot {
@@ -139,7 +139,7 @@ fn push_stripe(sheet: &Sheet, width: u64, lane: Lane, canvas: &mut Canvas) -> Re
 }
 
 fn push_headings(history: &History, sheet: &Sheet, canvas: &mut Canvas) -> Result<(), AllocError>
-    ensures bars { bars_on canvas.new ≡ bars_on canvas.old }
+    ensures told { told_on canvas.new ≡ told_on canvas.old }
     ensures waits { waits_on canvas.new ≡ waits_on canvas.old }
 {
     for (kind, count) in kinds_of(history) {
@@ -151,7 +151,7 @@ fn push_headings(history: &History, sheet: &Sheet, canvas: &mut Canvas) -> Resul
 }
 
 fn push_heading(sheet: &Sheet, kind: Heading, canvas: &mut Canvas) -> Result<(), AllocError>
-    ensures bars { bars_on canvas.new ≡ bars_on canvas.old }
+    ensures told { told_on canvas.new ≡ told_on canvas.old }
     ensures waits { waits_on canvas.new ≡ waits_on canvas.old }
 {
     let y = sheet.top(lane_of(kind, 0)).saturating_sub(HEADING / 3);
@@ -160,7 +160,7 @@ fn push_heading(sheet: &Sheet, kind: Heading, canvas: &mut Canvas) -> Result<(),
 
 /// The head of each column: its line's number and word, and whether that was refused.
 fn push_heads(history: &History, sheet: &Sheet, canvas: &mut Canvas) -> Result<(), AllocError>
-    ensures bars { bars_on canvas.new ≡ bars_on canvas.old }
+    ensures told { told_on canvas.new ≡ told_on canvas.old }
     ensures waits { waits_on canvas.new ≡ waits_on canvas.old }
 {
     for (place, column) in history.columns.iter().enumerate() {
@@ -175,7 +175,7 @@ fn push_head(
     column: &Column,
     canvas: &mut Canvas,
 ) -> Result<(), AllocError>
-    ensures bars { bars_on canvas.new ≡ bars_on canvas.old }
+    ensures told { told_on canvas.new ≡ told_on canvas.old }
     ensures waits { waits_on canvas.new ≡ waits_on canvas.old }
 {
     let number = place.saturating_add(1);
@@ -194,7 +194,7 @@ fn push_head(
 }
 
 fn push_refusal(sheet: &Sheet, number: usize, canvas: &mut Canvas) -> Result<(), AllocError>
-    ensures bars { bars_on canvas.new ≡ bars_on canvas.old }
+    ensures told { told_on canvas.new ≡ told_on canvas.old }
     ensures waits { waits_on canvas.new ≡ waits_on canvas.old }
 {
     let left = sheet.left(number);

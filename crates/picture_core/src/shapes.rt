@@ -1,6 +1,6 @@
 // The shapes that a picture is made of.
-ghost use Rattle.std.specs.Prelude.{◌≡◌, ◌∷◌, ◌++◌, [], true, false, OnOk, OnErr, None, option_to_list};
-ghost use Rattle.picture_core.specs.Shapes.{bars_on, is_bar_fill, waiting_in, waits_on};
+ghost use Rattle.std.specs.Prelude.{◌≡◌, ◌∷◌, ◌++◌, [], true, false, OnOk, None, option_to_list};
+ghost use Rattle.picture_core.specs.Shapes.{is_bar_fill, is_link, is_told_mark, told_on, waiting_in, waits_on};
 
 use crate::history::Access;
 use crate::list::push;
@@ -183,13 +183,9 @@ impl Canvas {
         width: u64,
         height: u64,
     ) -> Result<(), AllocError>
-        ensures ok { OnOk result (self.new.shapes.items ≡ self.old.shapes.items
-            ++ Shape.Area fill at.now width height ∷ []) }
-        ensures err { OnErr result (self.new.shapes.items ≡ self.old.shapes.items) }
-        ensures texts { self.new.texts ≡ self.old.texts }
         ensures bar { is_bar_fill fill ≡ true →
-            OnOk result (bars_on self.new ≡ bars_on self.old ++ Shape.Area fill at.now width height ∷ []) }
-        ensures other { is_bar_fill fill ≡ false → bars_on self.new ≡ bars_on self.old }
+            OnOk result (told_on self.new ≡ told_on self.old ++ Shape.Area fill at.now width height ∷ []) }
+        ensures other { is_bar_fill fill ≡ false → told_on self.new ≡ told_on self.old }
         ensures waits { waits_on self.new ≡ waits_on self.old }
     {
         push(
@@ -210,11 +206,7 @@ impl Canvas {
         height: u64,
         is_open: bool,
     ) -> Result<(), AllocError>
-        ensures ok { OnOk result (self.new.shapes.items ≡ self.old.shapes.items
-            ++ Shape.Edge at.now width height is_open ∷ []) }
-        ensures err { OnErr result (self.new.shapes.items ≡ self.old.shapes.items) }
-        ensures texts { self.new.texts ≡ self.old.texts }
-        ensures bar { OnOk result (bars_on self.new ≡ bars_on self.old ++ Shape.Edge at.now width height is_open ∷ []) }
+        ensures bar { OnOk result (told_on self.new ≡ told_on self.old ++ Shape.Edge at.now width height is_open ∷ []) }
         ensures waits { waits_on self.new ≡ waits_on self.old }
     {
         push(
@@ -229,11 +221,9 @@ impl Canvas {
     }
 
     pub(crate) fn line(&mut self, stroke: Stroke, from: &Spot, to: &Spot) -> Result<(), AllocError>
-        ensures ok { OnOk result (self.new.shapes.items ≡ self.old.shapes.items
-            ++ Shape.Line stroke from.now to.now ∷ []) }
-        ensures err { OnErr result (self.new.shapes.items ≡ self.old.shapes.items) }
-        ensures texts { self.new.texts ≡ self.old.texts }
-        ensures bars { bars_on self.new ≡ bars_on self.old }
+        ensures link { is_link stroke ≡ true →
+            OnOk result (told_on self.new ≡ told_on self.old ++ Shape.Line stroke from.now to.now ∷ []) }
+        ensures other { is_link stroke ≡ false → told_on self.new ≡ told_on self.old }
         ensures waits { waits_on self.new ≡ waits_on self.old }
     {
         push(
@@ -247,11 +237,9 @@ impl Canvas {
     }
 
     pub(crate) fn mark(&mut self, mark: Mark, x: u64, y: u64) -> Result<(), AllocError>
-        ensures ok { OnOk result (self.new.shapes.items ≡ self.old.shapes.items
-            ++ Shape.Mark mark (record { x = x; y = y }) ∷ []) }
-        ensures err { OnErr result (self.new.shapes.items ≡ self.old.shapes.items) }
-        ensures texts { self.new.texts ≡ self.old.texts }
-        ensures bars { bars_on self.new ≡ bars_on self.old }
+        ensures told { is_told_mark mark ≡ true →
+            OnOk result (told_on self.new ≡ told_on self.old ++ Shape.Mark mark (record { x = x; y = y }) ∷ []) }
+        ensures other { is_told_mark mark ≡ false → told_on self.new ≡ told_on self.old }
         ensures waits { waits_on self.new ≡ waits_on self.old }
     {
         push(
@@ -270,13 +258,9 @@ impl Canvas {
         y: u64,
         label: &Label,
     ) -> Result<(), AllocError>
-        ensures ok { OnOk result (self.new.texts.items ≡ self.old.texts.items
-            ++ record { face = face; at = record { x = x; y = y }; label = label.now } ∷ []) }
-        ensures err { OnErr result (self.new.texts.items ≡ self.old.texts.items) }
-        ensures shapes { self.new.shapes ≡ self.old.shapes }
         ensures wait { OnOk result (waits_on self.new ≡ waits_on self.old ++ option_to_list (waiting_in label.now)) }
         ensures other { waiting_in label.now ≡ None → waits_on self.new ≡ waits_on self.old }
-        ensures bars { bars_on self.new ≡ bars_on self.old }
+        ensures told { told_on self.new ≡ told_on self.old }
     {
         push(
             &mut self.texts,

@@ -1,7 +1,7 @@
 // Where columns and lanes lie.
 ghost use Rattle.std.specs.Prelude.{◌≡◌, ℕ, ◌+◌, ◌≤◌, All, IfErr, IfOk, get_or, length};
 ghost use Rattle.point_core.specs.declared.refusal.Refusal.TheVariants.{Memory};
-ghost use Rattle.picture_core.specs.Sheet.{AreApart, AreLanes, AreEdges, IsSheetOf, height_of_bar, left_of, middle_of};
+ghost use Rattle.picture_core.specs.Sheet.{AreApart, AreLanes, AreEdges, IsSheetOf, below, end_of_lanes, height_of_bar, height_of_lane, left_of, middle_of, top_of_lane};
 
 use crate::history::{BarWait, Column, History, Lane, ValueStep, WatchLane};
 use crate::list::push;
@@ -106,7 +106,9 @@ impl Sheet {
     }
 
     /// The top of a lane.
-    pub(crate) fn top(&self, lane: Lane) -> u64 {
+    pub(crate) fn top(&self, lane: Lane) -> u64
+        ensures { result ≡ top_of_lane self.now lane }
+    {
         match lane {
             Lane::Timeline(place) => below(self.timelines, place, TIMELINE),
             Lane::Bar(place) => self.top_of_bar(place),
@@ -137,7 +139,9 @@ impl Sheet {
     }
 
     /// The height where links meet a lane.
-    pub(crate) fn height_of(&self, lane: Lane) -> u64 {
+    pub(crate) fn height_of(&self, lane: Lane) -> u64
+        ensures { result ≡ height_of_lane self.now lane }
+    {
         match lane {
             Lane::Timeline(_) => self.top(lane).saturating_add(AXIS),
             Lane::Bar(place) => self.height_of_bar(place),
@@ -161,14 +165,17 @@ impl Sheet {
 }
 
 fn below(top: u64, place: usize, height: u64) -> u64
-    ensures { top ≤ result }
+    ensures value { result ≡ below top place height }
+    ensures least { top ≤ result }
 {
     top.saturating_add((place as u64).saturating_mul(height))
 }
 
 /// The top of the first of so many lanes, and what lies under them all.
 fn lanes(top: u64, count: usize, height: u64) -> (u64, u64)
-    ensures { top ≤ result.1 }
+    ensures first { top ≤ result.0 }
+    ensures end { end_of_lanes result.0 count height ≤ result.1 }
+    ensures below { top ≤ result.1 }
 {
     if count == 0 {
         return (top, top);
@@ -182,6 +189,8 @@ fn lanes(top: u64, count: usize, height: u64) -> (u64, u64)
 /// Fails with `Memory` alone.
 fn bars_of(alloc: Global, history: &History, top: u64) -> Result<(Vec<u64>, u64), Refusal>
     ensures ok { IfOk result (λ lanes. AreLanes history.now lanes.0.items lanes.1) }
+    ensures first { IfOk result (λ lanes. All (λ lane. top ≤ lane) lanes.0.items) }
+    ensures below { IfOk result (λ lanes. top ≤ lanes.1) }
     ensures memory { IfErr result (λ e. e ≡ Memory) }
 {
     let heights = heights_of(alloc, history)?;
@@ -263,6 +272,8 @@ fn places_of(alloc: Global, first: u64, lengths: &[u64]) -> Result<(Vec<u64>, u6
     ensures count { IfOk result (λ places. length places.0.items ≡ length lengths.now + 1) }
     ensures apart { IfOk result (λ places. (gap : ℕ) → All (λ l. gap ≤ l) lengths.now → AreApart gap places.0.items) }
     ensures end { IfOk result (λ places. get_or places.0.items (length lengths.now) 0 ≡ places.1) }
+    ensures first { IfOk result (λ places. All (λ place. first ≤ place) places.0.items) }
+    ensures below { IfOk result (λ places. first ≤ places.1) }
     ensures memory { IfErr result (λ e. e ≡ Memory) }
 {
     let mut places = Vec::new(alloc);

@@ -1,9 +1,9 @@
 use Rattle.std.proofs.Common.{◌≡◌}
-use Rattle.picture_core.specs.Shapes.{bars_on, waits_on}
+use Rattle.picture_core.specs.Shapes.{told_on, waits_on}
 use Rattle.picture_core.proofs.lanes.push_values.Given as goal
 
 abbrev pub invariant-loop-step : goal.invariant-loop-step
 invariant-loop-step l = record {
-  bars : bars_on l.canvas ≡ bars_on l.fn.canvas;
+  told : told_on l.canvas ≡ told_on l.fn.canvas;
   waits : waits_on l.canvas ≡ waits_on l.fn.canvas;
 }

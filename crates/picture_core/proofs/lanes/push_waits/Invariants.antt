@@ -1,9 +1,9 @@
 use Rattle.std.proofs.Common.{◌≡◌, ◌++◌, take}
-use Rattle.picture_core.specs.Shapes.{bars_on, waitings, waits_on}
+use Rattle.picture_core.specs.Shapes.{told_on, waitings, waits_on}
 use Rattle.picture_core.proofs.lanes.push_waits.Given as goal
 
 abbrev pub invariant-loop-wait : goal.invariant-loop-wait
 invariant-loop-wait l = record {
-  bars : bars_on l.canvas ≡ bars_on l.fn.canvas;
+  told : told_on l.canvas ≡ told_on l.fn.canvas;
   waits : waits_on l.canvas ≡ waits_on l.fn.canvas ++ waitings (take l.wait-index l.waits);
 }

@@ -12,3 +12,8 @@ returns-clause-shown c =
     (ShowsRun-finished c.args.window.now (script_of c.args.script.now) c.take_all.new.self.desk c.take_all.new.self.history.columns.items c.take_all.new.self.history.bars.items c.finish.new.self.history.bars.items c.finish.new.self.history.waits.items
     (rw (c.in_ok-run.ensures.window, c.as_slice.ensures.value, c.in_ok-lines.ensures.ok) at c.in_ok-take_all.ensures.drawn)
     c.in_ok-finish.ensures.asked c.in_ok-finish.ensures.waits)
+
+pub returns-clause-stands : goal.returns-clause-stands
+returns-clause-stands c =
+    let drawn = rw (c.in_ok-run.ensures.window, c.as_slice.ensures.value, c.in_ok-lines.ensures.ok) at c.in_ok-take_all.ensures.drawn in
+    rw c.finish.ensures.desk (record { given = drawn.given; answers = drawn.answers; stands = drawn.stands })

@@ -1,0 +1,57 @@
+-- What a desk finds to wait for what.
+use Rattle.std.specs.Prelude.{ℕ, Bool, ◌&&◌, not, List, [], ◌++◌, map, filter, flat_map, option_map, unwrap_or, is_some}
+use Rattle.point_core.specs.Clocks.{status_at}
+use Rattle.point_core.specs.Status.{is_signalled}
+use Rattle.point_core.specs.declared.entry.Point.{Point}
+use Rattle.command_core.specs.declared.answer.Answer.{Answer}
+use Rattle.command_core.specs.declared.answer.Answer.TheVariants as answer
+use Rattle.command_core.specs.declared.answer.BufferRows.{BufferRows}
+use Rattle.command_core.specs.declared.answer.FileRow.{FileRow}
+use Rattle.command_core.specs.Tables.{Tables}
+use Rattle.syncfile_core.specs.SyncFile.{File}
+use Rattle.syncfile_core.specs.Files.{file_at}
+use Rattle.timeline_core.specs.Timeline.{Timeline, clocks_of, name_at}
+use Rattle.desk_core.specs.Answer.{name_of}
+use Rattle.desk_core.specs.Desk.{DeskState}
+use Rattle.picture_core.specs.Waits.{edge_to}
+use Rattle.picture_core.specs.declared.graph.Edge.{Edge}
+use Rattle.picture_core.specs.declared.graph.Waiter.{Waiter}
+use Rattle.picture_core.specs.declared.graph.Waiter.TheVariants as waiter
+use Rattle.picture_core.specs.declared.history.WatchLane.{WatchLane}
+use Rattle.draw_core.specs.Waiting.{buffer_edges, is_to_come, watches_edges}
+
+-- a point of a timeline that was made is active, and its timeline has not reached it
+abbrev pub is_waited_for : List Timeline → Point → Bool
+is_waited_for ts p =
+    is_some (name_at ts p.ctx) && not (is_signalled (status_at (clocks_of ts) p)) && is_to_come ts (name_of ts p.ctx) p.value
+
+abbrev pub edges_of : List Timeline → Waiter → List Point → List Edge
+edges_of ts w ps = map (λ (p : Point). edge_to w (name_of ts p.ctx) p.value) (filter (is_waited_for ts) ps)
+
+abbrev pub points_at : DeskState → List ℕ → List Point
+points_at desk name = unwrap_or (option_map (λ (f : File). f.points) (file_at desk.files name)) []
+
+abbrev pub file_edges : DeskState → FileRow → List Edge
+file_edges desk r = edges_of desk.timelines (waiter.File r.name) (points_at desk r.name)
+
+abbrev pub files_edges : DeskState → List FileRow → List Edge
+files_edges desk files = flat_map (file_edges desk) files
+
+abbrev pub buffers_edges : List Timeline → List BufferRows → List Edge
+buffers_edges ts buffers = flat_map (buffer_edges ts) buffers
+
+-- the edges of a report, and of the watches of a history
+abbrev pub edges_by : DeskState → Tables → List WatchLane → List Edge
+edges_by desk report watches =
+    files_edges desk report.files
+    ++ (buffers_edges desk.timelines report.buffers ++ watches_edges (edges_of desk.timelines) watches)
+
+-- an answer that reports tables, of which that holds
+abbrev pub IsReportOf : Answer → (Tables → Type 0) → Type 0
+IsReportOf (answer.Report report) holds = holds report
+IsReportOf (answer.Refused r) holds = ⊥
+IsReportOf answer.Done holds = ⊥
+IsReportOf (answer.Value n) holds = ⊥
+IsReportOf (answer.Raised n fired) holds = ⊥
+IsReportOf (answer.Info i) holds = ⊥
+IsReportOf (answer.Show rows) holds = ⊥
