@@ -1,6 +1,6 @@
 // A window of time.
 ghost use Rattle.std.specs.Prelude.{◌≡◌, ◌≤◌, IfSome};
-ghost use Rattle.trace_script.specs.Window.{stage_after, within};
+ghost use Rattle.track_core.specs.Window.{stage_after, within};
 
 /// A window of a trace's time, in microseconds, both ends within.
 #[derive(Clone, Copy, Debug)]
@@ -79,9 +79,9 @@ fn digit(byte: u8) -> Option<u64> {
     }
 }
 
-/// Where a reading is.
+/// Where a reading of a trace is, of which a window is asked for.
 #[derive(Clone, Copy, Debug, PartialEq, Eq)]
-pub(crate) enum Stage {
+pub enum Stage {
     Before,
     Within,
     After,
@@ -90,7 +90,7 @@ pub(crate) enum Stage {
 impl Stage {
     /// Where it is after an event of that time. Times may step back, but a window that began goes on, and one that ended is over.
     #[tactic(auto, unfolding(crate::specs::Window::stage_after))]
-    pub(crate) fn after(self, span: Span, time: u64) -> Stage
+    pub fn after(self, span: Span, time: u64) -> Stage
         ensures { result ≡ stage_after span time self }
     {
         match self {

@@ -1,8 +1,8 @@
 -- A window of a trace's time.
 use Rattle.std.specs.Prelude.{ℕ, nat_lt, if◌then◌else◌}
-use Rattle.trace_script.specs.declared.window.Span.{Span}
-use Rattle.trace_script.specs.declared.window.Stage.{Stage}
-use Rattle.trace_script.specs.declared.window.Stage.TheVariants.{Before, Within, After}
+use Rattle.track_core.specs.declared.window.Span.{Span}
+use Rattle.track_core.specs.declared.window.Stage.{Stage}
+use Rattle.track_core.specs.declared.window.Stage.TheVariants.{Before, Within, After}
 
 -- where a reading is after an event of that time, once the window began: past it from the first event that is later than its end
 abbrev pub within : Span → ℕ → Stage
