@@ -8,7 +8,7 @@ returns-then-eq g c = record { carried = carried-more _ _ _ _ _ c.loop.invariant
 pub loop-preserved : goal.loop-preserved
 loop-preserved g c =
     elim c.match-next.branch [
-      in-Some+in_ok-stage-in-Some+else-eq+in_ok-write_block-in-Some w ↦
-        rw (w.chart-is, w.writer-is) (carried-on _ _ _ _ _ _ _ c.loop.invariant w.in_ok-stage-in-Some.ensures.events w.in_ok-write_block-in-Some.ensures.passed)
-    | in-None+else-is_whole+else-eq-2 w ↦ rw (w.chart-is, w.writer-is) c.loop.invariant
+      | in-Some+in_ok-stage-in-Some+else-eq+in_ok-write_block-in-Some w ↦
+          rw (w.chart-is, w.writer-is) (carried-on _ _ _ _ _ _ _ c.loop.invariant w.in_ok-stage-in-Some.ensures.events w.in_ok-write_block-in-Some.ensures.passed)
+      | in-None+else-is_whole+else-eq-2 w ↦ rw (w.chart-is, w.writer-is) c.loop.invariant
     ]
