@@ -16,6 +16,9 @@ fencectl: there is no dma_fence event in the text. To record them, as root:
   echo 0 > /sys/kernel/tracing/events/dma_fence/enable
 ";
 
+/// What is reported when it has none up to the end of a window.
+const NO_EVENTS_YET: &str = "fencectl: there is no dma_fence event in the text up to --to";
+
 const TOO_LONG: &str = "\
 fencectl: what happened has more than a script may have: 256 timelines, 1,024 files at a time and 1,048,576 bytes; choose a \
 window with --from and --to";
@@ -69,34 +72,46 @@ fn happened_within(rt: &HostRuntime, asked: &Trace<'_>, span: Span) -> Result<u8
 fn events_within(rt: &HostRuntime, asked: &Trace<'_>, span: Span) -> Result<u8, Refusal> {
     let mut source = Source::open(rt, asked.text, rt.stdin())?;
     let written = events_of_trace(rt.alloc(), span, &mut source, &mut rt.stdout())?;
-    status_of_written(rt, written)
+    status_of_written(rt, asked, written)
 }
 
-fn status_of_written(rt: &HostRuntime, written: Written) -> Result<u8, Refusal> {
+fn status_of_written(
+    rt: &HostRuntime,
+    asked: &Trace<'_>,
+    written: Written,
+) -> Result<u8, Refusal> {
     match written {
         Written::Document => Ok(ACCEPTED),
-        Written::NoEvents => report_no_events(rt),
+        Written::NoEvents => report_none(rt, asked),
     }
 }
 
 fn script_within(rt: &HostRuntime, asked: &Trace<'_>, span: Span) -> Result<u8, Refusal> {
     let mut source = Source::open(rt, asked.text, rt.stdin())?;
     let scripted = script_of_trace(rt.alloc(), span, &mut source)?;
-    write_script(rt, asked.is_drawing, &scripted)
+    write_script(rt, asked, &scripted)
 }
 
-fn write_script(rt: &HostRuntime, is_drawing: bool, scripted: &Scripted) -> Result<u8, Refusal> {
+fn write_script(rt: &HostRuntime, asked: &Trace<'_>, scripted: &Scripted) -> Result<u8, Refusal> {
     match scripted {
         Scripted::Script(text) => {
-            if is_drawing {
+            if asked.is_drawing {
                 draw_trace(rt, text.as_slice())
             } else {
                 write_output(rt, text.as_slice(), ACCEPTED)
             }
         }
-        Scripted::NoEvents => report_no_events(rt),
+        Scripted::NoEvents => report_none(rt, asked),
         Scripted::TooLong => report_mistake(rt, TOO_LONG),
     }
+}
+
+/// Reports that there is no event, in the text or up to the end of the window.
+fn report_none(rt: &HostRuntime, asked: &Trace<'_>) -> Result<u8, Refusal> {
+    if asked.to.is_some() {
+        return report_mistake(rt, NO_EVENTS_YET);
+    }
+    report_no_events(rt)
 }
 
 fn report_no_events(rt: &HostRuntime) -> Result<u8, Refusal> {
