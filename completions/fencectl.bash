@@ -10,7 +10,7 @@ _fencectl() {
     run) words="--json --help" ;;
     explain) words="--help" ;;
     check) words="--quiet --tap --allow-empty --update --help" ;;
-    trace) words="--json --script --draw --from --to --help" files="*" ;;
+    trace) words="--json --script --draw --perfetto --from --to --help" files="*" ;;
     draw) words="--graph --line --lines --output --help" ;;
     clients) words="--locks --help" takes_files="" ;;
     help) words="run check explain trace draw clients" takes_files="" ;;

@@ -18,7 +18,6 @@ static bool is_ours(int file)
     return shim_mark(file, &inode) != 0;
 }
 
-/* A pipe's read end can't be written to anyhow. */
 static bool is_buffer(int file, uint64_t *inode)
 {
     return shim_has_buffers() && shim_mark(file, inode) == BIM_BUFFER_MARK;
@@ -48,12 +47,22 @@ EXPORT ssize_t __read_chk(int file, void *bytes, size_t length, size_t room)
     return is_ours(file) ? shim_result(EINVAL) : next(file, bytes, length, room);
 }
 
+/* A pipe's read end can't be written to anyhow, but a timeline is open for writing. */
+static ssize_t written(int file, ssize_t result)
+{
+    uint64_t inode;
+
+    if (result < 0 && errno == EBADF)
+        errno = shim_mark(file, &inode) == BIM_TIMELINE_MARK ? EINVAL : EBADF;
+    return result;
+}
+
 EXPORT ssize_t write(int file, const void *bytes, size_t length)
 {
     NEXT(write);
     uint64_t inode;
 
-    return is_buffer(file, &inode) ? shim_result(EINVAL) : next(file, bytes, length);
+    return is_buffer(file, &inode) ? shim_result(EINVAL) : written(file, next(file, bytes, length));
 }
 
 EXPORT ssize_t writev(int file, const struct iovec *parts, int count)
@@ -61,7 +70,22 @@ EXPORT ssize_t writev(int file, const struct iovec *parts, int count)
     NEXT(writev);
     uint64_t inode;
 
-    return is_buffer(file, &inode) ? shim_result(EINVAL) : next(file, parts, count);
+    return is_buffer(file, &inode) ? shim_result(EINVAL) : written(file, next(file, parts, count));
+}
+
+/* These would take the byte by which a file reports that it has signalled. */
+EXPORT ssize_t splice(int from, off64_t *at, int to, off64_t *to_at, size_t length, unsigned flags)
+{
+    NEXT(splice);
+
+    return is_ours(from) || is_ours(to) ? shim_result(EINVAL) : next(from, at, to, to_at, length, flags);
+}
+
+EXPORT ssize_t tee(int from, int to, size_t length, unsigned flags)
+{
+    NEXT(tee);
+
+    return is_ours(from) || is_ours(to) ? shim_result(EINVAL) : next(from, to, length, flags);
 }
 
 /* The memory of a buffer, as a descriptor, or -1. */

@@ -82,7 +82,9 @@ static int merge(uint64_t file, void *arg)
         return EINVAL;
     if (shim_mark(data.fd2, &request.b) != BIM_FILE_MARK)
         request.b = 0;
-    memcpy(request.name, data.name, strnlen(data.name, sizeof request.name - 1));
+    /* The kernel stores the name as it has taken it. */
+    data.name[sizeof data.name - 1] = 0;
+    strcpy(request.name, data.name);
     return give_file(&request, arg, &data, sizeof data, &data.fence);
 }
 
@@ -253,6 +255,7 @@ static int on_timeline(uint64_t inode, unsigned long call, void *arg)
     switch (call) {
     case CREATE_FENCE: return create_fence(inode, arg);
     case INC: return inc(inode, arg);
+    case FIONREAD: return user_put(arg, &(int){ 0 }, sizeof(int)); /* as of an empty file */
     default: return ENOTTY;
     }
 }
@@ -279,9 +282,12 @@ static int on_buffer(int file, uint64_t inode, unsigned long call, void *arg)
     }
 }
 
-/* Whether a call is one of those above. All others are the kernel's at once. */
+/* Whether a call is one of those above, or one that only what stands for our objects takes. All others are the
+ * kernel's at once. */
 static bool is_ours(unsigned long call)
 {
+    if (call == FIONREAD)
+        return true;
     switch (_IOC_TYPE(call)) {
     case 'W':
     case '>':

@@ -75,6 +75,21 @@ static int replace_file(enum path path, int flags, int opened)
     return open_path(path, flags);
 }
 
+/* What the kernel makes of a descriptor's path below /proc, if the descriptor is ours: a timeline's opens another
+ * timeline, and a file's, like a buffer's, can't be opened. */
+static int reopen(const char *path, int flags, int opened)
+{
+    uint64_t inode;
+
+    if (opened < 0 || flags & O_PATH || (strncmp(path, "/proc/", 6) != 0 && strncmp(path, "/dev/fd/", 8) != 0))
+        return opened;
+    switch (shim_mark(opened, &inode)) {
+    case BIM_TIMELINE_MARK: return replace_file(SW_SYNC, flags, opened);
+    case BIM_FILE_MARK: call_close(opened); return shim_result(ENXIO);
+    default: return opened;
+    }
+}
+
 static bool makes_files(int flags)
 {
     return flags & (O_CREAT | __O_TMPFILE);
@@ -89,30 +104,30 @@ static bool makes_files(int flags)
         va_end(words);                \
     }
 
-#define OPEN(name)                                                           \
-    EXPORT int name(const char *path, int flags, ...)                        \
-    {                                                                        \
-        NEXT(name);                                                          \
-        MODE_OF(flags)                                                       \
-        enum path which = makes_files(flags) ? path_before(path) : NOT_OURS; \
-        int file = which ? -1 : next(path, flags, mode);                     \
-                                                                             \
-        if (!which && !makes_files(flags))                                   \
-            which = path_after(path, file < 0);                              \
-        return which ? replace_file(which, flags, file) : file;              \
+#define OPEN(name)                                                                   \
+    EXPORT int name(const char *path, int flags, ...)                                \
+    {                                                                                \
+        NEXT(name);                                                                  \
+        MODE_OF(flags)                                                               \
+        enum path which = makes_files(flags) ? path_before(path) : NOT_OURS;         \
+        int file = which ? -1 : next(path, flags, mode);                             \
+                                                                                     \
+        if (!which && !makes_files(flags))                                           \
+            which = path_after(path, file < 0);                                      \
+        return which ? replace_file(which, flags, file) : reopen(path, flags, file); \
     }
 
-#define OPENAT(name)                                                         \
-    EXPORT int name(int folder, const char *path, int flags, ...)            \
-    {                                                                        \
-        NEXT(name);                                                          \
-        MODE_OF(flags)                                                       \
-        enum path which = makes_files(flags) ? path_before(path) : NOT_OURS; \
-        int file = which ? -1 : next(folder, path, flags, mode);             \
-                                                                             \
-        if (!which && !makes_files(flags))                                   \
-            which = path_after(path, file < 0);                              \
-        return which ? replace_file(which, flags, file) : file;              \
+#define OPENAT(name)                                                                 \
+    EXPORT int name(int folder, const char *path, int flags, ...)                    \
+    {                                                                                \
+        NEXT(name);                                                                  \
+        MODE_OF(flags)                                                               \
+        enum path which = makes_files(flags) ? path_before(path) : NOT_OURS;         \
+        int file = which ? -1 : next(folder, path, flags, mode);                     \
+                                                                                     \
+        if (!which && !makes_files(flags))                                           \
+            which = path_after(path, file < 0);                                      \
+        return which ? replace_file(which, flags, file) : reopen(path, flags, file); \
     }
 
 OPEN(open)

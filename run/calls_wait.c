@@ -121,6 +121,17 @@ EXPORT int pselect(int count, fd_set *readable, fd_set *writable, fd_set *others
     return result;
 }
 
+/* Linux's epoll takes nothing that has no poll of its own, and a timeline has none. */
+EXPORT int epoll_ctl(int set, int how, int file, struct epoll_event *event)
+{
+    NEXT(epoll_ctl);
+    uint64_t inode;
+
+    if (how == EPOLL_CTL_ADD && shim_mark(file, &inode) == BIM_TIMELINE_MARK)
+        return shim_result(EPERM);
+    return next(set, how, file, event);
+}
+
 EXPORT int epoll_wait(int set, struct epoll_event *events, int room, int milliseconds)
 {
     NEXT(epoll_wait);

@@ -1,10 +1,10 @@
 /* The descriptors that stand for objects: those of a program's and those that the service holds.
  *
- * A timeline and a sync file are the read end of a pipe, whose write end the service holds. A byte in it makes the file
- * readable for good, so the kernel's own poll, select and epoll report it. A buffer is a socket, and the service holds
- * its peer: a byte sent to it makes it readable, and taking what it sent makes it writable. Once the last copy of a
- * program's end is closed, in whatever process, the service's end reports POLLERR or POLLHUP. The inode is the object's
- * identity. */
+ * A timeline and a sync file are the read end of a pipe, whose write end the service holds. A byte in it makes the
+ * file readable for good, so the kernel's own poll, select and epoll report it. A timeline has one from the start. A
+ * buffer is a socket, and the service holds its peer: a byte sent to it makes it readable, and taking what it sent
+ * makes it writable. Once the last copy of a program's end is closed, in whatever process, the service's end reports
+ * POLLERR or POLLHUP. The inode is the object's identity. */
 #ifndef BIM_RUN_ENDS_H
 #define BIM_RUN_ENDS_H
 

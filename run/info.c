@@ -97,11 +97,22 @@ int info_of_file(struct keeper *keeper, const struct bim_request *request, struc
     return error;
 }
 
-static void print_timeline(FILE *text, const struct object *timeline)
+static void print_fence(FILE *text, const struct fence *fence)
 {
-    fprintf(text, "%s: %d\n", timeline->line.name, (int32_t)timeline->line.value);
-    for (const struct fence *fence = timeline->line.first; fence; fence = fence->next)
-        fprintf(text, "  fence active: %u / %d\n", fence->seqno, (int32_t)timeline->line.value);
+    uint64_t at = fence->cancelled_at;
+
+    if (fence->state == CANCELLED)
+        fprintf(text, "  fence error@%llu.%09llu", at / 1000000000ull, at % 1000000000ull);
+    else
+        fputs("  fence active", text);
+    fprintf(text, ": %u / %d\n", fence->seqno, (int32_t)fence->line->value);
+}
+
+static void print_timeline(FILE *text, const struct line *line)
+{
+    fprintf(text, "%s: %d\n", line->name, (int32_t)line->value);
+    for (const struct fence *fence = line->first; fence; fence = fence->next)
+        print_fence(text, fence);
     fputc('\n', text);
 }
 
@@ -109,8 +120,8 @@ static void print_timeline(FILE *text, const struct object *timeline)
 static void print_all(const struct keeper *keeper, FILE *text)
 {
     fputs("objs:\n--------------\n", text);
-    for (const struct object *timeline = keeper->first_timeline; timeline; timeline = timeline->after)
-        print_timeline(text, timeline);
+    for (const struct line *line = keeper->lines.first; line; line = line->after)
+        print_timeline(text, line);
     fputs("fences:\n--------------\n", text);
 }
 

@@ -28,6 +28,8 @@ static int open_page_and_trace(struct keeper *keeper, const char *trace_path)
     if (!keeper->page)
         return errno;
     keeper->trace = trace_path ? trace_open(trace_path) : NULL;
+    if (keeper->trace)
+        keeper->trace->file = keeper->host->place(keeper->trace->file);
     if (keeper->trace || !trace_path)
         return 0;
     error = errno;
@@ -55,26 +57,13 @@ struct object *keeper_find(const struct keeper *keeper, uint64_t inode)
     return map_find(&keeper->by_inode, inode);
 }
 
-static void add_timeline(struct keeper *keeper, struct object *timeline)
-{
-    timeline->before = keeper->last_timeline;
-    *(timeline->before ? &timeline->before->after : &keeper->first_timeline) = timeline;
-    keeper->last_timeline = timeline;
-}
-
-static void remove_timeline(struct keeper *keeper, struct object *timeline)
-{
-    *(timeline->before ? &timeline->before->after : &keeper->first_timeline) = timeline->after;
-    *(timeline->after ? &timeline->after->before : &keeper->last_timeline) = timeline->before;
-}
-
 /* Frees an object that has no number, or whose number is released. */
 void keeper_forget(struct keeper *keeper, struct object *object)
 {
     if (object->number)
         map_remove(&keeper->by_number, object->number);
-    if (object->number && object->kind == TIMELINE)
-        remove_timeline(keeper, object);
+    if (object->kind == TIMELINE && object->line)
+        record_forget(object->line);
     if (object->inode) {
         map_remove(&keeper->by_inode, object->inode);
         page_drop(keeper->page, object->inode);
@@ -179,8 +168,6 @@ int keeper_finish(struct keeper *keeper, struct object *object, int error, int *
         map_remove(&keeper->by_number, number);
     if (!error) {
         keeper->counts[object->kind]++;
-        if (object->kind == TIMELINE)
-            add_timeline(keeper, object);
         return 0;
     }
     if (number)

@@ -37,10 +37,9 @@ struct object {
     bool is_closing;
     bool is_told; /* by the process that closed it */
     struct object *next_closing;
-    struct object *before, *after; /* among the timelines, in order of making */
     struct who maker;
     union {
-        struct line line;
+        struct line *line; /* of a timeline that has its number */
         struct fences fences;
         struct buffer buffer;
         struct {
@@ -65,7 +64,7 @@ struct keeper {
     const struct host *host;
     bim_device device;
     struct map by_inode, by_number;
-    struct object *first_timeline, *last_timeline;
+    struct lines lines;
     struct object *closing; /* what nobody has any more */
     struct bim_page *page;
     int page_memory;

@@ -32,12 +32,19 @@ static const struct bim_page *get_page(void)
     return is_open() ? keeper.page : NULL;
 }
 
+static bool is_trace(int file)
+{
+    return keeper.trace && file == keeper.trace->file;
+}
+
 /* The descriptors that the keeper holds are no program's to close. */
 static bool is_own(int file)
 {
     uint64_t inode;
 
-    return file >= lowest && is_open() && (end_is_ours(file) || end_mark(file, &inode) == BIM_MEMORY_MARK);
+    if (file < lowest || !is_open())
+        return false;
+    return is_trace(file) || end_is_ours(file) || end_mark(file, &inode) == BIM_MEMORY_MARK;
 }
 
 /* What the keeper holds has high numbers. Once these are used up, it has numbers past the program's limit, which is

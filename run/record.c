@@ -4,33 +4,78 @@
 #include <stdlib.h>
 #include <string.h>
 
-/* Takes a fence off its timeline. */
+struct line *record_timeline(struct lines *all, uint64_t number, const char *name, size_t length)
+{
+    struct line *line = calloc(1, sizeof *line);
+
+    if (!line)
+        return NULL;
+    line->all = all;
+    line->number = number;
+    memcpy(line->name, name, length);
+    line->before = all->last;
+    *(line->before ? &line->before->after : &all->first) = line;
+    all->last = line;
+    return line;
+}
+
+static void free_if_unused(struct line *line)
+{
+    if (!line->is_closed || line->fences > 0)
+        return;
+    *(line->before ? &line->before->after : &line->all->first) = line->after;
+    *(line->after ? &line->after->before : &line->all->last) = line->before;
+    free(line);
+}
+
+void record_forget(struct line *line)
+{
+    line->is_closed = true;
+    free_if_unused(line);
+}
+
+static bool is_pending(const struct fence *fence)
+{
+    return fence->line && fence->state == PENDING;
+}
+
+/* Takes a fence off its timeline, if it is there. */
 static void unlink_fence(struct fence *fence)
 {
     struct line *line = fence->line;
 
-    if (!line)
+    if (fence->state == SIGNALLED)
         return;
     *(fence->before ? &fence->before->next : &line->first) = fence->next;
     *(fence->next ? &fence->next->before : &line->last) = fence->before;
-    fence->line = NULL;
+    fence->state = SIGNALLED;
+}
+
+static void free_fence(struct fence *fence)
+{
+    struct line *line = fence->line;
+
+    free(fence);
+    line->fences--;
+    free_if_unused(line);
 }
 
 static void link_after(struct line *line, struct fence *before, struct fence *fence)
 {
-    fence->line = line;
     fence->before = before;
     fence->next = before ? before->next : line->first;
     *(before ? &before->next : &line->first) = fence;
     *(fence->next ? &fence->next->before : &line->last) = fence;
 }
 
-static struct fence *new_fence(const struct line *line, uint32_t point)
+static struct fence *new_fence(struct line *line, uint32_t point)
 {
     struct fence *fence = calloc(1, sizeof *fence);
 
     if (!fence)
         return NULL;
+    fence->line = line;
+    line->fences++;
     fence->context = line->number;
     fence->seqno = point;
     fence->value = line->value + (int32_t)(point - (uint32_t)line->value);
@@ -50,7 +95,7 @@ static struct fence *share(struct line *line, struct fence *fence)
         link_after(line, before, fence);
         return fence;
     }
-    free(fence);
+    free_fence(fence);
     return before;
 }
 
@@ -60,16 +105,19 @@ int record_fence(struct fences *fences, struct line *line, uint32_t point, struc
 
     *fences = (struct fences){ malloc(sizeof fences->at[0]), 1, NULL };
     if (!fence || !fences->at) {
-        free(fence);
+        if (fence)
+            free_fence(fence);
         free(fences->at);
         *fences = (struct fences){ NULL, 0, NULL };
         return ENOMEM;
     }
     trace_event(trace, "init", fence);
-    if (fence->value <= line->value)
+    if (fence->value <= line->value) {
         trace_event(trace, "signaled", fence);
-    else
+        fence->state = SIGNALLED;
+    } else {
         fence = share(line, fence);
+    }
     fence->holders++;
     fences->at[0] = fence;
     return 0;
@@ -93,15 +141,19 @@ void record_inc(struct line *line, uint32_t n, struct trace *trace)
         signal_first(line, trace);
 }
 
-void record_close(struct line *line, struct trace *trace)
+/* As in the kernel, what is cancelled stays on its timeline. */
+void record_close(struct line *line, uint64_t now, struct trace *trace)
 {
-    while (line->first)
-        signal_first(line, trace);
+    for (struct fence *fence = line->first; fence; fence = fence->next) {
+        trace_event(trace, "signaled", fence);
+        fence->state = CANCELLED;
+        fence->cancelled_at = now;
+    }
 }
 
 static void hold(struct fences *fences, struct fence *fence)
 {
-    if (!fence->line)
+    if (!is_pending(fence))
         return;
     fence->holders++;
     fences->at[fences->count++] = fence;
@@ -167,14 +219,14 @@ void record_enable(struct fences *fences, struct trace *trace)
     if (fences->array)
         enable(fences->array, trace);
     for (size_t i = 0; i < fences->count; i++)
-        if (fences->at[i]->line)
+        if (is_pending(fences->at[i]))
             enable(fences->at[i], trace);
 }
 
 /* Whether a fence is left as it is by the end of the process that would have signalled it. */
 static bool is_left(const struct fence *fence)
 {
-    return fence->line && fence->line->ends;
+    return is_pending(fence) && fence->line->ends;
 }
 
 void record_drop(struct fences *fences, bool with_process, struct trace *trace)
@@ -191,7 +243,7 @@ void record_drop(struct fences *fences, bool with_process, struct trace *trace)
         unlink_fence(fence);
         if (!left)
             trace_event(trace, "destroy", fence);
-        free(fence);
+        free_fence(fence);
     }
     if (fences->array && !any_left)
         trace_event(trace, "destroy", fences->array);

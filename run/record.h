@@ -1,5 +1,5 @@
-/* What the trace and sync/info show: which fences each file holds, and which are pending on each timeline. Statuses,
- * times and names, and what a merge or an export holds for the program, are the device's. */
+/* What the trace and sync/info show: which fences each file holds, and which are on each timeline. Statuses, times and
+ * names, and what a merge or an export holds for the program, are the device's. */
 #ifndef BIM_RUN_RECORD_H
 #define BIM_RUN_RECORD_H
 
@@ -10,19 +10,31 @@
 #include <stddef.h>
 #include <stdint.h>
 
-/* A timeline, with its pending fences by rising value. */
+/* A timeline. After it is closed, it stays while there is any fence of it. */
 struct line {
+    struct lines *all;
+    struct line *before, *after; /* among all, in order of making */
     char name[BIM_TEXT_ROOM];
     uint64_t number;
     int64_t value; /* of which the kernel shows the low 32 bits */
-    struct fence *first, *last;
+    struct fence *first, *last; /* pending, or cancelled, by rising value */
+    size_t fences;              /* these, and those that it has signalled */
+    bool is_closed;
     bool ends; /* with its process */
 };
 
+struct lines {
+    struct line *first, *last;
+};
+
+enum fence_state { PENDING, SIGNALLED, CANCELLED };
+
 /* A fence, which all files of the point share while it is pending, or the array that stands for several. */
 struct fence {
-    struct fence *before, *next; /* on its timeline */
-    struct line *line;           /* while it is pending; NULL for an array */
+    struct fence *before, *next; /* on its timeline, until it signals */
+    struct line *line;           /* NULL for an array */
+    enum fence_state state;
+    uint64_t cancelled_at;
     uint64_t context;
     int64_t value;
     uint32_t seqno;
@@ -39,11 +51,15 @@ struct fences {
     struct fence *array; /* of a file with several, in a trace */
 };
 
+/* Adds a timeline after all others; NULL if there is no memory. */
+struct line *record_timeline(struct lines *all, uint64_t number, const char *name, size_t length);
 /* Whether an increment signals anything. */
 bool record_signals(const struct line *line, uint32_t n);
 void record_inc(struct line *line, uint32_t n, struct trace *trace);
 /* All that is pending on the timeline is cancelled. */
-void record_close(struct line *line, struct trace *trace);
+void record_close(struct line *line, uint64_t now, struct trace *trace);
+/* Nobody has the timeline any more. It is freed with the last of its fences. */
+void record_forget(struct line *line);
 
 /* Makes a list of the fence of a point. Returns 0 or ENOMEM. */
 int record_fence(struct fences *fences, struct line *line, uint32_t point, struct trace *trace);

@@ -33,8 +33,12 @@ static int serve_timeline(struct keeper *keeper, const struct bim_request *reque
     if (error)
         return error;
     error = bim_device_timeline_n(&keeper->device, request->name, length, &object->number);
-    memcpy(object->line.name, request->name, length);
-    object->line.number = object->number;
+    if (!error) {
+        object->line = record_timeline(&keeper->lines, object->number, request->name, length);
+        error = object->line ? 0 : ENOMEM;
+    }
+    /* The kernel's has no poll of its own, so it is always readable. */
+    end_signal(object->end);
     return keeper_finish(keeper, object, error, gives);
 }
 
@@ -48,7 +52,7 @@ static int serve_fence(struct keeper *keeper, const struct bim_request *request,
     error = bim_device_fence(&keeper->device, timeline->number, request->value, keeper->now, &file->number);
     if (error)
         return keeper_finish(keeper, file, error, gives);
-    error = record_fence(&file->fences, &timeline->line, request->value, keeper->trace);
+    error = record_fence(&file->fences, timeline->line, request->value, keeper->trace);
     return finish_file(keeper, file, error, gives);
 }
 
@@ -56,12 +60,12 @@ static int serve_inc(struct keeper *keeper, const struct bim_request *request, s
 {
     int error;
 
-    if (timeline->kind == TIMELINE && record_signals(&timeline->line, request->value))
+    if (timeline->kind == TIMELINE && record_signals(timeline->line, request->value))
         keeper->now = keeper_now();
     error = bim_device_inc(&keeper->device, timeline->number, request->value, keeper->now);
     if (error)
         return error;
-    record_inc(&timeline->line, request->value, keeper->trace);
+    record_inc(timeline->line, request->value, keeper->trace);
     keeper_wake(keeper);
     return 0;
 }

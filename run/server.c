@@ -216,6 +216,17 @@ static void remove_folder(const struct server_setup *setup)
     rmdir(setup->folder);
 }
 
+static void close_server(struct server *server)
+{
+    const int opened[] = { server->events, server->signals, server->spare, server->keeper.ends,
+                           server->keeper.page_memory };
+
+    keeper_close(&server->keeper);
+    map_free(&server->clients);
+    for (size_t i = 0; i < sizeof opened / sizeof opened[0]; i++)
+        call_close(opened[i]);
+}
+
 int server_run(const struct server_setup *setup)
 {
     static struct server server;
@@ -238,7 +249,7 @@ int server_run(const struct server_setup *setup)
         serve_until(&server, is_used);
     if (stays || is_left(&server))
         remove_folder(setup);
-    keeper_close(&server.keeper);
+    close_server(&server);
     setup->board->has_ended = 1;
     return 0;
 }

@@ -73,13 +73,23 @@ int service_open(struct service *service)
 
 void service_remove(struct service *service)
 {
+    const int opened[] = { service->listener, service->said, service->hears };
+
     unlink(service->socket);
     rmdir(service->folder);
+    for (size_t i = 0; i < sizeof opened / sizeof opened[0]; i++)
+        if (opened[i] >= 0)
+            call_close(opened[i]);
+    service->listener = service->said = service->hears = -1;
 }
 
 pid_t service_share(void)
 {
+#ifdef BIM_PLAIN_FORK
+    return fork();
+#else
     return syscall(SYS_clone, CLONE_FILES | SIGCHLD, 0, 0, 0, 0);
+#endif
 }
 
 int service_start(struct service *service, const char *trace)

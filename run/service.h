@@ -16,13 +16,19 @@ struct service {
     struct board *board;
 };
 
+/* Nothing is open. */
+#define SERVICE_CLOSED { .listener = -1, .said = -1, .hears = -1 }
+
 /* Makes the folder, with the socket in it. Returns 0 or an errno. */
 int service_open(struct service *service);
 /* Starts the server. Returns 0 or an errno. */
 int service_start(struct service *service, const char *trace);
+/* Removes the folder, and closes what service_open opened. To be called when the server serves no longer. */
 void service_remove(struct service *service);
 
-/* Forks a process that shares this one's descriptors: what either opens stays open, whatever becomes of the other. */
+/* Forks a process that shares this one's descriptors: what either opens stays open, whatever becomes of the other. With
+ * BIM_PLAIN_FORK it shares none, since valgrind knows no process that does; then the loss of the server ends nobody
+ * safely. */
 pid_t service_share(void);
 
 /* Whether the server goes on: it has neither ended in order nor been lost. */

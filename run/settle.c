@@ -8,7 +8,7 @@
 #include <stdlib.h>
 #include <string.h>
 
-/* How many ends are polled at once; how often a process that ends is looked at, a millisecond apart; and its flag in
+/* How many ends are polled at once; how often processes that end are looked at, a millisecond apart; and their flag in
  * /proc/N/stat, PF_EXITING. */
 enum { AT_ONCE = 64, LOOKS = 200, IS_ENDING = 4 };
 
@@ -16,7 +16,7 @@ static void note_teller(struct object *object, bool is_told)
 {
     object->is_told |= is_told;
     if (object->kind == TIMELINE)
-        object->line.ends = !object->is_told;
+        object->line->ends = !object->is_told;
 }
 
 void keeper_look(struct keeper *keeper, struct object *object, bool is_told)
@@ -51,7 +51,7 @@ static int let_go(struct keeper *keeper, struct object *object, const struct who
     set_closer(keeper, object, teller);
     keeper->counts[object->kind]--;
     if (object->kind == TIMELINE) {
-        record_close(&object->line, keeper->trace);
+        record_close(object->line, keeper->now, keeper->trace);
         keeper_wake(keeper);
     } else if (object->kind == SYNC_FILE) {
         record_drop(&object->fences, !object->is_told, keeper->trace);
@@ -102,14 +102,12 @@ static void look_at_all(struct keeper *keeper, bool timelines);
 /* The trace tells what a process leaves at its end by all of its closings, which come one after another. */
 static void await_ends(struct keeper *keeper)
 {
-    bool any = false;
+    int looks = 0;
 
     for (const struct object *object = keeper->closing; object; object = object->next_closing)
-        for (int looks = 0; !object->is_told && looks < LOOKS && is_ending(object->maker.thread); looks++) {
-            any = true;
+        for (; !object->is_told && looks < LOOKS && is_ending(object->maker.thread); looks++)
             call_poll(NULL, 0, 1);
-        }
-    if (!any)
+    if (looks == 0)
         return;
     look_at_all(keeper, false);
     look_at_all(keeper, true);
@@ -142,6 +140,8 @@ void keeper_place_all(struct keeper *keeper)
         if (object && object->kind == BUFFER)
             object->buffer.memory = keeper->host->place(object->buffer.memory);
     }
+    if (keeper->trace)
+        keeper->trace->file = keeper->host->place(keeper->trace->file);
 }
 
 /* Looks at all but timelines, or at timelines. */
@@ -163,23 +163,27 @@ void keeper_sweep(struct keeper *keeper)
 }
 
 /* Fills in the ends of timelines with pending fences, from one on. Returns that after the last. */
-static struct object *ends_of(struct object *timeline, struct pollfd *ends, nfds_t *count)
+static const struct line *ends_of(const struct keeper *keeper, const struct line *line, struct pollfd *ends,
+                                  nfds_t *count)
 {
-    for (*count = 0; timeline && *count < AT_ONCE; timeline = timeline->after)
-        if (timeline->line.first)
+    for (*count = 0; line && *count < AT_ONCE; line = line->after) {
+        const struct object *timeline = line->first ? map_find(&keeper->by_number, line->number) : NULL;
+
+        if (timeline)
             ends[(*count)++] = (struct pollfd){ timeline->end, 0, 0 };
-    return timeline;
+    }
+    return line;
 }
 
 bool keeper_sweep_timelines(struct keeper *keeper)
 {
     struct pollfd ends[AT_ONCE];
-    struct object *from = keeper->first_timeline;
+    const struct line *from = keeper->lines.first;
     bool any = false;
     nfds_t count;
 
     while (from && !any) {
-        from = ends_of(from, ends, &count);
+        from = ends_of(keeper, from, ends, &count);
         any = count > 0 && call_poll(ends, count, 0) > 0;
     }
     if (any)

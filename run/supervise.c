@@ -18,7 +18,7 @@
 
 enum { MILLISECONDS_BETWEEN_LOOKS = 100 };
 
-static struct service service;
+static struct service service = SERVICE_CLOSED;
 static bool others_use_it;
 
 /* The run: which of both processes have ended, and how. */
@@ -93,14 +93,18 @@ static void take_signals(struct run *run)
     reap(run);
 }
 
+static void wait_for_signals(struct run *run)
+{
+    struct pollfd signals = { run->signals, POLLIN, 0 };
+
+    call_poll(&signals, 1, -1);
+    take_signals(run);
+}
+
 static void wait_for_an_end(struct run *run)
 {
-    while (!run->program_has_ended && !run->server_has_ended) {
-        struct pollfd signals = { run->signals, POLLIN, 0 };
-
-        call_poll(&signals, 1, -1);
-        take_signals(run);
-    }
+    while (!run->program_has_ended && !run->server_has_ended)
+        wait_for_signals(run);
 }
 
 /* Waits for a word of the server, and returns it, or 0 if the server is lost. */
@@ -160,8 +164,11 @@ static int serve_program(const struct options *options, struct run *run)
     if (options->is_verbose)
         tell_left();
     others_use_it = said == SERVER_STAYS;
-    if (!others_use_it)
-        service_remove(&service);
+    if (others_use_it)
+        return launch_status(run->waited);
+    while (!run->server_has_ended)
+        wait_for_signals(run);
+    service_remove(&service);
     return launch_status(run->waited);
 }
 
@@ -222,6 +229,7 @@ int supervise(const struct options *options, const char *trace)
     if (options->is_local)
         wait_for_an_end(&run);
     status = options->is_local ? launch_status(run.waited) : serve_program(options, &run);
+    call_close(run.signals);
     return status == BIM_LOST ? status : report(options, trace, status);
 }
 

@@ -1,7 +1,8 @@
-"""Wrong bodies that one check tries: edits to functions of which none calls another, directly or through others.
+"""Wrong bodies that one check tries: edits to the bodies of several functions.
 
 There an edit is refused where a goal of a function that it changes is not proved; that a function which it calls is not proved
-is not enough. So it is as strong as a check for each. What such a check doesn't settle is tried alone.
+is not enough. A caller's goals know a function by its clauses, which no such edit touches, so they are the same whatever becomes
+of the bodies that it calls. So this is as strong as a check for each. What such a check doesn't settle is tried alone.
 """
 import contextlib
 import glob
@@ -13,61 +14,47 @@ import threading
 # How many edits one check tries at most: it finds them one after another, and other processors wait at the end.
 TOGETHER = 6
 
-FUNCTION = re.compile(r"^ *(?:pub(?:\([a-z]+\))? +)?(?:const +)?(?:unsafe +)?fn +(\w+)", re.M)
-CALL = re.compile(r"\b(\w+)\s*(?:::<[^>]*>)?\(")
-# Calls that are written as operators.
-OPERATORS = {"==": "eq", "!=": "eq", "?": "from"}
-COMMENT = re.compile(r"//[^\n]*")
-CLAUSE = re.compile(r"\b(?:requires|ensures|ghost)\b\*?(?: \w+)? \{[^\n]*")
+# The body of a `const fn` may be in a constant, which other functions see.
+FUNCTION = re.compile(r"^ *(?:pub(?:\([a-z]+\))? +)?(?:unsafe +)?(?:extern +\S+ +)?fn +(\w+)", re.M)
 
 
 def functions_of(text):
-    """Returns the name, the start and the end of each function of a file, in order; it ends by a brace below its first letter."""
+    """Returns the name, and the start and the end of the body, of each function of a file that has one, in order.
+
+    A body begins at the end of the first line that is a brace below the first letter of the function, or has that letter and ends by
+    one; it ends by a brace below that letter.
+    """
     found = [*FUNCTION.finditer(text)]
     nexts = [it.start() for it in found[1:]] + [len(text)]
-    ends = [text.find(f"\n{' ' * (len(it[0]) - len(it[0].lstrip()))}}}\n", it.start(), end) for it, end in zip(found, nexts)]
-    return [(it[1], it.start(), end if brace < 0 else brace) for it, brace, end in zip(found, ends, nexts)]
-
-
-def calls_in(text):
-    """Returns the names that a function's text may call, more rather than fewer."""
-    code = CLAUSE.sub("", COMMENT.sub("", text))
-    names = set(CALL.findall(code)) | {name for sign, name in OPERATORS.items() if sign in code}
-    # A function that is passed by its name.
-    return names | set(re.findall(r"\b[a-z]\w*(?=[,)])", code))
+    bodies = []
+    for it, end in zip(found, nexts):
+        room = " " * (len(it[0]) - len(it[0].lstrip()))
+        begun = re.compile(rf"^{room}(?:\S.*)?{{$", re.M).search(text, it.start(), end)
+        ended = text.find(f"\n{room}}}\n", begun.end(), end) if begun else -1
+        if begun:
+            bodies.append((it[1], begun.end(), end if ended < 0 else ended))
+    return bodies
 
 
 class Source:
-    """The functions of a crate, by file and name, and what each may reach."""
+    """The files of a crate, and the functions of each."""
 
     def __init__(self, folder):
-        self.texts, self.calls = {}, {}
+        self.texts = {}
         for file in glob.glob(f"{folder}/src/**/*.rt", recursive=True):
-            path = os.path.relpath(file, folder)
             with open(file, encoding="utf-8") as it:
-                self.texts[path] = it.read()
-            for name, start, end in functions_of(self.texts[path]):
-                self.calls.setdefault(name, set()).update(calls_in(self.texts[path][start:end]) - {name})
+                self.texts[os.path.relpath(file, folder)] = it.read()
 
     def changed(self, pairs):
-        """Returns the functions that an edit changes, as paths and names, or None where it changes anything else."""
+        """Returns the functions whose bodies an edit changes, as paths and names, or None where it changes anything else."""
         found = set()
         for path, old in pairs:
-            at = self.texts.get(path, "").find(old)
-            names = [name for name, start, end in functions_of(self.texts.get(path, "")) if start <= at < end]
+            text = self.texts.get(path, "")
+            at = text.find(old)
+            names = [name for name, start, end in functions_of(text) if start <= at and at + len(old) <= end]
             if at < 0 or not names:
                 return None
             found.add((path, names[0]))
-        return found
-
-    def reached(self, name):
-        """Returns the names of all functions that one of this name may call, itself too, directly or through others."""
-        found, left = set(), [name]
-        while left:
-            it = left.pop()
-            if it not in found and it in self.calls:
-                found.add(it)
-                left += self.calls[it]
         return found
 
 
@@ -79,14 +66,10 @@ class Edit:
         with open(file, encoding="utf-8") as it:
             self.text = it.read()
         self.functions = source.changed(pairs_of(self.text))
-        self.reached = {it for _, name in self.functions or () for it in source.reached(name)}
-
-    def names(self):
-        return {name for _, name in self.functions}
 
     def may_join(self, others):
-        """Returns whether no function that it changes is one of theirs, or calls one of theirs, or is called by one."""
-        return all(not self.names() & it.reached and not it.names() & self.reached for it in others)
+        """Returns whether it changes no function that they do."""
+        return all(not self.functions & it.functions for it in others)
 
 
 def pairs_of(text):
@@ -145,8 +128,8 @@ def refused_itself(said, crate, path, name):
     which = re.compile(rf"^fn {crate}::{module}(?:\w+::)*{name}(?:::\S+)?: (.*)$", re.M)
     for line in which.finditer(said):
         # Its proof file has a goal that fails, or the search for one gave up; not only that it calls what is not proved.
-        is_own = line[1].startswith("not proved") or "`search` did not prove" in line[1]
-        if is_own and "it calls" not in line[1]:
+        is_failed = line[1].startswith("not proved") and "it calls" not in line[1]
+        if is_failed or "`search` did not prove" in line[1]:
             return line[0]
     return None
 

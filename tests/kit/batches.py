@@ -1,5 +1,5 @@
 #!/usr/bin/env python3
-"""Tries tools/batches.py by a stand-in for rt, over a crate of four functions, of which one calls another.
+"""Tries tools/batches.py by a stand-in for rt, over a crate of five functions, of which one calls another.
 
 usage: tests/kit/batches.py FOLDER       a folder for the crate, which is empty
 
@@ -31,14 +31,35 @@ fn left() -> u8 {
 fn right() -> u8 {
     4
 }
+
+fn far() -> u8
+    ensures { result ≤ 5 }
+{
+    5
+}
 """
 
-# What a check says of wrong bodies, by the changed texts that it finds: each body but that of right is refused for its own sake.
+# The wrong bodies: a name, the text that it changes, and the new one. The last but one changes a function that the first does too,
+# and the last a clause.
+EDITS = (
+    ("low", "    1", "    10"),
+    ("high", "low() + 2", "low() + 20"),
+    ("left", "    3", "    30"),
+    ("right", "    4", "    40"),
+    ("far", "    5", "    50"),
+    ("low-again", "    1", "    100"),
+    ("clause", "≤ 5", "≤ 500"),
+)
+
+# What a check says of these, by the changed texts that it finds: all but that of right are refused for their own sake.
 SAYS = {
     "10": "fn few::low: not proved",
-    "20": "fn few::high: not proved",
+    "20": "fn few::high: no proof: `search` did not prove a goal; it calls `few::low`, which is not proved",
     "30": "fn few::left: `search` did not prove a goal",
-    "40": "fn few::right: not proved: it calls what is not proved",
+    "40": "fn few::right: no proof: it calls `few::low`, which is not proved",
+    "50": "fn few::far: not proved",
+    "100": "fn few::low: not proved",
+    "500": "fn few::far: not proved",
 }
 
 
@@ -71,7 +92,7 @@ def main(folder):
     with open(f"{folder}/src/lib.rt", "w", encoding="utf-8") as file:
         file.write(SOURCE)
     edits = []
-    for name, old, new in (("low", "    1", "    10"), ("high", "+ 2", "+ 20"), ("left", "    3", "    30"), ("right", "    4", "    40")):
+    for name, old, new in EDITS:
         edits.append(f"{folder}/{name}.edit")
         with open(edits[-1], "w", encoding="utf-8") as file:
             file.write(f"file: src/lib.rt\nold: {old}\nnew: {new}\n")

@@ -8,7 +8,7 @@ int main(void)
 {
     int timelines[COUNT], batch = -1;
 
-    alarm(20);
+    give_up_after(20);
     for (int i = 0; i < COUNT; i++) {
         timelines[i] = timeline();
         int f = fence(timelines[i], 1);

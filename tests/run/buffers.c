@@ -80,6 +80,7 @@ static void wrong_calls(void)
     FAILS(ioctl(b, DMA_BUF_IOCTL_IMPORT_SYNC_FILE, NULL), EFAULT);
     FAILS(ioctl(b, DMA_BUF_IOCTL_SYNC, NULL), EFAULT);
     FAILS(ioctl(b, SW_SYNC_IOC_INC, &one), ENOTTY);
+    FAILS(ioctl(b, FIONREAD, &one), ENOTTY);
     FAILS(ioctl(b, SYNC_IOC_FILE_INFO, &(struct sync_file_info){ .num_fences = 0 }), ENOTTY);
     FAILS(ioctl(b, SYNC_IOC_MERGE, &(struct sync_merge_data){ .fd2 = f }), ENOTTY);
     FAILS(merge("", f, b), ENOENT);
@@ -286,10 +287,15 @@ static void note(int signal)
     (void)signal;
 }
 
+static volatile int was_interrupted;
+
+/* Sends a signal until it comes within the wait. */
 static void *interrupt_later(void *given)
 {
-    pause_for(LATER);
-    pthread_kill(*(pthread_t *)given, SIGUSR1);
+    while (!was_interrupted) {
+        pause_for(LATER);
+        pthread_kill(*(pthread_t *)given, SIGUSR1);
+    }
     return NULL;
 }
 
@@ -304,6 +310,7 @@ static void interrupted(void)
     import(b, writer, DMA_BUF_SYNC_WRITE);
     EXPECT(pthread_create(&thread, NULL, interrupt_later, &me), 0);
     FAILS(poll(&polled, 1, SOON), EINTR);
+    was_interrupted = 1;
     pthread_join(thread, NULL);
     close(writer);
     close(t);
@@ -314,7 +321,7 @@ int main(void)
 {
     int before = lowest();
 
-    alarm(30);
+    give_up_after(30);
     allocation();
     memory();
     wrong_calls();

@@ -126,6 +126,23 @@ static void ranges(void)
     close(g);
 }
 
+/* A program that closes all numbers, used or not, has nothing of its own left, and can go on. */
+static void all_numbers(void)
+{
+    int first = lowest(), t = timeline(), f = fence(t, 1), kept = dup2(f, 1000);
+
+    EXPECT(status(t) + status(f), 99);
+    for (int fd = first; fd < 1000; fd++)
+        close(fd);
+    EXPECT(status(kept), -ENOENT);
+    close(kept);
+    t = timeline(), f = fence(t, 1);
+    EXPECT(inc(t, 1), 0);
+    EXPECT(is_signalled(f), 1);
+    close(f);
+    close(t);
+}
+
 /* Files outlive what they are made of, and timelines outlive files. */
 static void in_any_order(void)
 {
@@ -156,13 +173,14 @@ int main(void)
 {
     int before = lowest();
 
-    alarm(30);
+    give_up_after(30);
     plainly();
     with_copies();
     taken_over();
     in_vain();
     unseen();
     ranges();
+    all_numbers();
     in_any_order();
     EXPECT(lowest(), before);
     return report("closing");

@@ -77,10 +77,11 @@ static void bad_pointers_of_timelines(void)
     /* As long as what is needed is there, it may end anywhere and begin at any address. */
     memcpy(end - sizeof create, &create, sizeof create);
     EXPECT(ioctl(t, SW_SYNC_IOC_CREATE_FENCE, end - sizeof create), 0);
+    memcpy(&create, end - sizeof create, sizeof create);
+    EXPECT(is_signalled(create.fence), 0);
     memcpy(end - 5, &(__u32){ 1 }, 4);
     EXPECT(ioctl(t, SW_SYNC_IOC_INC, end - 5), 0);
     EXPECT(is_signalled(f), 1);
-    memcpy(&create, end - sizeof create, sizeof create);
     EXPECT(is_signalled(create.fence), 1);
     close(create.fence);
     close(f);
@@ -178,22 +179,63 @@ static void bad_reports(void)
     close(u);
 }
 
-/* Nobody reads or writes a sync file, nor reads a timeline; and whoever tries leaves it as it was. */
+/* Nobody reads or writes a sync file or a timeline; and whoever tries leaves it as it was. */
 static void reads(void)
 {
-    int t = timeline(), f = fence(t, 1);
-    char bytes[8];
+    int t = timeline(), f = fence(t, 1), pipes[2], count;
+    char bytes[8] = { 0 };
     struct iovec room = { bytes, sizeof bytes };
 
+    EXPECT(pipe(pipes), 0);
     for (int i = 0; i < 2; i++) {
         FAILS(read(f, bytes, sizeof bytes), EINVAL);
         FAILS(readv(f, &room, 1), EINVAL);
         FAILS(write(f, bytes, 1), EBADF);
         FAILS(read(t, bytes, sizeof bytes), EINVAL);
+        FAILS(write(t, bytes, 1), EINVAL);
+        FAILS(writev(t, &room, 1), EINVAL);
+        FAILS(splice(f, NULL, pipes[1], NULL, 1, SPLICE_F_NONBLOCK), EINVAL);
+        FAILS(tee(f, pipes[1], 1, SPLICE_F_NONBLOCK), EINVAL);
+        FAILS(ioctl(f, FIONREAD, &count), ENOTTY);
         FAILS(lseek(f, 0, SEEK_SET), ESPIPE);
         EXPECT(is_signalled(f), i);
         inc(t, 1);
     }
+    EXPECT(is_signalled(f), 1);
+    EXPECT(ioctl(t, FIONREAD, &count), 0);
+    EXPECT(count, 0);
+    close(pipes[0]);
+    close(pipes[1]);
+    close(f);
+    close(t);
+}
+
+/* Opens what a descriptor is, by its path. */
+static int open_again(const char *folder, int fd)
+{
+    char path[64];
+
+    snprintf(path, sizeof path, "%s/%d", folder, fd);
+    return open(path, O_RDWR | O_CLOEXEC);
+}
+
+/* A timeline that is opened by its descriptor's path is a new one, and a file can't be opened so. */
+static void opened_again(void)
+{
+    static const char *const folders[] = { "/proc/self/fd", "/proc/thread-self/fd", "/dev/fd" };
+    int t = timeline(), f = fence(t, 1);
+
+    for (int i = 0; i < 3; i++) {
+        int before = lowest(), again = open_again(folders[i], t);
+        HOLDS(again >= 0);
+        EXPECT(fcntl(again, F_GETFD), FD_CLOEXEC);
+        EXPECT(inc(again, 1), 0);
+        EXPECT(close(again), 0);
+        FAILS(open_again(folders[i], f), ENXIO);
+        EXPECT(status(f), 0);
+        EXPECT(lowest(), before);
+    }
+    inc(t, 1);
     EXPECT(is_signalled(f), 1);
     close(f);
     close(t);
@@ -246,16 +288,19 @@ static void too_many(void)
     close(t);
 }
 
-int main(void)
+int main(int argc, char **argv)
 {
-    alarm(30);
+    (void)argv;
+    give_up_after(30);
     wrong_kinds();
     bad_pointers_of_timelines();
     bad_pointers_of_files();
     bad_merges();
     bad_reports();
     reads();
+    opened_again();
     flags();
-    too_many();
+    if (argc == 1)
+        too_many();
     return report("errors");
 }

@@ -217,7 +217,7 @@ static int served(int told)
     int wrong = 0, rounds = 0;
     char byte;
 
-    alarm(60);
+    give_up_after(60);
     while (recv(told, &byte, 1, MSG_DONTWAIT) < 0) {
         int t = timeline(), a = fence(t, 1), b = fence(t, 2), both = merge("served", a, b);
         wrong += is_signalled(a) || inc(t, 1) || !is_signalled(a) || is_signalled(both) || size(both) != 1;
@@ -266,7 +266,7 @@ int main(int argc, char **argv)
     pid_t found[MOST];
     int count = argc > 2 ? atoi(argv[2]) : 1000;
 
-    alarm(60);
+    give_up_after(60);
     int many = service(getppid(), getpid(), found), before = held(found, many);
     state = argc > 1 ? (unsigned long long)atoll(argv[1]) : 1;
     EXPECT(socketpair(AF_UNIX, SOCK_STREAM, 0, told), 0);

@@ -143,6 +143,14 @@ static inline __u64 now(void)
     return (__u64)time.tv_sec * 1000000000u + (__u64)time.tv_nsec;
 }
 
+/* Ends the process after some seconds, by a signal. What runs it slowly says by how much in SLOWNESS. */
+static inline void give_up_after(unsigned seconds)
+{
+    const char *slowness = getenv("SLOWNESS");
+
+    alarm(seconds * (slowness ? (unsigned)atoi(slowness) : 1));
+}
+
 static inline void pause_for(int milliseconds)
 {
     poll(NULL, 0, milliseconds);

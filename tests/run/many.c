@@ -111,7 +111,7 @@ int main(void)
     /* A file may take two descriptors. */
     int before = lowest(), room = ((int)most_descriptors() - SPARE) / 2;
 
-    alarm(60);
+    give_up_after(60);
     timelines_at_a_time();
     timelines_in_turn();
     files_at_a_time(room < FILES ? room : FILES);

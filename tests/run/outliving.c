@@ -13,7 +13,7 @@ int main(int argc, char **argv)
     if (fork())
         return 0;
     setsid();
-    alarm(20);
+    give_up_after(20);
     close(told[1]);
     /* The end of its parent. */
     EXPECT(read(told[0], &byte, 1), 0);

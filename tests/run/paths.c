@@ -33,7 +33,17 @@ static void opens(const char *path, int flags)
     }
 }
 
-/* A name that only begins or ends alike is another, and what is no pointer is none; other files are as ever. */
+static void no_paths(void)
+{
+    const char *nowhere = (const char *)-4096l;
+    struct stat status;
+
+    FAILS(open(nowhere, O_RDWR), EFAULT);
+    FAILS(stat(nowhere, &status), EFAULT);
+    FAILS(access(nowhere, F_OK), EFAULT);
+}
+
+/* A name that only begins or ends alike is another; other files are as ever. */
 static void others(void)
 {
     struct stat status;
@@ -43,9 +53,6 @@ static void others(void)
     EXPECT(access(SW_SYNC "/more", F_OK), -1);
     FAILS(open("/no/such" SW_SYNC, O_RDWR), ENOENT);
     FAILS(open("", O_RDWR), ENOENT);
-    FAILS(open((const char *)-4096l, O_RDWR), EFAULT);
-    FAILS(stat((const char *)-4096l, &status), EFAULT);
-    FAILS(access((const char *)-4096l, F_OK), EFAULT);
     EXPECT(stat("/", &status), 0);
     HOLDS(S_ISDIR(status.st_mode));
     int f = open("/dev/null", O_RDWR);
@@ -67,14 +74,17 @@ static void others(void)
     unlink(made);
 }
 
-int main(void)
+int main(int argc, char **argv)
 {
-    alarm(20);
+    (void)argv;
+    give_up_after(20);
     for (int i = 0; i < 4; i++) {
         is_there(paths[i]);
         opens(paths[i], i < 3 ? O_RDWR : O_RDONLY);
     }
     opens(SW_SYNC, O_RDONLY);
     others();
+    if (argc == 1)
+        no_paths();
     return report("paths");
 }

@@ -114,7 +114,7 @@ static void many_turns(void)
 
 int main(void)
 {
-    alarm(30);
+    give_up_after(30);
     first_points();
     across_the_wrap();
     longest_step();

@@ -172,10 +172,15 @@ static void note(int signal)
     (void)signal;
 }
 
+static volatile int was_interrupted;
+
+/* Sends a signal until it comes within the wait. */
 static void *interrupt_later(void *given)
 {
-    pause_for(LATER);
-    pthread_kill(*(pthread_t *)given, SIGUSR1);
+    while (!was_interrupted) {
+        pause_for(LATER);
+        pthread_kill(*(pthread_t *)given, SIGUSR1);
+    }
     return NULL;
 }
 
@@ -190,10 +195,34 @@ static void interrupted(void)
     sigaction(SIGUSR1, &action, NULL);
     EXPECT(pthread_create(&thread, NULL, interrupt_later, &me), 0);
     FAILS(poll(&polled, 1, SOON), EINTR);
+    was_interrupted = 1;
     pthread_join(thread, NULL);
     EXPECT(is_signalled(f), 0);
     inc(t, 1);
     EXPECT(is_signalled(f), 1);
+    close(f);
+    close(t);
+}
+
+/* A timeline has no poll of its own, so it is always readable, and an epoll doesn't take it. */
+static void timelines(void)
+{
+    int t = timeline(), f = fence(t, 1), group = epoll_create1(EPOLL_CLOEXEC);
+    struct epoll_event event = { .events = EPOLLIN };
+    fd_set readable;
+
+    for (int i = 0; i < 2; i++) {
+        EXPECT(ready(t, POLLIN, 0), POLLIN);
+        EXPECT(ready(t, 0, 0), 0);
+        FD_ZERO(&readable);
+        FD_SET(t, &readable);
+        EXPECT(select(t + 1, &readable, NULL, NULL, &(struct timeval){ 0 }), 1);
+        FAILS(epoll_ctl(group, EPOLL_CTL_ADD, t, &event), EPERM);
+        EXPECT(is_signalled(f), i);
+        inc(t, 1);
+    }
+    EXPECT(epoll_ctl(group, EPOLL_CTL_ADD, f, &event), 0);
+    close(group);
     close(f);
     close(t);
 }
@@ -285,12 +314,13 @@ static void threads(void)
 
 int main(void)
 {
-    alarm(40);
+    give_up_after(40);
     events_of_polls();
     timeouts();
     wakes();
     epolls();
     epoll_of_closed();
+    timelines();
     interrupted();
     in_handlers();
     threads();

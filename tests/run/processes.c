@@ -12,7 +12,7 @@ static pid_t child_of(int (*run)(int a, int b), int a, int b)
     pid_t child = fork();
 
     if (child == 0) {
-        alarm(20);
+        give_up_after(20);
         _exit(run(a, b));
     }
     return child;
@@ -356,7 +356,7 @@ static void in_handlers(void)
 int main(int argc, char **argv)
 {
     myself = argv[0];
-    alarm(40);
+    give_up_after(40);
     if (argc == 3)
         return after_exec(atoi(argv[1]), atoi(argv[2]));
     EXPECT(pipe2(told, O_CLOEXEC), 0);

@@ -89,6 +89,12 @@ static void given_names(void)
     EXPECT(ask(cut, &report), 0);
     all[NAME - 1] = 0;
     HOLDS(is_name(report.file.name, all));
+    /* The caller's name ends like that too, after the call. */
+    struct sync_merge_data data = { .fd2 = b };
+    memset(data.name, 'x', sizeof data.name);
+    EXPECT(ioctl(a, SYNC_IOC_MERGE, &data), 0);
+    EXPECT(data.name[NAME - 1], 0);
+    close(data.fence);
     EXPECT(ask(same, &report), 0);
     HOLDS(is_of_form(report.file.name, "sw_sync-merger", "-3"));
     EXPECT(ask(pair, &report), 0);
@@ -267,9 +273,43 @@ static void text_of_all(void)
     HOLDS(!strstr(text, "listed"));
 }
 
+/* A closed timeline is listed while there is any fence of it, with those that it cancelled. */
+static void text_of_closed(void)
+{
+    static char text[1 << 20];
+    char lines[256];
+    struct report report;
+
+    prctl(PR_SET_NAME, "closed");
+    int t = timeline(), reached = fence(t, 1), soon = fence(t, 2), late = fence(t, 3), joined = merge("", soon, late);
+    inc(t, 1);
+    close(t);
+    EXPECT(ask(soon, &report), 0);
+    unsigned long long at = report.rows[0].timestamp_ns, second = 1000000000;
+    for (int i = 2; i <= 3; i++) {
+        int length = snprintf(lines, sizeof lines, "closed: 1\n");
+        for (int point = i; point <= 3; point++)
+            length += snprintf(lines + length, sizeof lines - (size_t)length, "  fence error@%llu.%09llu: %d / 1\n", at / second,
+                               at % second, point);
+        snprintf(lines + length, sizeof lines - (size_t)length, "\n");
+        read_whole(SYNC_INFO, text, sizeof text, 0);
+        HOLDS(strstr(text, lines));
+        close(i == 2 ? soon : late);
+    }
+    /* The merged file holds the later of both, and the one that had signalled keeps its timeline. */
+    read_whole(SYNC_INFO, text, sizeof text, 0);
+    HOLDS(strstr(text, lines));
+    close(joined);
+    read_whole(SYNC_INFO, text, sizeof text, 0);
+    HOLDS(strstr(text, "closed: 1\n\n"));
+    close(reached);
+    read_whole(SYNC_INFO, text, sizeof text, 0);
+    HOLDS(!strstr(text, "closed"));
+}
+
 int main(void)
 {
-    alarm(30);
+    give_up_after(30);
     names();
     names_of_threads();
     given_names();
@@ -277,5 +317,6 @@ int main(void)
     statuses();
     many_rows();
     text_of_all();
+    text_of_closed();
     return report("reports");
 }

@@ -287,7 +287,7 @@ static void stress_merge(void)
 
 int main(void)
 {
-    alarm(60);
+    give_up_after(60);
     alloc_timeline();
     alloc_fence();
     alloc_fence_negative();

@@ -23,14 +23,14 @@ int main(int argc, char **argv)
     volatile long times[ASKING] = { 0 };
 
     (void)argv;
-    alarm(40);
+    give_up_after(40);
     t = timeline();
     u = timeline();
     asked_about = fence(t, STEPS);
     for (int i = 0; i < processes && i < ASKING; i++) {
         children[i] = fork();
         if (children[i] == 0) {
-            alarm(30);
+            give_up_after(30);
             ask_until((void *)&times[i]);
             _exit(status(asked_about) != 1);
         }

@@ -114,14 +114,14 @@ int main(int argc, char **argv)
     pid_t children[PROCESSES], tool = getppid(), found[MOST];
     int sockets[2];
 
-    alarm(40);
+    give_up_after(40);
     seed = argc > 1 ? (unsigned)atoi(argv[1]) : 1;
     int t = timeline(), f = fence(t, 1), many = service(tool, getpid(), found), before = held(found, many);
     EXPECT(socketpair(AF_UNIX, SOCK_DGRAM | SOCK_CLOEXEC, 0, sockets), 0);
     for (int i = 0; i < PROCESSES; i++) {
         pid_t child = fork();
         if (child == 0) {
-            alarm(30);
+            give_up_after(30);
             _exit(live(i, sockets[i % 2]));
         }
         children[i] = child;

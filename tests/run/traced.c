@@ -28,7 +28,7 @@ static pid_t begin(void (*run)(int, int), int f, const int told[2])
     char byte;
 
     if (child == 0) {
-        alarm(20);
+        give_up_after(20);
         run(f, told[1]);
     }
     EXPECT(read(told[0], &byte, 1), 1);
@@ -39,7 +39,7 @@ int main(int argc, char **argv)
 {
     int told[2];
 
-    alarm(20);
+    give_up_after(20);
     prctl(PR_SET_NAME, argc > 1 ? argv[1] : "first");
     EXPECT(pipe(told), 0);
     int low = timeline(), t = fcntl(low, F_DUPFD_CLOEXEC, 100);

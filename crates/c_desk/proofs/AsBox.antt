@@ -8,7 +8,7 @@ use Rattle.std_heap.specs.contracts.GlobalAllocator.TheImpl.{ghosts, dict}
 use Rattle.std_heap.proofs.Global.TheLaws as heap
 use Rattle.c_desk.specs.contracts.service.Service as Service
 use Rattle.c_desk.proofs.service.Service.TheLaws as service
-use Rattle.c_desk.specs.contracts.parts.Parts as Parts
+use Rattle.c_parts.specs.contracts.parts.Parts as Parts
 use Rattle.c_desk.specs.contracts.handle.DeskHandle as Handle
 
 abbrev pub E : Bx

@@ -5,5 +5,4 @@ pub mod Lending
 pub mod Line
 pub mod Owning
 pub mod Reported
-pub mod Rows
 pub mod Service

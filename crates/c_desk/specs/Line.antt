@@ -17,7 +17,7 @@ use Rattle.c_desk.specs.declared.handle.DeskHandle.{DeskHandle}
 use Rattle.c_desk.specs.declared.line.TheConstants.{LINE, ANSWER_ROOM}
 use Rattle.c_desk.specs.Call.{number_of_answer}
 use Rattle.c_desk.specs.Handle.{is_open}
-use Rattle.c_desk.specs.Rows.{over}
+use Rattle.c_parts.specs.Rows.{over}
 use Rattle.c_desk.specs.Service.{cookies_of}
 
 -- one line, which a line feed may end; more than one is refused as Syntax

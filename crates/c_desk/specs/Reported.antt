@@ -20,7 +20,7 @@ use Rattle.c_desk.specs.declared.rows.TimelineInfo.{TimelineInfo}
 use Rattle.c_desk.specs.declared.rows.FileInfo.{FileInfo}
 use Rattle.c_desk.specs.declared.rows.BufferInfo.{BufferInfo}
 use Rattle.c_desk.specs.declared.rows.Counts.{Counts}
-use Rattle.c_desk.specs.Rows.{over}
+use Rattle.c_parts.specs.Rows.{over}
 
 -- the text, and zeros after it
 abbrev pub filled_to : ℕ → List ℕ → List ℕ

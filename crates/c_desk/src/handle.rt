@@ -3,8 +3,8 @@ ghost use Rattle.std.specs.Prelude.{◌≡◌, true, false};
 ghost use Rattle.c_desk.specs.Owning.{handle_owns, service_coded};
 ghost use Rattle.c_desk.specs.Service.{ServiceState};
 
-use crate::parts::Parts;
 use crate::service::Service;
+use c_parts::Parts;
 use command_core::{Answer, Command};
 use point_core::Refusal;
 use std::alloc::Global;

@@ -14,7 +14,6 @@ mod answers;
 mod asked;
 mod handle;
 mod line;
-mod parts;
 mod rows;
 mod service;
 

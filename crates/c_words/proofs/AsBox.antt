@@ -15,7 +15,7 @@ use Rattle.std_heap.proofs.Global.TheLaws as heap
 use Rattle.c_words.specs.Member.{MemberModel}
 use Rattle.c_words.specs.contracts.member.Member as Member
 use Rattle.c_words.proofs.member.Member.TheLaws as member
-use Rattle.c_words.specs.contracts.parts.Parts as Parts
+use Rattle.c_parts.specs.contracts.parts.Parts as Parts
 use Rattle.c_words.specs.declared.seat_handle.SeatHandle.{SeatHandle}
 use Rattle.c_words.specs.contracts.seat_handle.SeatHandle as Handle
 

@@ -15,7 +15,7 @@ use Rattle.std_heap.proofs.Global.TheLaws as heap
 use Rattle.syncfile_core.specs.SyncFile.{File}
 use Rattle.c_words.specs.contracts.shared_file.SharedFile as SharedFile
 use Rattle.c_words.proofs.shared_file.SharedFile.TheLaws as shared
-use Rattle.c_words.specs.contracts.parts.Parts as Parts
+use Rattle.c_parts.specs.contracts.parts.Parts as Parts
 use Rattle.c_words.specs.declared.file_handle.FileHandle.{FileHandle}
 use Rattle.c_words.specs.contracts.file_handle.FileHandle as Handle
 

@@ -5,8 +5,8 @@ ghost use Rattle.c_words.specs.Handle.{handle_owns};
 ghost use Rattle.c_words.specs.HeldFile.{file_coded, file_row};
 ghost use Rattle.syncfile_core.specs.SyncFile.{File};
 
-use crate::parts::Parts;
 use crate::shared_file::SharedFile;
+use c_parts::Parts;
 use std::alloc::Global;
 use std::marker::Model;
 use std::ptr::{NonNull, null_mut};

@@ -11,7 +11,6 @@ mod limits;
 mod member;
 mod merging;
 mod numbers;
-mod parts;
 mod seat_handle;
 mod seats;
 mod shared_file;

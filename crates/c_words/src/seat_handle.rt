@@ -6,7 +6,7 @@ ghost use Rattle.c_words.specs.Held.{held_coded, member_row};
 ghost use Rattle.c_words.specs.Member.{MemberModel};
 
 use crate::member::Member;
-use crate::parts::Parts;
+use c_parts::Parts;
 use std::alloc::Global;
 use std::marker::Model;
 use std::ptr::{NonNull, null_mut};

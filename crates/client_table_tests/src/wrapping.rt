@@ -7,12 +7,18 @@ use point_core::{Context, Entry, Items, Listing, Point, Refusal, Usage};
 use resv_core::{Act, Plan, Settled, SharedTable};
 use std::alloc::Global;
 use std::process::Abort;
-use std::sync::atomic::{AtomicUsize, Ordering};
+use std::sync::atomic::{AtomicBool, AtomicUsize, Ordering};
 use std::sync::{Mutex, Wait};
 use std::thread::Threads;
 use words_core::{Seat, Whole, Words};
 
+/// A put of this value waits until another is recorded, or so many turns have passed.
+const SLOW: u64 = 9;
+
+const TURNS: u32 = 1_000_000;
+
 /// Records each put that its table has accepted. It lists nothing for `Bookkeep`, and never settles the plan of a client alone.
+/// A client's look is its `export`.
 #[derive(Drop)]
 struct OddTable {
     table: LockedTable,
@@ -44,6 +50,9 @@ impl SharedTable for OddTable {
         usage: Usage,
     ) -> Result<(), Refusal> {
         let Point { ctx, value } = point;
+        if value == SLOW {
+            await_record(rt, &self.puts);
+        }
         self.table.put(rt, alloc, words, seat, buffer, Point { ctx, value }, usage)?;
         let point = Point { ctx, value };
         record(&mut self.puts.lock(rt), Entry { point, usage })
@@ -70,25 +79,6 @@ impl SharedTable for OddTable {
         })
     }
 
-    fn export_into<R: Wait>(
-        &self,
-        rt: &R,
-        alloc: Global,
-        words: &Words,
-        seat: &mut Seat,
-        buffer: usize,
-        usage: Usage,
-        listing: &mut Listing,
-    ) -> Result<(), Refusal> {
-        let lists_nothing = matches!(usage, Usage::Bookkeep);
-        self.table
-            .export_into(rt, alloc, words, seat, buffer, usage, listing)?;
-        if lists_nothing {
-            listing.points = Items::of(Vec::new(alloc));
-        }
-        Ok(())
-    }
-
     fn settle<R: Wait>(
         &self,
         rt: &R,
@@ -102,6 +92,14 @@ impl SharedTable for OddTable {
             return Err(Refusal::Torn);
         }
         Ok(settled)
+    }
+}
+
+fn await_record<R: Wait>(rt: &R, puts: &Mutex<Vec<Entry>>) {
+    for _ in 0..TURNS {
+        if !puts.lock(rt).is_empty() {
+            return;
+        }
     }
 }
 
@@ -238,4 +236,57 @@ fn a_table_that_lists_nothing(rt: HostRuntime) {
     check_least(&rt, rt.alloc(), plans.as_slice(), 1, 0, Refusal::TimedOut);
     check_least(&rt, rt.alloc(), plans.as_slice(), 1, 1, Refusal::TimedOut);
     check_least(&rt, rt.alloc(), plans.as_slice(), 2, 0, Refusal::Torn);
+}
+
+/// Lets the second client in once the first has left.
+#[derive(Drop)]
+struct OneByOne {
+    left: AtomicBool,
+}
+
+impl Gate for OneByOne {
+    fn enter(&self, client: usize, _act: usize) -> bool {
+        if client == 1 {
+            return true;
+        }
+        for _ in 0..1_000_000_000u32 {
+            if self.left.load(Ordering::SeqCst) {
+                return true;
+            }
+        }
+        false
+    }
+
+    fn leave(&self, client: usize, _act: usize) {
+        if client == 1 {
+            self.left.store(true, Ordering::SeqCst);
+        }
+    }
+}
+
+fn is_slow_first(puts: &[Entry]) -> bool {
+    match puts.first() {
+        Some(entry) => entry.point.value == SLOW,
+        None => false,
+    }
+}
+
+/// Checks that the slow put, of the first client, is recorded before that of the second.
+fn check_slow_first<R: Threads + Wait + Abort + Sync>(rt: &R, alloc: Global, plans: &[Plan]) {
+    let gate = OneByOne {
+        left: AtomicBool::new(false),
+    };
+    let (_, table) = run_clients::<R, OddTable, OneByOne>(rt, alloc, 1, plans, &gate).expect(
+        rt,
+        "a settled table",
+    );
+    assert!(rt; is_slow_first(puts_of(table).as_slice()));
+}
+
+#[test]
+fn a_slow_act_is_left_when_it_is_done(rt: HostRuntime) {
+    let ctx = Context::at(0);
+    let slow = [Act::Put(0, Point { ctx, value: SLOW }, Usage::Read)];
+    let plans = plans_of(&rt, rt.alloc(), &[&slow, &acts_of(1, Usage::Read)]);
+    check_slow_first(&rt, rt.alloc(), plans.as_slice());
 }

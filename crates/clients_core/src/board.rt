@@ -151,6 +151,9 @@ impl SharedTable for Board {
     ghost exports = { λ board buffer usage before after answer.
         IfOk answer (λ listed. HasLooked board buffer usage before after listed) × IfErr answer (λ e. e ≡ refusal.Memory) };
 
+    ghost settles = { λ board before plans answer. (answer ≡ Err refusal.Torn) ↔ (¬ (HasClosedNone board.contexts before ×
+        AreAsPlanned board before plans (gathered_values board.contexts before))) };
+
     fn empty(_alloc: Global, words: &Words) -> Result<Board, Refusal> {
         Ok(Board { words: words.id() })
     }
@@ -193,7 +196,6 @@ impl SharedTable for Board {
         self.export_into(alloc, words, seat, buffer, usage, listing)
     }
 
-    /// Torn exactly as the board's own `settle` is.
     fn settle<R: Wait>(
         &self,
         _rt: &R,
@@ -201,16 +203,7 @@ impl SharedTable for Board {
         words: &Words,
         all: &mut Whole,
         plans: &[Plan],
-    ) -> Result<Settled, Refusal>
-        requires own { (all.old.words ≡ words.now) × (self.now ≡ words.now) }
-        ensures stepped { HasStepped all.old all.new }
-        ensures none_closed { IfOk result (λ settled. HasClosedNone words.now.contexts all.old) }
-        ensures torn { (result ≡ Err refusal.Torn) ↔ (¬ (HasClosedNone words.now.contexts all.old ×
-            AreAsPlanned words.now all.old plans.now (gathered_values words.now.contexts all.old))) }
-        ensures values { IfOk result (λ settled. settled.values ≡ gathered_values words.now.contexts all.old) }
-        ensures tables { IfOk result (λ settled. settled.tables ≡ tables_of words.now.buffers plans.now settled.values) }
-        ensures refusals { IfErr result (λ e. (e ≡ refusal.Torn) ⊎ (e ≡ refusal.Memory)) }
-    {
+    ) -> Result<Settled, Refusal> {
         self.settle(alloc, words, all, plans)
     }
 }

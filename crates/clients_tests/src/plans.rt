@@ -20,8 +20,9 @@ pub(crate) fn point(value: u64) -> Point
 pub(crate) fn plans_of(rt: &impl Abort, alloc: Global, clients: &[&[Act]]) -> Vec<Plan> {
     let mut plans = Vec::new(alloc);
     for acts in clients {
-        let acts = Vec::from_slice(alloc, acts).expect(rt, "acts");
-        plans.push(Plan::of(acts)).expect(rt, "a plan");
+        let plan = Plan::of(Vec::from_slice(alloc, acts).expect(rt, "acts"));
+        assert!(rt; plan.as_slice() == *acts);
+        plans.push(plan).expect(rt, "a plan");
     }
     plans
 }

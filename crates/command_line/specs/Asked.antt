@@ -21,13 +21,14 @@ pub record AskedCheck : Type 0 where
   pub report : Report
   pub allows_empty : Bool
 
--- a trace: the name of its file, or none on standard input; whether a JSON document is asked for, a script or a picture; and the
--- texts of the options
+-- a trace: the name of its file, or none on standard input; whether a JSON document is asked for, a script, a picture or trace
+-- events; and the texts of the options
 pub record AskedTrace : Type 0 where
   pub file : Option Text
   pub is_json : Bool
   pub is_script : Bool
   pub is_drawing : Bool
+  pub is_perfetto : Bool
   pub from : Option Text
   pub to : Option Text
 
@@ -100,6 +101,7 @@ trace_after rows = record {
   is_json = flag_named (one_of (codes "json") rows);
   is_script = flag_named (one_of (codes "script") rows);
   is_drawing = flag_named (one_of (codes "draw") rows);
+  is_perfetto = flag_named (one_of (codes "perfetto") rows);
   from = first_of (codes "from") rows;
   to = first_of (codes "to") rows;
 }
@@ -144,6 +146,7 @@ asked_of_trace trace = record {
   is_json = trace.is_json;
   is_script = trace.is_script;
   is_drawing = trace.is_drawing;
+  is_perfetto = trace.is_perfetto;
   from = option_map (λ t. t.now) trace.from;
   to = option_map (λ t. t.now) trace.to;
 }

@@ -51,7 +51,7 @@ explain_app = with_rules (new_app (codes "explain")) (file_rule (codes "FILE") �
 abbrev pub trace_app : App
 trace_app = with_rules (new_app (codes "trace"))
     (file_rule (codes "FILE") ∷ flag_rule (codes "json") ∷ flag_rule (codes "script") ∷ flag_rule (codes "draw")
-    ∷ option_rule (codes "from") ∷ option_rule (codes "to") ∷ [])
+    ∷ flag_rule (codes "perfetto") ∷ option_rule (codes "from") ∷ option_rule (codes "to") ∷ [])
 
 abbrev pub draw_app : App
 draw_app = with_rules (new_app (codes "draw"))

@@ -74,6 +74,8 @@ pub struct Trace<'a> {
     pub is_script: bool,
     /// Whether it is drawn.
     pub is_drawing: bool,
+    /// Whether it is written as trace events, which Perfetto opens.
+    pub is_perfetto: bool,
     /// Where the window begins, in seconds.
     pub from: Option<&'a str>,
     /// Where it ends.

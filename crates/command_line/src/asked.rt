@@ -25,7 +25,7 @@ ghost use Rattle.command_line.specs.Asked.{
 use crate::action::{Action, Check, Clients, Draw, Report, Table, Trace};
 use crate::subcommands::{
     ALLOW_EMPTY, CHECK, CLIENTS_WORD, COUNT, DRAW, EXPLAIN, FILE, FROM, GRAPH, JSON, LINE, LINES,
-    LOCKS, OUTPUT, PATH, QUIET, ROUNDS_WORD, SCRIPT, TAP, TO, TRACE, UPDATE,
+    LOCKS, OUTPUT, PATH, PERFETTO, QUIET, ROUNDS_WORD, SCRIPT, TAP, TO, TRACE, UPDATE,
 };
 use clap::ArgMatches;
 use clients_core::{CLIENTS, ROUNDS};
@@ -110,6 +110,7 @@ fn trace_of<'a>(matches: &ArgMatches<'a>) -> Trace<'a>
         is_json: has_flag(matches, JSON),
         is_script: has_flag(matches, SCRIPT),
         is_drawing: has_flag(matches, DRAW),
+        is_perfetto: has_flag(matches, PERFETTO),
         from: text_of(matches, FROM),
         to: text_of(matches, TO),
     }

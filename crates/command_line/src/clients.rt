@@ -20,12 +20,30 @@ use std::io::Write;
 use std::sync::Wait;
 use std::thread::Threads;
 
-/// Runs clients, each in a thread of its own, over the table that they ask for, and writes the text of what they settle. That
-/// is the text of the plans' settled table, whatever the schedule.
+/// Runs so many clients, each in a thread of its own, for so many rounds over the board, and writes the text of what they
+/// settle. That is the text of the plans' settled table, whatever the schedule.
 ///
 /// Fails as `run_clients`, which refuses none of these plans before its threads start, and with Write if a write
 /// failed or took no byte, or the flush failed. Then a prefix of the text is written.
 pub fn clients_report<R: Threads + Wait + Sync, W: Write>(
+    rt: &R,
+    alloc: Global,
+    n: usize,
+    rounds: u64,
+    writer: &mut W,
+) -> Result<(), Refusal>
+    requires clients { (1 ≤ n) × (n ≤ CLIENTS) }
+    requires rounds { (1 ≤ rounds) × (rounds ≤ ROUNDS) }
+    ensures ok { OnOk result (Appends (W.contents writer.old) (W.contents writer.new) (clients_text n rounds)) }
+    ensures err { OnErr result
+        (AppendsFront (W.contents writer.old) (W.contents writer.new) (clients_text n rounds)) }
+    ensures refusals { IfErr result (λ e. (e ≡ refusal.Write) ⊎ IsClientRefusal e) }
+{
+    report_over::<R, Board, W>(rt, alloc, n, rounds, writer)
+}
+
+/// The same, over the table that the clients ask for.
+pub fn report_clients<R: Threads + Wait + Sync, W: Write>(
     rt: &R,
     alloc: Global,
     clients: &Clients,
@@ -43,7 +61,7 @@ pub fn clients_report<R: Threads + Wait + Sync, W: Write>(
         table,
     } = *clients;
     match table {
-        Table::Board => report_over::<R, Board, W>(rt, alloc, count, rounds, writer),
+        Table::Board => clients_report(rt, alloc, count, rounds, writer),
         Table::Locks => report_over::<R, LockedTable, W>(rt, alloc, count, rounds, writer),
     }
 }

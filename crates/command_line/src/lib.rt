@@ -11,6 +11,6 @@ mod subcommands;
 mod usage;
 
 pub use action::{Action, Check, Clients, Draw, Report, Table, Trace};
-pub use clients::clients_report;
+pub use clients::{clients_report, report_clients};
 pub use color::{ColorChoice, Colors, take_color};
 pub use usage::action_of;

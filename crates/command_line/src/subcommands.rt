@@ -59,6 +59,9 @@ pub(crate) const TRACE: &str = "trace";
 /// Asks for what happened in a trace, as a script.
 pub(crate) const SCRIPT: &str = "script";
 
+/// Asks for what happened in a trace, as trace events.
+pub(crate) const PERFETTO: &str = "perfetto";
+
 /// The window of a trace.
 pub(crate) const FROM: &str = "from";
 
@@ -168,14 +171,19 @@ static SUBCOMMANDS: &[Subcommand] = &[
                 help: "Draws what happened as SVG instead",
             },
             Argument {
+                name: PERFETTO,
+                form: Form::Flag,
+                help: "Writes what happened as trace events, in JSON, for Perfetto instead",
+            },
+            Argument {
                 name: FROM,
                 form: Form::Option("SECONDS"),
-                help: "Begins the script or the picture at that time",
+                help: "Begins the script, the picture or the events at that time",
             },
             Argument {
                 name: TO,
                 form: Form::Option("SECONDS"),
-                help: "Ends it at that time",
+                help: "Ends them at that time",
             },
         ],
     },

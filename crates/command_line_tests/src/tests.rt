@@ -1,4 +1,4 @@
-use command_line::{Clients, Table, clients_report};
+use command_line::{Clients, Table, clients_report, report_clients};
 use point_core::Refusal;
 use std::io;
 use std::io::Write;
@@ -20,26 +20,26 @@ bookkeep c1                                               300\n\
 bookkeep c2                                               300\n\
 ";
 
-/// Two clients of a hundred rounds.
-fn two_clients(table: Table) -> Clients {
+/// Two clients of a hundred rounds, over buffers under locks.
+fn two_clients_under_locks() -> Clients {
     Clients {
         count: 2,
         rounds: 100,
-        table,
+        table: Table::Locks,
     }
 }
 
 #[test]
 fn two_clients_settle(rt: HostRuntime) {
     let mut printed = Vec::new(rt.alloc());
-    let ended = clients_report(&rt, rt.alloc(), &two_clients(Table::Board), &mut printed);
+    let ended = clients_report(&rt, rt.alloc(), 2, 100, &mut printed);
     assert!(rt; are_settled(&ended, &printed));
 }
 
 #[test]
 fn two_clients_settle_under_locks(rt: HostRuntime) {
     let mut printed = Vec::new(rt.alloc());
-    let ended = clients_report(&rt, rt.alloc(), &two_clients(Table::Locks), &mut printed);
+    let ended = report_clients(&rt, rt.alloc(), &two_clients_under_locks(), &mut printed);
     assert!(rt; are_settled(&ended, &printed));
 }
 
@@ -68,7 +68,7 @@ impl Write for Stuck {
 #[test]
 fn a_failed_flush_is_refused(rt: HostRuntime) {
     let mut stuck = Stuck { taken: 0 };
-    let ended = clients_report(&rt, rt.alloc(), &two_clients(Table::Board), &mut stuck);
+    let ended = clients_report(&rt, rt.alloc(), 2, 100, &mut stuck);
     assert_eq!(rt; ended, Err(Refusal::Write));
     assert_eq!(rt; stuck.taken, TWO_CLIENTS.len());
 }

@@ -1,5 +1,5 @@
 // What a client does, and what all plans come to.
-ghost use Rattle.std.specs.Prelude.{◌≡◌, IfErr, IsTrue, OkIff, length};
+ghost use Rattle.std.specs.Prelude.{◌≡◌, ℕ, IfErr, IsTrue, OkIff, length};
 ghost use Rattle.std.specs.List.{list_all};
 ghost use Rattle.point_core.specs.declared.refusal.Refusal.TheVariants as refusal;
 ghost use Rattle.resv_core.specs.Rounds.{IsInRange, IsRepeatable, acts_of, in_round, is_in_range, is_repeatable, rounds_of};
@@ -106,6 +106,13 @@ impl Plan {
             acts: self.acts.as_slice(),
             times: self.times,
         }
+    }
+
+    /// The acts of the round that is repeated: of a plan that `of` made, all of them. Takes no memory.
+    pub fn as_slice(&self) -> &[Act]
+        ensures round { (times : ℕ) × (rounds_of result.now times ≡ self.now) }
+    {
+        self.acts.as_slice()
     }
 
     /// How many acts there are.

@@ -1,5 +1,5 @@
 // Buffers that clients on threads share.
-ghost use Rattle.std.specs.Prelude.{◌≡◌, ℕ, ◌<◌, ◌≤◌, ◌⊎◌, length, Ok, Err, IfErr, IfOk, OnOk, Result};
+ghost use Rattle.std.specs.Prelude.{◌≡◌, ℕ, ◌<◌, ◌≤◌, ◌⊎◌, length, List, Ok, Err, IfErr, IfOk, OnOk, Result};
 ghost use Rattle.point_core.specs.declared.entry.Entry.{Entry};
 ghost use Rattle.point_core.specs.declared.entry.Usage.{Usage};
 ghost use Rattle.point_core.specs.declared.listing.Listing.{Listing};
@@ -8,6 +8,8 @@ ghost use Rattle.point_core.specs.declared.refusal.Refusal.TheVariants as refusa
 ghost use Rattle.point_core.specs.Agreement.{AllAbove, HasRisingContexts};
 ghost use Rattle.words_core.specs.Seat.{SeatModel};
 ghost use Rattle.words_core.specs.Words.{WordsModel};
+ghost use Rattle.resv_core.specs.declared.plan.Act.{Act};
+ghost use Rattle.resv_core.specs.declared.plan.Settled.{Settled};
 ghost use Rattle.resv_core.specs.Resv.{entry_of};
 ghost use Rattle.resv_core.specs.Settled.{ArePlansWithin, gathered_values, tables_of};
 ghost use Rattle.resv_core.specs.Shared.{HasClosedNone, HasLoadedOnce, HasStepped};
@@ -22,8 +24,8 @@ use words_core::{Seat, Whole, Words};
 /// seat, whose words and parts it keeps; the seat's trace only grows.
 ///
 /// Every table is made for one set of words, by `empty`, and is used with these words and their seats alone. What it says of a
-/// put and of an export, beside what all tables do, is its own: a board, which is words alone, has a step for each in the
-/// seat's trace.
+/// put, of an export and of what it settles, beside what all tables do, is its own: a board, which is words alone, has a step
+/// for each put and look in the seat's trace.
 pub trait SharedTable: Sync + Sized + Drop {
     ghost made_for: { Self → WordsModel };
 
@@ -32,6 +34,9 @@ pub trait SharedTable: Sync + Sized + Drop {
 
     // The same of an export at a usage.
     ghost exports: { Self → ℕ → Usage → SeatModel → SeatModel → Result Listing Refusal → Type 0 };
+
+    // What it says of its settlement of plans, by the gathered seat before it, and the answer.
+    ghost settles: { Self → SeatModel → List (List Act) → Result Settled Refusal → Type 0 } = { λ table before plans answer. Unit {0} };
 
     /// The table of as many buffers as the words have. Nothing was put.
     ///
@@ -81,8 +86,8 @@ pub trait SharedTable: Sync + Sized + Drop {
         ensures above { IfOk result (λ listing. AllAbove listing.floor listing.points) }
         ensures refusals { IfErr result (λ e. (e ≡ refusal.Torn) ⊎ (e ≡ refusal.Memory)) };
 
-    /// A look as `export` makes it, into a listing that its caller keeps for many looks: what it had goes. It takes memory only
-    /// where its list has too little room.
+    /// A look as `export` makes it, into a listing that its caller keeps for many looks: what it had goes. A table that has
+    /// none of its own makes an `export`; the tables of `clients_core` take memory only where the list has too little room.
     ///
     /// Fails as `put` does. Nothing is said of the listing then.
     fn export_into<R: Wait>(
@@ -103,12 +108,16 @@ pub trait SharedTable: Sync + Sized + Drop {
         ensures floor { OnOk result (HasLoadedOnce listing.new.floor seat.old seat.new) }
         ensures rising { OnOk result (HasRisingContexts listing.new.points) }
         ensures above { OnOk result (AllAbove listing.new.floor listing.new.points) }
-        ensures refusals { IfErr result (λ e. (e ≡ refusal.Torn) ⊎ (e ≡ refusal.Memory)) };
+        ensures refusals { IfErr result (λ e. (e ≡ refusal.Torn) ⊎ (e ≡ refusal.Memory)) }
+    {
+        *listing = self.export(rt, alloc, words, seat, buffer, usage)?;
+        Ok(())
+    }
 
     /// The values that the gathered seat knows, and the tables of the plans above them.
     ///
     /// Fails with `Torn` if a context is closed, since a floor that was loaded then is the greatest value, above the
-    /// gathered one; as `Torn` where what was put is not what the plans put, and as `Memory`, alone.
+    /// gathered one; with `Torn` if what was put is not what the plans put; and with `Memory`, alone.
     fn settle<R: Wait>(
         &self,
         rt: &R,
@@ -125,5 +134,6 @@ pub trait SharedTable: Sync + Sized + Drop {
         ensures tables { IfOk result (λ settled. settled.tables ≡ tables_of words.now.buffers plans.now settled.values) }
         ensures none_closed { IfOk result (λ settled. HasClosedNone words.now.contexts all.old) }
         ensures closed { ¬ HasClosedNone words.now.contexts all.old → result ≡ Err refusal.Torn }
+        ensures settled { settles self.now all.old plans.now result }
         ensures refusals { IfErr result (λ e. (e ≡ refusal.Torn) ⊎ (e ≡ refusal.Memory)) };
 }

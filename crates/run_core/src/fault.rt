@@ -14,7 +14,7 @@ pub const FAULT: u8 = 2;
 
 /// Writes `fencectl: NUMBER NAME` and a line feed, whatever becomes of the write, and gives the status of a fault. If
 /// a write fails, a prefix of the line is written.
-pub fn report_fault<W: Write>(refusal: &Refusal, writer: &mut W) -> u8
+pub fn tell_fault<W: Write>(refusal: &Refusal, writer: &mut W) -> u8
     ensures status { result ≡ 2 }
     ensures written { AppendsFront (W.contents writer.old) (W.contents writer.new) (fault_text refusal.now) }
 {

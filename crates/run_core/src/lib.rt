@@ -6,7 +6,7 @@ mod run;
 mod status;
 mod unread_word;
 
-pub use fault::{FAULT, report_fault};
+pub use fault::{FAULT, tell_fault};
 pub use run::run_script;
 pub use status::{ACCEPTED, REFUSED, status_of_run};
 pub use unread_word::report_unread_word;

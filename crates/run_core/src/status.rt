@@ -2,7 +2,7 @@
 ghost use Rattle.std.specs.Prelude.{◌≡◌, ◌==◌, if◌then◌else◌};
 ghost use Rattle.run_core.specs.Ends.{ReportsFault, run_status};
 
-use crate::fault::report_fault;
+use crate::fault::tell_fault;
 use point_core::Refusal;
 use script_core::Totals;
 use std::io::Write;
@@ -30,6 +30,6 @@ pub fn status_of_run<W: Write>(ended: Result<Totals, Refusal>, writer: &mut W) -
 {
     match ended {
         Ok(totals) => status_of_totals(totals),
-        Err(refusal) => report_fault(&refusal, writer),
+        Err(refusal) => tell_fault(&refusal, writer),
     }
 }

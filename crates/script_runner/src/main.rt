@@ -3,13 +3,13 @@
 #![tactic(auto)]
 
 use point_core::Refusal;
-use run_core::{FAULT, report_fault, report_unread_word, run_script};
+use run_core::{FAULT, report_unread_word, run_script, tell_fault};
 use source_core::{Script, Source};
 use std::env;
 use std::process::ExitCode;
 
 fn main(rt: HostRuntime) -> ExitCode {
-    let status = start(&rt).unwrap_or_else(|refusal| report_fault(&refusal, &mut rt.stderr()));
+    let status = start(&rt).unwrap_or_else(|refusal| tell_fault(&refusal, &mut rt.stderr()));
     ExitCode::from(status)
 }
 

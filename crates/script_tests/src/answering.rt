@@ -1,7 +1,7 @@
 // A script from a reader, and its answers to a writer.
 use crate::pipes::{PIECES, Sink, Source, assert_refusal, failing_source_of, sink_of, source_of};
 use point_core::Refusal;
-use script_core::{Totals, engine};
+use script_core::{SCRIPT_BYTES, Totals, engine};
 use std::alloc::Global;
 use std::process::Abort;
 
@@ -38,6 +38,89 @@ fn first_answers(lines: usize) -> &'static [u8] {
         _ => BOTH_ORDERS_ANSWERS,
     }
 }
+
+// Lines that are no commands, and a last one without its line feed.
+const BAD_LINES: &[u8] = b"\
+    buffer B\n\
+    import B x read\n\
+    timeline tttttttttttttttttttttttttttttttt\n\
+    zzzzzzzzzzzzzzzzzzzzzzzzzzzzzzzzzzzzzzzzzzzzzzzzzzzzzzzzzzzzzzzzzzzzzzzzzzzzzzzzzzzzzzzzzzzzzzzzzzzz\
+    zzzzzzzzzzzzzzzzzzzzzzzzzzzzzzzzzzzzzzzzzzzzzzzzzzzzzzzzzzzzzzzzzzzzzzzzzzzzzzzzzzzzzzzzzzzzzzzzzzzz\
+    zzzzzzzzzzzzzzzzzzzzzzzzzzzzzzzzzzzzzzzzzzzzzzzzzzzzzzzzz\n\
+    \n\
+    import B x none\n\
+    timeline a\n\
+    value a\
+    ";
+
+const BAD_LINES_ANSWERS: &[u8] =
+    b"ok\nerr 2 NoEntry\nerr 1 Syntax line 3\nerr 12 LongLine line 4\nerr 1 Syntax line 6\nok 1\nok 0\n";
+
+// A line of 256 bytes, and two of 257.
+const LONG_LINES: &[u8] = b"\
+    timeline a\n\
+    value a\
+    \x20                                                                                                   \
+    \x20                                                                                                   \
+    \x20                                                \n\
+    value a\
+    \x20                                                                                                   \
+    \x20                                                                                                   \
+    \x20                                                 \n\
+    #\
+    xxxxxxxxxxxxxxxxxxxxxxxxxxxxxxxxxxxxxxxxxxxxxxxxxxxxxxxxxxxxxxxxxxxxxxxxxxxxxxxxxxxxxxxxxxxxxxxxxxxx\
+    xxxxxxxxxxxxxxxxxxxxxxxxxxxxxxxxxxxxxxxxxxxxxxxxxxxxxxxxxxxxxxxxxxxxxxxxxxxxxxxxxxxxxxxxxxxxxxxxxxxx\
+    xxxxxxxxxxxxxxxxxxxxxxxxxxxxxxxxxxxxxxxxxxxxxxxxxxxxxxxx\
+    ";
+
+const LONG_LINES_ANSWERS: &[u8] = b"ok 1\nok 0\nerr 12 LongLine line 3\nerr 12 LongLine line 4\n";
+
+// A timeline that is closed below a pending point.
+const CLOSED: &[u8] = b"\
+    timeline a\n\
+    fence f a 2\n\
+    fence g a 5\n\
+    inc a 3\n\
+    watch g 8\n\
+    shut a\n\
+    info f\n\
+    info g\n\
+    wait g\n\
+    merge m f g\n\
+    info m\n\
+    value a\n\
+    inc a 1\n\
+    fence h a 9\n\
+    shut a\n\
+    report\n\
+    ";
+
+const CLOSED_ANSWERS: &[u8] = b"\
+    ok 1\n\
+    ok\n\
+    ok\n\
+    ok 3\n\
+    ok\n\
+    ok 3\n\
+    fired 8\n\
+    ok f 1 1\n\
+    fence a sw_sync 2 1\n\
+    ok g -2 1\n\
+    fence a sw_sync 5 -2\n\
+    ok\n\
+    ok\n\
+    ok m 1 1\n\
+    fence stub stub 0 1\n\
+    ok 3\n\
+    err 15 Cancelled\n\
+    err 15 Cancelled\n\
+    err 15 Cancelled\n\
+    ok 4\n\
+    closed   a                                                  3\n\
+    file     f                                                  1   1\n\
+    file     g                                                 -2   1\n\
+    file     m                                                  1   1\n\
+    ";
 
 pub(crate) fn assert_totals(rt: &impl Abort, totals: Totals, wanted: (u64, u64, u64)) {
     let (lines, accepted, refused) = wanted;
@@ -78,7 +161,7 @@ fn assert_answers(
 
 #[test]
 fn answers_in_pieces(rt: HostRuntime) {
-    let cases: [(&[u8], &[u8], (u64, u64, u64)); 4] = [
+    let cases: [(&[u8], &[u8], (u64, u64, u64)); 10] = [
         (b"", b"", (0, 0, 0)),
         (b"\n# note", b"", (0, 0, 0)),
         (BOTH_ORDERS, BOTH_ORDERS_ANSWERS, (7, 7, 0)),
@@ -87,6 +170,25 @@ fn answers_in_pieces(rt: HostRuntime) {
             b"err 2 NoEntry\nok 1\nok\nok\nerr 1 Syntax line 6\nok 1\nfired 3\nok 1\n",
             (7, 5, 2),
         ),
+        (
+            b"timeline a\nfence f a 5\ninc a 4\nwait f\ninc a 1\nwait f\n",
+            b"ok 1\nok\nok 4\nerr 8 TimedOut\nok 5\nok\n",
+            (6, 5, 1),
+        ),
+        (BAD_LINES, BAD_LINES_ANSWERS, (7, 3, 4)),
+        (
+            b"timeline a\nfence f a 1\nclose f\nwait f\nfence f a 9\ninfo f\n",
+            b"ok 1\nok\nok\nerr 2 NoEntry\nok\nok f 0 1\nfence a sw_sync 9 0\n",
+            (6, 5, 1),
+        ),
+        (
+            b"timeline a\ninc a 18446744073709551616\ninc a 00000000000000000005\ninc a 000000000000000000005\n\
+              inc a -1\ntimeline \tb\n# note\nvalue a",
+            b"ok 1\nerr 1 Syntax line 2\nok 5\nerr 1 Syntax line 4\nerr 1 Syntax line 5\nerr 1 Syntax line 6\nok 5\n",
+            (7, 3, 4),
+        ),
+        (LONG_LINES, LONG_LINES_ANSWERS, (4, 2, 2)),
+        (CLOSED, CLOSED_ANSWERS, (16, 13, 3)),
     ];
     for (script, wanted, totals) in cases {
         assert_answers(&rt, rt.alloc(), script, wanted, totals);
@@ -119,6 +221,19 @@ fn many_answers(rt: HostRuntime) {
         script.as_slice(),
         wanted.as_slice(),
         (2001, 1, 2000),
+    );
+}
+
+// A byte more than a script may have.
+#[test]
+fn a_script_that_is_too_long(rt: HostRuntime) {
+    let script = repeated(&rt, rt.alloc(), b"timeline a\n", b"\n", SCRIPT_BYTES - 10);
+    assert_answers(
+        &rt,
+        rt.alloc(),
+        script.as_slice(),
+        b"ok 1\nerr 6 Limit script\n",
+        (2, 1, 1),
     );
 }
 

@@ -1,6 +1,6 @@
 // The line of a fault, and its status.
 use point_core::Refusal;
-use run_core::{FAULT, report_fault};
+use run_core::{FAULT, tell_fault};
 use std::io;
 use std::io::Write;
 
@@ -31,7 +31,7 @@ fn a_closed_writer_changes_no_status(rt: HostRuntime) {
 fn are_faults<W: Write>(refusals: &[Refusal], writer: &mut W) -> bool {
     let mut are = true;
     for refusal in refusals {
-        are &= report_fault(refusal, writer) == FAULT;
+        are &= tell_fault(refusal, writer) == FAULT;
     }
     are
 }

@@ -5,11 +5,11 @@ use crate::status::status_of_verdict;
 use crate::traces::trace;
 use check_core::{Form, Plan, check_scripts, update_scripts};
 use command_line::{
-    Action, Check, ColorChoice, Colors, Report, action_of, clients_report, take_color,
+    Action, Check, ColorChoice, Colors, Report, action_of, report_clients, take_color,
 };
 use explain_core::Look;
 use point_core::Refusal;
-use run_core::{ACCEPTED, FAULT, report_fault, report_unread_word, run_script};
+use run_core::{ACCEPTED, FAULT, report_unread_word, run_script, tell_fault};
 use source_core::{Prompted, Script, Source, script_files};
 use std::env;
 use std::io::IsTerminal;
@@ -23,7 +23,7 @@ const GREETING: &str =
 /// Reads the command line, and does what it asks for. Gives the exit status: that of a fault is 2, and the fault is reported on
 /// standard error.
 pub fn perform<T: Threads + Wait + Sync>(rt: &HostRuntime, threads: &T) -> u8 {
-    start(rt, threads).unwrap_or_else(|refusal| report_fault(&refusal, &mut rt.stderr()))
+    start(rt, threads).unwrap_or_else(|refusal| tell_fault(&refusal, &mut rt.stderr()))
 }
 
 fn start<T: Threads + Wait + Sync>(rt: &HostRuntime, threads: &T) -> Result<u8, Refusal> {
@@ -87,7 +87,7 @@ fn act<T: Threads + Wait + Sync>(
         Action::Trace(asked) => trace(rt, &asked),
         Action::Draw(asked) => draw(rt, &asked),
         Action::Clients(clients) => {
-            clients_report(threads, rt.alloc(), &clients, &mut rt.stdout())?;
+            report_clients(threads, rt.alloc(), &clients, &mut rt.stdout())?;
             Ok(ACCEPTED)
         }
         Action::End(status) => Ok(status),

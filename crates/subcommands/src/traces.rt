@@ -1,9 +1,10 @@
-// Reports of traces, and what happened in them as scripts and pictures, each with its exit status.
+// Reports of traces, and what happened in them as scripts, pictures and trace events, each with its exit status.
 use crate::drawing::{draw_trace, report_mistake, write_output};
 use command_line::Trace;
 use point_core::Refusal;
 use run_core::{ACCEPTED, FAULT, REFUSED};
 use source_core::Source;
+use trace_events::{Written, events_of_trace};
 use trace_report::{Form, Outcome, report_trace};
 use trace_script::{Scripted, Span, script_of_trace};
 
@@ -15,25 +16,29 @@ fencectl: there is no dma_fence event in the text. To record them, as root:
   echo 0 > /sys/kernel/tracing/events/dma_fence/enable
 ";
 
+/// What is reported when it has none up to the end of a window.
+const NO_EVENTS_YET: &str = "fencectl: there is no dma_fence event in the text up to --to";
+
 const TOO_LONG: &str = "\
 fencectl: what happened has more than a script may have: 256 timelines, 1,024 files at a time and 1,048,576 bytes; choose a \
 window with --from and --to";
 
-const ONE_FORM: &str = "fencectl: --json, --script and --draw each ask for another form";
+const ONE_FORM: &str =
+    "fencectl: --json, --script, --draw and --perfetto each ask for another form";
 
-const NO_WINDOW: &str = "fencectl: --from and --to go with --script or --draw";
+const NO_WINDOW: &str = "fencectl: --from and --to go with --script, --draw or --perfetto";
 
 const NO_TIMES: &str =
     "fencectl: --from and --to take seconds with up to six decimals, the first not after the second";
 
-/// Reads a trace, and prints the report, or what happened as a script or a picture. Options that don't fit are reported, with the
-/// status of a fault.
+/// Reads a trace, and prints the report, or what happened as a script, a picture or trace events. Options that don't fit are
+/// reported, with the status of a fault.
 pub(crate) fn trace(rt: &HostRuntime, asked: &Trace<'_>) -> Result<u8, Refusal> {
     if has_several_forms(asked) {
         return report_mistake(rt, ONE_FORM);
     }
-    if asked.is_script || asked.is_drawing {
-        return script(rt, asked);
+    if asked.is_script || asked.is_drawing || asked.is_perfetto {
+        return happened(rt, asked);
     }
     if asked.from.is_some() || asked.to.is_some() {
         return report_mistake(rt, NO_WINDOW);
@@ -42,37 +47,71 @@ pub(crate) fn trace(rt: &HostRuntime, asked: &Trace<'_>) -> Result<u8, Refusal> 
 }
 
 fn has_several_forms(asked: &Trace<'_>) -> bool {
-    (asked.is_json && (asked.is_script || asked.is_drawing))
-        || (asked.is_script && asked.is_drawing)
+    (asked.is_json && (asked.is_script || asked.is_drawing || asked.is_perfetto))
+        || (asked.is_script && (asked.is_drawing || asked.is_perfetto))
+        || (asked.is_drawing && asked.is_perfetto)
 }
 
-/// Writes what happened as a script, or draws it. Gives 0, or 2 if the text has no event of a fence or more than a script may
-/// have, which is reported on standard error.
-fn script(rt: &HostRuntime, asked: &Trace<'_>) -> Result<u8, Refusal> {
+/// Writes what happened as a script or as trace events, or draws it. Gives 0, or 2 if the text has no event of a fence or more than
+/// a script may have, which is reported on standard error.
+fn happened(rt: &HostRuntime, asked: &Trace<'_>) -> Result<u8, Refusal> {
     match Span::read(asked.from, asked.to) {
-        Some(span) => script_within(rt, asked, span),
+        Some(span) => happened_within(rt, asked, span),
         None => report_mistake(rt, NO_TIMES),
+    }
+}
+
+fn happened_within(rt: &HostRuntime, asked: &Trace<'_>, span: Span) -> Result<u8, Refusal> {
+    if asked.is_perfetto {
+        events_within(rt, asked, span)
+    } else {
+        script_within(rt, asked, span)
+    }
+}
+
+fn events_within(rt: &HostRuntime, asked: &Trace<'_>, span: Span) -> Result<u8, Refusal> {
+    let mut source = Source::open(rt, asked.text, rt.stdin())?;
+    let written = events_of_trace(rt.alloc(), span, &mut source, &mut rt.stdout())?;
+    status_of_written(rt, asked, written)
+}
+
+fn status_of_written(
+    rt: &HostRuntime,
+    asked: &Trace<'_>,
+    written: Written,
+) -> Result<u8, Refusal> {
+    match written {
+        Written::Document => Ok(ACCEPTED),
+        Written::NoEvents => report_none(rt, asked),
     }
 }
 
 fn script_within(rt: &HostRuntime, asked: &Trace<'_>, span: Span) -> Result<u8, Refusal> {
     let mut source = Source::open(rt, asked.text, rt.stdin())?;
     let scripted = script_of_trace(rt.alloc(), span, &mut source)?;
-    write_script(rt, asked.is_drawing, &scripted)
+    write_script(rt, asked, &scripted)
 }
 
-fn write_script(rt: &HostRuntime, is_drawing: bool, scripted: &Scripted) -> Result<u8, Refusal> {
+fn write_script(rt: &HostRuntime, asked: &Trace<'_>, scripted: &Scripted) -> Result<u8, Refusal> {
     match scripted {
         Scripted::Script(text) => {
-            if is_drawing {
+            if asked.is_drawing {
                 draw_trace(rt, text.as_slice())
             } else {
                 write_output(rt, text.as_slice(), ACCEPTED)
             }
         }
-        Scripted::NoEvents => report_no_events(rt),
+        Scripted::NoEvents => report_none(rt, asked),
         Scripted::TooLong => report_mistake(rt, TOO_LONG),
     }
+}
+
+/// Reports that there is no event, in the text or up to the end of the window.
+fn report_none(rt: &HostRuntime, asked: &Trace<'_>) -> Result<u8, Refusal> {
+    if asked.to.is_some() {
+        return report_mistake(rt, NO_EVENTS_YET);
+    }
+    report_no_events(rt)
 }
 
 fn report_no_events(rt: &HostRuntime) -> Result<u8, Refusal> {

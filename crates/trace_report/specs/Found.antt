@@ -1,21 +1,15 @@
 -- The fences that hang at the end of a trace.
-use Rattle.std.specs.Prelude.{◌==◌, Bool, not, ◌&&◌, nat_lt, List, map}
+use Rattle.std.specs.Prelude.{Bool, not, ◌&&◌, List, map}
 use Rattle.std.specs.List.{filter}
 use Rattle.std.specs.List.Sorted.{IsPermutation}
 use Rattle.std.specs.Map.{keys_of}
 use Rattle.track_core.specs.declared.ledger.Ledger.{Ledger}
 use Rattle.track_core.specs.declared.sighting.FenceKey.{FenceKey}
-use Rattle.track_core.specs.History.{Step, hangs, is_of_timeline, tally_in}
-use Rattle.track_core.specs.Keys.{timeline_of}
+use Rattle.track_core.specs.History.{Step, hangs, is_unnumbered}
 use Rattle.trace_report.specs.declared.found.Pending.{Pending}
 
 abbrev pub key_of : Pending → FenceKey
 key_of p = record { driver = p.driver; timeline = p.timeline; context = p.context; seqno = p.seqno }
-
--- the key is that of fences to which their driver gives a number when it emits them, and has given none yet
-abbrev pub is_unnumbered : List Step → FenceKey → Bool
-is_unnumbered steps key =
-    key.seqno == 0 && nat_lt 0 (tally_in (is_of_timeline (timeline_of key)) steps).events.emit
 
 -- whether a fence of the key is reported as hanging
 abbrev pub is_reported : List Step → FenceKey → Bool

@@ -4,7 +4,7 @@ ghost use Rattle.std.specs.List.{filter};
 ghost use Rattle.std.specs.List.Sorted.{IsPermutation};
 ghost use Rattle.std.specs.Map.{keys_of};
 ghost use Rattle.track_core.specs.History.{Step, IsLedgerOf};
-ghost use Rattle.trace_report.specs.Found.{AreHangs, is_reported, is_unnumbered, key_of};
+ghost use Rattle.trace_report.specs.Found.{AreHangs, is_reported, key_of};
 
 use indexmap::IndexMap;
 use point_core::Refusal;
@@ -110,21 +110,14 @@ fn hangs_of(alloc: Global, ledger: &Ledger) -> Result<Vec<Pending>, Refusal>
 fn is_reported(ledger: &Ledger, key: &FenceKey) -> bool
     ensures reported { (steps : List Step) → IsLedgerOf ledger.now steps → result ≡ is_reported steps key.now }
 {
-    ledger.hangs(key) && !is_unnumbered(ledger, key)
-}
-
-/// Whether the key is that of fences to which their driver gives a number when it emits them, and has given none yet.
-fn is_unnumbered(ledger: &Ledger, key: &FenceKey) -> bool
-    ensures unnumbered { (steps : List Step) → IsLedgerOf ledger.now steps → result ≡ is_unnumbered steps key.now }
-{
-    key.seqno == 0 && ledger.timeline(&key.timeline_key()).events.emit > 0
+    ledger.hangs(key) && !ledger.is_unnumbered(key)
 }
 
 /// The fences that are pending, and of which signals may have been lost.
 fn unknown_of(alloc: Global, ledger: &Ledger) -> Result<Vec<Pending>, Refusal> {
     let mut unknown = Vec::new(alloc);
     for (key, life) in ledger.lives().by_key().iter() {
-        if life.is_pending() && !ledger.hangs(key) && !is_unnumbered(ledger, key) {
+        if life.is_pending() && !ledger.hangs(key) && !ledger.is_unnumbered(key) {
             let Ok(()) = unknown.push(Pending::new(key, life)) else {
                 return Err(Refusal::Memory);
             };
@@ -136,7 +129,7 @@ fn unknown_of(alloc: Global, ledger: &Ledger) -> Result<Vec<Pending>, Refusal> {
 fn count_unnumbered(ledger: &Ledger) -> u64 {
     let mut count: u64 = 0;
     for (key, life) in ledger.lives().by_key().iter() {
-        if life.is_pending() && is_unnumbered(ledger, key) {
+        if life.is_pending() && ledger.is_unnumbered(key) {
             count = count.saturating_add(1);
         }
     }

@@ -1,4 +1,3 @@
 pub mod Part
 pub mod Line
-pub mod Window
 pub mod Scripted

@@ -156,7 +156,7 @@ impl Acts {
     /// Gives the fences that were not signalled the points after those of the others. One that its driver has not numbered has none.
     pub(crate) fn number_the_rest(&mut self, ledger: &Ledger) {
         for fence in self.fences.as_mut_slice() {
-            if fence.point == 0 && !is_unnumbered(ledger, &fence.key) {
+            if fence.point == 0 && !ledger.is_unnumbered(&fence.key) {
                 if let Some(count) = self.signalled.get_mut(fence.timeline) {
                     *count = count.saturating_add(1);
                     fence.point = *count;
@@ -219,11 +219,6 @@ impl Earlier {
             seqno: self.seqno,
         }
     }
-}
-
-/// Whether the key is that of fences that their driver numbers when it emits them, and has not numbered.
-pub(crate) fn is_unnumbered(ledger: &Ledger, key: &FenceKey) -> bool {
-    key.seqno == 0 && ledger.timeline(&key.timeline_key()).events.emit > 0
 }
 
 fn collect(ledger: &Ledger, earlier: &mut Vec<Earlier>) -> Result<(), Refusal> {

@@ -8,7 +8,6 @@ mod line;
 mod part;
 mod safe_names;
 mod text;
-mod window;
 
 pub use text::{Scripted, script_of_trace};
-pub use window::Span;
+pub use track_core::Span;

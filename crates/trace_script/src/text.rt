@@ -4,17 +4,16 @@ ghost use Rattle.line_core.specs.declared.script.TheConstants.{SCRIPT_BYTES};
 ghost use Rattle.trace_script.specs.Line.{AreLines};
 ghost use Rattle.trace_script.specs.Scripted.{IsScripted};
 
-use crate::acts::{Act, Acts, Fence, is_unnumbered};
+use crate::acts::{Act, Acts, Fence};
 use crate::line::{Line, push_line};
 use crate::part::File;
-use crate::window::{Span, Stage};
 use line_core::SCRIPT_BYTES;
 use point_core::{CONTEXTS, Refusal};
 use std::alloc::{AllocError, Global};
 use std::io::Read;
 use syncfile_core::FILES;
-use trace_core::{Event, Item, Piece, Pieces, Progress, Record};
-use track_core::{TaskName, Tracker};
+use trace_core::{Event, Item, Piece, Pieces, Progress};
+use track_core::{Seen, Span, Stage, TaskName, Tracker};
 
 /// What a trace gave.
 #[derive(Drop)]
@@ -136,9 +135,9 @@ fn take(
     if next == Stage::After {
         return Ok(next);
     }
-    tracker.take(piece)?;
+    let seen = tracker.take(piece)?;
     if next == Stage::Within {
-        see(alloc, tracker, acts, &record)?;
+        see(alloc, tracker, acts, seen, record.task)?;
     }
     Ok(next)
 }
@@ -146,14 +145,19 @@ fn take(
 /// Takes in an event of the window, after the tracker did.
 fn see(
     alloc: Global,
-    tracker: &mut Tracker,
+    tracker: &Tracker,
     acts: &mut Acts,
-    record: &Record<'_>,
+    seen: Option<Seen>,
+    task: &[u8],
 ) -> Result<(), Refusal> {
-    let key = tracker.sighting(record)?.key;
+    let Some(seen) = seen else {
+        return Ok(());
+    };
+    let sighting = seen.sighting;
+    let key = sighting.key;
     acts.see(alloc, tracker, key, tracker.ledger.life(&key))?;
-    match record.event {
-        Event::WaitStart => acts.wait(&key, TaskName::new(record.task), record.pid, record.time),
+    match sighting.event {
+        Event::WaitStart => acts.wait(&key, TaskName::new(task), sighting.pid, sighting.time),
         _ => Ok(()),
     }
 }
@@ -212,7 +216,7 @@ impl Text {
         let Some(fence) = acts.fences.get(act.fence()) else {
             return Ok(());
         };
-        if is_unnumbered(&tracker.ledger, &fence.key) {
+        if tracker.ledger.is_unnumbered(&fence.key) {
             return Ok(());
         }
         self.act_of(tracker, acts, act, fence)

@@ -34,7 +34,7 @@ module _ (old new : Ledger) (e : Sighting) (life : Life) (found : Finding) (tk :
   pub life-known : life ≡ life_in steps e.key
   life-known = s.life-is ∙ h.lives e.key
 
-  found-known : found ≡ found_in steps e
+  pub found-known : found ≡ found_in steps e
   found-known =
       s.found-is
       ∙ ap (λ n. found_of e life (nat_le n life.born) (context_at old.contexts (context_of e.key))) h.loss

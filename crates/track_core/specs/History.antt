@@ -1,5 +1,5 @@
 -- What a list of events says of fences, as folds over it. The list has the newest event first.
-use Rattle.std.specs.Prelude.{◌≡◌, ℕ, ⊤, nat_le, Bool, true, ◌&&◌, if◌then◌else◌, List, [], ◌∷◌}
+use Rattle.std.specs.Prelude.{◌≡◌, ℕ, ⊤, ◌==◌, nat_le, nat_lt, Bool, true, ◌&&◌, if◌then◌else◌, List, [], ◌∷◌}
 use Rattle.track_core.specs.declared.contexts.Context.{Context}
 use Rattle.track_core.specs.declared.finding.Finding.{Finding}
 use Rattle.track_core.specs.declared.ledger.Ledger.{Ledger}
@@ -90,6 +90,11 @@ every key = true
 
 abbrev pub is_of_timeline : TimelineKey → FenceKey → Bool
 is_of_timeline key fence = same_timeline (timeline_of fence) key
+
+-- the key is that of fences to which their driver gives a number when it emits them, and has given none yet
+abbrev pub is_unnumbered : List Step → FenceKey → Bool
+is_unnumbered steps key =
+    key.seqno == 0 && nat_lt 0 (tally_in (is_of_timeline (timeline_of key)) steps).events.emit
 
 -- what is kept is what the events say
 pub record IsLedgerOf (ledger : Ledger) (steps : List Step) : Type 0 where

@@ -10,3 +10,4 @@ pub mod Timelines
 pub mod History
 pub mod Names
 pub mod Tracker
+pub mod Window

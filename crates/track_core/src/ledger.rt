@@ -3,10 +3,11 @@ ghost use Rattle.std.specs.Prelude.{◌≡◌, List, [], ◌∷◌, true, false,
 ghost use Rattle.point_core.specs.declared.refusal.Refusal.TheVariants.{Memory};
 ghost use Rattle.track_core.specs.Contexts.{context_at};
 ghost use Rattle.track_core.specs.Keys.{context_of};
-ghost use Rattle.track_core.specs.History.{Step, Seen, Lost, Forgot, IsLedgerOf, events_in, every, hangs, is_of_timeline, is_past, life_in, loss_in, tally_in};
+ghost use Rattle.track_core.specs.History.{Step, Seen, Lost, Forgot, IsLedgerOf, events_in, every, found_in, hangs, is_of_timeline, is_past, is_unnumbered, life_in, loss_in, tally_in};
 ghost use Rattle.track_core.specs.Lives.{life_at};
 
 use crate::contexts::Contexts;
+use crate::finding::Finding;
 use crate::life::Life;
 use crate::lives::Lives;
 use crate::sighting::{FenceKey, Sighting, TimelineKey};
@@ -15,6 +16,15 @@ use crate::timelines::Timelines;
 use point_core::Refusal;
 use std::alloc::Global;
 use trace_core::Event;
+
+/// What an event came upon.
+#[derive(Clone, Copy, Debug)]
+pub struct Sight {
+    /// What was known of its key.
+    pub life: Life,
+    /// What it is, by that.
+    pub found: Finding,
+}
 
 /// What the events of a trace say of its fences, context by context and timeline by timeline.
 #[derive(Drop)]
@@ -43,12 +53,14 @@ impl Ledger {
         }
     }
 
-    /// Takes in an event. Gives what was known of its key.
+    /// Takes in an event. Gives what it came upon.
     ///
     /// Fails with `Memory` alone; then it is not to be used further.
-    pub fn see(&mut self, sighting: &Sighting) -> Result<Life, Refusal>
-        ensures known { IfOk result (λ life. (steps : List Step) →
-            IsLedgerOf self.old steps → life ≡ life_in steps sighting.now.key) }
+    pub fn see(&mut self, sighting: &Sighting) -> Result<Sight, Refusal>
+        ensures known { IfOk result (λ sight. (steps : List Step) →
+            IsLedgerOf self.old steps → sight.life ≡ life_in steps sighting.now.key) }
+        ensures found { IfOk result (λ sight. (steps : List Step) →
+            IsLedgerOf self.old steps → sight.found ≡ found_in steps sighting.now) }
         ensures seen { OnOk result ((steps : List Step) →
             IsLedgerOf self.old steps → IsLedgerOf self.new (Seen sighting.now ∷ steps)) }
         ensures memory { IfErr result (λ e. e ≡ Memory) }
@@ -59,7 +71,7 @@ impl Ledger {
         self.timelines.count(sighting.key.timeline_key(), &found)?;
         self.total.count(&found);
         self.events = self.events.saturating_add(1);
-        Ok(life)
+        Ok(Sight { life, found })
     }
 
     /// Forgets the context of an event's key, of which that was known before it, where more are kept than need be, no fence of
@@ -113,6 +125,13 @@ impl Ledger {
     {
         let life = self.lives.life(key);
         life.is_pending() && self.loss <= life.born
+    }
+
+    /// Whether the key is that of fences to which their driver gives a number when it emits them, and has given none yet.
+    pub fn is_unnumbered(&self, key: &FenceKey) -> bool
+        ensures unnumbered { (steps : List Step) → IsLedgerOf self.now steps → result ≡ is_unnumbered steps key.now }
+    {
+        key.seqno == 0 && self.timeline(&key.timeline_key()).events.emit > 0
     }
 
     /// What the timeline did.

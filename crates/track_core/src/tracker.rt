@@ -1,20 +1,33 @@
 // A trace, piece by piece.
-ghost use Rattle.std.specs.Prelude.{◌≡◌, List, [], ◌∷◌, IfOk, OnOk};
+ghost use Rattle.std.specs.Prelude.{◌≡◌, List, [], ◌∷◌, IfOk, IfSome, OnOk, Some, None};
 ghost use Rattle.trace_core.specs.Item.{Meaning, meaning_of, Event as EventMeaning};
 ghost use Rattle.trace_core.specs.Record.{printed};
 ghost use Rattle.track_core.specs.Tracker.{Keeps, Says, Tracks};
 
 use crate::delays::Delays;
-use crate::ledger::Ledger;
+use crate::finding::Finding;
+use crate::ledger::{Ledger, Sight};
 use crate::life::Life;
 use crate::names::Names;
 use crate::sighting::{FenceKey, Sighting};
 use crate::summary::Summary;
 use crate::task::TaskName;
-use crate::waits::Waits;
+use crate::waits::{Wait, Waits};
 use point_core::Refusal;
 use std::alloc::Global;
 use trace_core::{Event, Item, Piece, Record};
+
+/// An event of a fence, as it was taken in.
+#[derive(Clone, Copy, Debug)]
+pub struct Seen {
+    pub sighting: Sighting,
+    /// What was known of its key before it.
+    pub life: Life,
+    /// What it is, by that.
+    pub found: Finding,
+    /// The wait that it ends, where the start of that was seen.
+    pub ended: Option<Wait>,
+}
 
 /// What a trace says, as far as it was read.
 #[derive(Drop)]
@@ -43,16 +56,16 @@ impl Tracker {
         }
     }
 
-    /// Takes in the next piece of the text.
+    /// Takes in the next piece of the text. Gives the event that it is a record of, where it is one.
     ///
     /// Fails with `Memory` alone; then it is not to be used further.
-    pub fn take(&mut self, piece: &Piece<'_>) -> Result<(), Refusal>
+    pub fn take(&mut self, piece: &Piece<'_>) -> Result<Option<Seen>, Refusal>
         ensures more { OnOk result ((items : List Meaning) →
             Tracks self.old items → Tracks self.new (meaning_of piece.now.item ∷ items)) }
     {
         self.summary.take(piece)?;
         match &piece.item {
-            Item::Event(record) => self.see(record)?,
+            Item::Event(record) => return Ok(Some(self.see(record)?)),
             Item::Lost { cpu: _, events: _ } | Item::BufferStarted { cpu: _ } => self.ledger.lose(),
             Item::Other
             | Item::Unread
@@ -63,24 +76,29 @@ impl Tracker {
             }
             | Item::Note => {}
         }
-        Ok(())
+        Ok(None)
     }
 
-    fn see(&mut self, event: &Record<'_>) -> Result<(), Refusal>
+    fn see(&mut self, event: &Record<'_>) -> Result<Seen, Refusal>
         ensures seen { OnOk result ((items : List Meaning) →
             Tracks self.old items → Tracks self.new (EventMeaning (printed event.now) ∷ items)) }
     {
         let sighting = self.sighting(event)?;
-        let life = self.ledger.see(&sighting)?;
-        self.time(&sighting, life, event.task)?;
+        let Sight { life, found } = self.ledger.see(&sighting)?;
+        let ended = self.time(&sighting, life, event.task)?;
         self.ledger.forget(&sighting, life);
-        Ok(())
+        Ok(Seen {
+            sighting,
+            life,
+            found,
+            ended,
+        })
     }
 
     /// The event, with its names by number.
     ///
     /// Fails with `Memory` alone.
-    pub fn sighting(&mut self, event: &Record<'_>) -> Result<Sighting, Refusal>
+    fn sighting(&mut self, event: &Record<'_>) -> Result<Sighting, Refusal>
         ensures says { IfOk result (λ e. Says self.new.drivers self.new.timelines e (printed event.now)) }
         ensures drivers { Keeps self.old.drivers self.new.drivers }
         ensures timelines { Keeps self.old.timelines self.new.timelines }
@@ -101,23 +119,28 @@ impl Tracker {
         })
     }
 
-    /// What the event says of waits and of times, where that was known of its key.
-    fn time(&mut self, sighting: &Sighting, life: Life, task: &[u8]) -> Result<(), Refusal>
+    /// What the event says of waits and of times, where that was known of its key. Gives the wait that it ends.
+    fn time(
+        &mut self,
+        sighting: &Sighting,
+        life: Life,
+        task: &[u8],
+    ) -> Result<Option<Wait>, Refusal>
         ensures drivers { self.new.drivers ≡ self.old.drivers }
         ensures timelines { self.new.timelines ≡ self.old.timelines }
         ensures ledger { self.new.ledger ≡ self.old.ledger }
     {
         match sighting.event {
-            Event::WaitStart => self.waits.start(sighting, TaskName::new(task)),
-            Event::WaitEnd => self.waits.end(sighting, life.is_pending()),
+            Event::WaitStart => self.waits.start(sighting, TaskName::new(task))?,
+            Event::WaitEnd => return self.waits.end(sighting, life.is_pending()),
             Event::Signaled => {
                 if life.pending > 0 {
                     let delay = sighting.time.saturating_sub(life.since);
-                    return self.delays.add(sighting.key.timeline_key(), delay);
+                    self.delays.add(sighting.key.timeline_key(), delay)?;
                 }
-                Ok(())
             }
-            Event::Init | Event::Emit | Event::EnableSignal | Event::Destroy => Ok(()),
+            Event::Init | Event::Emit | Event::EnableSignal | Event::Destroy => {}
         }
+        Ok(None)
     }
 }

@@ -125,10 +125,10 @@ impl Waits {
         Ok(())
     }
 
-    /// A wait ends, of a fence that is pending or not.
+    /// A wait ends, of a fence that is pending or not. Gives the wait, where its start was seen.
     ///
     /// Fails with `Memory` alone.
-    pub fn end(&mut self, sighting: &Sighting, is_pending: bool) -> Result<(), Refusal> {
+    pub fn end(&mut self, sighting: &Sighting, is_pending: bool) -> Result<Option<Wait>, Refusal> {
         let next = self.next_key(sighting);
         let last = WaitKey {
             nth: next.nth.saturating_sub(1),
@@ -136,7 +136,7 @@ impl Waits {
         };
         let Some(mut wait) = self.open.shift_remove(&last) else {
             self.without_start = self.without_start.saturating_add(1);
-            return Ok(());
+            return Ok(None);
         };
         wait.length = sighting.time.saturating_sub(wait.start);
         if is_pending {
@@ -144,7 +144,8 @@ impl Waits {
         }
         self.ended = self.ended.with(wait.length);
         self.keep_longest(wait)?;
-        self.add(sighting.key.timeline_key(), wait.length)
+        self.add(sighting.key.timeline_key(), wait.length)?;
+        Ok(Some(wait))
     }
 
     fn add(&mut self, key: TimelineKey, length: u64) -> Result<(), Refusal> {

@@ -21,12 +21,12 @@ fn is_advanced(words: &Words, looking: &mut Seat, ctx: Context) -> bool
     false
 }
 
-/// Advances a context a thousand times by 1.
+/// Advances a context, which was advanced once, to its thousandth increment by 1.
 fn drive_on(rt: &impl Abort, words: &Words, driver: &mut Driver)
     requires own { driver.old.seat.words ≡ words.now }
     ensures own { driver.new.seat.words ≡ words.now }
 {
-    for _ in 0..1_000u32 {
+    for _ in 1..1_000u32 {
         driver.inc(words, 1).expect(rt, "an increment");
     }
 }
@@ -151,7 +151,7 @@ fn check_both(rt: &impl Abort, words: &Words, whole: &mut Whole)
     let first = whole.value(words, Context::at(0));
     let second = whole.value(words, Context::at(1));
     let top = whole.top(words, 0, Context::at(0), Usage::Write);
-    holds(rt, first == 1_001 && second == 1_001 && top == 1_999_999);
+    holds(rt, first == 1_000 && second == 1_000 && top == 1_999_999);
 }
 
 /// Drives and raises on two threads, and checks the entry that both have raised.

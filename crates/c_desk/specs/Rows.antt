@@ -1,8 +1,0 @@
--- Rows, as C programs see them.
-use Rattle.std.specs.Prelude.{List, [], ◌∷◌}
-
--- the second list, with the first written over its start as far as there is room
-abbrev pub over : {A : Type 0} → List A → List A → List A
-over [] old = old
-over (x ∷ new) [] = []
-over (x ∷ new) (y ∷ old) = x ∷ over new old

@@ -1,0 +1,4 @@
+pub mod Part
+pub mod Event
+pub mod Slices
+pub mod Page
