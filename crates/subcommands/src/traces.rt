@@ -75,11 +75,7 @@ fn events_within(rt: &HostRuntime, asked: &Trace<'_>, span: Span) -> Result<u8, 
     status_of_written(rt, asked, written)
 }
 
-fn status_of_written(
-    rt: &HostRuntime,
-    asked: &Trace<'_>,
-    written: Written,
-) -> Result<u8, Refusal> {
+fn status_of_written(rt: &HostRuntime, asked: &Trace<'_>, written: Written) -> Result<u8, Refusal> {
     match written {
         Written::Document => Ok(ACCEPTED),
         Written::NoEvents => report_none(rt, asked),

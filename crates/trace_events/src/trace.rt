@@ -16,7 +16,7 @@ use track_core::{Span, Stage, Tracker};
 pub enum Written {
     /// A document of trace events.
     Document,
-    /// Nothing, since the text has no event of a fence.
+    /// Nothing, since the text has no event of a fence up to the end of the window.
     NoEvents,
 }
 

@@ -20,7 +20,7 @@ use track_core::{Seen, Span, Stage, TaskName, Tracker};
 pub enum Scripted {
     /// A script.
     Script(Vec<u8>),
-    /// The text has no event of a fence.
+    /// The text has no event of a fence up to the end of the window.
     NoEvents,
     /// The window has more timelines, files at a time or bytes than a script may have.
     TooLong,
