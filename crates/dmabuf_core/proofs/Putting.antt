@@ -101,7 +101,7 @@ all_reached-within usage reach (e ∷ es) = elim (cases_Bool (is_within usage e)
   | inr not ↦ rw not (all_reached-within usage reach es)
 ]
 
--- all that is exported is reached exactly where all that was put in for the usage and the stronger ones is
+-- all that is exported is reached exactly when all that was put in for the usage and the stronger ones is
 pub IsReached-exported : (reach : List ℕ) (put : List Entry) (flags : ℕ) → (IsReached (exported flags put) 0 reach ↔ IsReached put (usage_number (export_usage flags)) reach)
 IsReached-exported reach put flags =
     let file = all_reached-IsReached reach 0 (exported flags put) in

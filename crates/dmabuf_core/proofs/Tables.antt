@@ -60,7 +60,7 @@ insert_entry-last m bs name w is new =
     insert_entry-new (pointwise nat_eq) m name w (is_none (table_at m.entries name) (ap (λ es. has_buffer es name) is ∙ new))
     ∙ ap (λ es. es ++ (name, w) ∷ []) is
 
--- what a buffer holds, where there is one, and once its table is written
+-- what a buffer holds, if there is one, and once its table is written
 pub entries_of-found : (bs : List Buffer) (name : List ℕ) (t : Reservation) → table_at bs name ≡ Some t → entries_of bs name ≡ t.entries
 entries_of-found bs name t found = ap (λ o. unwrap_or (option_map (λ (r : Reservation). r.entries) o) []) found
 

@@ -135,7 +135,7 @@ impl Buffers {
 
     /// The fences that an access with those flags has to wait for, as a listing to make a sync file of, as Linux's
     /// `DMA_BUF_IOCTL_EXPORT_SYNC_FILE`: with reading alone the kernel's and the writers', else the readers' too. Those
-    /// that are signalled are not listed, and the floor is the reach. Where nothing is pending nothing is listed; the
+    /// that are signalled are not listed, and the floor is the reach. If nothing is pending nothing is listed; the
     /// kernel gives a file of its stub.
     ///
     /// Fails with `NoEntry`, then with `Flags` for any number but 1, 2 and 3, then with `Memory`.

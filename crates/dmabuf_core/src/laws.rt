@@ -9,7 +9,7 @@ ghost use Rattle.point_core.specs.Reach.{IsAtLeast};
 ghost use Rattle.point_core.specs.Agreement.{AgreesAbove, as_entries, HasContexts, IsReached, listing};
 ghost use Rattle.dmabuf_core.specs.Flags.{export_usage, exported, imported};
 
-/// Where a table agrees above the reach with all that was put into its buffer, it does so after an `add` or an `import` at
+/// If a table agrees above the reach with all that was put into its buffer, it does so after an `add` or an `import` at
 /// a reach that is at least as high.
 pub fn buffers_keep_what_is_put_in()
     ensures later { (reach later : List ℕ) (before after put added : List Entry) →

@@ -26,7 +26,7 @@ line-kept held block block' start len none = kept (length held == 0) refl
         ap (λ n. take n (drop start block')) nothing ∙ sym (ap (λ n. take n (drop start block)) nothing)
     kept false e = refl
 
--- the line ends in the block, where none of it was held
+-- the line ends in the block, if none of it was held
 pub line-ends : (held block : List ℕ) (start next filled len place : ℕ) → (length held == 0) ≡ true → len ≡ 0 → place ≤ filled - next
     → line_bytes held block next (len + place) ≡ cut (line_bytes held block start len ++ take place (take (filled - next) (drop next block)))
 line-ends held block start next filled len place empty zero within =
@@ -55,7 +55,7 @@ line-held held held' block piece piece' start start' len len' none e same none' 
     is_held : (xs : List ℕ) (s l : ℕ) → (length xs ≡ 0 → l ≡ 0) → line_bytes xs block s l ≡ xs
     is_held xs s l h = either xs s l h (length xs == 0) refl
 
--- what stands behind a line feed
+-- what stands after a line feed
 pub ready-behind : (block : List ℕ) (next filled place : ℕ) → next + (place + 1) ≤ filled
     → take (filled - (next + (place + 1))) (drop (next + (place + 1)) block) ≡ drop (place + 1) (take (filled - next) (drop next block))
 ready-behind block next filled place within =

@@ -36,7 +36,7 @@ cut-none = take-nothing HELD_BYTES
 pub cut-more : (xs ys : List ℕ) → cut (cut xs ++ ys) ≡ cut (xs ++ ys)
 cut-more xs ys = take-take_append HELD_BYTES xs ys
 
--- more bytes behind the first `len` of `held`
+-- more bytes after the first `len` of `held`
 pub held-more : (held bytes new : List ℕ) (len count : ℕ) → length held ≡ HELD_BYTES → len ≤ HELD_BYTES → count ≡ min (HELD_BYTES - len) (length bytes) → new ≡ take count bytes
     → take (len + count) (put_mid len (len + count - len) held new) ≡ cut (take len held ++ bytes)
 held-more held bytes new len count full few is e =

@@ -62,7 +62,7 @@ first_lines known new bytes script ending.Whole p e = ([], script_of-whole known
 first_lines known new bytes script ending.TooLong p e = ([], script_of-too_long known new bytes script p e ∙ sym (append-nil (lines_until ending.TooLong (take SCRIPT_BYTES bytes))))
 first_lines known new bytes script ending.Failed p e = script_of-failed known new bytes script p e
 
--- what was read is all that the reader had, up to the byte behind the limit
+-- what was read is all that the reader had, up to the byte after the limit
 pub reads_front : (known left : Option (List ℕ)) (bytes : List ℕ) (end : Ending) → WasRead known left bytes end → (end ≡ ending.Whole) ⊎ (end ≡ ending.TooLong) → IfSome known (λ input. Consumes known left (take (SCRIPT_BYTES + 1) input))
 reads_front None left bytes end read ends = tt
 reads_front (Some input) None bytes end read ends = absurd read.consumed

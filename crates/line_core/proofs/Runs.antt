@@ -49,7 +49,7 @@ module _ (p : ℕ → Bool) where
   kept : (x : List ℕ) (more : List (List ℕ)) → 0 < length x → filter is_word (x ∷ more) ≡ x ∷ filter is_word more
   kept x more h = grind (arith, nat_tests)
 
-  -- before and behind the first element that passes
+  -- before and after the first element that passes
   runs-front_within : (xs : List ℕ) → 0 < position_or_len p xs → position_or_len p xs < length xs → runs xs ≡ take (position_or_len p xs) xs ∷ runs (drop (position_or_len p xs) xs)
   runs-front_within xs h w =
       ap (filter is_word) (slice_split_first p xs 0 w) ∙ kept (take (position_or_len p xs) xs) (slice_split p (after_first p xs)) (omega (arith, length-take (position_or_len p xs) xs)) ∙ ap (λ r. take (position_or_len p xs) xs ∷ r) (sym (runs-rest xs (position_or_len p xs) w (passes_at_first p xs 0 w)))
@@ -107,7 +107,7 @@ module _ (p : ℕ → Bool) where
       let within : k < n = omega (arith, h, length-take n xs) in
       ap p (get_or-take n xs k 0 within) ∙ fails_before_first p xs k 0 (omega (arith, within, below))
 
-  -- what stands before the first element that passes, and what stands behind it
+  -- what stands before the first element that passes, and what stands after it
   pub slice_split-some : (xs : List ℕ) (i : ℕ) → position p xs ≡ Some i → slice_split p xs ≡ take i xs ∷ slice_split p (drop (i + 1) xs)
   slice_split-some xs i e =
       let at = chosen (position_or_len p xs) (length xs) i e in

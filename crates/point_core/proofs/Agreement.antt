@@ -319,7 +319,7 @@ listing-same_below n is es fs usage at reach other same =
     ∙ filter_map-range_same (λ c. option_map (point_of c) (pending_top reach es usage c)) (λ c. option_map (point_of c) (pending_top other fs at c)) 1 n (λ ctx low high. ap (option_map (point_of ctx)) (same ctx low (omega arith)))
     ∙ filter_map-contexts (λ c. option_map (point_of c) (pending_top other fs at c)) n is
 
--- where the same is pending of each context, the listing is the same
+-- if the same is pending of each context, the listing is the same
 pub listing-same : (es fs : List Entry) (usage at : ℕ) (reach other : List ℕ) → ((ctx : ℕ) → 1 ≤ ctx → ctx ≤ CONTEXTS → pending_top reach es usage ctx ≡ pending_top other fs at ctx) → listing es usage reach ≡ listing fs at other
 listing-same es fs usage at reach other same = listing-same_below CONTEXTS refl es fs usage at reach other same
 
@@ -455,7 +455,7 @@ raised_to-IsTop es usage ctx value (Some p) h e among at = let below = h.1 e amo
 pub raised_to-top-above : (es : List Entry) (usage ctx value : ℕ) (e : Entry) → Contains es e → AppliesAt e usage ctx → e.point.value ≤ raised_to value (top es usage ctx)
 raised_to-top-above es usage ctx value e among at = raised_to-IsTop es usage ctx value (top es usage ctx) (IsTop-top es usage ctx) e among at
 
--- nothing is listed exactly where each entry at the usage or a stronger one is reached
+-- nothing is listed exactly when each entry at the usage or a stronger one is reached
 pub listing-empty : (es : List Entry) (usage : ℕ) (reach : List ℕ) → HasContexts es → (listing es usage reach ≡ []) ↔ IsReached es usage reach
 listing-empty es usage reach within = (
   λ is e among strong.

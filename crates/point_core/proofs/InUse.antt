@@ -12,7 +12,7 @@ zeros-are : (values : List ℕ) → ((k : ℕ) → get_or values k 0 ≡ 0) → 
 zeros-are [] none = refl
 zeros-are (v ∷ vs) none = ap (λ rest. 0 ∷ rest) (zeros-are vs (λ k. none (suc k))) ∙ ap (λ first. first ∷ vs) (sym (none 0))
 
--- where the values in use were made 0, all are
+-- if the values in use were made 0, all are
 pub cleared : (xs zs : List ℕ) (n : ℕ) → length zs ≡ CONTEXTS → used_of xs ≤ n → ((k : ℕ) → k < n → get_or zs k 0 ≡ 0) → ((k : ℕ) → n ≤ k → get_or zs k 0 ≡ get_or xs k 0) → zs ≡ replicate CONTEXTS 0
 cleared xs zs n full all none others =
     sym (zeros-are zs (λ k. elim (cases_lt k n) [

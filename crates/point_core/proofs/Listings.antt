@@ -110,7 +110,7 @@ skip_unused latest reach n (suc more) past =
     skip_above latest reach (filter_map (point_above latest reach) (range_with_len 1 n)) (more + n) (more + n + 1) (skip_unused latest reach n more past) refl (omega arith)
     ∙ ap (λ k. filter_map (point_above latest reach) (range_with_len 1 k)) next
 
--- behind the last context that is used nothing is listed
+-- after the last context that is used nothing is listed
 pub points_above-used : (latest reach : List ℕ) (n : ℕ) → n ≤ CONTEXTS → ((ctx : ℕ) → n < ctx → value_at latest ctx ≡ 0) → filter_map (point_above latest reach) (range_with_len 1 n) ≡ points_above latest reach
 points_above-used latest reach n few past =
     skip_unused latest reach n (CONTEXTS - n) past

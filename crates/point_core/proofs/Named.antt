@@ -65,7 +65,7 @@ module _ {X : Type 0} (name_of : X → List ℕ) where
       ap (λ b. b || list_any (same_name name) (map name_of xs)) (nat_list_eq_equiv.symm name (name_of x))
       ∙ ap (λ b. is_named name_of name x || b) (has_named-names xs name)
 
-  -- where there is none of that name, none is left out
+  -- if there is none of that name, none is left out
   pub without_named-absent : (xs : List X) (name : List ℕ) → has_named name_of xs name ≡ false → without_named name_of xs name ≡ xs
   without_named-absent [] name absent = refl
   without_named-absent (x ∷ xs) name absent = kept-if (is_named name_of name x) (has_named name_of xs name) x xs (without_named name_of xs name) absent (λ rest. without_named-absent xs name rest)
@@ -120,7 +120,7 @@ module _ {X Y : Type 0} (f : X → List ℕ) (g : Y → List ℕ) where
         ap (λ n. option_map h (cond (same_name n name) (Some x) (named f xs name))) same
         ∙ option_map-cond (same_name (g y) name) x y (named f xs name) (named g ys name) same' (option_map-named xs ys name rest rest')
 
--- things behind the entries of a map by name
+-- things after the entries of a map by name
 module _ {X R : Type 0} (name_of : R → List ℕ) (thing : X → R) where
   -- a thing under its own name passes the same test as the name
   is_named-keyed : (name key : List ℕ) (x : X) → key ≡ name_of (thing x) → is_named name_of name (thing x) ≡ same_name name key

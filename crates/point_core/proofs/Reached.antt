@@ -15,7 +15,7 @@ use Rattle.point_core.specs.Agreement.{top, AgreesAbove, as_entry, as_entries, c
 use Rattle.point_core.specs.Latest.{raised_to}
 use Rattle.point_core.proofs.Agreement.{AgreesAbove-raised, raised_to-top-above, top-Some}
 
--- where all is reached, no top lifts the value
+-- if all is reached, no top lifts the value
 raised_to-IsReached : (es : List Entry) (usage ctx : ℕ) (reach : List ℕ) (t : Option ℕ) → top es usage ctx ≡ t → IsReached es usage reach → raised_to (value_at reach ctx) t ≤ value_at reach ctx
 raised_to-IsReached es usage ctx reach None is reached = omega arith
 raised_to-IsReached es usage ctx reach (Some p) is reached =
@@ -91,7 +91,7 @@ covers-Covers by other = (
   λ h. rw (eq-eqb _ _ h.0, le-leb _ _ h.1, le-leb _ _ h.2) refl,
 )
 
--- each point is reached exactly where all of them pass the test
+-- each point is reached exactly when all of them pass the test
 pub list_all-IsReached : (points : List Point) (reach : List ℕ) → (list_all (is_reached reach) points ≡ true) ↔ IsReached (as_entries points) 0 reach
 list_all-IsReached points reach =
     let both = all_reached-IsReached reach 0 (as_entries points) in

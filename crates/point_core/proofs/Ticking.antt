@@ -39,7 +39,7 @@ reach_of_clocks-raised clocks i p at is_open low =
     ∙ ap (set (reach_of_clocks clocks) i) later
     ∙ ap (λ j. set (reach_of_clocks clocks) j (max (value_at (reach_of_clocks clocks) p.ctx) p.value)) (sym place)
 
--- where the value is there already, nothing changes
+-- if the value is there already, nothing changes
 pub reaching-reached : (clocks : List Clock) (i : ℕ) (p : Point) → i + 1 ≡ p.ctx → (clock_at clocks p.ctx).closed ≡ false → p.value ≤ (get_or clocks i new_clock).value → value_at (reach_of_clocks clocks) p.ctx ≡ max (value_at (reach_of_clocks clocks) p.ctx) p.value
 reaching-reached clocks i p at is_open low =
     let place : p.ctx - 1 ≡ i = omega arith in

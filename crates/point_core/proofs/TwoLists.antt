@@ -17,7 +17,7 @@ has_context e = (1 ≤ e.point.ctx) × (e.point.ctx ≤ CONTEXTS)
 HasRisingContexts-rest : (p : Point) (ps : List Point) → HasRisingContexts (p ∷ ps) → HasRisingContexts ps
 HasRisingContexts-rest p ps rising = IsStrictlyIncreasing-tail p.ctx (map (λ (q : Point). q.ctx) ps) rising
 
--- what is behind the first of a rising list
+-- what is after the first of a rising list
 AllFrom-rest : (p : Point) (ps : List Point) → HasRisingContexts (p ∷ ps) → AllFrom (p.ctx + 1) ps
 AllFrom-rest p ps rising = All-weaker (λ (q : Point). p.ctx < q.ctx) (λ (q : Point). p.ctx + 1 ≤ q.ctx) (λ q above. omega arith) ps (above-first p ps rising)
 

@@ -28,7 +28,7 @@ used_with-rest value (suc used) k low = let is : used_with value (suc used) ≡ 
 used_with-rest zero zero k low = omega arith
 used_with-rest (suc value) zero k low = omega arith
 
--- behind what is used every value is 0
+-- after what is used every value is 0
 pub used_of-past : (values : List ℕ) (k : ℕ) → used_of values ≤ k → get_or values k 0 ≡ 0
 unfolding used_of
 used_of-past [] k low = refl

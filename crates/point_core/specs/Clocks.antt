@@ -33,7 +33,7 @@ reached_by clock = if clock.closed then GREATEST else clock.value
 abbrev pub reach_of_clocks : List Clock → List ℕ
 reach_of_clocks clocks = map reached_by clocks
 
--- the clock with its value raised, where it is lower
+-- the clock with its value raised, if it is lower
 abbrev pub raised_clock : Clock → ℕ → Clock
 raised_clock clock value = clock_of (max clock.value value) clock.closed
 
@@ -53,7 +53,7 @@ is_cancelled clocks p = is_past_closing (clock_at clocks p.ctx) p.value
 abbrev pub status_of : Bool → Bool → Status
 status_of signalled cancelled = if signalled then (if cancelled then Cancelled else Signalled) else Active
 
--- a point at a value is cancelled where its context closed before the value was there
+-- a point at a value is cancelled if its context closed before the value was there
 abbrev pub status_by : Clock → ℕ → Status
 status_by clock value = status_of (nat_le value (reached_by clock)) (is_past_closing clock value)
 
@@ -64,7 +64,7 @@ status_at clocks p = status_by (clock_at clocks p.ctx) p.value
 abbrev pub some_cancelled : List Clock → List Point → Bool
 some_cancelled clocks ps = list_any (is_cancelled clocks) ps
 
--- the status of points together: active while one is, else cancelled where one is, else signalled
+-- the status of points together: active while one is, else cancelled if one is, else signalled
 abbrev pub common_status : List Clock → List Point → Status
 common_status clocks ps = status_of (list_all (is_reached (reach_of_clocks clocks)) ps) (some_cancelled clocks ps)
 

@@ -12,7 +12,7 @@ abbrev pub raised_to : ℕ → Option ℕ → ℕ
 raised_to value None = value
 raised_to value (Some p) = max value p
 
--- the table has each context's latest point at the usage, or the reach where that is later
+-- the table has each context's latest point at the usage, or the reach if that is later
 pub record IsLatest (latest reach : List ℕ) (es : List Entry) (usage : ℕ) : Type 0 where
   pub values : (ctx : ℕ) → 1 ≤ ctx → ctx ≤ CONTEXTS → value_at latest ctx ≡ raised_to (value_at reach ctx) (top es usage ctx)
 

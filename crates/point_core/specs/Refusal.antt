@@ -51,7 +51,7 @@ limit_word Clients = codes "clients"
 limit_word Plan = codes "plan"
 limit_word Script = codes "script"
 
--- the call is refused for the cause, and where there is none only for want of memory
+-- the call is refused for the cause, and if there is none only for want of memory
 abbrev pub IsRefusedFor : {T : Type 0} → Option Refusal → Result T Refusal → Type 0
 IsRefusedFor (Some cause) result = result ≡ Err cause
 IsRefusedFor None (Ok value) = ⊤

@@ -25,7 +25,7 @@ inside_of values = record { values = values; used = used_of values }
 pub inside_of_values : (v : Inside) → AreValues v.values v.used → inside_of v.values ≡ v
 inside_of_values v h = ap (λ used. record { values = v.values; used = used }) (sym h.2)
 
--- a value for each context, where the ones past the list are 0
+-- a value for each context; those past the list are 0
 abbrev pub padded : List ℕ → List ℕ
 padded values = values ++ replicate (CONTEXTS - length values) 0
 

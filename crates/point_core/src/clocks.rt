@@ -25,7 +25,7 @@ impl Clock {
         if self.closed { u64::MAX } else { self.value }
     }
 
-    /// The status of a point of the timeline at a value: reached, cancelled where the timeline was closed before that, else
+    /// The status of a point of the timeline at a value: reached, cancelled if the timeline was closed before that, else
     /// active.
     pub fn status(self, value: u64) -> Status
         ensures { result ≡ status_by self value }
@@ -142,14 +142,14 @@ impl Clocks {
         self.clock(ctx).closed
     }
 
-    /// The status of a point: reached by the value, cancelled where its context closed before that, else active.
+    /// The status of a point: reached by the value, cancelled if its context closed before that, else active.
     pub fn status(&self, point: Point) -> Status
         ensures { result ≡ status_at self.now point }
     {
         self.clock(point.ctx).status(point.value)
     }
 
-    /// The status of points together: active while one is, else cancelled where one is, else signalled. Of no points it is
+    /// The status of points together: active while one is, else cancelled if one is, else signalled. Of no points it is
     /// signalled. Linux's `sync_file_ioctl_fence_info` gives that of the first fence that is pending or has an error; that
     /// an error comes after every pending one is our own rule.
     pub fn common_status(&self, points: &[Point]) -> Status
@@ -162,7 +162,7 @@ impl Clocks {
         status
     }
 
-    /// Raises the value of an open context to the point, where it is not there yet.
+    /// Raises the value of an open context to the point, if it is not there yet.
     pub fn raise_to(&mut self, point: Point)
         requires open { (clock_at self.old point.ctx).closed ≡ false }
         ensures clocks { self.new ≡ with_clock self.old point.ctx (raised_clock (clock_at self.old point.ctx) point.value) }

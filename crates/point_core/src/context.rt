@@ -29,7 +29,7 @@ impl Model for Context {
 }
 
 impl Context {
-    /// The context of that number, or none where it is not one of 1 to `CONTEXTS`.
+    /// The context of that number, or none if it is not one of 1 to `CONTEXTS`.
     pub fn new(number: u16) -> Option<Self>
         ensures valid { IsSome result ↔ ((1 ≤ number) × (number ≤ CONTEXTS)) }
         ensures value { IfSome result (λ c. c ≡ number) }

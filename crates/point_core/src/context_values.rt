@@ -62,7 +62,7 @@ impl ContextValues {
         self.used
     }
 
-    /// Raises the value at a place, where it is lower.
+    /// Raises the value at a place, if it is lower.
     pub(crate) fn raise(&mut self, index: usize, value: u64)
         requires within { index < CONTEXTS }
         ensures value { self.new ≡ slice_set self.old index (max (slice_index self.old index) value) }
@@ -105,7 +105,7 @@ impl ContextValues {
         self.join(other);
     }
 
-    /// Raises each value to the other's, where that is greater.
+    /// Raises each value to the other's, if that is greater.
     pub(crate) fn join(&mut self, other: &[u64])
         requires in_use { AreInUse other.now }
         ensures values { self.new ≡ later_values self.old (padded other.now) }

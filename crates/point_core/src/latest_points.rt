@@ -47,7 +47,7 @@ impl LatestPoints {
         }
     }
 
-    /// Begins anew, as `above` does.
+    /// Begins again, as `above` does.
     pub fn restart(&mut self, reach: &Reach)
         ensures value { self.new ≡ reach.now }
         ensures empty { (usage : ℕ) → IsLatest self.new reach.now [] usage }
@@ -121,7 +121,7 @@ impl LatestPoints {
         Ok(points)
     }
 
-    /// The same, into a list that is kept, whose points go. It takes memory where they need more than the list has.
+    /// The same, into a list that is kept, whose points go. It takes memory if they need more than the list has.
     ///
     /// Fails with `Memory` alone.
     pub fn list(&self, reach: &Reach, points: &mut Vec<Point>) -> Result<(), Refusal>

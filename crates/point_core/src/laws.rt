@@ -74,7 +74,7 @@ pub fn agreement_lasts_as_the_reach_rises()
         IsAtLeast later reach → AgreesAbove reach es fs → AgreesAbove later es fs }
 {}
 
-/// The points of a listing are pending, and stand by rising context. Nothing is listed exactly where each entry at
+/// The points of a listing are pending, and stand by rising context. Nothing is listed exactly when each entry at
 /// that usage or a stronger one is reached, and a list that is as listings are is its own listing.
 pub fn a_listing_is_what_is_pending()
     ensures rising { (es : List Entry) (usage : ℕ) (reach : List ℕ) → HasRisingContexts (listing es usage reach) }
@@ -88,7 +88,7 @@ pub fn a_listing_is_what_is_pending()
         listing (as_entries ps) 0 reach ≡ ps }
 {}
 
-/// Listings show agreement, and nothing else: entries agree above a reach exactly where they list the same at every
+/// Listings show agreement, and nothing else: entries agree above a reach exactly when they list the same at every
 /// usage.
 pub fn listings_show_agreement()
     ensures same { (reach : List ℕ) (es fs : List Entry) (usage : ℕ) →
@@ -110,7 +110,7 @@ pub fn a_listing_absorbs_a_listing()
 {}
 
 /// So a merge depends neither on the order of the files nor on how they are grouped, a file merged with itself agrees
-/// with itself (and lists the same, where it is as listings are), and a merge agrees with both files together.
+/// with itself (and lists the same, if it is as listings are), and a merge agrees with both files together.
 pub fn merge_is_a_union()
     ensures commutative { (reach : List ℕ) (ps qs : List Point) → merged reach ps qs ≡ merged reach qs ps }
     ensures associative { (reach : List ℕ) (ps qs rs : List Point) →

@@ -41,7 +41,7 @@ pub struct TopRow {
     pub point: u64,
 }
 
-/// The pending points by rising context: the greatest of each context, where it is above the reach. Linux's
+/// The pending points by rising context: the greatest of each context, if it is above the reach. Linux's
 /// `sync_file_merge` drops the same points, and keeps the latest of each context.
 ///
 /// Fails with `Memory` alone.

@@ -35,7 +35,7 @@ impl Model for Name {
 }
 
 impl Name {
-    /// The name of those bytes, or none where they are not 1 to `NAME_BYTES` allowed bytes.
+    /// The name of those bytes, or none if they are not 1 to `NAME_BYTES` allowed bytes.
     pub fn read(bytes: &[u8]) -> Option<Name>
         ensures valid { IsSome result ↔ IsName bytes.now }
         ensures value { IfSome result (λ name. name ≡ bytes.now) }

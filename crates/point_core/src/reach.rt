@@ -75,7 +75,7 @@ impl Reach {
         self.values.get(index)
     }
 
-    /// The reach after the context advances by n, or none where its value would pass the greatest u64.
+    /// The reach after the context advances by n, or none if its value would pass the greatest u64.
     pub fn raised(&self, ctx: Context, n: u64) -> Option<Reach>
         ensures fits { IsSome result ↔ (value_at self.now ctx + n < 2 ^ 64) }
         ensures value { IfSome result (λ r. r ≡ with_value self.now ctx (value_at self.now ctx + n)) }
@@ -86,7 +86,7 @@ impl Reach {
         Some(raised)
     }
 
-    /// Raises the context's value to the point, where it is not there yet.
+    /// Raises the context's value to the point, if it is not there yet.
     pub fn raise_to(&mut self, point: Point)
         ensures value { self.new ≡ reaching self.old point }
         ensures full { length self.old ≡ CONTEXTS }
@@ -130,7 +130,7 @@ impl Reach {
         &self.values
     }
 
-    /// Raises each value to the other's, where that is greater.
+    /// Raises each value to the other's, if that is greater.
     pub fn join(&mut self, other: &Reach)
         ensures values { self.new ≡ later_values self.old other.now }
         ensures full { (length self.old ≡ CONTEXTS) × (length other.now ≡ CONTEXTS) }
@@ -155,7 +155,7 @@ impl Reach {
         self.values.at_least(other.values.in_use())
     }
 
-    /// Raises each value to the floor's, where that is greater.
+    /// Raises each value to the floor's, if that is greater.
     pub fn join_floor(&mut self, floor: &Floor)
         ensures values { self.new ≡ later_values self.old floor.now }
         ensures full { (length self.old ≡ CONTEXTS) × (length floor.now ≡ CONTEXTS) }

@@ -22,7 +22,7 @@ pub enum LimitKind {
 /// Every refusal of the service. A refused command changes nothing.
 ///
 /// `NoEntry` is the kernel's `ENOENT`, `Flags` its `EINVAL` of `DMA_BUF_IOCTL_EXPORT_SYNC_FILE`, `Signalled` the
-/// `ENOENT` of its `dma_fence_add_callback`, and `TimedOut` its `ETIME`. `Memory` is answered only where a growth was
+/// `ENOENT` of its `dma_fence_add_callback`, and `TimedOut` its `ETIME`. `Memory` is answered only when a growth was
 /// really refused.
 #[derive(Clone, Copy, Debug, PartialEq, Eq, Hash, Error)]
 pub enum Refusal {

@@ -15,7 +15,7 @@ pub enum Status {
 }
 
 impl Status {
-    /// Signalled where it is so.
+    /// Signalled if it is so.
     pub fn of(signalled: bool) -> Status
         ensures { result ≡ status_if signalled }
     {
@@ -36,7 +36,7 @@ impl Status {
         }
     }
 
-    /// The status of two fences together: active while one is, else cancelled where one is.
+    /// The status of two fences together: active while one is, else cancelled if one is.
     pub fn with(self, other: Status) -> Status
         ensures { result ≡ status_with self other }
     {
@@ -48,7 +48,7 @@ impl Status {
     }
 
     /// The number that file information shows: 0 while active, 1 once signalled, and -2, which is the kernel's
-    /// `-ENOENT`, where it is cancelled.
+    /// `-ENOENT`, if it is cancelled.
     pub fn number(self) -> i32
         ensures { result ≡ status_number self }
     {

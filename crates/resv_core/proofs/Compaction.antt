@@ -1,4 +1,4 @@
--- The entries that are kept of a table: of each context and usage one, where it is later than what the stronger usages have.
+-- The entries that are kept of a table: of each context and usage one, if it is later than what the stronger usages have.
 use Rattle.std.proofs.Common.{◌≡◌, ◌≢◌, ℕ, ◌+◌, ◌<◌, ◌≤◌, ◌⊎◌, zero, suc, max, refl, sym, ap, ◌∙◌, subst, List, [], ◌∷◌, ◌++◌, get_or, append_assoc, append-nil, None, arith, Bool, true, false, ◌==◌, nat_le, ◌&&◌, if◌then◌else◌, inl, inr, All}
 use Rattle.std.proofs.lemmas.Bool.{cases_lt, cases_eq, le-ltb, lt-ltb, lt-leb, le-leb, ne_eqb}
 use Rattle.std.proofs.Math.Bool.{and-false}
@@ -276,7 +276,7 @@ cases_context n ctx = elim (cases_lt n ctx) [
 pub HasContexts-IsCompacted : {tops : Tops} {reach : List ℕ} {n : ℕ} {kept : List Entry} → n ≤ CONTEXTS → IsCompacted tops reach n kept → HasContexts kept
 HasContexts-IsCompacted {tops} {reach} {n} {kept} within h = All-weaker (λ (e : Entry). (1 ≤ e.point.ctx) × (e.point.ctx ≤ n)) (λ (e : Entry). (1 ≤ e.point.ctx) × (e.point.ctx ≤ CONTEXTS)) (λ e has. (has.0, omega (arith, has.1))) kept h.contexts
 
--- where the weakest usage has nothing, no other one has
+-- if the weakest usage has nothing, no other one has
 table_at-unused : (tops : Tops) (reach : List ℕ) (usage ctx : ℕ) → IsRising tops reach ctx → value_at tops.bookkeep ctx ≡ 0 → (value_at (table_at tops usage) ctx ≡ 0) × (value_at reach ctx ≡ 0)
 table_at-unused tops reach zero ctx h none = (omega (arith, h.write, h.read, h.bookkeep), omega (arith, h.kernel, h.write, h.read, h.bookkeep))
 table_at-unused tops reach (suc zero) ctx h none = (omega (arith, h.read, h.bookkeep), omega (arith, h.kernel, h.write, h.read, h.bookkeep))

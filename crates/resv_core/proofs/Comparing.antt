@@ -1,4 +1,4 @@
--- Entries agree exactly where their tables of latest points are the same.
+-- Entries agree exactly when their tables of latest points are the same.
 use Rattle.std.proofs.Common.{◌≡◌, ℕ, ◌≤◌, zero, suc, sym, ap, ◌∙◌, List, inl, inr}
 use Rattle.point_core.specs.declared.context.TheConstants.{CONTEXTS}
 use Rattle.point_core.specs.declared.entry.Entry.{Entry}

@@ -1,4 +1,4 @@
--- Entries that give way to points that are put behind them are no loss.
+-- Entries that give way to points that are put after them are no loss.
 use Rattle.std.proofs.Common.{◌≡◌, ℕ, ◌+◌, ◌<◌, ◌≤◌, refl, sym, ap, ◌∙◌, List, [], ◌∷◌, ◌++◌, arith, Bool, true, false, not, nat_le, ◌==◌, ◌&&◌, ◌||◌, filter, count_by, cond, inl, inr, take, get_or, length}
 use Rattle.std.specs.List.{list_any}
 use Rattle.std.proofs.lemmas.Bool.{cases_Bool, or_cases, and_parts, leb-true, leb-false, le-leb, lt-leb}
@@ -61,7 +61,7 @@ gives_way_to_any-IsNeedless reach latest usage fs tells e low high way = λ weak
           omega arith
     ]
 
--- what is left, with the points behind, says the same as all with the points behind
+-- what is left, with the points after, says the same as all with the points after
 pub AgreesAbove-gives_way_to_any : (reach latest : List ℕ) (usage : Usage) (es fs : List Entry) → HasContexts es → IsLatest latest reach fs (usage_number usage) → AgreesAbove reach (filter (λ e. not (gives_way_to_any reach latest usage e)) es ++ fs) (es ++ fs)
 AgreesAbove-gives_way_to_any reach latest usage es fs within tells = AgreesAbove-from_raised (raised_to-dropped reach (gives_way_to_any reach latest usage) es fs (gives_way_to_any-IsNeedless reach latest usage fs tells) within)
 

@@ -39,7 +39,7 @@ round-first : (acts : List Act) → round_of acts 1 ≡ acts
 round-first [] = refl
 round-first (act ∷ acts) = ap (λ (a : Act). a ∷ round_of acts 1) (act-first act) ∙ ap (λ (rest : List Act). act ∷ rest) (round-first acts)
 
--- so that is all, where there is no other
+-- so that is all, if there is no other
 pub rounds_of-once : (acts : List Act) → rounds_of acts 1 ≡ acts
 rounds_of-once acts = append-nil (round_of acts 1) ∙ round-first acts
 

@@ -55,7 +55,7 @@ gives_way_to_one reach points usage old = list_any (λ point. gives_way reach (e
 abbrev pub are_few : List Entry → Bool
 are_few es = nat_lt (length es) SCANNED
 
--- how many entries go out for points that are put together: all that give way, where the entries are few or the points are not
+-- how many entries go out for points that are put together: all that give way, if the entries are few or the points are not
 abbrev pub dropped_for : List ℕ → List Point → Usage → List Entry → ℕ
 dropped_for reach points usage es =
     if are_few es || nat_le SCANNED (length points) then count_by (gives_way_to_one reach points usage) es else 0

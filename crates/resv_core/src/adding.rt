@@ -37,7 +37,7 @@ pub(crate) fn entry_of(point: Point, usage: Usage) -> Entry
     Entry { point, usage }
 }
 
-/// Drops the entries that give way to one of the points, in one pass, where there are few entries or many points.
+/// Drops the entries that give way to one of the points, in one pass, if there are few entries or many points.
 fn make_way(entries: &mut Vec<Entry>, points: &[Point], usage: Usage, reach: &Reach)
     requires contexts { HasContexts entries.old.items }
     requires some { 0 < length points.now }
@@ -54,7 +54,7 @@ fn make_way(entries: &mut Vec<Entry>, points: &[Point], usage: Usage, reach: &Re
     entries.retain(|old| !gives_way_to_any(old, &latest, usage, reach));
 }
 
-/// The latest of the points of each context, or its value where none is above that.
+/// The latest of the points of each context, or its value if none is above that.
 fn latest_among(points: &[Point], usage: Usage, reach: &Reach) -> LatestPoints
     ensures latest { IsLatest result reach.now (entries_as usage points.now) (usage_number usage) }
 {

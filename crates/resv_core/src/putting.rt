@@ -33,7 +33,7 @@ pub(crate) fn put_all(entries: &mut Vec<Entry>, points: &[Point], usage: Usage, 
 }
 
 /// Finds for each context the place of its last entry at the usage or a stronger one: the likeliest to cover a point that is
-/// put, or to give way to it. Where there is none the place stays as it was.
+/// put, or to give way to it. If there is none the place stays as it was.
 fn find_last(entries: &[Entry], usage: Usage, last: &mut [usize; CONTEXTS]) {
     for (place, entry) in entries.iter().enumerate() {
         if entry.usage.number() <= usage.number() {

@@ -37,7 +37,7 @@ const _: () = prove!(GROWTH == 2);
 
 /// The fences of a buffer, each with the usage that it was added for, as Linux's `struct dma_resv`.
 ///
-/// What matters of a table is its latest pending point of each context at each usage or a stronger one. Where an
+/// What matters of a table is its latest pending point of each context at each usage or a stronger one. If an
 /// entry stands, and which of the others are still kept, is not said.
 #[derive(Debug, Drop)]
 pub struct Resv {
@@ -73,7 +73,7 @@ impl Resv {
         })
     }
 
-    /// Makes room for `n` entries to be added, as Linux's `dma_resv_reserve_fences`. Where there is too little, the
+    /// Makes room for `n` entries to be added, as Linux's `dma_resv_reserve_fences`. If there is too little, the
     /// table is trimmed; the kernel makes a larger table, and doesn't carry signalled fences over. Here all places are
     /// taken by the first call that needs one, and they always suffice.
     ///
@@ -105,7 +105,7 @@ impl Resv {
         Ok(())
     }
 
-    /// Makes room for `n` entries as `reserve` does, and keeps the table small: by `GROWTH` it is also trimmed where there is
+    /// Makes room for `n` entries as `reserve` does, and keeps the table small: by `GROWTH` it is also trimmed if there is
     /// room. So a trim looks at no more than two entries for each that was added. For no entries nothing changes.
     ///
     /// Fails as `reserve` does.
@@ -144,7 +144,7 @@ impl Resv {
     }
 
     /// Adds a fence. It replaces an entry that is signalled, or that the new one covers: the same context, a usage
-    /// number at least the new one's, a point not later. Where there is none it takes a free place, so `reserve`
+    /// number at least the new one's, a point not later. If there is none it takes a free place, so `reserve`
     /// first.
     ///
     /// Linux's `dma_resv_add_fence` replaces in this manner; which entries it lets a new one replace differs between
@@ -172,7 +172,7 @@ impl Resv {
         }
     }
 
-    /// Adds fences of one usage together, once there is room for all of them. Where the table has less than `SCANNED` entries,
+    /// Adds fences of one usage together, once there is room for all of them. If the table has less than `SCANNED` entries,
     /// or there are at least so many fences, the entries that are signalled or covered by one of them go out in one pass; else
     /// they stay until the table is trimmed. Without fences nothing changes. Takes no memory.
     ///
@@ -212,7 +212,7 @@ impl Resv {
         }
     }
 
-    /// Adds a fence, so `reserve` first. In a table of less than `SCANNED` entries it takes no place where one of them covers
+    /// Adds a fence, so `reserve` first. In a table of less than `SCANNED` entries it takes no place if one of them covers
     /// the fence, and else replaces as `add` does. In a larger one it takes a free place without a look at the others, and
     /// what it covers stays until the table is trimmed. Takes no memory.
     pub fn put(&mut self, point: Point, usage: Usage, reach: &Reach)
@@ -239,7 +239,7 @@ impl Resv {
     }
 
     /// Drops the entries that are signalled, and those that another one covers; of equal ones one stays. So there is
-    /// a place for a new entry of each context. The kernel has no such call: it drops signalled fences where it makes
+    /// a place for a new entry of each context. The kernel has no such call: it drops signalled fences when it makes
     /// a table larger. Takes no memory.
     pub fn trim(&mut self, reach: &Reach)
         ensures table { IsTable self.new }
@@ -268,7 +268,7 @@ impl Resv {
     }
 
     /// The points that `collect` gives, into a list that is kept, by a table that is kept: what both had goes. It takes memory
-    /// where there are more points than the list has room for.
+    /// if there are more points than the list has room for.
     ///
     /// Fails with `Memory` alone.
     pub fn collect_into(

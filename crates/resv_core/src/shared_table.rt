@@ -36,7 +36,7 @@ pub trait SharedTable: Sync + Sized + Drop {
     ghost exports: { Self → ℕ → Usage → SeatModel → SeatModel → Result Listing Refusal → Type 0 };
 
     // What it says of its settlement of plans, by the gathered seat before it, and the answer.
-    ghost settles: { Self → SeatModel → List (List Act) → Result Settled Refusal → Type 0 } = { λ table before plans answer. Unit {0} };
+    ghost settles: { Self → SeatModel → List (List Act) → Result Settled Refusal → Type 0 } = { λ _ _ _ _. Unit {0} };
 
     /// The table of as many buffers as the words have. Nothing was put.
     ///
@@ -87,7 +87,7 @@ pub trait SharedTable: Sync + Sized + Drop {
         ensures refusals { IfErr result (λ e. (e ≡ refusal.Torn) ⊎ (e ≡ refusal.Memory)) };
 
     /// A look as `export` makes it, into a listing that its caller keeps for many looks: what it had goes. A table that has
-    /// none of its own makes an `export`; the tables of `clients_core` take memory only where the list has too little room.
+    /// none of its own makes an `export`; the tables of `clients_core` take memory only when the list has too little room.
     ///
     /// Fails as `put` does. Nothing is said of the listing then.
     fn export_into<R: Wait>(

@@ -133,7 +133,7 @@ pub(crate) fn put_each(latest: &mut LatestPoints, usage: Usage, entries: &[Entry
     }
 }
 
-/// Puts an entry into the table of a usage, where it is of that usage or a stronger one.
+/// Puts an entry into the table of a usage, if it is of that usage or a stronger one.
 pub(crate) fn put_at(latest: &mut LatestPoints, usage: Usage, entry: &Entry)
     ensures latest { (reach : List ℕ) (es : List Entry) →
         IsLatest latest.old reach es (usage_number usage) →
@@ -186,7 +186,7 @@ fn keep(entries: &mut Vec<Entry>, ctx: Context, tops: &Tops, reach: &Reach)
     keep_above(entries, read, ctx, bookkeep, Usage::Bookkeep);
 }
 
-/// Puts back an entry of the point, where it is later than what the stronger usages have.
+/// Puts back an entry of the point, if it is later than what the stronger usages have.
 fn keep_above(entries: &mut Vec<Entry>, stronger: u64, ctx: Context, value: u64, usage: Usage)
     requires places { vec_len entries.old < vec_capacity entries.old }
     ensures items { entries.new.items ≡ entries.old.items ++ entry_above stronger (point_of ctx value) usage }

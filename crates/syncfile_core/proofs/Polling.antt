@@ -55,7 +55,7 @@ StandsFor-merged reach a b within within' above above' one other stands stands' 
     (AgreesAbove-listing reach (a.points ++ b.points) (subst HasContexts (sym both) (HasContexts-append (as_entries a.points) (as_entries b.points) within within')))
     (AgreesAbove-trans (AgreesAbove-same reach both) (AgreesAbove-append (AgreesAbove-later above stands) (AgreesAbove-later above' stands')))
 
--- a file that the words bear out is no longer active exactly where each point is reached that it stands for
+-- a file that the words bear out is no longer active exactly when each point is reached that it stands for
 pub polled-stands : (seat : SeatModel) (f : File) → IsBorneOut seat f → (set : List Entry) → StandsFor f set → (common_status (clocks_seen seat) f.points ≢ Active) ↔ IsReached set 0 (reach_seen seat)
 polled-stands seat f out set stands =
     subst (λ reach. IsAtLeast reach f.floor → (common_status (clocks_seen seat) f.points ≢ Active) ↔ IsReached set 0 reach) (reach_seen-is seat) (ReportsSetsOf-always f (clocks_seen seat) set stands) out.floor

@@ -10,7 +10,7 @@ use Rattle.point_core.proofs.Reached.{IsReached-AgreesAbove, list_all-IsReached}
 use Rattle.syncfile_core.specs.SyncFile.{File}
 use Rattle.syncfile_core.specs.Status.{ReportsSetsOf}
 
--- a file is no longer active exactly where each point is reached that it stands for
+-- a file is no longer active exactly when each point is reached that it stands for
 pub ReportsSetsOf-always : (f : File) (clocks : List Clock) → ReportsSetsOf f clocks
 ReportsSetsOf-always f clocks = λ set stands above.
     let reach = reach_of_clocks clocks in

@@ -1,4 +1,4 @@
--- Files that are numbered anew stand in the same order.
+-- Files that are renumbered stand in the same order.
 use Rattle.std.proofs.Common.{◌≡◌, ℕ, ◌+◌, ◌<◌, false, nat_eq, zero, suc, refl, sym, ap, ◌∙◌, subst, List, [], ◌∷◌, length, map, Some, inl, inr, arith, slice_get}
 use Rattle.std.specs.Borrow.{Bor}
 use Rattle.std.specs.Fn.{Mut, Called}
@@ -31,7 +31,7 @@ file_in m = m.file
 abbrev IsUnderItsName : List ℕ × Made → Type 0
 IsUnderItsName e = e.0 ≡ e.1.file.name
 
--- from the clause `sorted` of a map's sort by a key, where each call gives n of the entry
+-- from the clause `sorted` of a map's sort by a key, when each call gives n of the entry
 pub IsNonDecreasingBy-from_entries : {K V F : Type 0} (n : K × V → ℕ) {g : Mut F (Bor K × (Bor V × Unit {0})) ℕ} {f : F} (es : List (K × V))
     → ((key : K × V → ℕ) → ComputesOnEntry g key f → IsSortedByKey key nat_cmp es)
     → ((a : Bor K × (Bor V × Unit {0})) (r : ℕ) (f' : F) → Called g f a r f' → (r ≡ n (a.0.now, a.1.0.now)) × (f' ≡ f)) → IsNonDecreasingBy n es
@@ -118,7 +118,7 @@ distinct-rising (e ∷ es) rises = (apart-above (number_of e) es rises.0, distin
 distinct-numbered_from : (es : Entries) → IsDistinct nat_eq (map number_of (numbered_from 0 es))
 distinct-numbered_from es = distinct-rising (numbered_from 0 es) (Rises-numbered_from 0 es)
 
--- entries that are put in another order and numbered anew are kept as they were
+-- entries that are put in another order and renumbered are kept as they were
 pub AreKept-numbered_from : (es fs : Entries) (next : ℕ) → AreKept es next → IsPermutation es fs → AreKept (numbered_from 0 fs) (length fs)
 AreKept-numbered_from es fs next kept moved =
     let turned = AreKept-permuted es fs next moved kept in

@@ -13,7 +13,7 @@ use Rattle.syncfile_core.specs.SyncFile.{File, plain_file, StandsFor}
 use Rattle.syncfile_core.specs.Files.{file_name, is_named, has_file, file_at, HasStanding}
 use Rattle.syncfile_core.proofs.Causes.{is_none, MatchOption-Some}
 
--- a new file is found by its name, behind files that lack it
+-- a new file is found by its name, after files that lack it
 file_at-last : (fs : List File) (f : File) → has_file fs f.name ≡ false → file_at (fs ++ f ∷ []) f.name ≡ Some f
 file_at-last fs f absent =
     find-append (is_named f.name) fs (f ∷ [])

@@ -11,7 +11,7 @@ use Rattle.point_core.specs.Reach.{later_values}
 use Rattle.syncfile_core.specs.SyncFile.{File, file_of, StandsFor}
 use Rattle.syncfile_core.specs.Files.{has_file, file_at, cause_to_refuse}
 
--- the files of these names that there are, by the order of the names; a merge is refused where there is none of a name
+-- the files of these names that there are, by the order of the names; a merge is refused if there is none of a name
 abbrev pub files_at : List File → List (List ℕ) → List File
 files_at fs names = filter_map (file_at fs) names
 
@@ -34,7 +34,7 @@ merged_file name inputs reach = file_of name (listing (as_entries (points_of inp
 abbrev pub merge_of : List File → List ℕ → List (List ℕ) → List ℕ → File
 merge_of fs name inputs reach = merged_file name (files_at fs inputs) reach
 
--- where each input stands for a set, the file stands for all of these together
+-- if each input stands for a set, the file stands for all of these together
 abbrev pub StandsForUnion : List File → File → Type 0
 StandsForUnion inputs f = (sets : List (List Entry)) → AllZip StandsFor inputs sets → StandsFor f (flat_map (λ set. set) sets)
 

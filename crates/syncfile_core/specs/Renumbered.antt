@@ -1,4 +1,4 @@
--- Files that are numbered anew.
+-- Files that are renumbered.
 use Rattle.std.specs.Prelude.{ℕ, suc, List, [], ◌∷◌}
 use Rattle.syncfile_core.specs.declared.by_making.Made.{Made}
 

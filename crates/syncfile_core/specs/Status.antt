@@ -18,7 +18,7 @@ fence_of clocks p = record { ctx = Some p.ctx; point = p.value; status = status_
 abbrev pub stub : FenceInfo
 stub = record { ctx = None; point = 0; status = Signalled }
 
--- a fence for each point, and the stub where there is none
+-- a fence for each point, and the stub if there is none
 abbrev pub fences_of : List Point → List Clock → List FenceInfo
 fences_of [] clocks = stub ∷ []
 fences_of (p ∷ ps) clocks = map (fence_of clocks) (p ∷ ps)
@@ -26,7 +26,7 @@ fences_of (p ∷ ps) clocks = map (fence_of clocks) (p ∷ ps)
 abbrev pub info_of : File → List Clock → FileInfo
 info_of f clocks = record { name = f.name; status = common_status clocks f.points; fences = fences_of f.points clocks }
 
--- for a set that the file stands for, with a floor that has been reached: no longer active exactly where each of its points is
+-- for a set that the file stands for, with a floor that has been reached: no longer active exactly when each of its points is
 -- reached
 abbrev pub ReportsSetsOf : File → List Clock → Type 0
 ReportsSetsOf f clocks =

@@ -120,7 +120,7 @@ impl ByMaking {
     }
 }
 
-/// The number of the next file. If `next` is the greatest number, the files are first numbered anew, in order of making.
+/// The number of the next file. If `next` is the greatest number, the files are first renumbered, in order of making.
 ///
 /// Nothing has changed if memory for that is refused.
 fn next_number(files: &mut IndexMap<Name, Made>, next: u64) -> Result<u64, AllocError>

@@ -69,7 +69,7 @@ impl Files {
         self.made.names(self.alloc)
     }
 
-    /// The file's status: active while a point is, else cancelled where one is, else signalled. A file without points is
+    /// The file's status: active while a point is, else cancelled if one is, else signalled. A file without points is
     /// signalled.
     ///
     /// Fails with `NoEntry`. Takes no memory.
@@ -102,7 +102,7 @@ impl Files {
         })
     }
 
-    /// Whether a file of that name may be made: `Exists` where there is one, `Limit` where there are `FILES` files.
+    /// Whether a file of that name may be made: `Exists` if there is one, `Limit` if there are `FILES` files.
     ///
     /// Takes no memory.
     pub fn free(&self, name: &Name) -> Result<(), Refusal>

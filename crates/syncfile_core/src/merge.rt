@@ -35,7 +35,7 @@ pub(crate) fn of_two(
     })
 }
 
-/// The greatest value of each context, among the reach and the floors of both files: the reach, where no floor is above
+/// The greatest value of each context, among the reach and the floors of both files: the reach, if no floor is above
 /// it.
 ///
 /// Fails with `Memory` alone.

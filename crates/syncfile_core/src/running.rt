@@ -19,7 +19,7 @@ use std::alloc::Global;
 use words_core::{Seat, Words};
 
 impl SyncFile {
-    /// Merges two files while timelines run: the latest point of each context of either, where it is above what was loaded:
+    /// Merges two files while timelines run: the latest point of each context of either, if it is above what was loaded:
     /// the value of an open context, or the greatest value of a closed one. Each clock is loaded once, so no one moment need
     /// have had all of them; what was loaded is the new file's floor. Linux's `sync_file_merge` asks each fence once too.
     ///
@@ -58,7 +58,7 @@ impl SyncFile {
         })
     }
 
-    /// The file's status, by one load of each clock: active while a point is, else cancelled where the timeline of one was
+    /// The file's status, by one load of each clock: active while a point is, else cancelled if the timeline of one was
     /// closed before it was reached, else signalled. What is no longer Active by what the seat has seen stays as it is: no
     /// signalled point is cancelled later, and a closed timeline keeps its value. What is Active was so at a load of this
     /// call. It is the status of Linux's `struct sync_file_info`.
@@ -155,7 +155,7 @@ impl<'a> Found<'a> {
         }
     }
 
-    /// Passes by the point of a context, where there is one.
+    /// Passes by the point of a context, if there is one.
     fn pass(&mut self, ctx: Context, clock: Clock)
         ensures passed { (clocks : List Clock) (points : List Point) (n : ℕ) → ctx ≡ n + 1 → clock_at clocks ctx ≡ clock →
             HasPassedTo clocks points n self.old.status self.old.rest.now →
@@ -196,7 +196,7 @@ impl<'a> Found<'a> {
     }
 }
 
-/// The point of the context, where the list begins with one, and the others.
+/// The point of the context, if the list begins with one, and the others.
 fn first_at(points: &[Point], ctx: Context) -> Option<(u64, &[Point])>
     ensures first { MatchOption result
         ((p : Point) (ps : List Point) → points.now ≡ p ∷ ps → (1 ≤ p.ctx) × (p.ctx ≢ ctx))

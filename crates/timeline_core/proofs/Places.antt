@@ -79,7 +79,7 @@ apart-place ts name other k place =
     (λ t us j isnt after rest apart. rest apart.1)
     ts k place
 
--- where no name comes twice, each timeline stands at the place of its name
+-- if no name comes twice, each timeline stands at the place of its name
 pub place-of : (ts : List Timeline) (k : ℕ) → k < length ts → HasDistinctNames (λ (t : Timeline). t.name) ts → (name : List ℕ) × IsPlace ts name k
 place-of [] k low distinct = absurd (omega (arith, low))
 place-of (t ∷ ts) zero low distinct = (t.name, ap (λ b. cond b (Some 0) (position_from (is_named t.name) 1 ts)) (nat_list_eq_equiv.refl t.name))

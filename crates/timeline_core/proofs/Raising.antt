@@ -128,7 +128,7 @@ reach_of-shut ts name kept has =
     ap reach_of_clocks (clocks_of-shut ts name kept has)
     ∙ reach_of_clocks-with (clocks_of ts) (context_of ts name - 1) (closed_clock (clock_named ts name))
 
--- where the value can be at most the greatest, the point of the greatest value is reached by the closing alone
+-- if the value can be at most the greatest, the point of the greatest value is reached by the closing alone
 pub reach_of-shut-reaching : (ts : List Timeline) (name : List ℕ) → AreTimelines ts → has_timeline ts name ≡ true → (clock_named ts name).closed ≡ false → value_of ts name ≤ GREATEST → reach_of (shut ts name) ≡ reaching (reach_of ts) (point_of (context_of ts name) GREATEST)
 reach_of-shut-reaching ts name kept has still low =
     let before = value_at-open ts name still in

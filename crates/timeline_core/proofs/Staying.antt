@@ -66,7 +66,7 @@ open_at ts ctx name kept low high at still =
     ∙ ap (λ x. (clock_at (clocks_of ts) x).closed) number
     ∙ still
 
--- a timeline of a context rises, where there is one, and the name that is closed is another
+-- a timeline of a context rises, if there is one, and the name that is closed is another
 timeline_at-raised_if : (ts : List Timeline) (ctx n : ℕ) (name : Option (List ℕ)) (other : List ℕ) → ((one : List ℕ) → name ≡ Some one → same_name other one ≡ false) → timeline_at (raised_if ts name n) other ≡ timeline_at ts other
 timeline_at-raised_if ts ctx n None other apart = refl
 timeline_at-raised_if ts ctx n (Some name) other apart = timeline_at-raised ts name other n (apart name refl)
@@ -103,7 +103,7 @@ AreTimelines-after (Shut name) true old new kept left = subst AreTimelines (sym 
 AreTimelines-after (RaiseTo ctx value) true old new kept left =
     subst AreTimelines (sym left.1) (AreTimelines-raised_if old (name_at old ctx) (missing_to old ctx value) kept)
 
--- where the same timeline is found by a name, its clock is the same
+-- if the same timeline is found by a name, its clock is the same
 module _ (old new : List Timeline) (name : List ℕ) (same : timeline_at new name ≡ timeline_at old name) (closed : is_closed old name ≡ true) where
   has_timeline-same : has_timeline new name ≡ true
   has_timeline-same =

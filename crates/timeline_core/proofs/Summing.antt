@@ -11,7 +11,7 @@ use Rattle.timeline_core.specs.Run.{Increment, increment, incremented, AreSums, 
 use Rattle.timeline_core.proofs.Places.{timeline_at-clock_named, has_timeline-name}
 use Rattle.timeline_core.proofs.Raising.{names_of-raised, names_of-shut}
 
--- values are sums, and where there is no timeline nothing was added
+-- values are sums, and if there is no timeline nothing was added
 record IsSummed (ts : List Timeline) (is : List Increment) : Type 0 where
   kept : AreSums ts is
   none : (name : List ℕ) → has_timeline ts name ≡ false → incremented is name ≡ 0

@@ -57,11 +57,11 @@ name_at ts ctx = option_map (λ t. t.name) (slice_get ts (ctx - 1))
 abbrev pub clocks_of : List Timeline → List Clock
 clocks_of ts = own_clocks ts ++ replicate (CONTEXTS - length ts) new_clock
 
--- what each context has reached: its value, or the greatest one where its timeline is closed
+-- what each context has reached: its value, or the greatest one if its timeline is closed
 abbrev pub reach_of : List Timeline → List ℕ
 reach_of ts = reach_of_clocks (clocks_of ts)
 
--- The clock of the timeline of that name, of a name that there is. Clauses speak of it only where `has_timeline` holds: of any
+-- The clock of the timeline of that name, of a name that there is. Clauses speak of it only when `has_timeline` holds: of any
 -- other name, this would be the clock of context 1.
 abbrev pub clock_named : List Timeline → List ℕ → Clock
 clock_named ts name = clock_at (clocks_of ts) (context_of ts name)

@@ -25,7 +25,7 @@ use Rattle.words_core.proofs.WordKinds.{IsClaimOrFlag-claim}
 wins-set_once : (z : Sizes) (words : List ℕ) (views : List View) (k : ℕ) → IsClaimOrFlag z k → IsKept z words views → total (wins_on k) views ≡ slice_index words k
 wins-set_once z words views k is h = sym (total-map (made_in is_win) (word_trace k) views) ∙ sym (h.set_once k is).won
 
--- it is won only where it was 0
+-- it is won only when it was 0
 set_once_step-wins : (k n : ℕ) → n ≤ 1 → n + is_win (set_once_step k n) ≤ 1
 set_once_step-wins k n low = dite (ℕ_discrete n 0) (λ e. subst (λ (m : ℕ). m + is_win (set_once_step k m) ≤ 1) (sym e) (omega arith)) (λ ne. let e : n ≡ 1 = omega arith in subst (λ (m : ℕ). m + is_win (set_once_step k m) ≤ 1) (sym e) (omega arith))
 

@@ -57,7 +57,7 @@ spent-view_with views id v s live h = Each-set IsEmptyIfSpent views id (view_wit
 sized-view_with : (z : Sizes) (views : List View) (id : ℕ) (v : View) (s : Step) → get_elem? views id ≡ some v → Each (KnowsSizes z) views → Each (KnowsSizes z) (set views id (view_with v s))
 sized-view_with z views id v s at h = Each-set (KnowsSizes z) views id (view_with v s) h (Each-at (KnowsSizes z) views id v h at)
 
--- how often each word was won, where the step was on the word w
+-- how often each word was won, when the step was on the word w
 won_once-view_with : (views : List View) (id : ℕ) (v : View) (s : Step) → get_elem? views id ≡ some v → total (wins_on s.word) views + is_win s ≤ 1 → ((k : ℕ) → total (wins_on k) views ≤ 1) → (k : ℕ) → total (wins_on k) (set views id (view_with v s)) ≤ 1
 won_once-view_with views id v s at here h k =
     let few = h k in

@@ -62,7 +62,7 @@ module _ {A : Type 0} where
   total_none f g [] h z = refl
   total_none f g (a ∷ xs) h z = let one : g a ≡ 0 = h.0 (omega arith) in let more : total g xs ≡ 0 = total_none f g xs h.1 (omega arith) in omega arith
 
-  -- where f is of one element alone, and g is 0 wherever f is, g is of that element alone
+  -- if f is of one element alone, and g is 0 whenever f is, g is of that element alone
   pub total_alone : (f g : A → ℕ) (xs : List A) (i : ℕ) (x : A) → get_elem? xs i ≡ some x → Each (λ u. f u ≡ 0 → g u ≡ 0) xs → total f xs ≤ f x → total g xs ≡ g x
   total_alone f g [] i x at h le = absurd (some-ne-none x (sym at))
   total_alone f g (a ∷ xs) zero x at h le =

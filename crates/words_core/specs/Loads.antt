@@ -32,7 +32,7 @@ value_seen seat ctx = reached_by (known_clock seat ctx)
 abbrev pub reach_seen : SeatModel → List ℕ
 reach_seen seat = map (value_seen seat) contexts
 
--- the loads that find the clock of a context: one of its mark, and where that is 0 one of its value
+-- the loads that find the clock of a context: one of its mark, and if that is 0 one of its value
 abbrev pub loads_at : ℕ → Clock → List Step
 loads_at ctx clock =
     if clock.closed then load (mark_word ctx) (clock.value + 1) ∷ []

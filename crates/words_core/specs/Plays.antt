@@ -23,7 +23,7 @@ seen_by w v = greatest (on w (v.start ++ v.trace))
 abbrev pub tests_by : ℕ → View → ℕ
 tests_by w v = total is_test (on w (v.start ++ v.trace))
 
--- the value is entered, and it is at least what was seen. Where the context's mark, two words on, was seen above 0, it is 1 less
+-- the value is entered, and it is at least what was seen. If the context's mark, two words on, was seen above 0, it is 1 less
 abbrev pub loads_value : TableStep (Unit {0}) → Holder → ℕ → Holder → Type 0
 loads_value s me found after =
     (after ≡ (view_with me.0 (load s.word found), me.1))
@@ -45,13 +45,13 @@ shuts_mark s me found after =
     × (found ≡ 0)
     × (seen_by s.word me.0 ≡ 0)
 
--- a word is won where it was 0, and then nobody was known to have won or lost it
+-- a word is won if it was 0, and then nobody was known to have won or lost it
 abbrev pub sets_once : TableStep (Unit {0}) → Holder → ℕ → Holder → Type 0
 sets_once s me found after =
     (after ≡ (view_with me.0 (set_once_step s.word found), me.1))
     × (found ≡ 0 → (tests_by s.word me.0 ≡ 0) × (wins_of s.word me.0.trace ≡ 0))
 
--- where a claim is won, nothing was added to the context's value, the word before it, nor was its mark set, the word after it
+-- if a claim is won, nothing was added to the context's value, the word before it, nor was its mark set, the word after it
 abbrev pub claims_context : TableStep (Unit {0}) → Holder → ℕ → Holder → Type 0
 claims_context s me found after =
     sets_once s me found after

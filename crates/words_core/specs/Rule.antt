@@ -98,7 +98,7 @@ IsEmptyIfSpent v = v.parts ≡ 0 → (v.start ≡ []) × (v.trace ≡ [])
 abbrev pub KnowsSizes : Sizes → View → Type 0
 KnowsSizes sizes v = 0 < v.parts → v.sizes ≡ sizes
 
--- a word that only rises, where `leaves x` is 1 at a step that left x, and `finds x` at one that found it
+-- a word that only rises: `leaves x` is 1 at a step that left x, and `finds x` at one that found it
 pub record IsTraced (leaves finds : ℕ → Step → ℕ) (word : ℕ) (traces : List WordTrace) : Type 0 where
   -- each known value is at most the word
   pub below : Each (IsAtMost word) traces
@@ -125,12 +125,12 @@ pub record IsMark (value word : ℕ) (traces : List WordTrace) : Type 0 where
   pub ended : 0 < total (made_in is_shut) traces → word ≡ value + 1
   pub driven : Each ShutsAsDriver traces
 
--- a claim or a flag: 1 where it was won, and else 0
+-- a claim or a flag: 1 if it was won, and else 0
 pub record IsSetOnce (word : ℕ) (traces : List WordTrace) : Type 0 where
   -- each known value is at most the word
   pub below : Each (IsAtMost word) traces
   pub won : word ≡ total (made_in is_win) traces
-  -- where it is known to have been won or lost it is 1
+  -- if it is known to have been won or lost it is 1
   pub tested : 0 < total (known_in is_test) traces → word ≡ 1
 
 -- an entry of the board: the greatest that it was raised to, or 0

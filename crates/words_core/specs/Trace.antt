@@ -20,7 +20,7 @@ won w = record { kind = Won; word = w; operand = 0; value = 0 }
 abbrev pub lost : ℕ → Step
 lost w = record { kind = Lost; word = w; operand = 0; value = 0 }
 
--- the word w was raised to p where it was less, which left v
+-- the word w was raised to p if it was less, which left v
 abbrev pub raise : ℕ → ℕ → ℕ → Step
 raise w p v = record { kind = Raise; word = w; operand = p; value = v }
 
@@ -36,7 +36,7 @@ shut w m = record { kind = Shut; word = w; operand = m; value = m }
 abbrev pub set_once_step : ℕ → ℕ → Step
 set_once_step w found = if found == 0 then won w else lost w
 
--- n where the kinds are one, and else 0
+-- n if the kinds are one, and else 0
 abbrev pub if_kind : StepKind → StepKind → ℕ → ℕ
 if_kind Load Load n = n
 if_kind Add Add n = n
@@ -77,11 +77,11 @@ is_add_to x s = if_kind Add s.kind (if s.value == x then 1 else 0)
 abbrev pub target_of : Step → ℕ
 target_of s = if_kind Raise s.kind s.operand
 
--- 1 where it raised the word to x
+-- 1 if it raised the word to x
 abbrev pub is_raise_to : ℕ → Step → ℕ
 is_raise_to x s = if_kind Raise s.kind (if s.operand == x then 1 else 0)
 
--- 1 where it showed x of the board, or left it there
+-- 1 if it showed x of the board, or left it there
 abbrev pub is_sight_of : ℕ → Step → ℕ
 is_sight_of x s = if_kind Raise s.kind (if s.value == x then 1 else 0) + if_kind Shown s.kind (if s.value == x then 1 else 0)
 
@@ -161,7 +161,7 @@ WasRaised w x steps = 0 < total (is_raise_to x) (on w steps)
 abbrev pub SightsWereRaised : ℕ → List Step → Type 0
 SightsWereRaised w steps = (x : ℕ) → 0 < x → WasShown w x steps → WasRaised w x steps
 
--- of a claim or a flag, where the steps are all that were made: it was won once at most, and once where it was lost
+-- of a claim or a flag, if the steps are all that were made: it was won once at most, and once if it was lost
 pub record IsDecided (w : ℕ) (steps : List Step) : Type 0 where
   pub once : wins_of w steps ≤ 1
   pub lost : 0 < losses_of w steps → wins_of w steps ≡ 1

@@ -12,7 +12,7 @@ use crate::words::Words;
 use point_core::{Context, Usage};
 
 impl Words {
-    /// Raises a buffer's entry for a context and a usage to a point, where it is less, by one fetch_max. It answers
+    /// Raises a buffer's entry for a context and a usage to a point, if it is less, by one fetch_max. It answers
     /// the entry after it, which is no less than any value that the seat has seen of it or raised it to.
     pub fn raise(
         &self,

@@ -24,7 +24,7 @@ impl Words {
         self.mark(seat, ctx) > 0
     }
 
-    /// The clock of a context, by one load of its mark, which has both where it is closed, and one of its value where it
+    /// The clock of a context, by one load of its mark, which has both if it is closed, and one of its value if it
     /// is open. It reaches no less than what the seat has seen. A closed one stays as it is, at no less than any value that
     /// the seat has seen.
     pub fn clock(&self, seat: &mut Seat, ctx: Context) -> Clock

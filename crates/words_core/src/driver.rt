@@ -72,7 +72,7 @@ impl Driver {
     /// cancelled, as those of a sw_sync timeline are by Linux's `sw_sync_debugfs_release`, and nobody advances it or closes
     /// it again.
     ///
-    /// Fails with `Overflow` alone, at the greatest value, where no point is left to cancel, and hands itself back. No step
+    /// Fails with `Overflow` alone, at the greatest value, if no point is left to cancel, and hands itself back. No step
     /// is made then.
     pub fn close(self, words: &Words) -> Result<Seat, (Refusal, Driver)>
         requires own { self.seat.words ≡ words.now }

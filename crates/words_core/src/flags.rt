@@ -46,7 +46,7 @@ impl Words {
     /// Sets a flag, by one test-and-set, as the kernel's `dma_fence_signal` sets that of a fence. It answers `First`
     /// to the call that found it 0, and to all others `Already`, which found it set.
     ///
-    /// A seat knows of each test-and-set that it made, and of those that its parent knew of when it was parted. Where
+    /// A seat knows of each test-and-set that it made, and of those that its parent knew of when it was parted. If
     /// it knows of any, the answer is `Already`.
     pub fn set_once(&self, seat: &mut Seat, flag: usize) -> Once
         requires own { seat.old.words ≡ self.now }

@@ -48,7 +48,7 @@ impl Seat {
     }
 
     /// With all parts a seat has made every step on the words. Else it comes back with the number of parts that are
-    /// missing, for good where a seat was dropped.
+    /// missing, for good if a seat was dropped.
     pub fn gather(self) -> Result<Whole, (Seat, u32)>
         ensures all { IfOk result (λ whole. (whole ≡ self) × (self.parts ≡ PARTS)) }
         ensures missing { IfErr result (λ e. (e.0 ≡ self) × (self.parts ≢ PARTS) × (e.1 + self.parts ≡ PARTS)) }

@@ -12,7 +12,7 @@ pub enum StepKind {
     Won,
     /// Finds that it was set.
     Lost,
-    /// Raises it to the operand, where it is less.
+    /// Raises it to the operand, if it is less.
     Raise,
     /// Reads it, of an entry of the board.
     Shown,
@@ -25,7 +25,7 @@ pub struct Step {
     pub kind: StepKind,
     pub word: u64,
     pub operand: u64,
-    /// The value that it found, or for what changes the value, left. It is 0 where a word is set once.
+    /// The value that it found, or for what changes the value, left. It is 0 for a word that is set once.
     pub value: u64,
 }
 

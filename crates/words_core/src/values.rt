@@ -18,7 +18,7 @@ impl Words {
     /// The right to advance a context, by one test-and-set of its claim.
     ///
     /// Fails with `Exists` alone, from the second claim on that was ever made on the context, and hands the seat back.
-    /// Where it is Ok, neither the seat nor those that it descends from knew of a claim.
+    /// If it is Ok, neither the seat nor those that it descends from knew of a claim.
     pub fn driver(&self, mut seat: Seat, ctx: Context) -> Result<Driver, (Refusal, Seat)>
         requires own { seat.words ≡ self.now }
         requires context { ctx ≤ self.now.contexts }
@@ -38,7 +38,7 @@ impl Words {
         }
     }
 
-    // The test-and-set of a claim: true where it was 0. Then its context's value is 0 too, which a driver starts from.
+    // The test-and-set of a claim: true if it was 0. Then its context's value is 0 too, which a driver starts from.
     fn claim(&self, seat: &mut Seat, ctx: Context) -> bool
         requires own { seat.old.words ≡ self.now }
         requires context { ctx ≤ self.now.contexts }
@@ -71,7 +71,7 @@ impl Words {
             + n
     }
 
-    /// The value of a context, by one load. It is no less than any value that the seat has seen, and the last one where
+    /// The value of a context, by one load. It is no less than any value that the seat has seen, and the last one if
     /// the seat has seen that the context is closed.
     pub fn load(&self, seat: &mut Seat, ctx: Context) -> u64
         requires own { seat.old.words ≡ self.now }

@@ -43,7 +43,7 @@ impl Whole {
         words.total(&mut self.seat, ctx)
     }
 
-    /// Whether a context is closed, by one load of its mark: where its driver has closed it, once, at the value that it had
+    /// Whether a context is closed, by one load of its mark: if its driver has closed it, once, at the value that it had
     /// left. Each mark that was loaded is 0 or that one.
     pub fn closed(&mut self, words: &Words, ctx: Context) -> bool
         requires own { self.old.words ≡ words.now }
@@ -73,7 +73,7 @@ impl Whole {
         words.top_at(&mut self.seat, place)
     }
 
-    /// Whether a flag is set, by one load: exactly where one step has won it, once.
+    /// Whether a flag is set, by one load: exactly when one step has won it, once.
     pub fn flag(&mut self, words: &Words, flag: usize) -> bool
         requires own { self.old.words ≡ words.now }
         requires flag { flag < words.now.flags }

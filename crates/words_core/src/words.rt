@@ -70,8 +70,8 @@ impl Model for Words {
 impl Words {
     /// A set of words that are all 0, and its first seat, which has all parts.
     ///
-    /// Refuses, in this order: as `Limit(Timelines)` where the contexts are not 1 to `CONTEXTS`, as `Limit(Buffers)`
-    /// above `BUFFERS`, as `Limit(Flags)` above `FLAGS`, and as `Memory`.
+    /// Fails, in this order, with `Limit(Timelines)` if the contexts are not 1 to `CONTEXTS`, with `Limit(Buffers)` if
+    /// there are more than `BUFFERS` buffers, with `Limit(Flags)` if there are more than `FLAGS` flags, and with `Memory`.
     pub fn new(
         alloc: Global,
         contexts: usize,
