@@ -144,20 +144,7 @@ Accounts-reported cookie w (command.Watch f other) low =
     whole
 Accounts-reported cookie w (command.Unwatch other) low = unwatched_by cookie other w.watches low (nat_eq other cookie) (has_made_watch w.watches other) refl refl
 Accounts-reported cookie w (command.Info f) low = Accounts-info cookie w f (file_named w.files f)
-Accounts-reported cookie w (command.Timeline t) low = still (pending cookie w.watches)
-Accounts-reported cookie w (command.Value t) low = still (pending cookie w.watches)
-Accounts-reported cookie w (command.Fence f t p) low = still (pending cookie w.watches)
-Accounts-reported cookie w (command.Merge f a b) low = still (pending cookie w.watches)
-Accounts-reported cookie w (command.Close f) low = still (pending cookie w.watches)
-Accounts-reported cookie w (command.Wait f) low = still (pending cookie w.watches)
-Accounts-reported cookie w (command.Buffer b) low = still (pending cookie w.watches)
-Accounts-reported cookie w (command.Add b t p u) low = still (pending cookie w.watches)
-Accounts-reported cookie w (command.Import b f flags) low = still (pending cookie w.watches)
-Accounts-reported cookie w (command.Export f b flags) low = still (pending cookie w.watches)
-Accounts-reported cookie w (command.Test b u) low = still (pending cookie w.watches)
-Accounts-reported cookie w (command.Trim b) low = still (pending cookie w.watches)
-Accounts-reported cookie w (command.Show b) low = still (pending cookie w.watches)
-Accounts-reported cookie w command.Report low = still (pending cookie w.watches)
+Accounts-reported cookie w _ low = still (pending cookie w.watches)
 
 Accounts-refused : (cookie : ℕ) (c : Command) (r : Refusal) (n : ℕ) → Accounts cookie c (answer.Refused r) n n
 Accounts-refused cookie c r n =
@@ -193,21 +180,7 @@ once-after cookie w (command.Watch f other) accepted low =
     let x : MadeWatch = watch_made other (put_set w.files f) w.watches_made in
     let free = free_by (not (has_file w.files f)) (has_made_watch w.watches other) (first_of ((is_full w, Limit Watches) ∷ (is_signalled w f, AlreadySignalled) ∷ [])) answer.Done accepted in
     once_by cookie other w.watches (nat_eq other cookie) (pending cookie (w.watches ++ x ∷ [])) refl (none-pending other w.watches free) low (sum_by_push (one_of cookie) w.watches x)
-once-after cookie w (command.Timeline t) accepted low = low
-once-after cookie w (command.Value t) accepted low = low
-once-after cookie w (command.Fence f t p) accepted low = low
-once-after cookie w (command.Merge f a b) accepted low = low
-once-after cookie w (command.Close f) accepted low = low
-once-after cookie w (command.Wait f) accepted low = low
-once-after cookie w (command.Buffer b) accepted low = low
-once-after cookie w (command.Add b t p u) accepted low = low
-once-after cookie w (command.Import b f flags) accepted low = low
-once-after cookie w (command.Export f b flags) accepted low = low
-once-after cookie w (command.Test b u) accepted low = low
-once-after cookie w (command.Trim b) accepted low = low
-once-after cookie w (command.Show b) accepted low = low
-once-after cookie w command.Report accepted low = low
-once-after cookie w (command.Info f) accepted low = low
+once-after cookie w _ accepted low = low
 
 once-from : (cookie : ℕ) (w : World) (cs : List Command) → AreAccepted w cs → pending cookie w.watches ≤ 1 → pending cookie (world_from w cs).watches ≤ 1
 once-from cookie w [] accepted low = low

@@ -29,25 +29,8 @@ is_refused-info w name None = refl
 is_refused-info w name (Some f) = refl
 
 pub is_refused-reported : (w : World) (c : Command) → is_refused (reported w c) ≡ false
-is_refused-reported w (command.Timeline t) = refl
-is_refused-reported w (command.Inc t n) = refl
-is_refused-reported w (command.Value t) = refl
-is_refused-reported w (command.Shut t) = refl
-is_refused-reported w (command.Fence f t p) = refl
-is_refused-reported w (command.Merge f a b) = refl
-is_refused-reported w (command.Close f) = refl
-is_refused-reported w (command.Wait f) = refl
 is_refused-reported w (command.Info f) = is_refused-info w f (file_named w.files f)
-is_refused-reported w (command.Buffer b) = refl
-is_refused-reported w (command.Add b t p u) = refl
-is_refused-reported w (command.Import b f flags) = refl
-is_refused-reported w (command.Export f b flags) = refl
-is_refused-reported w (command.Test b u) = refl
-is_refused-reported w (command.Trim b) = refl
-is_refused-reported w (command.Show b) = refl
-is_refused-reported w command.Report = refl
-is_refused-reported w (command.Watch f cookie) = refl
-is_refused-reported w (command.Unwatch cookie) = refl
+is_refused-reported w _ = refl
 
 -- the desk keeps the world of each history that it stands for
 pub Keeps-stands : {desk : DeskState} {history : List Command} → HasHistory desk history → Keeps desk (world_of history)
@@ -61,23 +44,7 @@ AreAccepted-push w (d ∷ history) c accepted is = (accepted.0, AreAccepted-push
 takes_memory-holds : {desk : DeskState} {world : World} → Keeps desk world → (c : Command) → takes_memory (fires_kept desk) c ≡ takes_memory (fires_some world) c
 takes_memory-holds k (command.Inc t n) = fires_kept-holds k (command.Inc t n)
 takes_memory-holds k (command.Shut t) = fires_kept-holds k (command.Shut t)
-takes_memory-holds k (command.Timeline t) = refl
-takes_memory-holds k (command.Value t) = refl
-takes_memory-holds k (command.Fence f t p) = refl
-takes_memory-holds k (command.Merge f a b) = refl
-takes_memory-holds k (command.Close f) = refl
-takes_memory-holds k (command.Wait f) = refl
-takes_memory-holds k (command.Info f) = refl
-takes_memory-holds k (command.Buffer b) = refl
-takes_memory-holds k (command.Add b t p u) = refl
-takes_memory-holds k (command.Import b f flags) = refl
-takes_memory-holds k (command.Export f b flags) = refl
-takes_memory-holds k (command.Test b u) = refl
-takes_memory-holds k (command.Trim b) = refl
-takes_memory-holds k (command.Show b) = refl
-takes_memory-holds k command.Report = refl
-takes_memory-holds k (command.Watch f cookie) = refl
-takes_memory-holds k (command.Unwatch cookie) = refl
+takes_memory-holds k _ = refl
 
 answered : (old new : DeskState) (c : Command) (r : Result Answer Refusal) (cause : Option Refusal) (history : List Command) → IsRefusedFor cause r → (takes_memory (fires_kept old) c ≡ false → IfErr r (λ e. e ≢ Memory)) → IfOk r (λ a. IsDone old c a new) → Keeps old (world_of history) → first_of (causes (world_of history) c) ≡ cause → IsAnswer history c (answer_of r)
 answered old new c (Ok a) (Some e) history refused sure done keeps is = absurd (cc)
@@ -121,12 +88,7 @@ HasHistory-outcome old new c (Err e) refused unchanged done history stands =
 
 accepted_OnRefused : (given : Answer) (fact : Type 0) → is_refused given ≡ false → OnRefused given fact
 accepted_OnRefused (answer.Refused r) fact is = absurd (cc)
-accepted_OnRefused answer.Done fact is = tt
-accepted_OnRefused (answer.Value n) fact is = tt
-accepted_OnRefused (answer.Raised n fired) fact is = tt
-accepted_OnRefused (answer.Info i) fact is = tt
-accepted_OnRefused (answer.Show rows) fact is = tt
-accepted_OnRefused (answer.Report report) fact is = tt
+accepted_OnRefused _ fact is = tt
 
 -- a refused command leaves the desk as it was
 pub OnRefused-outcome : (old new : DeskState) (c : Command) (r : Result Answer Refusal) → OnErr r (new ≡ old) → IfOk r (λ a. IsDone old c a new) → OnRefused (answer_of r) (new ≡ old)

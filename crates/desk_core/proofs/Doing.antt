@@ -66,13 +66,6 @@ IsDone-shut desk name timelines value reach fired watches closed is at reported 
   held = λ world k. rw (closed, left, at) (Holds-shut k name);
 }
 
-pub IsDone-value : (desk : DeskState) (name : List ℕ) (value : ℕ) → value ≡ value_of desk.timelines name → IsDone desk (command.Value name) (answer.Value value) desk
-IsDone-value desk name value is = record {
-  accepted = refl;
-  reported = λ world k. ap answer.Value (is ∙ ap (λ ts. value_of ts name) k.holds.timelines);
-  held = λ world k. k.holds;
-}
-
 pub IsDone-fence : (desk : DeskState) (name t : List ℕ) (files : List File) (ctx p : ℕ) → files ≡ desk.files ++ plain_file name (point_of ctx p) ∷ [] → ctx ≡ context_of desk.timelines t → IsDone desk (command.Fence name t p) answer.Done (record { timelines = desk.timelines; files = files; buffers = desk.buffers; watches = desk.watches })
 IsDone-fence desk name t files ctx p added is = record {
   accepted = refl;

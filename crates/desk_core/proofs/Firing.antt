@@ -73,21 +73,6 @@ Fired-from number w (command.Shut t ∷ cs) =
     let here = times-numbers number (shut_watches w t) in
     let both = sum_by-append (λ (k : ℕ). cond (nat_eq number k) 1 0) (numbers_of (shut_watches w t)) (fired_from (after w (command.Shut t)) cs) in
     omega (arith, rest, here, both, times-parts number w (shut_reach w t))
-Fired-from number w (command.Timeline t ∷ cs) = Fired-from number (after w (command.Timeline t)) cs
-Fired-from number w (command.Value t ∷ cs) = Fired-from number w cs
-Fired-from number w (command.Fence f t p ∷ cs) = Fired-from number (after w (command.Fence f t p)) cs
-Fired-from number w (command.Merge f a b ∷ cs) = Fired-from number (after w (command.Merge f a b)) cs
-Fired-from number w (command.Close f ∷ cs) = Fired-from number (after w (command.Close f)) cs
-Fired-from number w (command.Wait f ∷ cs) = Fired-from number w cs
-Fired-from number w (command.Info f ∷ cs) = Fired-from number w cs
-Fired-from number w (command.Buffer b ∷ cs) = Fired-from number (after w (command.Buffer b)) cs
-Fired-from number w (command.Add b t p u ∷ cs) = Fired-from number (after w (command.Add b t p u)) cs
-Fired-from number w (command.Import b f flags ∷ cs) = Fired-from number (after w (command.Import b f flags)) cs
-Fired-from number w (command.Export f b flags ∷ cs) = Fired-from number (after w (command.Export f b flags)) cs
-Fired-from number w (command.Test b u ∷ cs) = Fired-from number w cs
-Fired-from number w (command.Trim b ∷ cs) = Fired-from number w cs
-Fired-from number w (command.Show b ∷ cs) = Fired-from number w cs
-Fired-from number w (command.Report ∷ cs) = Fired-from number w cs
 Fired-from number w (command.Watch f cookie ∷ cs) =
     let rest = Fired-from number (after w (command.Watch f cookie)) cs in
     let more = sum_by-append (λ (x : MadeWatch). cond (nat_eq number x.number) 1 0) w.watches (watch_made cookie (put_set w.files f) w.watches_made ∷ []) in
@@ -95,6 +80,7 @@ Fired-from number w (command.Watch f cookie ∷ cs) =
 Fired-from number w (command.Unwatch cookie ∷ cs) =
     let rest = Fired-from number (after w (command.Unwatch cookie)) cs in
     omega (arith, rest, times-filter number (λ (x : MadeWatch). not (nat_eq x.cookie cookie)) w.watches)
+Fired-from number w (c ∷ cs) = Fired-from number (after w c) cs
 
 at_most_one : (b : Bool) → cond b 1 0 ≤ 1
 at_most_one true = omega arith
@@ -141,21 +127,7 @@ Contains-after w x (command.Inc t n) h left = Contains-filter (λ (y : MadeWatch
 Contains-after w x (command.Shut t) h left = Contains-filter (λ (y : MadeWatch). not (is_due (shut_reach w t) y)) w.watches x h (ap not left)
 Contains-after w x (command.Unwatch cookie) h left = Contains-filter (λ (y : MadeWatch). not (nat_eq y.cookie cookie)) w.watches x h (ap not (ne_eqb x.cookie cookie left))
 Contains-after w x (command.Watch f cookie) h left = Contains-append_left w.watches (watch_made cookie (put_set w.files f) w.watches_made ∷ []) x h
-Contains-after w x (command.Timeline t) h left = h
-Contains-after w x (command.Value t) h left = h
-Contains-after w x (command.Fence f t p) h left = h
-Contains-after w x (command.Merge f a b) h left = h
-Contains-after w x (command.Close f) h left = h
-Contains-after w x (command.Wait f) h left = h
-Contains-after w x (command.Info f) h left = h
-Contains-after w x (command.Buffer b) h left = h
-Contains-after w x (command.Add b t p u) h left = h
-Contains-after w x (command.Import b f flags) h left = h
-Contains-after w x (command.Export f b flags) h left = h
-Contains-after w x (command.Test b u) h left = h
-Contains-after w x (command.Trim b) h left = h
-Contains-after w x (command.Show b) h left = h
-Contains-after w x command.Report h left = h
+Contains-after w x _ h left = h
 
 -- a watch stays as it was registered, until it is removed or fires
 pub pending_after-left : (history : List Command) (c : Command) (x : MadeWatch) → Contains (pending_after history) x → IsLeftBy (world_of history) x c → Contains (pending_after (history ++ c ∷ [])) x

@@ -236,7 +236,6 @@ IsSound-after w (command.Shut t) s is = record {
   timelines = AreTimelines-shut w.timelines t s.timelines;
   values = IsWithin-shut w.timelines t s.values;
 }
-IsSound-after w (command.Value t) s is = s
 IsSound-after w (command.Fence f t p) s is =
     let has = not-false (has_timeline w.timelines t) (first_of-none (not (has_timeline w.timelines t)) NoEntry (making_file w f ++ cause (is_closed w.timelines t) AlreadyClosed ∷ []) is).0 in
     IsSound-file w s _ (record {
@@ -248,8 +247,6 @@ IsSound-after w (command.Merge f a b) s is = IsSound-file w s _ (record {
   put = All-append (IsFilePoint (length w.timelines)) (put_set w.files a) (put_set w.files b) (put_set-made w.timelines w.files a s.made) (put_set-made w.timelines w.files b s.made);
 })
 IsSound-after w (command.Close f) s is = record { made = All-filter (λ (g : MadeFile). not (same_name g.name f)) (WasMade w.timelines) w.files s.made; buffers = s.buffers; timelines = s.timelines; values = s.values }
-IsSound-after w (command.Wait f) s is = s
-IsSound-after w (command.Info f) s is = s
 IsSound-after w (command.Buffer b) s is = record {
   made = s.made;
   buffers = All-push (IsOfTimelines (length w.timelines)) w.buffers (buffer_of b []) s.buffers (All-nil (IsOfMade (length w.timelines)));
@@ -267,12 +264,7 @@ IsSound-after w (command.Export f b flags) s is = IsSound-file w s _ (record {
   since = IsAtLeast-refl (reach_of w.timelines);
   put = IsFilePoint-exported (length w.timelines) flags (buffer_put_set w.buffers b) (buffer_put_set-All (IsOfMade (length w.timelines)) w.buffers b s.buffers);
 })
-IsSound-after w (command.Test b u) s is = s
-IsSound-after w (command.Trim b) s is = s
-IsSound-after w (command.Show b) s is = s
-IsSound-after w command.Report s is = s
-IsSound-after w (command.Watch f cookie) s is = record { made = s.made; buffers = s.buffers; timelines = s.timelines; values = s.values }
-IsSound-after w (command.Unwatch cookie) s is = record { made = s.made; buffers = s.buffers; timelines = s.timelines; values = s.values }
+IsSound-after w _ s is = record { made = s.made; buffers = s.buffers; timelines = s.timelines; values = s.values }
 
 IsSound-from : (w : World) (history : List Command) → IsSound w → AreAccepted w history → IsSound (world_from w history)
 IsSound-from w [] s accepted = s

@@ -153,12 +153,11 @@ causes-keeps {desk} {world} k (command.Export f b flags) =
 causes-keeps {desk} {world} k (command.Test b u) = cause_without-keeps k b
 causes-keeps {desk} {world} k (command.Trim b) = cause_without-keeps k b
 causes-keeps {desk} {world} k (command.Show b) = cause_without-keeps k b
-causes-keeps {desk} {world} k command.Report = refl
 causes-keeps {desk} {world} k (command.Watch f cookie) =
     with_file (has_file world.files f) (put_reached world f) (watch_cause (has_made_watch world.watches cookie) (is_full world)) (Some NoEntry)
     ∙ ap (λ o. if has_file world.files f then o else Some NoEntry) (watch_cause-keeps k f cookie)
     ∙ ap (λ h. if h then cause_to_refuse_watch desk.watches cookie (points_at desk.files f) (reach_of desk.timelines) else Some NoEntry) (sym (has_sync_file-names desk.files world.files f k.holds.names))
-causes-keeps {desk} {world} k (command.Unwatch cookie) = refl
+causes-keeps k _ = refl
 
 -- what is held
 

@@ -122,22 +122,7 @@ Sums-after w done (command.Timeline t) s is =
     }
 Sums-after w done (command.Inc t n) s is = Sums-inc w done t n (not-false (has_timeline w.timelines t) (first_of-none (not (has_timeline w.timelines t)) NoEntry (cause (is_closed w.timelines t) AlreadyClosed ∷ cause (nat_le (2 ^ 64) (value_of w.timelines t + n)) Overflow ∷ []) is).0) s
 Sums-after w done (command.Shut t) s is = Sums-shut w done t s
-Sums-after w done (command.Value t) s is = Sums-same w done (command.Value t) (λ name. refl) s
-Sums-after w done (command.Fence f t p) s is = let h = Sums-same w done (command.Fence f t p) (λ name. refl) s in record { kept = h.kept; missing = h.missing }
-Sums-after w done (command.Merge f a b) s is = let h = Sums-same w done (command.Merge f a b) (λ name. refl) s in record { kept = h.kept; missing = h.missing }
-Sums-after w done (command.Close f) s is = let h = Sums-same w done (command.Close f) (λ name. refl) s in record { kept = h.kept; missing = h.missing }
-Sums-after w done (command.Wait f) s is = Sums-same w done (command.Wait f) (λ name. refl) s
-Sums-after w done (command.Info f) s is = Sums-same w done (command.Info f) (λ name. refl) s
-Sums-after w done (command.Buffer b) s is = let h = Sums-same w done (command.Buffer b) (λ name. refl) s in record { kept = h.kept; missing = h.missing }
-Sums-after w done (command.Add b t p u) s is = let h = Sums-same w done (command.Add b t p u) (λ name. refl) s in record { kept = h.kept; missing = h.missing }
-Sums-after w done (command.Import b f flags) s is = let h = Sums-same w done (command.Import b f flags) (λ name. refl) s in record { kept = h.kept; missing = h.missing }
-Sums-after w done (command.Export f b flags) s is = let h = Sums-same w done (command.Export f b flags) (λ name. refl) s in record { kept = h.kept; missing = h.missing }
-Sums-after w done (command.Test b u) s is = Sums-same w done (command.Test b u) (λ name. refl) s
-Sums-after w done (command.Trim b) s is = Sums-same w done (command.Trim b) (λ name. refl) s
-Sums-after w done (command.Show b) s is = Sums-same w done (command.Show b) (λ name. refl) s
-Sums-after w done command.Report s is = Sums-same w done command.Report (λ name. refl) s
-Sums-after w done (command.Watch f cookie) s is = let h = Sums-same w done (command.Watch f cookie) (λ name. refl) s in record { kept = h.kept; missing = h.missing }
-Sums-after w done (command.Unwatch cookie) s is = let h = Sums-same w done (command.Unwatch cookie) (λ name. refl) s in record { kept = h.kept; missing = h.missing }
+Sums-after w done c s is = let h = Sums-same w done c (λ name. refl) s in record { kept = h.kept; missing = h.missing }
 
 AreSums-from : (w : World) (done history : List Command) → Sums w done → AreAccepted w history → AreSums (world_from w history).timelines (increments_in (done ++ history))
 AreSums-from w done [] s accepted = rw (append-nil done) s.kept

@@ -74,23 +74,7 @@ fires_kept-holds {desk} {world} k (command.Inc t n) =
     ap (keeps_due desk) (raised-holds k.holds t n) ∙ keeps_due-later k.holds (raised_reach world t n) (IsAtLeast-raised world.timelines t n)
 fires_kept-holds {desk} {world} k (command.Shut t) =
     ap (keeps_due desk) (shut-holds k.holds t) ∙ keeps_due-later k.holds (shut_reach world t) (IsAtLeast-shut world.timelines t k.sound.values)
-fires_kept-holds k (command.Timeline t) = refl
-fires_kept-holds k (command.Value t) = refl
-fires_kept-holds k (command.Fence f t p) = refl
-fires_kept-holds k (command.Merge f a b) = refl
-fires_kept-holds k (command.Close f) = refl
-fires_kept-holds k (command.Wait f) = refl
-fires_kept-holds k (command.Info f) = refl
-fires_kept-holds k (command.Buffer b) = refl
-fires_kept-holds k (command.Add b t p u) = refl
-fires_kept-holds k (command.Import b f flags) = refl
-fires_kept-holds k (command.Export f b flags) = refl
-fires_kept-holds k (command.Test b u) = refl
-fires_kept-holds k (command.Trim b) = refl
-fires_kept-holds k (command.Watch f cookie) = refl
-fires_kept-holds k (command.Unwatch cookie) = refl
-fires_kept-holds k (command.Show b) = refl
-fires_kept-holds k command.Report = refl
+fires_kept-holds k _ = refl
 
 -- why a watch is refused
 

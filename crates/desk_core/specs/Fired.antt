@@ -9,23 +9,7 @@ use Rattle.desk_core.specs.History.{world_of}
 abbrev pub fired_in : World → Command → List ℕ
 fired_in w (command.Inc t n) = map (λ (x : MadeWatch). x.number) (fired_watches w t n)
 fired_in w (command.Shut t) = map (λ (x : MadeWatch). x.number) (shut_watches w t)
-fired_in w (command.Timeline t) = []
-fired_in w (command.Value t) = []
-fired_in w (command.Fence f t p) = []
-fired_in w (command.Merge f a b) = []
-fired_in w (command.Close f) = []
-fired_in w (command.Wait f) = []
-fired_in w (command.Info f) = []
-fired_in w (command.Buffer b) = []
-fired_in w (command.Add b t p u) = []
-fired_in w (command.Import b f flags) = []
-fired_in w (command.Export f b flags) = []
-fired_in w (command.Test b u) = []
-fired_in w (command.Trim b) = []
-fired_in w (command.Show b) = []
-fired_in w command.Report = []
-fired_in w (command.Watch f cookie) = []
-fired_in w (command.Unwatch cookie) = []
+fired_in w _ = []
 
 abbrev pub fired_from : World → List Command → List ℕ
 fired_from w [] = []
@@ -44,19 +28,4 @@ abbrev pub IsLeftBy : World → MadeWatch → Command → Type 0
 IsLeftBy w x (command.Inc t n) = is_due (raised_reach w t n) x ≡ false
 IsLeftBy w x (command.Shut t) = is_due (shut_reach w t) x ≡ false
 IsLeftBy w x (command.Unwatch cookie) = x.cookie ≢ cookie
-IsLeftBy w x (command.Timeline t) = ⊤
-IsLeftBy w x (command.Value t) = ⊤
-IsLeftBy w x (command.Fence f t p) = ⊤
-IsLeftBy w x (command.Merge f a b) = ⊤
-IsLeftBy w x (command.Close f) = ⊤
-IsLeftBy w x (command.Wait f) = ⊤
-IsLeftBy w x (command.Info f) = ⊤
-IsLeftBy w x (command.Buffer b) = ⊤
-IsLeftBy w x (command.Add b t p u) = ⊤
-IsLeftBy w x (command.Import b f flags) = ⊤
-IsLeftBy w x (command.Export f b flags) = ⊤
-IsLeftBy w x (command.Test b u) = ⊤
-IsLeftBy w x (command.Trim b) = ⊤
-IsLeftBy w x (command.Show b) = ⊤
-IsLeftBy w x command.Report = ⊤
-IsLeftBy w x (command.Watch f cookie) = ⊤
+IsLeftBy w x _ = ⊤

@@ -76,23 +76,7 @@ keeps_due d reach = list_any (fires reach) d.watches.pending
 abbrev pub fires_kept : DeskState → Command → Bool
 fires_kept d (command.Inc t n) = keeps_due d (reach_of (raised d.timelines t n))
 fires_kept d (command.Shut t) = keeps_due d (reach_of (shut d.timelines t))
-fires_kept d (command.Timeline t) = false
-fires_kept d (command.Value t) = false
-fires_kept d (command.Fence f t p) = false
-fires_kept d (command.Merge f a b) = false
-fires_kept d (command.Close f) = false
-fires_kept d (command.Wait f) = false
-fires_kept d (command.Info f) = false
-fires_kept d (command.Buffer b) = false
-fires_kept d (command.Add b t p u) = false
-fires_kept d (command.Import b f flags) = false
-fires_kept d (command.Export f b flags) = false
-fires_kept d (command.Test b u) = false
-fires_kept d (command.Trim b) = false
-fires_kept d (command.Watch f cookie) = false
-fires_kept d (command.Unwatch cookie) = false
-fires_kept d (command.Show b) = false
-fires_kept d command.Report = false
+fires_kept d _ = false
 
 -- each row is of a timeline that was made
 abbrev pub AreRowsMade : ℕ → List TopRow → Type 0

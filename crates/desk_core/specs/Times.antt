@@ -11,67 +11,23 @@ use Rattle.desk_core.specs.Desk.{DeskState}
 
 -- the command is a `watch` of that cookie
 abbrev pub is_watch_of : ℕ → Command → Bool
-is_watch_of cookie (command.Timeline t) = false
-is_watch_of cookie (command.Inc t n) = false
-is_watch_of cookie (command.Value t) = false
-is_watch_of cookie (command.Shut t) = false
-is_watch_of cookie (command.Fence f t p) = false
-is_watch_of cookie (command.Merge f a b) = false
-is_watch_of cookie (command.Close f) = false
-is_watch_of cookie (command.Wait f) = false
-is_watch_of cookie (command.Info f) = false
-is_watch_of cookie (command.Buffer b) = false
-is_watch_of cookie (command.Add b t p u) = false
-is_watch_of cookie (command.Import b f flags) = false
-is_watch_of cookie (command.Export f b flags) = false
-is_watch_of cookie (command.Test b u) = false
-is_watch_of cookie (command.Trim b) = false
-is_watch_of cookie (command.Show b) = false
-is_watch_of cookie command.Report = false
 is_watch_of cookie (command.Watch f other) = other == cookie
-is_watch_of cookie (command.Unwatch other) = false
+is_watch_of cookie _ = false
 
 -- the command is an `unwatch` of that cookie
 abbrev pub is_unwatch_of : ℕ → Command → Bool
-is_unwatch_of cookie (command.Timeline t) = false
-is_unwatch_of cookie (command.Inc t n) = false
-is_unwatch_of cookie (command.Value t) = false
-is_unwatch_of cookie (command.Shut t) = false
-is_unwatch_of cookie (command.Fence f t p) = false
-is_unwatch_of cookie (command.Merge f a b) = false
-is_unwatch_of cookie (command.Close f) = false
-is_unwatch_of cookie (command.Wait f) = false
-is_unwatch_of cookie (command.Info f) = false
-is_unwatch_of cookie (command.Buffer b) = false
-is_unwatch_of cookie (command.Add b t p u) = false
-is_unwatch_of cookie (command.Import b f flags) = false
-is_unwatch_of cookie (command.Export f b flags) = false
-is_unwatch_of cookie (command.Test b u) = false
-is_unwatch_of cookie (command.Trim b) = false
-is_unwatch_of cookie (command.Show b) = false
-is_unwatch_of cookie command.Report = false
-is_unwatch_of cookie (command.Watch f other) = false
 is_unwatch_of cookie (command.Unwatch other) = other == cookie
+is_unwatch_of cookie _ = false
 
 -- an `unwatch` answers so if it took a watch out
 abbrev pub reports_one : Answer → Bool
 reports_one (answer.Value n) = n == 1
-reports_one (answer.Refused r) = false
-reports_one answer.Done = false
-reports_one (answer.Raised n fired) = false
-reports_one (answer.Info i) = false
-reports_one (answer.Show rows) = false
-reports_one (answer.Report report) = false
+reports_one _ = false
 
 -- the cookies that are reported to have fired
 abbrev pub fired_reported : Answer → List ℕ
 fired_reported (answer.Raised n fired) = fired
-fired_reported (answer.Refused r) = []
-fired_reported answer.Done = []
-fired_reported (answer.Value n) = []
-fired_reported (answer.Info i) = []
-fired_reported (answer.Show rows) = []
-fired_reported (answer.Report report) = []
+fired_reported _ = []
 
 -- a `watch` of that cookie was accepted
 abbrev pub registers : ℕ → Command × Answer → Bool

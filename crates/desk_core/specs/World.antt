@@ -121,23 +121,7 @@ shut_watches w name = due_watches w (shut_reach w name)
 abbrev pub fires_some : World → Command → Bool
 fires_some w (command.Inc t n) = has_due_watch w (raised_reach w t n)
 fires_some w (command.Shut t) = has_due_watch w (shut_reach w t)
-fires_some w (command.Timeline t) = false
-fires_some w (command.Value t) = false
-fires_some w (command.Fence f t p) = false
-fires_some w (command.Merge f a b) = false
-fires_some w (command.Close f) = false
-fires_some w (command.Wait f) = false
-fires_some w (command.Info f) = false
-fires_some w (command.Buffer b) = false
-fires_some w (command.Add b t p u) = false
-fires_some w (command.Import b f flags) = false
-fires_some w (command.Export f b flags) = false
-fires_some w (command.Test b u) = false
-fires_some w (command.Trim b) = false
-fires_some w (command.Watch f cookie) = false
-fires_some w (command.Unwatch cookie) = false
-fires_some w (command.Show b) = false
-fires_some w command.Report = false
+fires_some w _ = false
 
 abbrev pub cookies_of : List MadeWatch → List ℕ
 cookies_of xs = map (λ (x : MadeWatch). x.cookie) xs

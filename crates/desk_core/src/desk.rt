@@ -63,7 +63,7 @@ impl Desk {
     }
 
     /// The answer of one command: the first refusal whose cause holds, else what the command gives. `Memory` comes
-    /// last, when a growth was really refused; `value`, `close`, `wait`, `test`, `trim` and `unwatch` never answer it,
+    /// last, when a growth was really refused; a command that keeps nothing new and reports no list never answers it,
     /// and `inc` and `shut` only when they fire a watch. A refused command changes nothing, and fires none.
     #[inline(always)]
     pub fn step(&mut self, command: Command) -> Answer

@@ -31,21 +31,7 @@ bars_after column (command.Fence f t p) bars = bars ++ bar_of f column ∷ []
 bars_after column (command.Merge f a b) bars = bars ++ bar_of f column ∷ []
 bars_after column (command.Export f b flags) bars = bars ++ bar_of f column ∷ []
 bars_after column (command.Close f) bars = with_closed column f bars
-bars_after column (command.Timeline t) bars = bars
-bars_after column (command.Inc t n) bars = bars
-bars_after column (command.Value t) bars = bars
-bars_after column (command.Shut t) bars = bars
-bars_after column (command.Wait f) bars = bars
-bars_after column (command.Info f) bars = bars
-bars_after column (command.Buffer b) bars = bars
-bars_after column (command.Add b t p u) bars = bars
-bars_after column (command.Import b f flags) bars = bars
-bars_after column (command.Test b u) bars = bars
-bars_after column (command.Trim b) bars = bars
-bars_after column (command.Watch f cookie) bars = bars
-bars_after column (command.Unwatch cookie) bars = bars
-bars_after column (command.Show b) bars = bars
-bars_after column command.Report bars = bars
+bars_after column _ bars = bars
 
 -- a bar is drawn as pending up to the column from which on it is settled
 abbrev pub settled_at : Option Settled → ℕ → Status

@@ -51,19 +51,7 @@ sources l bars (command.Export f b flags) = buffer_lane l b ∷ []
 sources l bars (command.Add b t p u) = timeline_lane l t ∷ []
 sources l bars (command.Import b f flags) = bar_lane bars f ∷ []
 sources l bars (command.Watch f cookie) = bar_lane bars f ∷ []
-sources l bars (command.Timeline t) = []
-sources l bars (command.Inc t n) = []
-sources l bars (command.Value t) = []
-sources l bars (command.Shut t) = []
-sources l bars (command.Close f) = []
-sources l bars (command.Wait f) = []
-sources l bars (command.Info f) = []
-sources l bars (command.Buffer b) = []
-sources l bars (command.Test b u) = []
-sources l bars (command.Trim b) = []
-sources l bars (command.Unwatch cookie) = []
-sources l bars (command.Show b) = []
-sources l bars command.Report = []
+sources l bars _ = []
 
 -- the lane of what a command makes of fences, or puts them into
 abbrev pub target : Lanes → List Bar → Command → Option Lane
@@ -73,19 +61,7 @@ target l bars (command.Export f b flags) = bar_lane bars f
 target l bars (command.Add b t p u) = buffer_lane l b
 target l bars (command.Import b f flags) = buffer_lane l b
 target l bars (command.Watch f cookie) = last_watch l
-target l bars (command.Timeline t) = None
-target l bars (command.Inc t n) = None
-target l bars (command.Value t) = None
-target l bars (command.Shut t) = None
-target l bars (command.Close f) = None
-target l bars (command.Wait f) = None
-target l bars (command.Info f) = None
-target l bars (command.Buffer b) = None
-target l bars (command.Test b u) = None
-target l bars (command.Trim b) = None
-target l bars (command.Unwatch cookie) = None
-target l bars (command.Show b) = None
-target l bars command.Report = None
+target l bars _ = None
 
 -- the links, with one more between two lanes that there are
 abbrev pub joined : ℕ → Option Lane → Option Lane → List Link → List Link
@@ -108,21 +84,7 @@ access_of (command.Add b t p u) = Some (b, access.Add u)
 access_of (command.Import b f flags) = Some (b, access.Import flags)
 access_of (command.Export f b flags) = Some (b, access.Export flags)
 access_of (command.Trim b) = Some (b, access.Trim)
-access_of (command.Timeline t) = None
-access_of (command.Inc t n) = None
-access_of (command.Value t) = None
-access_of (command.Shut t) = None
-access_of (command.Fence f t p) = None
-access_of (command.Merge f a b) = None
-access_of (command.Close f) = None
-access_of (command.Wait f) = None
-access_of (command.Info f) = None
-access_of (command.Buffer b) = None
-access_of (command.Test b u) = None
-access_of (command.Watch f cookie) = None
-access_of (command.Unwatch cookie) = None
-access_of (command.Show b) = None
-access_of command.Report = None
+access_of _ = None
 
 -- the marks, with one more on the lane of a buffer that there is
 abbrev pub marked : ℕ → Option ℕ → Access → List BufferMark → List BufferMark

@@ -32,12 +32,7 @@ fired_all column (cookie ∷ cookies) ws =
 -- an answer says which watches fired
 abbrev pub fired_by : ℕ → Answer → List WatchLane → List WatchLane
 fired_by column (answer.Raised value fired) ws = fired_all column fired ws
-fired_by column answer.Done ws = ws
-fired_by column (answer.Value n) ws = ws
-fired_by column (answer.Info i) ws = ws
-fired_by column (answer.Show rows) ws = ws
-fired_by column (answer.Report report) ws = ws
-fired_by column (answer.Refused r) ws = ws
+fired_by column _ ws = ws
 
 -- a watch more, which is pending, with the points that its file lists
 pub record IsRegistered (column cookie : ℕ) (points : List Point) (old new : List WatchLane) : Type 0 where
@@ -54,18 +49,4 @@ AreWatchesAfter column points (command.Watch f cookie) given old new = IsRegiste
 AreWatchesAfter column points (command.Unwatch cookie) given old new = new ≡ with_ended column cookie (end.Removed column) old
 AreWatchesAfter column points (command.Inc t n) given old new = new ≡ fired_by column given old
 AreWatchesAfter column points (command.Shut t) given old new = new ≡ fired_by column given old
-AreWatchesAfter column points (command.Timeline t) given old new = new ≡ old
-AreWatchesAfter column points (command.Value t) given old new = new ≡ old
-AreWatchesAfter column points (command.Fence f t p) given old new = new ≡ old
-AreWatchesAfter column points (command.Merge f a b) given old new = new ≡ old
-AreWatchesAfter column points (command.Close f) given old new = new ≡ old
-AreWatchesAfter column points (command.Wait f) given old new = new ≡ old
-AreWatchesAfter column points (command.Info f) given old new = new ≡ old
-AreWatchesAfter column points (command.Buffer b) given old new = new ≡ old
-AreWatchesAfter column points (command.Add b t p u) given old new = new ≡ old
-AreWatchesAfter column points (command.Import b f flags) given old new = new ≡ old
-AreWatchesAfter column points (command.Export f b flags) given old new = new ≡ old
-AreWatchesAfter column points (command.Test b u) given old new = new ≡ old
-AreWatchesAfter column points (command.Trim b) given old new = new ≡ old
-AreWatchesAfter column points (command.Show b) given old new = new ≡ old
-AreWatchesAfter column points command.Report given old new = new ≡ old
+AreWatchesAfter column points _ given old new = new ≡ old

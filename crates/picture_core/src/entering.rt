@@ -58,21 +58,7 @@ fn enter_file(bars: &mut Vec<Bar>, column: usize, command: &Command) -> Result<(
             close_bar(bars, column, name);
             Ok(())
         }
-        Command::Timeline(_)
-        | Command::Inc(_, _)
-        | Command::Value(_)
-        | Command::Shut(_)
-        | Command::Wait(_)
-        | Command::Info(_)
-        | Command::Buffer(_)
-        | Command::Add(_, _, _, _)
-        | Command::Import(_, _, _)
-        | Command::Test(_, _)
-        | Command::Trim(_)
-        | Command::Watch(_, _)
-        | Command::Unwatch(_)
-        | Command::Show(_)
-        | Command::Report => Ok(()),
+        _ => Ok(()),
     }
 }
 
@@ -137,15 +123,7 @@ impl Lanes {
                 );
                 Ok(())
             }
-            Command::Value(_)
-            | Command::Fence(_, _, _)
-            | Command::Merge(_, _, _)
-            | Command::Close(_)
-            | Command::Wait(_)
-            | Command::Info(_)
-            | Command::Test(_, _)
-            | Command::Show(_)
-            | Command::Report => Ok(()),
+            _ => Ok(()),
         }
     }
 
@@ -226,19 +204,7 @@ impl Lanes {
             Command::Watch(name, _) => {
                 self.link(column, bar_lane(bars, name), self.last_watch())
             }
-            Command::Timeline(_)
-            | Command::Inc(_, _)
-            | Command::Value(_)
-            | Command::Shut(_)
-            | Command::Close(_)
-            | Command::Wait(_)
-            | Command::Info(_)
-            | Command::Buffer(_)
-            | Command::Test(_, _)
-            | Command::Trim(_)
-            | Command::Unwatch(_)
-            | Command::Show(_)
-            | Command::Report => Ok(()),
+            _ => Ok(()),
         }
     }
 

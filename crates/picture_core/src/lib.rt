@@ -37,4 +37,3 @@ pub use shapes::{
 };
 pub use svg::svg_text;
 pub use waiting::Waiting;
-pub use word::word_of;

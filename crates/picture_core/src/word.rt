@@ -2,33 +2,7 @@
 
 use crate::history::Access;
 use crate::shapes::{Heading, Meaning};
-use command_core::Command;
 use point_core::Usage;
-
-/// The word of a command, as a line of a script begins with it.
-pub fn word_of(command: &Command) -> &'static str {
-    match command {
-        Command::Timeline(_) => "timeline",
-        Command::Inc(_, _) => "inc",
-        Command::Value(_) => "value",
-        Command::Shut(_) => "shut",
-        Command::Fence(_, _, _) => "fence",
-        Command::Merge(_, _, _) => "merge",
-        Command::Close(_) => "close",
-        Command::Wait(_) => "wait",
-        Command::Info(_) => "info",
-        Command::Buffer(_) => "buffer",
-        Command::Add(_, _, _, _) => "add",
-        Command::Import(_, _, _) => "import",
-        Command::Export(_, _, _) => "export",
-        Command::Test(_, _) => "test",
-        Command::Trim(_) => "trim",
-        Command::Watch(_, _) => "watch",
-        Command::Unwatch(_) => "unwatch",
-        Command::Show(_) => "show",
-        Command::Report => "report",
-    }
-}
 
 /// The letter of what a command did with a buffer.
 pub(crate) fn letter_of(access: Access) -> &'static str {

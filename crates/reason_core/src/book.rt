@@ -2,8 +2,8 @@
 ghost use Rattle.std.specs.Prelude.{◌≡◌, IfErr};
 ghost use Rattle.point_core.specs.declared.refusal.Refusal.TheVariants.{Memory};
 
-use crate::names::{Names, Space};
-use desk_core::{Command, Desk};
+use command_core::{Command, Space};
+use desk_core::Desk;
 use point_core::{Name, Refusal};
 use std::alloc::Global;
 use std::collections::HashMap;
@@ -47,18 +47,28 @@ impl Book {
         ensures refusals { IfErr result (λ refusal. refusal ≡ Memory) }
     {
         match command {
-            Command::Close(file) => self.forget_file(file),
-            Command::Shut(timeline) => self.enter_closing(line, timeline)?,
-            Command::Watch(_, cookie) => self.enter_cookie(line, *cookie, desk)?,
-            _ => self.enter_name(line, command)?,
+            Command::Watch(_, cookie) => self.enter_cookie(line, *cookie, desk),
+            _ => self.enter_names(line, command),
         }
-        Ok(())
     }
 
-    fn enter_name(&mut self, line: u32, command: &Command) -> Result<(), Refusal>
+    fn enter_names(&mut self, line: u32, command: &Command) -> Result<(), Refusal>
         ensures refusals { IfErr result (λ refusal. refusal ≡ Memory) }
     {
-        let Some((space, name)) = Names::of(command).made else {
+        match command.closed() {
+            Some((Space::Timeline, name)) => self.enter_closing(line, &name),
+            Some((Space::File, name)) => {
+                self.forget_file(&name);
+                Ok(())
+            }
+            _ => self.enter_made(line, command),
+        }
+    }
+
+    fn enter_made(&mut self, line: u32, command: &Command) -> Result<(), Refusal>
+        ensures refusals { IfErr result (λ refusal. refusal ≡ Memory) }
+    {
+        let Some((space, name)) = command.made() else {
             return Ok(());
         };
         match space {

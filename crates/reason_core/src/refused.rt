@@ -4,8 +4,9 @@ ghost use Rattle.point_core.specs.declared.refusal.Refusal.TheVariants.{Write as
 
 use crate::book::Book;
 use crate::look::{Part, Place, note};
-use crate::names::{Names, Space, is_there};
-use desk_core::{Command, Desk};
+use crate::names::{is_there, word_of};
+use command_core::{Command, Space};
+use desk_core::Desk;
 use fence_core::WATCHES;
 use point_core::{BUFFERS, CONTEXTS, LimitKind, Name, Point, Refusal};
 use std::io::Write;
@@ -71,7 +72,7 @@ fn reason_of(desk: &Desk, book: &Book, command: &Command, refusal: Refusal) -> R
 
 /// The first name that the command looks up and that stands for nothing.
 fn missing(desk: &Desk, command: &Command) -> Reason {
-    for (space, name) in Names::of(command).looked_up.into_iter().flatten() {
+    for (space, name) in command.looked_up().into_iter().flatten() {
         if !is_there(desk, space, &name) {
             return Reason::Missing(space, name);
         }
@@ -84,7 +85,7 @@ fn taken(book: &Book, command: &Command) -> Reason {
         let line = book.line_of_cookie(*cookie).unwrap_or(0);
         return Reason::Watched(*cookie, line);
     }
-    match Names::of(command).made {
+    match command.made() {
         Some((space, name)) => {
             let line = book.line_of(space, &name).unwrap_or(0);
             Reason::Taken(space, name, line)
@@ -94,7 +95,7 @@ fn taken(book: &Book, command: &Command) -> Reason {
 }
 
 fn closed(book: &Book, command: &Command) -> Reason {
-    match Names::of(command).needs_open {
+    match command.needs_open() {
         Some(timeline) => {
             let line = book.line_of_closing(&timeline).unwrap_or(0);
             Reason::Closed(timeline, line)
@@ -136,7 +137,7 @@ fn explain_reason<N: Write>(place: &Place, reason: &Reason, notes: &mut N) -> Re
 fn parts_of_missing(space: Space, name: &Name) -> [Part<'_>; 4] {
     [
         Part::Text("there is no "),
-        Part::Text(space.word()),
+        Part::Text(word_of(space)),
         Part::Text(" named "),
         Part::Bytes(name.as_bytes()),
     ]
@@ -145,7 +146,7 @@ fn parts_of_missing(space: Space, name: &Name) -> [Part<'_>; 4] {
 fn parts_of_taken(space: Space, name: &Name, line: u32) -> [Part<'_>; 6] {
     [
         Part::Text("there is already a "),
-        Part::Text(space.word()),
+        Part::Text(word_of(space)),
         Part::Text(" named "),
         Part::Bytes(name.as_bytes()),
         Part::Text(", made on line "),
