@@ -5,4 +5,3 @@ mod explainer;
 mod reading;
 
 pub use reading::explain;
-pub use reason_core::Look;

@@ -3,7 +3,8 @@ ghost use Rattle.std.specs.Prelude.{◌≡◌, IfErr};
 ghost use Rattle.point_core.specs.declared.refusal.Refusal.TheVariants.{Memory};
 
 use crate::names::{Names, Space};
-use desk_core::{Command, Desk};
+use command_core::Command;
+use desk_core::Desk;
 use point_core::{Name, Refusal};
 use std::alloc::Global;
 use std::collections::HashMap;

@@ -1,6 +1,7 @@
 // The names of a command.
 
-use desk_core::{Command, Desk};
+use command_core::Command;
+use desk_core::Desk;
 use point_core::Name;
 
 /// What a name stands for: each has a name space of its own.

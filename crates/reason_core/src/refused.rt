@@ -5,7 +5,8 @@ ghost use Rattle.point_core.specs.declared.refusal.Refusal.TheVariants.{Write as
 use crate::book::Book;
 use crate::look::{Part, Place, note};
 use crate::names::{Names, Space, is_there};
-use desk_core::{Command, Desk};
+use command_core::Command;
+use desk_core::Desk;
 use fence_core::WATCHES;
 use point_core::{BUFFERS, CONTEXTS, LimitKind, Name, Point, Refusal};
 use std::io::Write;

@@ -11,7 +11,7 @@ ghost use Rattle.script_core.specs.Text.{report_text, refusal_text, details, val
 ghost use Rattle.script_core.specs.Behind.{behind_text};
 ghost use Rattle.script_core.specs.declared.text.TheConstants.{DRIVER_BYTES};
 
-use desk_core::{Answer, FenceRow, Info, Maker, Report, ShowRow};
+use command_core::{Answer, FenceRow, Info, Maker, Report, ShowRow};
 use itoa::Buffer;
 use point_core::{Refusal, Status};
 use report_core::{
