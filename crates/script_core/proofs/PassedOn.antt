@@ -1,4 +1,4 @@
--- Bytes that go behind those that wait to be written, of which a front is written.
+-- Bytes that go after those that wait to be written, of which a prefix is written.
 use Rattle.std.proofs.Common.{◌≡◌, ℕ, ◌+◌, ◌<◌, List, [], ◌∷◌, ◌++◌, length, take, drop, get_or, Option, sym, ap, ◌∙◌, append_assoc, take-append-drop, refl}
 use Rattle.std.specs.List.{flat_map}
 use Rattle.std.proofs.KnownBytes.{Appends-nil, Appends-trans}

@@ -1,5 +1,5 @@
 pub mod Answering
-pub mod Behind
 pub mod Bytes
+pub mod LineEnd
 pub mod Output
 pub mod Text

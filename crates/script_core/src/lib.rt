@@ -3,6 +3,7 @@
 //! The texts of answers are given as functions of the answers (`specs/`). Lines are those of `line_core`.
 #![tactic(auto)]
 
+mod answerer;
 mod answers;
 mod passing;
 mod reading;
@@ -10,8 +11,9 @@ mod text;
 mod totals;
 mod writing;
 
+pub use answerer::{Answerer, NoNotes};
 pub use answers::{Answers, answer_line};
-pub use reading::engine;
+pub use reading::{answer_script, engine};
 pub use text::{done_line, print, refusal_line, value_line};
 pub use totals::Totals;
 pub use writing::{write_many, write_out};

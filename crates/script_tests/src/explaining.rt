@@ -3,9 +3,8 @@ use crate::answering::assert_totals;
 use crate::pipes::{sink_of, source_of};
 use command_core::Command;
 use desk_core::Desk;
-use explain_core::explain;
 use point_core::Refusal;
-use reason_core::{Book, Look, Place, explain_command};
+use reason_core::{Book, Look, Place, explain, explain_command};
 use std::alloc::Global;
 use std::process::Abort;
 
