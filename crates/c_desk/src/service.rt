@@ -8,7 +8,8 @@ ghost use Rattle.fence_core.specs.declared.watches.TheConstants.{WATCHES};
 ghost use Rattle.c_parts.specs.Rows.{over};
 ghost use Rattle.c_desk.specs.Service.{IsStep, cookies_of, IsReadyFor};
 
-use desk_core::{Answer, Command, Desk};
+use command_core::{Answer, Command};
+use desk_core::Desk;
 use fence_core::WATCHES;
 use point_core::Refusal;
 use std::alloc::Global;

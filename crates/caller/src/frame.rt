@@ -5,7 +5,8 @@ ghost use Rattle.desk_core.specs.Answer.{is_signalled};
 ghost use Rattle.desk_core.specs.Desk.{HasHistory};
 ghost use Rattle.desk_core.specs.History.{world_of};
 
-use desk_core::{Answer, Command, Desk};
+use command_core::{Answer, Command};
+use desk_core::Desk;
 use point_core::{Name, Refusal, Usage};
 use std::alloc::Global;
 

@@ -1,7 +1,8 @@
 // A script whose notes come to expect what is answered.
 use crate::expected::expected_text;
 use crate::page::Page;
-use desk_core::{Answer, Desk};
+use command_core::Answer;
+use desk_core::Desk;
 use line_core::{Body, body_of, first_line};
 use point_core::Refusal;
 use script_core::{answer_line, print};

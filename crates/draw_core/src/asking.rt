@@ -1,7 +1,7 @@
 // From which column on files are signalled.
 ghost use Rattle.std.specs.Prelude.{◌≡◌};
 ghost use Rattle.point_core.specs.Clocks.{common_status};
-ghost use Rattle.desk_core.specs.Timeline.{clocks_of};
+ghost use Rattle.timeline_core.specs.Timeline.{clocks_of};
 ghost use Rattle.draw_core.specs.Drawn.{AreAsked, IsAsked};
 
 use desk_core::Desk;

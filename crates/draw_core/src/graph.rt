@@ -4,7 +4,8 @@ ghost use Rattle.draw_core.specs.Found.{buffers_edges, edges_by, edges_of, file_
 ghost use Rattle.draw_core.specs.Waiting.{buffer_edges, watch_edges, watches_edges};
 
 use crate::waiting::{waiting_for, waiting_on};
-use desk_core::{BufferRows, Desk, FileRow, Report, ShowRow};
+use command_core::{BufferRows, FileRow, Report, ShowRow};
+use desk_core::Desk;
 use picture_core::{Graph, Node, Waiter, WatchEnd, WatchLane};
 use point_core::{Name, Point, Refusal, TimelineRow};
 

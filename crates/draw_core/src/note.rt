@@ -1,6 +1,7 @@
 // What hovering over a column shows.
 
-use desk_core::{Answer, Command, Desk};
+use command_core::{Answer, Command};
+use desk_core::Desk;
 use line_core::RawLine;
 use point_core::Refusal;
 use reason_core::{Book, Look, Place, explain_bad_line, explain_command};

@@ -1,9 +1,9 @@
 // Sync files that are made, merged, adopted and reported. What their commands show is in the scripts of tests/.
 use crate::values::{context, holds, name, point, reach_at};
-use point_core::{Clocks, Items, Listing, Name, Point, Reach, Refusal};
+use point_core::{Clocks, Items, Listing, Name, Point, Reach, Refusal, Status};
 use std::alloc::Global;
 use std::process::Abort;
-use syncfile_core::{FenceInfo, Files, Status, SyncFile};
+use syncfile_core::{FenceInfo, Files, SyncFile};
 
 const ACTIVE: Status = Status::Active;
 

@@ -19,7 +19,7 @@ use Rattle.line_core.proofs.Fronts.{some_lines}
 use Rattle.line_core.proofs.Inputs.{input_from, script_of-whole, script_of-too_long, some_input}
 use Rattle.script_core.specs.declared.totals.Totals.{Totals}
 use Rattle.script_core.specs.Answering.{history_along}
-use Rattle.script_core.specs.Bytes.{AppendsFront}
+use Rattle.report_core.specs.Bytes.{AppendsFront}
 use Rattle.script_core.proofs.Progress.{AppendsFront-none, AreLineAnswers-push}
 use Rattle.json_core.specs.Reporting.{ReportsPrefix}
 use Rattle.json_core.specs.Written.{BeginsScript, HasBegun, HasWritten, WritesObjectsPrefix, WritesScriptPrefix, objects_of}

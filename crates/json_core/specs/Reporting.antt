@@ -7,7 +7,8 @@ use Rattle.desk_core.specs.Answer.{is_refused}
 use Rattle.desk_core.specs.Desk.{DeskState, HasHistory}
 use Rattle.line_core.specs.declared.line.Body.{Body}
 use Rattle.script_core.specs.declared.totals.Totals.{Totals}
-use Rattle.script_core.specs.Bytes.{PassesOn, AppendsFront}
+use Rattle.report_core.specs.Bytes.{AppendsFront}
+use Rattle.script_core.specs.Bytes.{PassesOn}
 use Rattle.script_core.specs.Output.{IsLineAnswer, history_after_line}
 use Rattle.json_core.specs.Json.{line_text}
 

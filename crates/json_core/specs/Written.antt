@@ -13,7 +13,7 @@ use Rattle.script_core.specs.declared.totals.Totals.{Totals}
 use Rattle.script_core.specs.Answering.{history_along}
 use Rattle.script_core.specs.Output.{AreLineAnswers, Counts}
 use Rattle.json_core.specs.Json.{line_text}
-use Rattle.script_core.specs.Bytes.{AppendsFront}
+use Rattle.report_core.specs.Bytes.{AppendsFront}
 use Rattle.line_core.specs.Reading.{IsInput}
 
 -- the line of that number as its object shows it: of one that is too long only its first bytes, and U+FFFD for what is

@@ -7,14 +7,16 @@ ghost use Rattle.desk_core.specs.Desk.{HasHistory};
 ghost use Rattle.line_core.specs.declared.line.Line.{Line as LineModel};
 ghost use Rattle.line_core.specs.Cutting.{cut};
 ghost use Rattle.line_core.specs.Script.{answered};
-ghost use Rattle.script_core.specs.Bytes.{AppendsFront, PassesOn};
+ghost use Rattle.report_core.specs.Bytes.{AppendsFront};
+ghost use Rattle.script_core.specs.Bytes.{PassesOn};
 ghost use Rattle.json_core.specs.Json.{line_text};
 ghost use Rattle.point_core.specs.declared.refusal.Refusal.TheVariants.{Write as WriteFault, Memory};
 ghost use Rattle.json_core.specs.Reporting.{ReportsLine, ReportsPrefix};
 ghost use Rattle.json_core.specs.Written.{HasWritten};
 
 use crate::members::push_line;
-use desk_core::{Answer, Desk};
+use command_core::Answer;
+use desk_core::Desk;
 use line_core::Body;
 use point_core::Refusal;
 use script_core::{Totals, answer_line, write_many, write_out};

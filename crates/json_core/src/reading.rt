@@ -49,12 +49,12 @@ pub fn run_json<R: Read, W: Write>(
         (refusal ≡ ReadFault) ⊎ (refusal ≡ WriteFault) ⊎ (refusal ≡ Memory)) }
 {
     let mut objects = Objects::new(alloc)?;
-    answer_script(reader, &mut objects, writer)
+    with_objects(&mut objects, reader, writer)
 }
 
-fn answer_script<R: Read, W: Write>(
-    reader: &mut R,
+fn with_objects<R: Read, W: Write>(
     objects: &mut Objects,
+    reader: &mut R,
     writer: &mut W,
 ) -> Result<Totals, Refusal>
     requires fresh { HasWritten [] [] objects.old.desk objects.old.out.items objects.old.totals
@@ -72,7 +72,7 @@ fn answer_script<R: Read, W: Write>(
     ensures refusals { IfErr result (λ refusal.
         (refusal ≡ ReadFault) ⊎ (refusal ≡ WriteFault) ⊎ (refusal ≡ Memory)) }
 {
-    let ending = answer_lines(reader, objects, writer)?;
+    let ending = answer_lines(objects, reader, writer)?;
     let totals = objects.finish(writer)?;
     match ending {
         Ending::Failed => Err(Refusal::Read),
@@ -82,8 +82,8 @@ fn answer_script<R: Read, W: Write>(
 
 /// Reads the lines of a script and answers each when its end was read. Nothing is read while an object is not written.
 fn answer_lines<R: Read, W: Write>(
-    reader: &mut R,
     objects: &mut Objects,
+    reader: &mut R,
     writer: &mut W,
 ) -> Result<Ending, Refusal>
     requires fresh { HasWritten [] [] objects.old.desk objects.old.out.items objects.old.totals

@@ -1,6 +1,7 @@
 // Lines of a script, commands that are run, and the text of an answer.
 use crate::calls::{Calls, name};
-use desk_core::{Answer, Command, run};
+use command_core::{Answer, Command};
+use desk_core::run;
 use line_core::{Line, read_script};
 use point_core::Refusal;
 use script_core::print;

@@ -6,7 +6,7 @@ ghost use Rattle.run_core.specs.Fault.{fault_text};
 
 use itoa::Buffer;
 use point_core::Refusal;
-use script_core::write_whole;
+use report_core::write_whole;
 use std::io::Write;
 
 /// The status of a fault: the command line was wrong, or reading, writing or memory failed.

@@ -1,9 +1,10 @@
--- Bytes that go behind those that wait to be written, of which a front is written.
+-- Bytes that go after those that wait to be written, of which a prefix is written.
 use Rattle.std.proofs.Common.{◌≡◌, ℕ, ◌+◌, ◌<◌, List, [], ◌∷◌, ◌++◌, length, take, drop, get_or, Option, sym, ap, ◌∙◌, append_assoc, take-append-drop, refl}
 use Rattle.std.specs.List.{flat_map}
 use Rattle.std.proofs.KnownBytes.{Appends-nil, Appends-trans}
 use Rattle.std.proofs.lemmas.List.{flat_map_more, take_more}
-use Rattle.script_core.specs.Bytes.{AppendsFront, PassesOn}
+use Rattle.report_core.specs.Bytes.{AppendsFront}
+use Rattle.script_core.specs.Bytes.{PassesOn}
 
 -- one after the other
 pub Passes-trans : (waiting middle left one two : List ℕ) (old between new : Option (List ℕ)) → PassesOn waiting middle one old between → PassesOn middle left two between new → PassesOn waiting left (one ++ two) old new

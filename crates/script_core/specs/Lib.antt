@@ -1,7 +1,5 @@
 pub mod Answering
-pub mod Behind
 pub mod Bytes
+pub mod LineEnd
 pub mod Output
 pub mod Text
-pub use Rattle.line_core.specs.Reading
-pub use Rattle.line_core.specs.Script

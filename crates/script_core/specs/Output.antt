@@ -13,7 +13,7 @@ use Rattle.script_core.specs.declared.totals.Totals.{Totals}
 use Rattle.line_core.specs.declared.line.Body.{Body}
 use Rattle.line_core.specs.declared.line.Body.TheVariants.{Cmd, Bad}
 use Rattle.line_core.specs.declared.line.Line.{Line}
-use Rattle.script_core.specs.Bytes.{AppendsFront}
+use Rattle.report_core.specs.Bytes.{AppendsFront}
 use Rattle.line_core.specs.declared.script.Ending.TheVariants as ending
 use Rattle.line_core.specs.declared.script.TheConstants.{SCRIPT_BYTES}
 use Rattle.line_core.specs.Reading.{IsInput}

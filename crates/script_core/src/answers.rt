@@ -11,7 +11,8 @@ ghost use Rattle.script_core.specs.Output.{IsLineAnswer, history_after_line, ref
 use crate::passing::pass_answer;
 use crate::totals::Totals;
 use crate::writing::write_out;
-use desk_core::{Answer, Desk};
+use command_core::Answer;
+use desk_core::Desk;
 use line_core::Body;
 use point_core::Refusal;
 use std::alloc::Global;

@@ -1,9 +1,9 @@
 //! The engine, which turns a script's bytes into answers and these into bytes.
 //!
-//! The texts of answers are given as functions of the answers (`specs/`). Lines are those of `line_core`, whose names for
-//! a script's bytes stand here too.
+//! The texts of answers are given as functions of the answers (`specs/`). Lines are those of `line_core`.
 #![tactic(auto)]
 
+mod answerer;
 mod answers;
 mod passing;
 mod reading;
@@ -11,10 +11,9 @@ mod text;
 mod totals;
 mod writing;
 
+pub use answerer::{Answerer, NoNotes};
 pub use answers::{Answers, answer_line};
-pub use line_core::{Body, DIGITS, LINE_BYTES, Line, LineCutter, SCRIPT_BYTES, read_script};
-pub use reading::engine;
-pub use report_core::write_whole;
+pub use reading::{answer_script, engine};
 pub use text::{done_line, print, refusal_line, value_line};
 pub use totals::Totals;
 pub use writing::{write_many, write_out};

@@ -5,12 +5,13 @@ ghost use Rattle.point_core.specs.declared.refusal.Refusal.TheVariants.{Write as
 ghost use Rattle.command_core.specs.Tables.{row_count};
 ghost use Rattle.report_core.specs.Row.{file_row_text};
 ghost use Rattle.report_core.specs.Tables.{timeline_text, buffer_text};
-ghost use Rattle.script_core.specs.Bytes.{AppendsFront, PassesOn};
+ghost use Rattle.report_core.specs.Bytes.{AppendsFront};
+ghost use Rattle.script_core.specs.Bytes.{PassesOn};
 ghost use Rattle.script_core.specs.Text.{value_line, report_text, text_of};
 
 use crate::text::{push_owned, push_timelines};
 use crate::writing::write_many;
-use desk_core::{Answer, BufferRows, FileRow, Report};
+use command_core::{Answer, BufferRows, FileRow, Report};
 use point_core::Refusal;
 use report_core::{buffer_text, file_row};
 use std::io::Write;

@@ -5,9 +5,10 @@ ghost use Rattle.script_core.specs.Answering.{HasAnswered, HasAnsweredBytes};
 ghost use Rattle.line_core.specs.Reading.{ConsumesAtMost, ReadsScript};
 ghost use Rattle.script_core.specs.Output.{AnswersInput, AnswersEndedLines, WritesInputPrefix};
 
+use crate::answerer::{Answerer, NoNotes};
 use crate::answers::Answers;
 use crate::totals::Totals;
-use line_core::{Ending, SCRIPT_BYTES, ScriptLines, body_of, last_body};
+use line_core::{Ending, SCRIPT_BYTES, ScriptLines};
 use point_core::Refusal;
 use std::alloc::Global;
 use std::io::{Read, Write};
@@ -45,14 +46,48 @@ pub fn engine<R: Read, W: Write>(
     ensures refusals { IfErr result (λ refusal.
         (refusal ≡ ReadFault) ⊎ (refusal ≡ WriteFault) ⊎ (refusal ≡ Memory)) }
 {
-    let mut answers = Answers::new(alloc)?;
-    answer_script(reader, &mut answers, writer)
+    answer_script(alloc, &mut NoNotes, reader, writer, &mut ())
 }
 
-fn answer_script<R: Read, W: Write>(
+/// Runs a script as `engine` does, and has each line answered by `answerer`, which may write notes about it to `notes`.
+///
+/// Fails as `engine` does: also with Write if a write of a note failed, and with Memory if `answerer` was refused a growth.
+pub fn answer_script<R: Read, W: Write, N, A: Answerer<N>>(
+    alloc: Global,
+    answerer: &mut A,
     reader: &mut R,
-    answers: &mut Answers,
     writer: &mut W,
+    notes: &mut N,
+) -> Result<Totals, Refusal>
+    ensures ok { IfOk result (λ totals. AnswersInput (R.remaining reader.old) totals
+        (W.contents writer.old) (W.contents writer.new)) }
+
+    // What is read is the script, up to the byte after its limit.
+    ensures reads { IfOk result (λ _. ReadsScript (R.remaining reader.old) (R.remaining reader.new)) }
+
+    // Whatever the result, no byte is read past that one.
+    ensures within { ConsumesAtMost (SCRIPT_BYTES + 1) (R.remaining reader.old) (R.remaining reader.new) }
+
+    // The lines whose line feed was read are answered.
+    ensures read { result ≡ Err ReadFault → AnswersEndedLines (R.remaining reader.old) (R.remaining reader.new)
+        (W.contents writer.old) (W.contents writer.new) }
+
+    // A prefix of the answers is written.
+    ensures err { OnErr result (WritesInputPrefix (R.remaining reader.old)
+        (W.contents writer.old) (W.contents writer.new)) }
+    ensures refusals { IfErr result (λ refusal.
+        (refusal ≡ ReadFault) ⊎ (refusal ≡ WriteFault) ⊎ (refusal ≡ Memory)) }
+{
+    let mut answers = Answers::new(alloc)?;
+    with_answers(answerer, &mut answers, reader, writer, notes)
+}
+
+fn with_answers<R: Read, W: Write, N, A: Answerer<N>>(
+    answerer: &mut A,
+    answers: &mut Answers,
+    reader: &mut R,
+    writer: &mut W,
+    notes: &mut N,
 ) -> Result<Totals, Refusal>
     requires fresh { HasAnswered [] answers.old (W.contents writer.old) (W.contents writer.old) }
     ensures ok { IfOk result (λ totals. AnswersInput (R.remaining reader.old) totals
@@ -66,7 +101,7 @@ fn answer_script<R: Read, W: Write>(
     ensures refusals { IfErr result (λ refusal.
         (refusal ≡ ReadFault) ⊎ (refusal ≡ WriteFault) ⊎ (refusal ≡ Memory)) }
 {
-    let ending = answer_lines(reader, answers, writer)?;
+    let ending = answer_lines(answerer, answers, reader, writer, notes)?;
     let totals = answers.finish(writer)?;
     match ending {
         Ending::Failed => Err(Refusal::Read),
@@ -74,11 +109,13 @@ fn answer_script<R: Read, W: Write>(
     }
 }
 
-/// Reads the lines of a script and answers each when its end was read. Nothing is read while an answer is not written.
-fn answer_lines<R: Read, W: Write>(
-    reader: &mut R,
+/// Reads the lines of a script and has each answered when its end was read. Nothing is read while an answer is not written.
+fn answer_lines<R: Read, W: Write, N, A: Answerer<N>>(
+    answerer: &mut A,
     answers: &mut Answers,
+    reader: &mut R,
     writer: &mut W,
+    notes: &mut N,
 ) -> Result<Ending, Refusal>
     requires fresh { HasAnswered [] answers.old (W.contents writer.old) (W.contents writer.old) }
     ensures ok { IfOk result (λ ending. HasAnsweredBytes (R.remaining reader.old) (R.remaining reader.new) ending
@@ -92,12 +129,12 @@ fn answer_lines<R: Read, W: Write>(
     loop {
         if lines.advance() {
             let line = lines.line();
-            answers.answer(line.number, body_of(line.bytes), writer)?;
+            answerer.answer(answers, &line, Ending::Whole, writer, notes)?;
         } else {
             answers.write(writer)?;
             if let Some(ending) = lines.read(reader) {
                 let line = lines.line();
-                answers.answer(line.number, last_body(ending, line.bytes), writer)?;
+                answerer.answer(answers, &line, ending, writer, notes)?;
                 return Ok(ending);
             }
         }

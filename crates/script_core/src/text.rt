@@ -8,10 +8,10 @@ ghost use Rattle.report_core.specs.Status.{status_text};
 ghost use Rattle.report_core.specs.Tables.{timeline_text};
 ghost use Rattle.script_core.specs.Text.{line_text, fired_text, raised_text, fence_text, info_line, info_text, show_text};
 ghost use Rattle.script_core.specs.Text.{report_text, refusal_text, details, value_line, driver_of, text_of};
-ghost use Rattle.script_core.specs.Behind.{behind_text};
+ghost use Rattle.script_core.specs.LineEnd.{line_end};
 ghost use Rattle.script_core.specs.declared.text.TheConstants.{DRIVER_BYTES};
 
-use desk_core::{Answer, FenceRow, Info, Maker, Report, ShowRow};
+use command_core::{Answer, FenceRow, Info, Maker, Report, ShowRow};
 use itoa::Buffer;
 use point_core::{Refusal, Status};
 use report_core::{
@@ -289,7 +289,7 @@ fn put_refusal(text: &mut TextLine, line: u32, refusal: Refusal)
 /// Puts what follows the name of a refusal before the line feed.
 fn put_details(text: &mut TextLine, line: u32, refusal: Refusal)
     requires { text.old ≡ 10 ∷ [] }
-    ensures text { text.new ≡ behind_text (details line refusal) }
+    ensures text { text.new ≡ line_end (details line refusal) }
     ensures len { length text.new ≤ length text.old + 32 }
 {
     match refusal {

@@ -2,7 +2,7 @@
 ghost use Rattle.std.specs.Prelude.{◌≡◌, ◌+◌, ◌^◌, ◌<◌, [], if◌then◌else◌};
 ghost use Rattle.desk_core.specs.Answer.{is_refused};
 
-use desk_core::Answer;
+use command_core::Answer;
 
 /// How many lines of a script were answered.
 #[derive(Clone, Copy, Debug)]

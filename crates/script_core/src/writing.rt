@@ -2,7 +2,7 @@
 ghost use Rattle.std.specs.Prelude.{◌≡◌, ◌++◌, [], Err, List, ℕ, OnOk, OnErr};
 ghost use Rattle.std.specs.Io.KnownBytes.{Appends};
 ghost use Rattle.point_core.specs.declared.refusal.Refusal.TheVariants.{Write};
-ghost use Rattle.script_core.specs.Bytes.{AppendsFront};
+ghost use Rattle.report_core.specs.Bytes.{AppendsFront};
 
 use point_core::Refusal;
 use report_core::write_whole;

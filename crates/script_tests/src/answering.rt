@@ -1,7 +1,8 @@
 // A script from a reader, and its answers to a writer.
 use crate::pipes::{PIECES, Sink, Source, assert_refusal, failing_source_of, sink_of, source_of};
+use line_core::SCRIPT_BYTES;
 use point_core::Refusal;
-use script_core::{SCRIPT_BYTES, Totals, engine};
+use script_core::{Totals, engine};
 use std::alloc::Global;
 use std::process::Abort;
 

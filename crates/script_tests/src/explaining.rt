@@ -1,10 +1,10 @@
 // Explanations of scripts.
 use crate::answering::assert_totals;
 use crate::pipes::{sink_of, source_of};
-use desk_core::{Command, Desk};
-use explain_core::{Look, explain};
+use command_core::Command;
+use desk_core::Desk;
 use point_core::Refusal;
-use reason_core::{Book, Place, explain_command};
+use reason_core::{Book, Look, Place, explain, explain_command};
 use std::alloc::Global;
 use std::process::Abort;
 

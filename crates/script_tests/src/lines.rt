@@ -1,7 +1,7 @@
 // Lines byte by byte, lines from a reader, and the commands that they say.
 use crate::answering::repeated;
 use crate::pipes::{PIECES, source_of};
-use desk_core::Command;
+use command_core::Command;
 use line_core::{Body, Line, LineCutter, SCRIPT_BYTES, ScriptLines, body_of};
 use point_core::Usage;
 use std::process::Abort;

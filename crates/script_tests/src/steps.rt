@@ -1,7 +1,9 @@
 // The calls of a desk, and the texts of their answers.
-use desk_core::{Answer, Command, Desk, run};
+use command_core::{Answer, Command};
+use desk_core::{Desk, run};
+use line_core::{Line, read_script};
 use point_core::Name;
-use script_core::{Line, answer_line, print, read_script};
+use script_core::{answer_line, print};
 use std::alloc::Global;
 use std::process::Abort;
 

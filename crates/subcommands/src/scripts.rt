@@ -5,8 +5,8 @@ ghost use Rattle.script_core.specs.declared.totals.Totals.{Totals};
 ghost use Rattle.run_core.specs.Ends.{EndsRun, ReportsFault, run_status};
 ghost use Rattle.subcommands.specs.Json.{EndsJson};
 
-use explain_core::{Look, explain};
 use json_core::run_json;
+use reason_core::{Look, explain};
 use run_core::status_of_run;
 use std::alloc::Global;
 use std::io::{Read, Write};

@@ -7,8 +7,8 @@ use check_core::{Form, Plan, check_scripts, update_scripts};
 use command_line::{
     Action, Check, ColorChoice, Colors, Report, action_of, report_clients, take_color,
 };
-use explain_core::Look;
 use point_core::Refusal;
+use reason_core::Look;
 use run_core::{ACCEPTED, FAULT, report_unread_word, run_script, tell_fault};
 use source_core::{Prompted, Script, Source, script_files};
 use std::env;

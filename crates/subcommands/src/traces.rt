@@ -6,7 +6,8 @@ use run_core::{ACCEPTED, FAULT, REFUSED};
 use source_core::Source;
 use trace_events::{Written, events_of_trace};
 use trace_report::{Form, Outcome, report_trace};
-use trace_script::{Scripted, Span, script_of_trace};
+use trace_script::{Scripted, script_of_trace};
+use track_core::Span;
 
 /// What is reported when a text has no event of a fence.
 const NO_EVENTS: &str = "\

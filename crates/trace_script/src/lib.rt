@@ -10,4 +10,3 @@ mod safe_names;
 mod text;
 
 pub use text::{Scripted, script_of_trace};
-pub use track_core::Span;

@@ -1,6 +1,6 @@
 use Rattle.std.proofs.Common.{◌∙◌}
 use Rattle.point_core.proofs.Ticking.{common_status-take_more}
-use Rattle.desk_core.specs.Timeline.{clocks_of}
+use Rattle.timeline_core.specs.Timeline.{clocks_of}
 use Rattle.draw_core.proofs.asking.status_of.Goals as goal
 
 pub loop-point-preserved : goal.loop-point-preserved

@@ -1,6 +1,6 @@
 use Rattle.std.proofs.Common.{◌≡◌, take}
 use Rattle.point_core.specs.Clocks.{common_status}
-use Rattle.desk_core.specs.Timeline.{clocks_of}
+use Rattle.timeline_core.specs.Timeline.{clocks_of}
 use Rattle.draw_core.proofs.asking.status_of.Given as goal
 
 abbrev pub invariant-loop-point : goal.invariant-loop-point

@@ -4,7 +4,8 @@ use Rattle.std.proofs.lemmas.Result.{err_from_is_err_and}
 use Rattle.command_core.specs.Tables.{Tables, row_count}
 use Rattle.report_core.specs.Row.{file_row_text}
 use Rattle.report_core.specs.Tables.{timeline_text, buffer_text}
-use Rattle.script_core.specs.Bytes.{AppendsFront, PassesOn}
+use Rattle.report_core.specs.Bytes.{AppendsFront}
+use Rattle.script_core.specs.Bytes.{PassesOn}
 use Rattle.script_core.specs.Text.{report_text, value_line}
 use Rattle.script_core.proofs.PassedOn.{Front-more, Front-passed, Passes-trans}
 use Rattle.script_core.proofs.passing.pass_report.Goals as goal

@@ -4,7 +4,8 @@ use Rattle.std.proofs.lemmas.Result.{err_from_is_err_and}
 use Rattle.line_core.specs.declared.script.TheConstants.{SCRIPT_BYTES}
 use Rattle.script_core.specs.Answering.{HasAnswered}
 use Rattle.script_core.specs.Output.{WritesPrefix}
-use Rattle.line_core.specs.Script.{lines_until}
+use Rattle.line_core.specs.Line.{body_of}
+use Rattle.line_core.specs.Script.{last_body, lines_until}
 use Rattle.line_core.proofs.EndedLines.{ended_lines, line-answered, last-answered, ended-within}
 use Rattle.script_core.proofs.Inputs.{given-front, prefix_written}
 use Rattle.script_core.proofs.reading.answer_lines.Goals as goal
@@ -15,17 +16,17 @@ answer-requires g c =
     let more = c.if-advance.ensures.next (g.R.Read.remaining c.args.reader.now) (g.R.Read.remaining c.loop-lines.reader) at.0 at.1 in
     record { few = omega (arith, at.3, more.number, c.line-line.ensures.number) }
 
-pub loop-lines-preserved-in_ok-answer : goal.loop-lines-preserved-in_ok-answer
-loop-lines-preserved-in_ok-answer g c =
+pub loop-lines-preserved-in-Continue-1 : goal.loop-lines-preserved-in-Continue-1
+loop-lines-preserved-in-Continue-1 g c =
     let at = c.loop-lines.invariant in
     let start = g.W.Write.contents c.args.writer.now in
     let more = c.if-advance.ensures.next (g.R.Read.remaining c.args.reader.now) (g.R.Read.remaining c.loop-lines.reader) at.0 at.1 in
     let line = c.line-line.result in
-    let e = line-answered at.0 more.line line.bytes.now line.number c.body_of.result (c.line-line.ensures.number ∙ more.number) (c.line-line.ensures.bytes ∙ more.is.held) c.body_of.ensures.body in
+    let e = line-answered at.0 more.line line.bytes.now line.number (body_of line.bytes.now) (c.line-line.ensures.number ∙ more.number) (c.line-line.ensures.bytes ∙ more.is.held) refl in
     let answered = c.in_ok-answer.ensures.ok (ended_lines 1 at.0) start at.2 in (
       at.0 ++ more.line ∷ [],
       more.more,
-      subst (λ ls. HasAnswered ls c.answer.new.self start (g.W.Write.contents c.answer.new.writer)) e answered,
+      subst (λ ls. HasAnswered ls c.answer.new.answers start (g.W.Write.contents c.answer.new.writer)) e answered,
       omega (arith, at.3, c.in_ok-answer.ensures.lines, length-append at.0 (more.line ∷ [])),
     )
 
@@ -39,7 +40,7 @@ returns-in_err-answer-clause-err g c =
     let end = g.W.Write.contents c.answer.new.writer in
     let more = c.if-advance.ensures.next before now at.0 at.1 in
     let line = c.line-line.result in
-    let e = line-answered at.0 more.line line.bytes.now line.number c.body_of.result (c.line-line.ensures.number ∙ more.number) (c.line-line.ensures.bytes ∙ more.is.held) c.body_of.ensures.body in
+    let e = line-answered at.0 more.line line.bytes.now line.number (body_of line.bytes.now) (c.line-line.ensures.number ∙ more.number) (c.line-line.ensures.bytes ∙ more.is.held) refl in
     let front = subst (λ ls. WritesPrefix ls start end) e (c.in_err-answer.ensures.err (ended_lines 1 at.0) start at.2) in
     rw q.1 (given-front before now c.advance.new.self (at.0 ++ more.line ∷ []) start end more.more front)
 
@@ -92,7 +93,7 @@ returns-in_err-answer-2-clause-err g c =
     let none = c.if-advance.ensures.next before (g.R.Read.remaining c.loop-lines.reader) at.0 at.1 in
     let ended = c.in-Some.ensures.ended before at.0 none.0 in
     let line = c.line-line-in-Some.result in
-    let e = last-answered before left c.read.new.self c.in-Some.ending at.0 ended line.bytes.now line.number c.last_body.result c.line-line-in-Some.ensures.number c.line-line-in-Some.ensures.bytes c.last_body.ensures.body in
+    let e = last-answered before left c.read.new.self c.in-Some.ending at.0 ended line.bytes.now line.number (last_body c.in-Some.ending line.bytes.now) c.line-line-in-Some.ensures.number c.line-line-in-Some.ensures.bytes refl in
     let answered = c.in_ok-write.ensures.ok (ended_lines 1 at.0) start at.2 in
     let front = subst (λ ls. WritesPrefix ls start end) e (c.in_err-answer-2.ensures.err (ended_lines 1 at.0) start answered) in
     rw q.1 (prefix_written before left ended.bytes ended.bytes c.in-Some.ending (lines_until c.in-Some.ending (take SCRIPT_BYTES ended.bytes)) ended.read refl refl start end front)
@@ -107,10 +108,10 @@ returns-in-Some-clause-ok g c =
     let none = c.if-advance.ensures.next before (g.R.Read.remaining c.loop-lines.reader) at.0 at.1 in
     let ended = c.in-Some.ensures.ended before at.0 none.0 in
     let line = c.line-line-in-Some.result in
-    let e = last-answered before left c.read.new.self c.in-Some.ending at.0 ended line.bytes.now line.number c.last_body.result c.line-line-in-Some.ensures.number c.line-line-in-Some.ensures.bytes c.last_body.ensures.body in
+    let e = last-answered before left c.read.new.self c.in-Some.ending at.0 ended line.bytes.now line.number (last_body c.in-Some.ending line.bytes.now) c.line-line-in-Some.ensures.number c.line-line-in-Some.ensures.bytes refl in
     let answered = c.in_ok-write.ensures.ok (ended_lines 1 at.0) start at.2 in
     record {
       bytes = ended.bytes;
       read = ended.read;
-      answered = subst (λ ls. HasAnswered ls c.answer-in-Some.new.self start end) e (c.in_ok-answer-2.ensures.ok (ended_lines 1 at.0) start answered);
+      answered = subst (λ ls. HasAnswered ls c.answer-in-Some.new.answers start end) e (c.in_ok-answer-2.ensures.ok (ended_lines 1 at.0) start answered);
     }

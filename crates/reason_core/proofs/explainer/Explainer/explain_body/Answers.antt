@@ -2,8 +2,8 @@
 use Rattle.std.proofs.Common.{[], ◌++◌, Some}
 use Rattle.std.proofs.lemmas.Result.{err_from_is_err_and}
 use Rattle.line_core.specs.Script.{answered}
-use Rattle.explain_core.proofs.Written.{answered-prefix}
-use Rattle.explain_core.proofs.explainer.Explainer.explain_body.Goals as goal
+use Rattle.reason_core.proofs.Written.{answered-prefix}
+use Rattle.reason_core.proofs.explainer.Explainer.explain_body.Goals as goal
 
 pub returns-in_err-enter-clause-err : goal.returns-in_err-enter-clause-err
 returns-in_err-enter-clause-err g c =

@@ -6,10 +6,13 @@ ghost use Rattle.script_core.specs.Output.{WritesPrefix};
 ghost use Rattle.line_core.specs.Script.{answered};
 ghost use Rattle.line_core.specs.declared.line.Line.{Line};
 
-use line_core::{Body, RawLine};
+use crate::book::Book;
+use crate::look::{Look, Place};
+use crate::refused::explain_command;
+use crate::syntax::explain_bad_line;
+use line_core::{Body, Ending, RawLine, last_body};
 use point_core::Refusal;
-use reason_core::{Book, Look, Place, explain_bad_line, explain_command};
-use script_core::Answers;
+use script_core::{Answerer, Answers};
 use std::alloc::Global;
 use std::io::Write;
 
@@ -29,34 +32,6 @@ impl Explainer {
             alloc,
             look,
             book: Book::new(alloc),
-        }
-    }
-
-    /// Answers a line that has an answer. If it is refused, writes its answer and after that why.
-    ///
-    /// Fails with `Write` if a write failed or took no byte, and with `Memory` if a growth was refused: then a prefix of the
-    /// answers is written.
-    pub(crate) fn explain<W: Write, N: Write>(
-        &mut self,
-        answers: &mut Answers,
-        line: &RawLine<'_>,
-        body: Option<Body>,
-        writer: &mut W,
-        notes: &mut N,
-    ) -> Result<(), Refusal>
-        requires few { answers.old.totals.lines < line.now.number }
-        ensures ok { OnOk result ((done : List Line) → (start : Option (List ℕ)) →
-            HasAnswered done answers.old start (W.contents writer.old)
-            → HasAnswered (done ++ answered line.now.number body []) answers.new start (W.contents writer.new)) }
-        ensures err { OnErr result ((done : List Line) → (start : Option (List ℕ)) →
-            HasAnswered done answers.old start (W.contents writer.old)
-            → WritesPrefix (done ++ answered line.now.number body []) start (W.contents writer.new)) }
-        ensures lines { answers.new.totals.lines ≤ answers.old.totals.lines + 1 }
-        ensures refusals { IfErr result (λ refusal. (refusal ≡ WriteFault) ⊎ (refusal ≡ Memory)) }
-    {
-        match body {
-            Some(body) => self.explain_body(answers, line, body, writer, notes),
-            None => Ok(()),
         }
     }
 
@@ -123,6 +98,23 @@ impl Explainer {
                 explain_command(answers.desk(), &self.book, &place, command, refusal, notes)
             }
             Body::Bad(fault) => explain_bad_line(self.alloc, &place, line, *fault, notes),
+        }
+    }
+}
+
+impl<N: Write> Answerer<N> for Explainer {
+    /// If the line is refused, its answer is written, and after that why.
+    fn answer<W: Write>(
+        &mut self,
+        answers: &mut Answers,
+        line: &RawLine<'_>,
+        ending: Ending,
+        writer: &mut W,
+        notes: &mut N,
+    ) -> Result<(), Refusal> {
+        match last_body(ending, line.bytes) {
+            Some(body) => self.explain_body(answers, line, body, writer, notes),
+            None => Ok(()),
         }
     }
 }

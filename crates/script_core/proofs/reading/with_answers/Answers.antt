@@ -4,7 +4,7 @@ use Rattle.line_core.specs.declared.script.TheConstants.{SCRIPT_BYTES}
 use Rattle.line_core.specs.Script.{lines_until}
 use Rattle.line_core.proofs.Inputs.{reads_front}
 use Rattle.script_core.proofs.Inputs.{prefix_written, all_written, ended_written, WritesPrefix-all}
-use Rattle.explain_core.proofs.reading.explain_script.Goals as goal
+use Rattle.script_core.proofs.reading.with_answers.Goals as goal
 
 pub returns-in_err-totals-clause-err : goal.returns-in_err-totals-clause-err
 returns-in_err-totals-clause-err g c =

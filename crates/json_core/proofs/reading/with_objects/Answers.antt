@@ -3,7 +3,7 @@ use Rattle.line_core.specs.declared.script.TheConstants.{SCRIPT_BYTES}
 use Rattle.line_core.specs.Script.{lines_of, lines_until}
 use Rattle.line_core.proofs.Inputs.{reads_front}
 use Rattle.json_core.proofs.Writing.{ended-written, script-written, written-whole}
-use Rattle.json_core.proofs.reading.answer_script.Goals as goal
+use Rattle.json_core.proofs.reading.with_objects.Goals as goal
 use Rattle.std.proofs.lemmas.Result.{err_from_is_err_and}
 use Rattle.script_core.proofs.Progress.{AppendsFront-all}
 use Rattle.json_core.proofs.Prefixes.{begun-prefix}

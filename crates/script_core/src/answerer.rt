@@ -1,0 +1,61 @@
+// How a line is answered.
+
+use crate::answers::Answers;
+use line_core::{Ending, RawLine, body_of, last_body};
+use point_core::Refusal;
+use std::io::Write;
+
+/// Answers the lines of a script, one after another, and may write notes about them to `N`.
+pub trait Answerer<N> {
+    ghost use Rattle.std.specs.Prelude.{◌≡◌, ◌+◌, ◌<◌, ◌≤◌, ◌⊎◌, ◌++◌, [], List, ℕ, Option, OnOk, OnErr, IfErr};
+    ghost use Rattle.point_core.specs.declared.refusal.Refusal.TheVariants.{Write as WriteFault, Memory};
+    ghost use Rattle.line_core.specs.Script.{answered, last_body};
+    ghost use Rattle.line_core.specs.declared.line.Line.{Line};
+    ghost use Rattle.script_core.specs.Answering.{HasAnswered};
+    ghost use Rattle.script_core.specs.Output.{WritesPrefix};
+
+    /// Answers a line, if it has an answer. It is whole if it ended with a line feed or with the script. Texts are written
+    /// once they are many.
+    ///
+    /// Fails with `Write` if a write failed or took no byte, and with `Memory` if a growth was refused: then a prefix of the
+    /// answers is written.
+    fn answer<W: Write>(
+        &mut self,
+        answers: &mut Answers,
+        line: &RawLine<'_>,
+        ending: Ending,
+        writer: &mut W,
+        notes: &mut N,
+    ) -> Result<(), Refusal>
+        requires few { answers.old.totals.lines < line.now.number }
+        ensures ok { OnOk result ((done : List Line) → (start : Option (List ℕ)) →
+            HasAnswered done answers.old start (W.contents writer.old)
+            → HasAnswered (done ++ answered line.now.number (last_body ending line.now.bytes.now) []) answers.new start (W.contents writer.new)) }
+        ensures err { OnErr result ((done : List Line) → (start : Option (List ℕ)) →
+            HasAnswered done answers.old start (W.contents writer.old)
+            → WritesPrefix (done ++ answered line.now.number (last_body ending line.now.bytes.now) []) start (W.contents writer.new)) }
+        ensures lines { answers.new.totals.lines ≤ answers.old.totals.lines + 1 }
+        ensures refusals { IfErr result (λ refusal. (refusal ≡ WriteFault) ⊎ (refusal ≡ Memory)) };
+}
+
+/// Answers lines, and writes no notes about them.
+#[derive(Clone, Copy, Drop)]
+pub struct NoNotes;
+
+impl Answerer<()> for NoNotes {
+    #[inline(always)]
+    fn answer<W: Write>(
+        &mut self,
+        answers: &mut Answers,
+        line: &RawLine<'_>,
+        ending: Ending,
+        writer: &mut W,
+        _notes: &mut (),
+    ) -> Result<(), Refusal> {
+        match ending {
+            Ending::Whole => answers.answer(line.number, body_of(line.bytes), writer)?,
+            _ => answers.answer(line.number, last_body(ending, line.bytes), writer)?,
+        };
+        Ok(())
+    }
+}
