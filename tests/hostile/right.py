@@ -10,10 +10,12 @@ from scripts import answers_of
 
 MEMORY = b"err 16 Memory"
 FAULT = b"fencectl: 16 Memory\n"
+# tools/commands: memory
 # Memory is refused to none of these.
 NEVER = {b"value", b"close", b"wait", b"test", b"trim", b"unwatch"}
-# Memory is refused to these only where they fire a watch.
+# Memory is refused to these only if they fire a watch.
 RISING = {b"inc", b"shut"}
+# end
 
 
 def text_of(lines):
