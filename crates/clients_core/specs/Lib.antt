@@ -7,7 +7,3 @@ pub mod OwnPuts
 pub mod Plans
 pub mod Rounds
 pub mod Working
-pub use Rattle.resv_core.specs.Resv
-pub use Rattle.resv_core.specs.Settled
-pub use Rattle.resv_core.specs.Shared
-pub use Rattle.words_core.specs.Words

@@ -8,7 +8,7 @@ use Rattle.command_core.specs.declared.command.Command.{Command}
 use Rattle.command_core.specs.declared.command.Command.TheVariants as command
 use Rattle.command_core.specs.declared.answer.Answer.{Answer}
 use Rattle.command_core.specs.declared.answer.Answer.TheVariants as answer
-use Rattle.syncfile_core.specs.Files.{IsRefusedFor}
+use Rattle.point_core.specs.Refusal.{IsRefusedFor}
 use Rattle.desk_core.specs.World.{World, MadeFile, file_named, empty_world, after, fires_some}
 use Rattle.desk_core.specs.Answer.{first_of, causes, reported, info_reported, answer_to, refused_or, is_refused, takes_memory, OnRefused}
 use Rattle.desk_core.specs.History.{world_from, world_of, AreAccepted, IsAnswer, history_after, history_of, AreAnswers}

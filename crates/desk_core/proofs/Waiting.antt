@@ -13,7 +13,8 @@ use Rattle.point_core.specs.Agreement.{as_entries, all_reached}
 use Rattle.timeline_core.specs.Timeline.{clocks_of, reach_of}
 use Rattle.syncfile_core.specs.SyncFile.{File}
 use Rattle.point_core.specs.Reach.{is_reached}
-use Rattle.syncfile_core.specs.Files.{is_named, has_file as has_sync_file, file_at as sync_file_at, without_file, IsRefusedFor}
+use Rattle.point_core.specs.Refusal.{IsRefusedFor}
+use Rattle.syncfile_core.specs.Files.{is_named, has_file as has_sync_file, file_at as sync_file_at, without_file}
 use Rattle.command_core.specs.declared.command.Command.TheVariants as command
 use Rattle.desk_core.specs.Desk.{DeskState}
 use Rattle.desk_core.specs.Keeping.{cause_of}

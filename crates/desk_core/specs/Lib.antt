@@ -7,11 +7,3 @@ pub mod Keeping
 pub mod Sound
 pub mod Times
 pub mod World
-pub use Rattle.dmabuf_core.specs.Buffers
-pub use Rattle.dmabuf_core.specs.Flags
-pub use Rattle.point_core.specs.Agreement
-pub use Rattle.point_core.specs.Reach
-pub use Rattle.point_core.specs.Status
-pub use Rattle.syncfile_core.specs.Files
-pub use Rattle.syncfile_core.specs.SyncFile
-pub use Rattle.timeline_core.specs.Timeline

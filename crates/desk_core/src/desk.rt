@@ -41,7 +41,8 @@ impl Desk {
     ghost use Rattle.point_core.specs.Clocks.{status_at};
     ghost use Rattle.timeline_core.specs.Timeline.{has_timeline, name_at, clocks_of, value_of};
     ghost use Rattle.syncfile_core.specs.SyncFile.{File};
-    ghost use Rattle.syncfile_core.specs.Files.{IsRefusedFor, file_at};
+    ghost use Rattle.point_core.specs.Refusal.{IsRefusedFor};
+    ghost use Rattle.syncfile_core.specs.Files.{file_at};
     ghost use Rattle.dmabuf_core.specs.Buffers.{has_buffer};
     ghost use Rattle.fence_core.specs.Watches.{has_watch};
     ghost use Rattle.desk_core.specs.History.{history_after};

@@ -10,6 +10,7 @@ pub mod laws;
 mod report;
 mod runs;
 
+// What callers of a desk give and get.
 pub use command_core::{
     Answer, BufferRows, Command, FenceRow, FileRow, Info, Maker, Report, ShowRow,
 };

@@ -4,11 +4,3 @@ pub mod Run
 pub mod Settled
 pub mod Shared
 pub mod Tops
-pub use Rattle.point_core.specs.Agreement
-pub use Rattle.point_core.specs.Latest
-pub use Rattle.point_core.specs.Reach
-pub use Rattle.point_core.specs.Refusal
-pub use Rattle.point_core.specs.Usage
-pub use Rattle.words_core.specs.Seat
-pub use Rattle.words_core.specs.Trace
-pub use Rattle.words_core.specs.Words

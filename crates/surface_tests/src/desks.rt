@@ -1,6 +1,7 @@
 // A desk, and a run of commands.
-use command_core::{Answer, BufferRows, Command, FenceRow, FileRow, Info, Maker, Report, ShowRow};
-use desk_core::{Desk, run};
+use desk_core::{
+    Answer, BufferRows, Command, Desk, FenceRow, FileRow, Info, Maker, Report, ShowRow, run,
+};
 use point_core::{Name, Refusal, Status, TimelineRow, Usage};
 use std::alloc::Global;
 

@@ -2,9 +2,9 @@
 ghost use Rattle.std.specs.Prelude.{◌≡◌};
 ghost use Rattle.point_core.specs.Agreement.{HasRisingContexts};
 
-use point_core::{Clocks, Context, Floor, Items, Listing, Name, Point, Reach, Refusal, Status};
+use point_core::{Clocks, Context, Floor, Items, Listing, Name, Point, Reach, Refusal};
 use std::alloc::Global;
-use syncfile_core::{FenceInfo, FileInfo, Files, SyncFile};
+use syncfile_core::{FenceInfo, FileInfo, Files, Status, SyncFile};
 use words_core::{Seat, Words};
 
 pub fn new(alloc: Global) -> Result<Files, Refusal> {

@@ -2,12 +2,12 @@
 ghost use Rattle.std.specs.Prelude.{◌≤◌};
 ghost use Rattle.line_core.specs.declared.script.TheConstants.{SCRIPT_BYTES};
 
-use command_core::{Answer, FileRow, Report, ShowRow};
-use line_core::{Line, LineCutter, read_script};
+use desk_core::{Answer, FileRow, Report, ShowRow};
+use line_core::LineCutter;
 use point_core::{Name, Refusal};
 use report_core::{RowKind, file_row, report_text, row, settled_text, show_text};
 use resv_core::Settled;
-use script_core::{Totals, engine, print};
+use script_core::{Line, Totals, engine, print, read_script};
 use std::alloc::Global;
 use std::io::{Read, Write};
 

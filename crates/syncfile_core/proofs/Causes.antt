@@ -10,7 +10,8 @@ use Rattle.point_core.specs.declared.refusal.Refusal.TheVariants.{Exists, Limit,
 use Rattle.point_core.specs.declared.refusal.LimitKind.TheVariants.{Files as FilesKind}
 use Rattle.syncfile_core.specs.declared.files.TheConstants.{FILES}
 use Rattle.syncfile_core.specs.SyncFile.{File}
-use Rattle.syncfile_core.specs.Files.{has_file, cause_to_refuse, IsRefusedFor}
+use Rattle.point_core.specs.Refusal.{IsRefusedFor}
+use Rattle.syncfile_core.specs.Files.{has_file, cause_to_refuse}
 
 cause_of : Bool → Bool → Option Refusal
 cause_of there room = if there then Some Exists else if room then None else Some (Limit FilesKind)

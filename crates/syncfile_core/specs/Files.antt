@@ -6,7 +6,6 @@ use Rattle.point_core.specs.declared.refusal.Refusal.{Refusal}
 use Rattle.point_core.specs.declared.refusal.Refusal.TheVariants.{Exists, Limit}
 use Rattle.point_core.specs.declared.refusal.LimitKind.TheVariants.{Files as FilesKind}
 use Rattle.point_core.specs.Named.{same_name, is_named as has_the_name, has_named, named, without_named, HasDistinctNames as HaveDistinctNames, things_in}
-pub use Rattle.point_core.specs.Refusal.{IsRefusedFor}
 use Rattle.point_core.specs.declared.entry.Entry.{Entry}
 use Rattle.syncfile_core.specs.declared.files.TheConstants.{FILES}
 use Rattle.syncfile_core.specs.declared.by_making.Made.{Made}

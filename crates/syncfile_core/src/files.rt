@@ -7,7 +7,8 @@ ghost use Rattle.syncfile_core.specs.Merge.{files_at, merge_of, cause_to_refuse_
 ghost use Rattle.point_core.specs.Agreement.{as_entry, HasRisingContexts};
 ghost use Rattle.point_core.specs.Clocks.{common_status};
 ghost use Rattle.syncfile_core.specs.Status.{info_of, ReportsSetsOf};
-ghost use Rattle.syncfile_core.specs.Files.{has_file, file_at, without_file, names_of, HasDistinctNames, HasStanding, cause_to_refuse, IsRefusedFor};
+ghost use Rattle.point_core.specs.Refusal.{IsRefusedFor};
+ghost use Rattle.syncfile_core.specs.Files.{has_file, file_at, without_file, names_of, HasDistinctNames, HasStanding, cause_to_refuse};
 
 use crate::by_making::ByMaking;
 use crate::merge::{self, Gathered};

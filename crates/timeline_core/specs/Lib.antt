@@ -1,4 +1,3 @@
 pub mod Run
 pub mod Stored
 pub mod Timeline
-pub use Rattle.point_core.specs.Reach

@@ -7,5 +7,4 @@
 pub mod laws;
 mod timelines;
 
-pub use point_core::TimelineRow;
 pub use timelines::Timelines;

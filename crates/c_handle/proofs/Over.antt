@@ -1,6 +1,6 @@
 -- Lists that are written over others.
 use Rattle.std.proofs.Common.{◌≡◌, ℕ, zero, suc, ◌+◌, ◌<◌, ◌≤◌, refl, ap, ◌∙◌, arith, List, [], ◌∷◌, length, map, min, take, drop, get_or, set}
-use Rattle.c_parts.specs.Rows.{over}
+use Rattle.c_handle.specs.Rows.{over}
 
 module _ {A : Type 0} where
   from-suc : (new old rest : List A) (i : ℕ) (x : A) → drop i new ≡ x ∷ rest → i < length old → set (over (take i new) old) i x ≡ over (take (suc i) new) old

@@ -1,0 +1,4 @@
+pub mod Lending
+pub mod Owning
+pub mod Rows
+pub mod Usages
