@@ -1,8 +1,6 @@
 mod Answered
-mod AsBox
 mod Looking
 mod OneLine
-mod Opened
 mod Over
 mod Room
 mod Signed

@@ -1,6 +1,6 @@
 -- A text and the NUL after it, written over what was there.
 use Rattle.std.proofs.Common.{◌≡◌, ℕ, zero, suc, ◌-◌, ◌≤◌, ap, refl, arith, List, [], ◌∷◌, ◌++◌, length, min, take, drop, slice_set}
-use Rattle.c_parts.specs.Rows.{over}
+use Rattle.c_handle.specs.Rows.{over}
 
 nul-at : (text old : List ℕ) (n room : ℕ) → length old ≡ suc room → n ≡ min (length text) room → slice_set (take n text ++ drop n old) n 0 ≡ over (take room text ++ 0 ∷ []) old
 nul-at text [] n room wide fits = absurd (omega (arith, wide))

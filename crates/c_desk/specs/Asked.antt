@@ -1,10 +1,10 @@
 -- The command that the arguments of a call ask for, or what they are refused as: Syntax for a name that is none, Flags for a
 -- number that is no usage.
-use Rattle.std.specs.Prelude.{ℕ, zero, suc, ℤ, pos, negsuc, nat_le, Bool, ◌&&◌, if◌then◌else◌, List, length, Result, Ok, Err}
+use Rattle.std.specs.Prelude.{ℕ, ℤ, nat_le, Bool, ◌&&◌, if◌then◌else◌, List, length, ok_or, Result, Ok, Err}
 use Rattle.std.specs.List.{list_all}
 use Rattle.point_core.specs.declared.name.TheConstants.{NAME_BYTES}
 use Rattle.point_core.specs.declared.entry.Usage.{Usage}
-use Rattle.point_core.specs.declared.entry.Usage.TheVariants.{Kernel, Write, Read, Bookkeep}
+use Rattle.c_handle.specs.Usages.{usage_of as usage_at}
 use Rattle.point_core.specs.declared.refusal.Refusal.{Refusal}
 use Rattle.point_core.specs.declared.refusal.Refusal.TheVariants.{Syntax, Flags}
 use Rattle.point_core.specs.Name.{is_name_byte}
@@ -21,12 +21,7 @@ name_of bytes = if is_name bytes then Ok bytes else Err Syntax
 
 -- the usage of that number, as Linux's enum dma_resv_usage counts
 abbrev pub usage_of : ℤ → Result Usage Refusal
-usage_of (pos zero) = Ok Kernel
-usage_of (pos (suc zero)) = Ok Write
-usage_of (pos (suc (suc zero))) = Ok Read
-usage_of (pos (suc (suc (suc zero)))) = Ok Bookkeep
-usage_of (pos (suc (suc (suc (suc n))))) = Err Flags
-usage_of (negsuc n) = Err Flags
+usage_of number = ok_or (usage_at number) Flags
 
 -- the first refusal, or what is made of the value
 abbrev pub then_of : {A B : Type 0} → Result A Refusal → (A → Result B Refusal) → Result B Refusal

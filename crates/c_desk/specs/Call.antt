@@ -9,10 +9,10 @@ use Rattle.command_core.specs.declared.answer.Answer.TheVariants as answer
 use Rattle.desk_core.specs.Desk.{HasHistory}
 use Rattle.c_desk.specs.declared.handle.DeskHandle.{DeskHandle}
 use Rattle.c_desk.specs.Handle.{is_open}
-use Rattle.c_parts.specs.Rows.{over}
+use Rattle.c_handle.specs.Rows.{over}
 use Rattle.c_desk.specs.Service.{IsStep}
 
--- 0 where the command was accepted, else the refusal's number
+-- 0 if the command was accepted, else the refusal's number
 abbrev pub number_of_answer : Answer → ℤ
 number_of_answer answer.Done = pos 0
 number_of_answer (answer.Value n) = pos 0

@@ -1,8 +1,8 @@
 pub mod Asked
 pub mod Call
 pub mod Handle
+pub mod Held
 pub mod Lending
 pub mod Line
-pub mod Owning
 pub mod Reported
 pub mod Service

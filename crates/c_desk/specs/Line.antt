@@ -17,7 +17,7 @@ use Rattle.c_desk.specs.declared.handle.DeskHandle.{DeskHandle}
 use Rattle.c_desk.specs.declared.line.TheConstants.{LINE, ANSWER_ROOM}
 use Rattle.c_desk.specs.Call.{number_of_answer}
 use Rattle.c_desk.specs.Handle.{is_open}
-use Rattle.c_parts.specs.Rows.{over}
+use Rattle.c_handle.specs.Rows.{over}
 use Rattle.c_desk.specs.Service.{cookies_of}
 
 -- one line, which a line feed may end; more than one is refused as Syntax
@@ -47,7 +47,7 @@ without_cookies (answer.Show rows) = answer.Show rows
 without_cookies (answer.Report report) = answer.Report report
 without_cookies (answer.Refused r) = answer.Refused r
 
--- the text that a script has of that, where the line is its first
+-- the text that a script has of that, if the line is its first
 abbrev pub answer_text : Answer → List ℕ
 answer_text given = text_of LINE (without_cookies given)
 
@@ -70,7 +70,7 @@ pub record StoresText (text old new : List ℕ) (count : ℕ) : Type 0 where
   pub bytes : new ≡ over_with_nul text old
   pub whole : count ≡ length text
 
--- The answer was reported by its number and its text. Where it has rows, and no memory was found for their text, Memory was
+-- The answer was reported by its number and its text. If it has rows, and no memory was found for their text, Memory was
 -- reported in its place.
 pub record IsReporting (given : Answer) (old new : List ℕ) (count : ℕ) (returned : ℤ) : Type 0 where
   pub reported : Answer
@@ -79,7 +79,7 @@ pub record IsReporting (given : Answer) (old new : List ℕ) (count : ℕ) (retu
   pub text : StoresText (answer_text reported) old new count
   pub few : has_rows reported ≡ false → count < ANSWER_ROOM
 
--- The line was answered as a line of a script is, but that what it fires was put into the queue, and the answer was reported by
+-- The line was answered as a line of a script is, except that what it fires was put into the queue, and the answer was reported by
 -- its number and its text. A line whose text found too little room has changed nothing.
 pub record IsLineCall (old new : DeskHandle) (body : Body) (room out : List ℕ) (count : ℕ) (returned : ℤ) : Type 0 where
   pub given : Answer

@@ -20,7 +20,7 @@ use Rattle.c_desk.specs.declared.rows.TimelineInfo.{TimelineInfo}
 use Rattle.c_desk.specs.declared.rows.FileInfo.{FileInfo}
 use Rattle.c_desk.specs.declared.rows.BufferInfo.{BufferInfo}
 use Rattle.c_desk.specs.declared.rows.Counts.{Counts}
-use Rattle.c_parts.specs.Rows.{over}
+use Rattle.c_handle.specs.Rows.{over}
 
 -- the text, and zeros after it
 abbrev pub filled_to : ℕ → List ℕ → List ℕ
@@ -49,7 +49,7 @@ file_info r = record { file = filled r.name; fences = r.count; status = status_n
 abbrev pub buffer_info : BufferRows → BufferInfo
 buffer_info b = record { buffer = filled b.name; rows = length b.rows }
 
--- what is made of file information where the answer is that, or what stood there
+-- what is made of file information if the answer is that, or what stood there
 abbrev pub info_or : {A : Type 0} → Answer → (Info → A) → A → A
 info_or (answer.Info i) made old = made i
 info_or answer.Done made old = old
@@ -59,7 +59,7 @@ info_or (answer.Show rows) made old = old
 info_or (answer.Report report) made old = old
 info_or (answer.Refused r) made old = old
 
--- what is made of a buffer's table where the answer is that, or what stood there
+-- what is made of a buffer's table if the answer is that, or what stood there
 abbrev pub table_or : {A : Type 0} → Answer → (List ShowRow → A) → A → A
 table_or (answer.Show rows) made old = made rows
 table_or answer.Done made old = old
@@ -81,7 +81,7 @@ pub record StoresTable (given : Answer) (old_rows new_rows : List BufferRow) (ol
   pub rows : new_rows ≡ table_or given (λ table. over (map buffer_row table) old_rows) old_rows
   pub count : new_count ≡ table_or given (λ table. length table) old_count
 
--- what is made of a report where the answer is that, or what stood there
+-- what is made of a report if the answer is that, or what stood there
 abbrev pub report_or : {A : Type 0} → Answer → (Tables → A) → A → A
 report_or (answer.Report report) made old = made report
 report_or answer.Done made old = old

@@ -36,7 +36,7 @@ pub fn store(answer: &Answer, value: &mut u64)
     }
 }
 
-/// Stores 1 for yes and 0 for no, and nothing where the answer is neither.
+/// Stores 1 for yes and 0 for no, and nothing if the answer is neither.
 #[inline(always)]
 pub fn store_if(answer: &Answer, yes: &mut i32)
     ensures { yes.new ≡ yes_or answer.now yes.old }
@@ -46,7 +46,7 @@ pub fn store_if(answer: &Answer, yes: &mut i32)
     }
 }
 
-/// Stores file information, as much as there is room for, and nothing where the answer is none.
+/// Stores file information, as much as there is room for, and nothing if the answer is none.
 pub fn store_info(answer: &Answer, status: &mut i32, rows: &mut [FenceInfo], count: &mut usize)
     ensures { StoresInfo answer.now status.old status.new rows.old rows.new count.old count.new }
 {
@@ -58,7 +58,7 @@ pub fn store_info(answer: &Answer, status: &mut i32, rows: &mut [FenceInfo], cou
     }
 }
 
-/// Stores a buffer's table, as much as there is room for, and nothing where the answer is none.
+/// Stores a buffer's table, as much as there is room for, and nothing if the answer is none.
 pub fn store_table(answer: &Answer, rows: &mut [BufferRow], count: &mut usize)
     ensures { StoresTable answer.now rows.old rows.new count.old count.new }
 {
@@ -69,7 +69,7 @@ pub fn store_table(answer: &Answer, rows: &mut [BufferRow], count: &mut usize)
     }
 }
 
-/// Stores a report, as much as there is room for, and nothing where the answer is none.
+/// Stores a report, as much as there is room for, and nothing if the answer is none.
 pub fn store_report(
     answer: &Answer,
     timelines: &mut [TimelineInfo],

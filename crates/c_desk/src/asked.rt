@@ -2,6 +2,7 @@
 ghost use Rattle.std.specs.Prelude.{◌≡◌};
 ghost use Rattle.c_desk.specs.Asked.{name_of, usage_of, asked_timeline, asked_inc, asked_shut, asked_value, asked_fence, asked_merge, asked_close, asked_wait, asked_info, asked_buffer, asked_add, asked_import, asked_export, asked_test, asked_trim, asked_show, asked_watch};
 
+use c_handle::usage_of;
 use command_core::Command;
 use point_core::{Name, Refusal, Usage};
 
@@ -18,13 +19,7 @@ fn name(bytes: &[u8]) -> Result<Name, Refusal>
 fn usage(number: i32) -> Result<Usage, Refusal>
     ensures { result ≡ usage_of number }
 {
-    match number {
-        0 => Ok(Usage::Kernel),
-        1 => Ok(Usage::Write),
-        2 => Ok(Usage::Read),
-        3 => Ok(Usage::Bookkeep),
-        _ => Err(Refusal::Flags),
-    }
+    usage_of(number).ok_or(Refusal::Flags)
 }
 
 #[inline(always)]

@@ -1,10 +1,11 @@
 // A desk in a handle.
 ghost use Rattle.std.specs.Prelude.{◌≡◌, true, false};
-ghost use Rattle.c_desk.specs.Owning.{handle_owns, service_coded};
+ghost use Rattle.c_handle.specs.Owning.{handle_owns};
+ghost use Rattle.c_desk.specs.Held.{service_coded, service_row};
 ghost use Rattle.c_desk.specs.Service.{ServiceState};
 
 use crate::service::Service;
-use c_parts::Parts;
+use c_handle::Handle;
 use command_core::{Answer, Command};
 use point_core::Refusal;
 use std::alloc::Global;
@@ -20,7 +21,7 @@ pub struct DeskHandle {
 }
 
 impl Model for DeskHandle {
-    ghost also_owns = { λ h. handle_owns h.alloc h.at h.service };
+    ghost also_owns = { λ h. handle_owns service_row h.alloc h.at h.service };
 }
 
 unsafe impl Send for DeskHandle {}
@@ -28,61 +29,29 @@ unsafe impl Send for DeskHandle {}
 impl DeskHandle {
     ghost use Rattle.std.specs.Borrow.{sem};
     ghost use Rattle.c_desk.specs.Handle.{is_open};
-    ghost use Rattle.c_desk.specs.Lending.{LendsService};
+    ghost use Rattle.c_desk.specs.Lending.{as_handle, LendsHandle, LendsService};
     ghost use Rattle.c_desk.specs.Call.{IsAsked};
-
-    pub fn of(service: Box<Service>) -> DeskHandle
-        ensures opened { is_open result ≡ true }
-        ensures service { result.service ≡ service.value }
-    {
-        DeskHandle::of_parts(Parts::of(service))
-    }
-
-    /// A closed handle.
-    pub fn closed(alloc: Global) -> DeskHandle
-        ensures { is_open result ≡ false }
-    {
-        DeskHandle {
-            at: std::ptr::null_mut(),
-            alloc,
-        }
-    }
 
     /// Whether the handle is open.
     pub fn is_open(&mut self) -> bool
         ensures { (result ≡ is_open self.old) × (self.new ≡ self.old) }
     {
-        !self.at.is_null()
+        self.handle().is_open()
     }
 
-    /// Drops the desk. The handle is closed.
+    /// Opens a closed handle.
+    pub fn open(&mut self, service: Box<Service>)
+        requires { is_open self.old ≡ false }
+        ensures { (is_open self.new ≡ true) × (self.new.service ≡ service.value) }
+    {
+        self.handle().open(service);
+    }
+
+    /// Drops the desk, if there is one.
     pub fn close(&mut self, alloc: Global)
-        requires { is_open self.old ≡ true }
         ensures { is_open self.new ≡ false }
     {
-        let open = std::mem::replace(self, DeskHandle::closed(alloc));
-        drop(open.into_parts().into_box());
-    }
-
-    fn of_parts(parts: Parts<Service, Global>) -> DeskHandle
-        ensures { (is_open result ≡ true) × (result.service ≡ parts.value) }
-    {
-        let Parts { ptr, alloc } = parts;
-        DeskHandle {
-            at: ptr.cast::<u8>(),
-            alloc,
-        }
-    }
-
-    fn into_parts(self) -> Parts<Service, Global>
-        requires { is_open self ≡ true }
-        ensures { result.value ≡ self.service }
-    {
-        let DeskHandle { at, alloc } = self;
-        Parts {
-            ptr: at.cast::<Service>(),
-            alloc,
-        }
+        self.handle().close(alloc);
     }
 
     /// The desk itself.
@@ -91,11 +60,11 @@ impl DeskHandle {
         ensures* writes_back { sem 𝓛 (LendsService self.entry result) }
         ensures value { result.now ≡ self.old.service }
     {
-        unsafe { &mut *self.at.cast::<Service>() }
+        self.handle().get_mut()
     }
 
-    /// The answer of a call: `NoEntry` where the handle is closed, else why its arguments are refused, else that of
-    /// the command.
+    /// The answer of a call: `NoEntry` if the handle is closed, else the refusal of its arguments, else that of the
+    /// command.
     #[inline(always)]
     pub fn ask(&mut self, asked: Result<Command, Refusal>) -> Answer
         ensures { IsAsked self.old self.new asked result }
@@ -107,5 +76,13 @@ impl DeskHandle {
             Ok(command) => self.get_mut().step(command),
             Err(refusal) => Answer::Refused(refusal),
         }
+    }
+
+    // The same fields, as a handle of Rattle's.
+    fn handle(&mut self) -> &mut Handle<Service>
+        ensures* writes_back { sem 𝓛 (LendsHandle self.entry result) }
+        ensures value { result.now ≡ as_handle self.old }
+    {
+        unsafe { &mut *(self as *mut DeskHandle).cast::<Handle<Service>>() }
     }
 }

@@ -3,7 +3,7 @@
 //! `include/bimphlai.h` has the signatures. A name is a pointer and a length.
 #![tactic(auto)]
 
-ghost use Rattle.std.specs.Prelude.{◌≡◌, ◌<◌, ◌≤◌, pos, [], true, false, length, None, IfSome, IfOk, IfErr, ⊤};
+ghost use Rattle.std.specs.Prelude.{◌≡◌, ◌<◌, ◌≤◌, pos, [], true, false, length, None, IfSome, IfErr, OnOk, OnErr, ⊤};
 ghost use Rattle.c_desk.specs.Asked.{asked_timeline, asked_inc, asked_shut, asked_value, asked_fence, asked_merge, asked_close, asked_wait, asked_info, asked_buffer, asked_add, asked_import, asked_export, asked_test, asked_trim, asked_show, asked_watch, asked_unwatch, asked_report};
 ghost use Rattle.c_desk.specs.Call.{IsCall, reported_or, yes_or, number_of, IsNew, IsOpening, IsTaking};
 ghost use Rattle.c_desk.specs.Line.{body_of_bytes, IsKept, IsLineCall, StoresText};
@@ -36,22 +36,24 @@ pub extern "C" fn bim_desk_open(alloc: Global, desk: &mut DeskHandle) -> i32
     if desk.is_open() {
         return refused(Refusal::Exists);
     }
-    match open(alloc) {
-        Ok(handle) => {
-            *desk = handle;
-            0
-        }
+    match open(alloc, desk) {
+        Ok(()) => 0,
         Err(refusal) => refused(refusal),
     }
 }
 
-fn open(alloc: Global) -> Result<DeskHandle, Refusal>
-    ensures done { IfOk result (λ handle. IsNew handle) }
+fn open(alloc: Global, desk: &mut DeskHandle) -> Result<(), Refusal>
+    requires { is_open desk.old ≡ false }
+    ensures done { OnOk result (IsNew desk.new) }
     ensures memory { IfErr result (λ e. e ≡ Refusal.Memory) }
+    ensures unchanged { OnErr result (desk.new ≡ desk.old) }
 {
     let service = Service::new(alloc)?;
     match Box::new(alloc, service) {
-        Ok(service) => Ok(DeskHandle::of(service)),
+        Ok(service) => {
+            desk.open(service);
+            Ok(())
+        }
         Err(_) => Err(Refusal::Memory),
     }
 }
@@ -61,9 +63,7 @@ fn open(alloc: Global) -> Result<DeskHandle, Refusal>
 pub extern "C" fn bim_desk_close(alloc: Global, desk: &mut DeskHandle)
     ensures { is_open desk.new ≡ false }
 {
-    if desk.is_open() {
-        desk.close(alloc);
-    }
+    desk.close(alloc);
 }
 
 /// `timeline T`, as libsync's `sw_sync_timeline_create`: stores the timeline's context.
@@ -276,7 +276,7 @@ pub extern "C" fn bim_watch_n(desk: &mut DeskHandle, file: &[u8], cookie: u64) -
     number(&desk.ask(asked::watch(file, cookie)))
 }
 
-/// `unwatch COOKIE`, as Linux's `dma_fence_remove_callback`: stores 1 where there was such a watch, else 0.
+/// `unwatch COOKIE`, as Linux's `dma_fence_remove_callback`: stores 1 if there was such a watch, else 0.
 #[unsafe(no_mangle)]
 pub extern "C" fn bim_unwatch(desk: &mut DeskHandle, cookie: u64, was_there: &mut i32) -> i32
     ensures { IsCall desk.old desk.new (asked_unwatch cookie) result (λ given.
@@ -305,7 +305,7 @@ pub extern "C" fn bim_take_fired(desk: &mut DeskHandle, cookies: &mut [u64]) -> 
 /// and of the text what there is room for with a NUL after it. A line without an answer has the empty text. What the line
 /// fires waits in the queue, and is not in the text.
 ///
-/// Fails with `NoEntry` where the handle is closed, and then with `Limit` where the room is less than `ANSWER_ROOM`; nothing
+/// Fails with `NoEntry` if the handle is closed, and then with `Limit` if the room is less than `ANSWER_ROOM`; nothing
 /// is done or stored then. A refused line has a text, as any other.
 #[unsafe(no_mangle)]
 pub extern "C" fn bim_line(

@@ -1,6 +1,6 @@
 // Rows, as C programs see them.
 ghost use Rattle.std.specs.Prelude.{◌≡◌, map};
-ghost use Rattle.c_parts.specs.Rows.{over};
+ghost use Rattle.c_handle.specs.Rows.{over};
 ghost use Rattle.c_desk.specs.Reported.{filled, driver_text, fence_info, buffer_row, timeline_info, file_info, buffer_info};
 
 use command_core::{BufferRows, FenceRow, FileRow, Maker, ShowRow};

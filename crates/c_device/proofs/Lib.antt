@@ -1,5 +1,3 @@
-mod AsBox
 mod Few
-mod Opened
 mod Queued
 mod Stepped

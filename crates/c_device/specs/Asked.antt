@@ -1,7 +1,7 @@
 -- The requests of calls that not every number is an argument of.
-use Rattle.std.specs.Prelude.{ℕ, zero, suc, ℤ, pos, negsuc, Result, Ok, Err}
+use Rattle.std.specs.Prelude.{ℕ, ℤ, ok_or, Result, Ok, Err}
 use Rattle.point_core.specs.declared.entry.Usage.{Usage}
-use Rattle.point_core.specs.declared.entry.Usage.TheVariants.{Kernel, Write, Read, Bookkeep}
+use Rattle.c_handle.specs.Usages.{usage_of as usage_at}
 use Rattle.device_core.specs.declared.refusal.Refusal.{Refusal}
 use Rattle.device_core.specs.declared.refusal.Refusal.TheVariants.{Invalid}
 use Rattle.device_core.specs.declared.request.Request.{Request}
@@ -9,12 +9,7 @@ use Rattle.device_core.specs.declared.request.Request.TheVariants as request
 
 -- the usage of that number, as Linux's enum dma_resv_usage counts
 abbrev pub usage_of : ℤ → Result Usage Refusal
-usage_of (pos zero) = Ok Kernel
-usage_of (pos (suc zero)) = Ok Write
-usage_of (pos (suc (suc zero))) = Ok Read
-usage_of (pos (suc (suc (suc zero)))) = Ok Bookkeep
-usage_of (pos (suc (suc (suc (suc n))))) = Err Invalid
-usage_of (negsuc n) = Err Invalid
+usage_of number = ok_or (usage_at number) Invalid
 
 abbrev at_usage : ℕ → Result Usage Refusal → Result Request Refusal
 at_usage buffer (Ok usage) = Ok (request.Test buffer usage)

@@ -7,7 +7,7 @@ use Rattle.device_core.specs.declared.request.Answer.{Answer}
 use Rattle.device_core.specs.State.{nothing}
 use Rattle.c_device.specs.declared.handle.DeviceHandle.{DeviceHandle}
 use Rattle.c_device.specs.Handle.{is_open}
-use Rattle.c_parts.specs.Rows.{over}
+use Rattle.c_handle.specs.Rows.{over}
 use Rattle.c_device.specs.Service.{IsStep}
 
 -- what a call is answered: nothing by a closed handle

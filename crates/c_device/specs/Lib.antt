@@ -1,7 +1,7 @@
 pub mod Asked
 pub mod Call
 pub mod Handle
+pub mod Held
 pub mod Lending
-pub mod Owning
 pub mod Reported
 pub mod Service

@@ -11,7 +11,7 @@ use Rattle.c_device.specs.declared.rows.TheConstants.{DRIVER_TEXT_BYTES}
 use Rattle.c_device.specs.declared.rows.FenceRow.{FenceRow}
 use Rattle.c_device.specs.declared.rows.FileRow.{FileRow}
 use Rattle.c_device.specs.Call.{Given}
-use Rattle.c_parts.specs.Rows.{over}
+use Rattle.c_handle.specs.Rows.{over}
 
 -- what an answer says in place of what stood there; a refusal leaves that
 abbrev said_or : {A : Type 0} → (Answer → A → A) → Given → A → A

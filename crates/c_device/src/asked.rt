@@ -2,6 +2,7 @@
 ghost use Rattle.std.specs.Prelude.{◌≡◌};
 ghost use Rattle.c_device.specs.Asked.{asked_test, usage_of};
 
+use c_handle::usage_of;
 use device_core::{Refusal, Request};
 use point_core::Usage;
 
@@ -10,13 +11,7 @@ use point_core::Usage;
 fn usage(number: i32) -> Result<Usage, Refusal>
     ensures { result ≡ usage_of number }
 {
-    match number {
-        0 => Ok(Usage::Kernel),
-        1 => Ok(Usage::Write),
-        2 => Ok(Usage::Read),
-        3 => Ok(Usage::Bookkeep),
-        _ => Err(Refusal::Invalid),
-    }
+    usage_of(number).ok_or(Refusal::Invalid)
 }
 
 #[inline(always)]

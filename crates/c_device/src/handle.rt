@@ -1,10 +1,11 @@
 // A device in a handle.
 ghost use Rattle.std.specs.Prelude.{◌≡◌, true, false};
-ghost use Rattle.c_device.specs.Owning.{handle_owns, service_coded};
+ghost use Rattle.c_handle.specs.Owning.{handle_owns};
+ghost use Rattle.c_device.specs.Held.{service_coded, service_row};
 ghost use Rattle.c_device.specs.Service.{ServiceState};
 
 use crate::service::Service;
-use c_parts::Parts;
+use c_handle::Handle;
 use device_core::{Answer, Refusal, Request};
 use std::alloc::Global;
 use std::marker::Model;
@@ -22,7 +23,7 @@ pub struct DeviceHandle {
 }
 
 impl Model for DeviceHandle {
-    ghost also_owns = { λ h. handle_owns h.alloc h.at h.service };
+    ghost also_owns = { λ h. handle_owns service_row h.alloc h.at h.service };
 }
 
 unsafe impl Send for DeviceHandle {}
@@ -30,61 +31,29 @@ unsafe impl Send for DeviceHandle {}
 impl DeviceHandle {
     ghost use Rattle.std.specs.Borrow.{sem};
     ghost use Rattle.c_device.specs.Handle.{is_open};
-    ghost use Rattle.c_device.specs.Lending.{LendsService};
+    ghost use Rattle.c_device.specs.Lending.{as_handle, LendsHandle, LendsService};
     ghost use Rattle.c_device.specs.Call.{IsAsked};
-
-    pub fn of(service: Box<Service>) -> DeviceHandle
-        ensures opened { is_open result ≡ true }
-        ensures service { result.service ≡ service.value }
-    {
-        DeviceHandle::of_parts(Parts::of(service))
-    }
-
-    /// A closed handle.
-    pub fn closed(alloc: Global) -> DeviceHandle
-        ensures { is_open result ≡ false }
-    {
-        DeviceHandle {
-            at: std::ptr::null_mut(),
-            alloc,
-        }
-    }
 
     /// Whether the handle is open.
     pub fn is_open(&mut self) -> bool
         ensures { (result ≡ is_open self.old) × (self.new ≡ self.old) }
     {
-        !self.at.is_null()
+        self.handle().is_open()
     }
 
-    /// Drops the device. The handle is closed.
+    /// Opens a closed handle.
+    pub fn open(&mut self, service: Box<Service>)
+        requires { is_open self.old ≡ false }
+        ensures { (is_open self.new ≡ true) × (self.new.service ≡ service.value) }
+    {
+        self.handle().open(service);
+    }
+
+    /// Drops the device, if there is one.
     pub fn close(&mut self, alloc: Global)
-        requires { is_open self.old ≡ true }
         ensures { is_open self.new ≡ false }
     {
-        let open = std::mem::replace(self, DeviceHandle::closed(alloc));
-        drop(open.into_parts().into_box());
-    }
-
-    fn of_parts(parts: Parts<Service, Global>) -> DeviceHandle
-        ensures { (is_open result ≡ true) × (result.service ≡ parts.value) }
-    {
-        let Parts { ptr, alloc } = parts;
-        DeviceHandle {
-            at: ptr.cast::<u8>(),
-            alloc,
-        }
-    }
-
-    fn into_parts(self) -> Parts<Service, Global>
-        requires { is_open self ≡ true }
-        ensures { result.value ≡ self.service }
-    {
-        let DeviceHandle { at, alloc } = self;
-        Parts {
-            ptr: at.cast::<Service>(),
-            alloc,
-        }
+        self.handle().close(alloc);
     }
 
     /// The device itself, with the files that it woke.
@@ -93,7 +62,7 @@ impl DeviceHandle {
         ensures* writes_back { sem 𝓛 (LendsService self.entry result) }
         ensures value { result.now ≡ self.old.service }
     {
-        unsafe { &mut *self.at.cast::<Service>() }
+        self.handle().get_mut()
     }
 
     /// The answer of a call: none if the handle is closed, else why its arguments are refused, else that to the request.
@@ -108,5 +77,13 @@ impl DeviceHandle {
             Ok(request) => Some(self.get_mut().step(request)),
             Err(refusal) => Some(Err(refusal)),
         }
+    }
+
+    // The same fields, as a handle of Rattle's.
+    fn handle(&mut self) -> &mut Handle<Service>
+        ensures* writes_back { sem 𝓛 (LendsHandle self.entry result) }
+        ensures value { result.now ≡ as_handle self.old }
+    {
+        unsafe { &mut *(self as *mut DeviceHandle).cast::<Handle<Service>>() }
     }
 }

@@ -3,7 +3,7 @@
 //! `include/bimphlai.h` has the signatures. A name is a pointer and a length.
 #![tactic(auto)]
 
-ghost use Rattle.std.specs.Prelude.{◌≡◌, false, IfOk, IfErr, Ok, ⊤};
+ghost use Rattle.std.specs.Prelude.{◌≡◌, false, IfErr, OnOk, OnErr, Ok, ⊤};
 ghost use Rattle.device_core.specs.declared.refusal.Refusal.TheVariants.{NoMemory};
 ghost use Rattle.device_core.specs.declared.request.Request.TheVariants as request;
 ghost use Rattle.device_core.specs.Names.{as_text};
@@ -35,21 +35,23 @@ pub extern "C" fn bim_device_open(alloc: Global, device: &mut DeviceHandle) -> i
     if device.is_open() {
         return EEXIST;
     }
-    match open(alloc) {
-        Ok(handle) => {
-            *device = handle;
-            0
-        }
+    match open(alloc, device) {
+        Ok(()) => 0,
         Err(refusal) => errno(refusal),
     }
 }
 
-fn open(alloc: Global) -> Result<DeviceHandle, Refusal>
-    ensures done { IfOk result (λ handle. IsNew handle) }
+fn open(alloc: Global, device: &mut DeviceHandle) -> Result<(), Refusal>
+    requires { is_open device.old ≡ false }
+    ensures done { OnOk result (IsNew device.new) }
     ensures memory { IfErr result (λ e. e ≡ NoMemory) }
+    ensures unchanged { OnErr result (device.new ≡ device.old) }
 {
     match Box::new(alloc, Service::new(alloc)) {
-        Ok(service) => Ok(DeviceHandle::of(service)),
+        Ok(service) => {
+            device.open(service);
+            Ok(())
+        }
         Err(_) => Err(Refusal::NoMemory),
     }
 }
@@ -59,9 +61,7 @@ fn open(alloc: Global) -> Result<DeviceHandle, Refusal>
 pub extern "C" fn bim_device_close(alloc: Global, device: &mut DeviceHandle)
     ensures { is_open device.new ≡ false }
 {
-    if device.is_open() {
-        device.close(alloc);
-    }
+    device.close(alloc);
 }
 
 /// Opens a timeline at 0, as opening `sync/sw_sync` does, and stores its number. The name of the task is cut as the

@@ -1,6 +1,6 @@
 // Rows, as C programs see them.
 ghost use Rattle.std.specs.Prelude.{◌≡◌, map};
-ghost use Rattle.c_parts.specs.Rows.{over};
+ghost use Rattle.c_handle.specs.Rows.{over};
 ghost use Rattle.c_device.specs.Reported.{driver_text, fence_row};
 
 use device_core::{Driver, FenceInfo, TEXT_BYTES};

@@ -5,7 +5,7 @@ ghost use Rattle.device_core.specs.declared.refusal.Refusal.TheVariants.{NoMemor
 ghost use Rattle.device_core.specs.declared.request.Request.TheVariants as request;
 ghost use Rattle.device_core.specs.Request.{IsAnswer};
 ghost use Rattle.device_core.specs.State.{nothing, objects_of, timeline_at};
-ghost use Rattle.c_parts.specs.Rows.{over};
+ghost use Rattle.c_handle.specs.Rows.{over};
 ghost use Rattle.c_device.specs.Service.{IsStep, AreGiven, may_wake, open_among, woken_of};
 
 use device_core::{Answer, Device, Refusal, Request};

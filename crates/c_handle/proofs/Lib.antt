@@ -1,2 +1,4 @@
 mod AsBox
 pub mod Over
+pub mod Sending
+pub mod Thin

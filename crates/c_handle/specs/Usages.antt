@@ -1,5 +1,5 @@
 -- Usages by number.
-use Rattle.std.specs.Prelude.{zero, suc, ℤ, pos, negsuc, Option, None, Some}
+use Rattle.std.specs.Prelude.{◌≡◌, ◌⊎◌, zero, suc, ℤ, pos, negsuc, Option, None, Some}
 use Rattle.point_core.specs.declared.entry.Usage.{Usage}
 use Rattle.point_core.specs.declared.entry.Usage.TheVariants.{Kernel, Write, Read, Bookkeep}
 
@@ -11,3 +11,7 @@ usage_of (pos (suc (suc zero))) = Some Read
 usage_of (pos (suc (suc (suc zero)))) = Some Bookkeep
 usage_of (pos (suc (suc (suc (suc n))))) = None
 usage_of (negsuc n) = None
+
+-- it is the number of a usage
+abbrev pub IsUsage : ℤ → Type 0
+IsUsage number = (number ≡ pos 0) ⊎ (number ≡ pos 1) ⊎ (number ≡ pos 2) ⊎ (number ≡ pos 3)

@@ -1,13 +1,16 @@
 // Usages by number.
-ghost use Rattle.std.specs.Prelude.{◌≡◌};
-ghost use Rattle.c_handle.specs.Usages.{usage_of};
+ghost use Rattle.std.specs.Prelude.{◌≡◌, pos, IfSome, IfNone};
+ghost use Rattle.point_core.specs.Usage.{usage_number};
+ghost use Rattle.c_handle.specs.Usages.{IsUsage, usage_of};
 
 use point_core::Usage;
 
 /// The usage of that number, as Linux's `enum dma_resv_usage` counts, or none.
 #[inline(always)]
 pub fn usage_of(number: i32) -> Option<Usage>
-    ensures { result ≡ usage_of number }
+    ensures is { result ≡ usage_of number }
+    ensures value { IfSome result (λ usage. number ≡ pos (usage_number usage)) }
+    ensures none { IfNone result (¬ IsUsage number) }
 {
     match number {
         0 => Some(Usage::Kernel),

@@ -1,8 +1,3 @@
-mod AsBox
-mod AsFileBox
 mod FileMoved
 mod Moved
-mod NoFile
-mod NoMember
-mod Owning
 mod Signed

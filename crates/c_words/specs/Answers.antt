@@ -1,5 +1,5 @@
 -- What calls from C answer: 0, or the number of a refusal.
-use Rattle.std.specs.Prelude.{◌≡◌, ◌⊎◌, ℤ, pos}
+use Rattle.std.specs.Prelude.{ℤ, pos}
 use Rattle.point_core.specs.declared.refusal.Refusal.{Refusal}
 use Rattle.point_core.specs.Refusal.{refusal_number}
 
@@ -8,7 +8,3 @@ done = pos 0
 
 abbrev pub refused : Refusal → ℤ
 refused refusal = pos (refusal_number refusal)
-
--- it is the number of a usage
-abbrev pub IsUsage : ℤ → Type 0
-IsUsage number = (number ≡ pos 0) ⊎ (number ≡ pos 1) ⊎ (number ≡ pos 2) ⊎ (number ≡ pos 3)

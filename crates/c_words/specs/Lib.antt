@@ -3,7 +3,6 @@ pub mod Exports
 pub mod FileCalls
 pub mod FileLending
 pub mod Files
-pub mod Handle
 pub mod Held
 pub mod HeldFile
 pub mod Lending

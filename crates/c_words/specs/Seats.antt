@@ -1,15 +1,15 @@
 -- Open and closed handles of seats.
-use Rattle.std.specs.Prelude.{◌≡◌}
-use denote.RawPtr.{InBlock, null_ptr}
+use Rattle.std.specs.Prelude.{◌≡◌, true, false}
+use Rattle.c_handle.specs.Owning.{is_block}
 use Rattle.c_words.specs.Member.{MemberModel}
 use Rattle.words_core.specs.Seat.{SeatModel}
 use Rattle.c_words.specs.declared.seat_handle.SeatHandle.{SeatHandle}
 
 abbrev pub IsOpen : SeatHandle → Type 0
-IsOpen h = InBlock h.at
+IsOpen h = is_block h.at ≡ true
 
 abbrev pub IsClosed : SeatHandle → Type 0
-IsClosed h = h.at ≡ null_ptr
+IsClosed h = is_block h.at ≡ false
 
 -- the handle with the member m
 abbrev pub with_held : SeatHandle → MemberModel → SeatHandle

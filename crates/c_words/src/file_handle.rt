@@ -1,18 +1,15 @@
 // A sync file in a handle.
 ghost use Rattle.std.specs.Prelude.{◌≡◌, MatchBool};
-ghost use denote.RawPtr.{null_ptr, Testable};
-ghost use Rattle.c_words.specs.Handle.{handle_owns};
+ghost use Rattle.c_handle.specs.Owning.{handle_owns};
 ghost use Rattle.c_words.specs.HeldFile.{file_coded, file_row};
 ghost use Rattle.syncfile_core.specs.SyncFile.{File};
 
 use crate::shared_file::SharedFile;
-use c_parts::Parts;
+use c_handle::Handle;
 use std::alloc::Global;
 use std::marker::Model;
-use std::ptr::{NonNull, null_mut};
 
-/// `bim_file`: a pointer to a sync file on the heap, or null while it is closed. A drop frees nothing: C owns its
-/// handles, and `open` alone drops one, which is closed.
+/// `bim_file`: a pointer to a sync file on the heap, or null while it is closed.
 #[repr(C)]
 #[derive(Drop)]
 pub struct FileHandle {
@@ -29,32 +26,15 @@ unsafe impl Send for FileHandle {}
 
 impl FileHandle {
     ghost use Rattle.std.specs.Borrow.{sem};
-    ghost use Rattle.c_words.specs.FileLending.{LendsFile};
+    ghost use Rattle.c_words.specs.FileLending.{as_handle, LendsHandle, LendsFile};
     ghost use Rattle.c_words.specs.Files.{IsOpen, IsClosed};
-
-    /// An open handle of a file.
-    pub fn of(file: Box<SharedFile>) -> FileHandle
-        ensures { IsOpen result × (result.held ≡ file.value) }
-    {
-        FileHandle::of_parts(Parts::of(file))
-    }
-
-    /// A closed handle.
-    pub fn closed(alloc: Global) -> FileHandle
-        ensures { IsClosed result }
-    {
-        FileHandle {
-            at: null_mut(),
-            alloc,
-        }
-    }
 
     /// Whether there is a file.
     pub fn is_open(&mut self) -> bool
         ensures value { MatchBool result (IsOpen self.old) (IsClosed self.old) }
         ensures unchanged { self.new ≡ self.old }
     {
-        NonNull::new(self.address()).is_some()
+        self.handle().is_open()
     }
 
     /// The file.
@@ -63,7 +43,7 @@ impl FileHandle {
         ensures* writes_back { sem 𝓛 (LendsFile self.entry result) }
         ensures value { result.now ≡ self.old.held }
     {
-        unsafe { &mut *self.at.cast::<SharedFile>() }
+        self.handle().get_mut()
     }
 
     /// Opens a closed handle.
@@ -71,45 +51,21 @@ impl FileHandle {
         requires { IsClosed self.old }
         ensures { IsOpen self.new × (self.new.held ≡ file.value) }
     {
-        *self = FileHandle::of(file);
+        self.handle().open(file);
     }
 
     /// Drops the file, if there is one.
     pub fn close(&mut self, alloc: Global)
         ensures { IsClosed self.new }
     {
-        if self.is_open() {
-            let open = std::mem::replace(self, FileHandle::closed(alloc));
-            drop(open.into_parts().into_box());
-        }
+        self.handle().close(alloc);
     }
 
-    fn address(&mut self) -> *mut u8
-        ensures value { result ≡ self.old.at }
-        ensures testable { Testable result }
-        ensures unchanged { self.new ≡ self.old }
+    // The same fields, as a handle of Rattle's.
+    fn handle(&mut self) -> &mut Handle<SharedFile>
+        ensures* writes_back { sem 𝓛 (LendsHandle self.entry result) }
+        ensures value { result.now ≡ as_handle self.old }
     {
-        self.at
-    }
-
-    fn of_parts(parts: Parts<SharedFile, Global>) -> FileHandle
-        ensures { IsOpen result × (result.held ≡ parts.value) }
-    {
-        let Parts { ptr, alloc } = parts;
-        FileHandle {
-            at: ptr.cast::<u8>(),
-            alloc,
-        }
-    }
-
-    fn into_parts(self) -> Parts<SharedFile, Global>
-        requires { IsOpen self }
-        ensures { result.value ≡ self.held }
-    {
-        let FileHandle { at, alloc } = self;
-        Parts {
-            ptr: at.cast::<SharedFile>(),
-            alloc,
-        }
+        unsafe { &mut *(self as *mut FileHandle).cast::<Handle<SharedFile>>() }
     }
 }

@@ -5,15 +5,17 @@ ghost use Rattle.point_core.specs.Reach.{GREATEST};
 ghost use Rattle.point_core.specs.Refusal.{refusal_number};
 ghost use Rattle.point_core.specs.Usage.{usage_number};
 ghost use Rattle.point_core.specs.declared.refusal.Refusal.TheVariants as refusal;
-ghost use Rattle.c_words.specs.Answers.{done, refused, IsUsage};
+ghost use Rattle.c_handle.specs.Usages.{IsUsage};
+ghost use Rattle.c_words.specs.Answers.{done, refused};
 ghost use Rattle.c_words.specs.Member.{AreSizes, IsFirst, HasContext, HasShare, IsParted, IsDriving, HasLoaded};
 ghost use Rattle.c_words.specs.Member.{HasAdded, HasShut, HasSet, HasFoundSet, HasBuffer, HasPut};
 ghost use Rattle.c_words.specs.Member.{after_loss, come_back};
 ghost use Rattle.c_words.specs.Seats.{IsOpen, IsClosed, with_seat};
 
 use crate::member::Member;
-use crate::numbers::{OK, refused, usage_of};
+use crate::numbers::{OK, refused};
 use crate::seat_handle::SeatHandle;
+use c_handle::usage_of;
 use point_core::Refusal;
 use std::alloc::Global;
 

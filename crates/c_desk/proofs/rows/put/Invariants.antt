@@ -1,5 +1,5 @@
 use Rattle.std.proofs.Common.{◌≡◌, map, take}
-use Rattle.c_parts.specs.Rows.{over}
+use Rattle.c_handle.specs.Rows.{over}
 use Rattle.c_desk.proofs.rows.put.Given as goal
 
 abbrev pub invariant-loop-index : goal.invariant-loop-index

@@ -1,7 +1,7 @@
 use Rattle.std.proofs.Common.{◌≡◌, ℕ, ◌+◌, ◌<◌, sym, ap, ◌∙◌, ◌∷◌, ◌++◌, length, drop, set, arith, Option}
 use Rattle.std.specs.Prelude.{option_to_list}
 use Rattle.std.specs.VecDeque.{deque_len}
-use Rattle.c_parts.proofs.Over.{over-more, left-more, over-least}
+use Rattle.c_handle.proofs.Over.{over-more, left-more, over-least}
 use Rattle.c_desk.proofs.service.take.Goals as goal
 
 pub loop-index-preserved : goal.loop-index-preserved

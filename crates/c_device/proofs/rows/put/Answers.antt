@@ -1,7 +1,7 @@
 use Rattle.std.proofs.Common.{ap, ◌∙◌, set, take, map, arith}
 use Rattle.std.proofs.lemmas.List.{length-map}
-use Rattle.c_parts.specs.Rows.{over}
-use Rattle.c_parts.proofs.Over.{map-more, over-least}
+use Rattle.c_handle.specs.Rows.{over}
+use Rattle.c_handle.proofs.Over.{map-more, over-least}
 use Rattle.c_device.specs.Reported.{fence_row}
 use Rattle.c_device.proofs.rows.put.Goals as goal
 

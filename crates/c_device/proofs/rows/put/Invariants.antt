@@ -1,5 +1,5 @@
 use Rattle.std.proofs.Common.{◌≡◌, map, take}
-use Rattle.c_parts.specs.Rows.{over}
+use Rattle.c_handle.specs.Rows.{over}
 use Rattle.c_device.specs.Reported.{fence_row}
 use Rattle.c_device.proofs.rows.put.Given as goal
 

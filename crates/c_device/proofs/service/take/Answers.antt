@@ -1,6 +1,6 @@
 use Rattle.std.proofs.Common.{◌≡◌, ℕ, suc, ◌<◌, sym, ap, ◌∙◌, ◌∷◌, ◌++◌, length, length-drop, drop, set, arith, Option, List}
 use Rattle.std.specs.Prelude.{option_to_list}
-use Rattle.c_parts.proofs.Over.{over-more, left-more, over-least}
+use Rattle.c_handle.proofs.Over.{over-more, left-more, over-least}
 use Rattle.c_device.specs.Service.{open_among}
 use Rattle.c_device.proofs.service.take.Goals as goal
 

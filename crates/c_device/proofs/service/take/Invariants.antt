@@ -1,5 +1,5 @@
 use Rattle.std.proofs.Common.{◌≡◌, ◌≤◌, ℕ, length, take, drop}
-use Rattle.c_parts.specs.Rows.{over}
+use Rattle.c_handle.specs.Rows.{over}
 use Rattle.c_device.specs.Service.{AreGiven, open_among}
 use Rattle.c_device.proofs.service.take.Given as goal
 
