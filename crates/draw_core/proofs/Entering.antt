@@ -117,22 +117,7 @@ abbrev pub makes : Command → Option (List ℕ)
 makes (command.Fence f t p) = Some f
 makes (command.Merge f a b) = Some f
 makes (command.Export f b flags) = Some f
-makes (command.Close f) = None
-makes (command.Timeline t) = None
-makes (command.Inc t n) = None
-makes (command.Value t) = None
-makes (command.Shut t) = None
-makes (command.Wait f) = None
-makes (command.Info f) = None
-makes (command.Buffer b) = None
-makes (command.Add b t p u) = None
-makes (command.Import b f flags) = None
-makes (command.Test b u) = None
-makes (command.Trim b) = None
-makes (command.Watch f cookie) = None
-makes (command.Unwatch cookie) = None
-makes (command.Show b) = None
-makes command.Report = None
+makes _ = None
 
 -- what holds of each bar, of a new one, and of one that is closed holds after the command
 module _ (P Q : Bar → Type 0) (column : ℕ)
@@ -159,21 +144,7 @@ module _ (P Q : Bar → Type 0) (column : ℕ)
   All-entered (command.Merge f a b) bars made keep all = All-push Q bars (bar_of f column) (All-weaker P Q (λ b. keep b (λ _. refl)) bars all) (made f refl)
   All-entered (command.Export f b flags) bars made keep all = All-push Q bars (bar_of f column) (All-weaker P Q (λ b. keep b (λ _. refl)) bars all) (made f refl)
   All-entered (command.Close f) bars made keep all = All-with_closed column refl f bars keep all
-  All-entered (command.Timeline t) bars made keep all = All-weaker P Q (λ b. keep b (λ _. refl)) bars all
-  All-entered (command.Inc t n) bars made keep all = All-weaker P Q (λ b. keep b (λ _. refl)) bars all
-  All-entered (command.Value t) bars made keep all = All-weaker P Q (λ b. keep b (λ _. refl)) bars all
-  All-entered (command.Shut t) bars made keep all = All-weaker P Q (λ b. keep b (λ _. refl)) bars all
-  All-entered (command.Wait f) bars made keep all = All-weaker P Q (λ b. keep b (λ _. refl)) bars all
-  All-entered (command.Info f) bars made keep all = All-weaker P Q (λ b. keep b (λ _. refl)) bars all
-  All-entered (command.Buffer b) bars made keep all = All-weaker P Q (λ b. keep b (λ _. refl)) bars all
-  All-entered (command.Add b t p u) bars made keep all = All-weaker P Q (λ b. keep b (λ _. refl)) bars all
-  All-entered (command.Import b f flags) bars made keep all = All-weaker P Q (λ b. keep b (λ _. refl)) bars all
-  All-entered (command.Test b u) bars made keep all = All-weaker P Q (λ b. keep b (λ _. refl)) bars all
-  All-entered (command.Trim b) bars made keep all = All-weaker P Q (λ b. keep b (λ _. refl)) bars all
-  All-entered (command.Watch f cookie) bars made keep all = All-weaker P Q (λ b. keep b (λ _. refl)) bars all
-  All-entered (command.Unwatch cookie) bars made keep all = All-weaker P Q (λ b. keep b (λ _. refl)) bars all
-  All-entered (command.Show b) bars made keep all = All-weaker P Q (λ b. keep b (λ _. refl)) bars all
-  All-entered command.Report bars made keep all = All-weaker P Q (λ b. keep b (λ _. refl)) bars all
+  All-entered _ bars made keep all = All-weaker P Q (λ b. keep b (λ _. refl)) bars all
 
 -- bars of that column and those closed in it
 
@@ -230,21 +201,7 @@ names-entered_earlier k column low (command.Fence f t p) bars = names-pushed_ear
 names-entered_earlier k column low (command.Merge f a b) bars = names-pushed_earlier k column f bars low
 names-entered_earlier k column low (command.Export f b flags) bars = names-pushed_earlier k column f bars low
 names-entered_earlier k column low (command.Close f) bars = names-closed_earlier k column f bars low
-names-entered_earlier k column low (command.Timeline t) bars = refl
-names-entered_earlier k column low (command.Inc t n) bars = refl
-names-entered_earlier k column low (command.Value t) bars = refl
-names-entered_earlier k column low (command.Shut t) bars = refl
-names-entered_earlier k column low (command.Wait f) bars = refl
-names-entered_earlier k column low (command.Info f) bars = refl
-names-entered_earlier k column low (command.Buffer b) bars = refl
-names-entered_earlier k column low (command.Add b t p u) bars = refl
-names-entered_earlier k column low (command.Import b f flags) bars = refl
-names-entered_earlier k column low (command.Test b u) bars = refl
-names-entered_earlier k column low (command.Trim b) bars = refl
-names-entered_earlier k column low (command.Watch f cookie) bars = refl
-names-entered_earlier k column low (command.Unwatch cookie) bars = refl
-names-entered_earlier k column low (command.Show b) bars = refl
-names-entered_earlier k column low command.Report bars = refl
+names-entered_earlier k column low _ bars = refl
 
 -- the names in the command's own column
 
@@ -321,21 +278,7 @@ names-entered w column (command.Fence f t p) bars h = names-made w column _ bars
 names-entered w column (command.Merge f a b) bars h = names-made w column _ bars h.names
 names-entered w column (command.Export f b flags) bars h = names-made w column _ bars h.names
 names-entered w column (command.Close f) bars h = names-with_closed column f bars h.past ∙ ap (others f) h.names ∙ sym (names-without w.files f)
-names-entered w column (command.Timeline t) bars h = h.names
-names-entered w column (command.Inc t n) bars h = h.names
-names-entered w column (command.Value t) bars h = h.names
-names-entered w column (command.Shut t) bars h = h.names
-names-entered w column (command.Wait f) bars h = h.names
-names-entered w column (command.Info f) bars h = h.names
-names-entered w column (command.Buffer b) bars h = h.names
-names-entered w column (command.Add b t p u) bars h = h.names
-names-entered w column (command.Import b f flags) bars h = h.names
-names-entered w column (command.Test b u) bars h = h.names
-names-entered w column (command.Trim b) bars h = h.names
-names-entered w column (command.Watch f cookie) bars h = h.names
-names-entered w column (command.Unwatch cookie) bars h = h.names
-names-entered w column (command.Show b) bars h = h.names
-names-entered w column command.Report bars h = h.names
+names-entered w column _ bars h = h.names
 
 -- the file of each bar
 
@@ -371,22 +314,7 @@ kept-new w (command.Export f b flags) name is makes =
     let rest = (first_of-none (not (has_made_buffer w.buffers b)) NoEntry (cause (not (is_sync_flags flags)) Flags ∷ making_file w f) is).1 in
     let rest' = (first_of-none (not (is_sync_flags flags)) Flags (making_file w f) rest).1 in
     rw (sym (same_Some f name makes)) (found_new w (command.Export f b flags) _ f refl refl (has_file-free w f [] rest'))
-kept-new w (command.Close f) name is makes = absurd (cc)
-kept-new w (command.Timeline t) name is makes = absurd (cc)
-kept-new w (command.Inc t n) name is makes = absurd (cc)
-kept-new w (command.Value t) name is makes = absurd (cc)
-kept-new w (command.Shut t) name is makes = absurd (cc)
-kept-new w (command.Wait f) name is makes = absurd (cc)
-kept-new w (command.Info f) name is makes = absurd (cc)
-kept-new w (command.Buffer b) name is makes = absurd (cc)
-kept-new w (command.Add b t p u) name is makes = absurd (cc)
-kept-new w (command.Import b f flags) name is makes = absurd (cc)
-kept-new w (command.Test b u) name is makes = absurd (cc)
-kept-new w (command.Trim b) name is makes = absurd (cc)
-kept-new w (command.Watch f cookie) name is makes = absurd (cc)
-kept-new w (command.Unwatch cookie) name is makes = absurd (cc)
-kept-new w (command.Show b) name is makes = absurd (cc)
-kept-new w command.Report name is makes = absurd (cc)
+kept-new w _ name is makes = absurd (cc)
 
 both_of : (w : World) (column : ℕ) (bars : List Bar) → AreBarsOf w column bars → All (λ b. IsPast column b × IsKept w column b) bars
 both_of w column bars h = λ k d low. (h.past k d low, h.kept k d low)

@@ -35,24 +35,7 @@ use Rattle.point_core.specs.declared.refusal.Refusal.{Refusal}
 -- which file a command closes
 abbrev pub closes : Command → List ℕ → Bool
 closes (command.Close f) name = same_name f name
-closes (command.Timeline t) name = false
-closes (command.Inc t n) name = false
-closes (command.Value t) name = false
-closes (command.Shut t) name = false
-closes (command.Fence f t p) name = false
-closes (command.Merge f a b) name = false
-closes (command.Wait f) name = false
-closes (command.Info f) name = false
-closes (command.Buffer b) name = false
-closes (command.Add b t p u) name = false
-closes (command.Import b f flags) name = false
-closes (command.Export f b flags) name = false
-closes (command.Test b u) name = false
-closes (command.Trim b) name = false
-closes (command.Watch f cookie) name = false
-closes (command.Unwatch cookie) name = false
-closes (command.Show b) name = false
-closes command.Report name = false
+closes _ name = false
 
 -- what is found
 
@@ -99,21 +82,7 @@ file_named-after w (command.Fence f t p) name g stays is = find-push (is_named (
 file_named-after w (command.Merge f a b) name g stays is = find-push (is_named (λ (m : MadeFile). m.name) name) w.files _ g is
 file_named-after w (command.Export f b flags) name g stays is = find-push (is_named (λ (m : MadeFile). m.name) name) w.files _ g is
 file_named-after w (command.Close f) name g stays is = file_named-without w.files name f g stays is
-file_named-after w (command.Timeline t) name g stays is = is
-file_named-after w (command.Inc t n) name g stays is = is
-file_named-after w (command.Value t) name g stays is = is
-file_named-after w (command.Shut t) name g stays is = is
-file_named-after w (command.Wait f) name g stays is = is
-file_named-after w (command.Info f) name g stays is = is
-file_named-after w (command.Buffer b) name g stays is = is
-file_named-after w (command.Add b t p u) name g stays is = is
-file_named-after w (command.Import b f flags) name g stays is = is
-file_named-after w (command.Test b u) name g stays is = is
-file_named-after w (command.Trim b) name g stays is = is
-file_named-after w (command.Watch f cookie) name g stays is = is
-file_named-after w (command.Unwatch cookie) name g stays is = is
-file_named-after w (command.Show b) name g stays is = is
-file_named-after w command.Report name g stays is = is
+file_named-after w _ name g stays is = is
 
 -- clocks that only go on: a closed one stays as it is, and no value falls
 
@@ -184,22 +153,7 @@ GoesOn-after w (command.Shut t) s is =
     let still = first_of-none (is_closed w.timelines t) AlreadyClosed [] there.1 in
     rw (clocks_of-shut w.timelines t s.timelines has)
     (GoesOn-changed (clocks_of w.timelines) (context_of w.timelines t - 1) (closed_clock (clock_named w.timelines t)) (sym (is_closed-open w.timelines t has) ∙ still.0) (omega arith))
-GoesOn-after w (command.Value t) s is = GoesOn-same _ _ refl
-GoesOn-after w (command.Fence f t p) s is = GoesOn-same _ _ refl
-GoesOn-after w (command.Merge f a b) s is = GoesOn-same _ _ refl
-GoesOn-after w (command.Close f) s is = GoesOn-same _ _ refl
-GoesOn-after w (command.Wait f) s is = GoesOn-same _ _ refl
-GoesOn-after w (command.Info f) s is = GoesOn-same _ _ refl
-GoesOn-after w (command.Buffer b) s is = GoesOn-same _ _ refl
-GoesOn-after w (command.Add b t p u) s is = GoesOn-same _ _ refl
-GoesOn-after w (command.Import b f flags) s is = GoesOn-same _ _ refl
-GoesOn-after w (command.Export f b flags) s is = GoesOn-same _ _ refl
-GoesOn-after w (command.Test b u) s is = GoesOn-same _ _ refl
-GoesOn-after w (command.Trim b) s is = GoesOn-same _ _ refl
-GoesOn-after w (command.Watch f cookie) s is = GoesOn-same _ _ refl
-GoesOn-after w (command.Unwatch cookie) s is = GoesOn-same _ _ refl
-GoesOn-after w (command.Show b) s is = GoesOn-same _ _ refl
-GoesOn-after w command.Report s is = GoesOn-same _ _ refl
+GoesOn-after w _ s is = GoesOn-same _ _ refl
 
 IsAtLeast-same : (old new : List ℕ) → new ≡ old → IsAtLeast new old
 IsAtLeast-same old new is = rw is (IsAtLeast-refl old)
@@ -211,22 +165,7 @@ IsAtLeast-after w (command.Timeline t) s is =
     IsAtLeast-same (reach_of w.timelines) (reach_of (after w (command.Timeline t)).timelines) (reach_of-new w.timelines t low)
 IsAtLeast-after w (command.Inc t n) s is = IsAtLeast-raised w.timelines t n
 IsAtLeast-after w (command.Shut t) s is = IsAtLeast-shut w.timelines t s.values
-IsAtLeast-after w (command.Value t) s is = IsAtLeast-refl (reach_of w.timelines)
-IsAtLeast-after w (command.Fence f t p) s is = IsAtLeast-refl (reach_of w.timelines)
-IsAtLeast-after w (command.Merge f a b) s is = IsAtLeast-refl (reach_of w.timelines)
-IsAtLeast-after w (command.Close f) s is = IsAtLeast-refl (reach_of w.timelines)
-IsAtLeast-after w (command.Wait f) s is = IsAtLeast-refl (reach_of w.timelines)
-IsAtLeast-after w (command.Info f) s is = IsAtLeast-refl (reach_of w.timelines)
-IsAtLeast-after w (command.Buffer b) s is = IsAtLeast-refl (reach_of w.timelines)
-IsAtLeast-after w (command.Add b t p u) s is = IsAtLeast-refl (reach_of w.timelines)
-IsAtLeast-after w (command.Import b f flags) s is = IsAtLeast-refl (reach_of w.timelines)
-IsAtLeast-after w (command.Export f b flags) s is = IsAtLeast-refl (reach_of w.timelines)
-IsAtLeast-after w (command.Test b u) s is = IsAtLeast-refl (reach_of w.timelines)
-IsAtLeast-after w (command.Trim b) s is = IsAtLeast-refl (reach_of w.timelines)
-IsAtLeast-after w (command.Watch f cookie) s is = IsAtLeast-refl (reach_of w.timelines)
-IsAtLeast-after w (command.Unwatch cookie) s is = IsAtLeast-refl (reach_of w.timelines)
-IsAtLeast-after w (command.Show b) s is = IsAtLeast-refl (reach_of w.timelines)
-IsAtLeast-after w command.Report s is = IsAtLeast-refl (reach_of w.timelines)
+IsAtLeast-after w _ s is = IsAtLeast-refl (reach_of w.timelines)
 
 -- a signalled file's status stays
 pub file_status-after : (w : World) (c : Command) → IsSound w → first_of (causes w c) ≡ None → (f : MadeFile) → WasMade w.timelines f → all_reached (reach_of w.timelines) 0 f.put ≡ true → file_status (after w c) f ≡ file_status w f

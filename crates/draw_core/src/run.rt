@@ -23,7 +23,7 @@ use crate::window::Window;
 use command_core::{Answer, Command};
 use desk_core::Desk;
 use line_core::{Body, LINE_BYTES, Line, RawLine, read_script};
-use picture_core::{BarWait, Column, Graph, History, word_of};
+use picture_core::{BarWait, Column, Graph, History};
 use point_core::{Point, Refusal};
 use reason_core::Book;
 use script_core::answer_line;
@@ -367,7 +367,7 @@ fn is_refused(answer: &Answer) -> bool
 
 fn word_of_line(body: &Body) -> &'static str {
     match body {
-        Body::Cmd(command) => word_of(command),
+        Body::Cmd(command) => command.word(),
         Body::Bad(_) => "?",
     }
 }
