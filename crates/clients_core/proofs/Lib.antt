@@ -3,6 +3,7 @@ pub mod Adding
 pub mod Apart
 pub mod Gathering
 pub mod Keeping
+pub mod LastRound
 pub mod Locking
 pub mod Looking
 pub mod OwnLatest

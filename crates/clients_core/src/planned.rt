@@ -21,12 +21,13 @@ pub(crate) fn planned_tops(buffer: usize, plans: &[Plan], reach: &Reach) -> Tops
     tops
 }
 
+/// Puts what the last round puts: no point of a round before it is later than its own.
 fn put_plan(tops: &mut Tops, buffer: usize, plan: &Plan)
     ensures tops { TakesIn (puts_of buffer plan.now) tops.old tops.new }
 {
     let round = plan.round();
-    for index in 0..round.times {
-        put_round(tops, buffer, round.acts, index + 1);
+    if round.times > 0 {
+        put_round(tops, buffer, round.acts, round.times);
     }
 }
 

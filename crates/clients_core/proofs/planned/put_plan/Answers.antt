@@ -1,18 +1,14 @@
-use Rattle.std.proofs.Common.{◌+◌, arith}
-use Rattle.resv_core.proofs.RoundActs.{acts-in_range}
-use Rattle.clients_core.proofs.PlansOfRounds.{puts-more}
-use Rattle.clients_core.proofs.Topping.{TakesIn-append, TakesIn-none}
+use Rattle.std.proofs.Common.{List, subst}
+use Rattle.resv_core.specs.declared.plan.Act.{Act}
+use Rattle.resv_core.specs.Settled.{puts_of}
+use Rattle.clients_core.specs.Board.{TakesIn}
+use Rattle.clients_core.proofs.LastRound.{TakesIn-last, TakesIn-no_rounds}
 use Rattle.clients_core.proofs.planned.put_plan.Goals as goal
 
-pub put_round-requires : goal.put_round-requires
-put_round-requires c = record {
-  in_range = acts-in_range c.round-round.result.acts.now (c.loop-index.index + 1) c.round-round.result.times (omega arith) c.round-round.ensures.in_range.points;
-}
-
-pub loop-index-init : goal.loop-index-init
-loop-index-init c = TakesIn-none c.args.tops.now
-
-pub loop-index-preserved : goal.loop-index-preserved
-loop-index-preserved c =
-    rw (puts-more c.args.buffer c.round-round.result.acts.now c.loop-index.index)
-    (TakesIn-append c.loop-index.invariant c.put_round.ensures.tops)
+pub returns-then-round-gt0 : goal.returns-then-round-gt0
+returns-then-round-gt0 c =
+    let round = c.round-round.result in
+    record {
+      tops = subst (λ (acts : List Act). TakesIn (puts_of c.args.buffer acts) c.args.tops.now c.put_round.new.tops) c.round-round.ensures.acts
+      (TakesIn-last c.args.buffer round.acts.now round.times c.args.tops.now c.put_round.new.tops c.if-round-gt0.true c.put_round.ensures.tops);
+    }
