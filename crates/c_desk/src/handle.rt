@@ -63,8 +63,8 @@ impl DeskHandle {
         self.handle().get_mut()
     }
 
-    /// The answer of a call: `NoEntry` if the handle is closed, else the refusal of its arguments, else that of the
-    /// command.
+    /// The answer of a call: `NoEntry` if the handle is closed, else the refusal of its arguments, else the
+    /// command's answer.
     #[inline(always)]
     pub fn ask(&mut self, asked: Result<Command, Refusal>) -> Answer
         ensures { IsAsked self.old self.new asked result }

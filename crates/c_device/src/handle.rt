@@ -65,7 +65,8 @@ impl DeviceHandle {
         self.handle().get_mut()
     }
 
-    /// The answer of a call: none if the handle is closed, else why its arguments are refused, else that to the request.
+    /// The answer of a call: none if the handle is closed, else the refusal of its arguments, else that to the
+    /// request.
     #[inline(always)]
     pub fn ask(&mut self, asked: Result<Request, Refusal>) -> Given
         ensures { IsAsked self.old self.new asked result }
