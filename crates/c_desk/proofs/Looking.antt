@@ -26,40 +26,15 @@ looks : (w : World) (fires : Command → Bool) (c : Command) → has_rows (answe
 looks w fires (command.Info f) is = (refl, refl)
 looks w fires (command.Show b) is = (refl, refl)
 looks w fires command.Report is = (refl, refl)
-looks w fires (command.Timeline t) is = none (first_of (causes w (command.Timeline t))) (reported w (command.Timeline t)) refl is
-looks w fires (command.Inc t n) is = none (first_of (causes w (command.Inc t n))) (reported w (command.Inc t n)) refl is
-looks w fires (command.Value t) is = none (first_of (causes w (command.Value t))) (reported w (command.Value t)) refl is
-looks w fires (command.Shut t) is = none (first_of (causes w (command.Shut t))) (reported w (command.Shut t)) refl is
-looks w fires (command.Fence f t p) is = none (first_of (causes w (command.Fence f t p))) (reported w (command.Fence f t p)) refl is
-looks w fires (command.Merge f a b) is = none (first_of (causes w (command.Merge f a b))) (reported w (command.Merge f a b)) refl is
-looks w fires (command.Close f) is = none (first_of (causes w (command.Close f))) (reported w (command.Close f)) refl is
-looks w fires (command.Wait f) is = none (first_of (causes w (command.Wait f))) (reported w (command.Wait f)) refl is
-looks w fires (command.Buffer b) is = none (first_of (causes w (command.Buffer b))) (reported w (command.Buffer b)) refl is
-looks w fires (command.Add b t p u) is = none (first_of (causes w (command.Add b t p u))) (reported w (command.Add b t p u)) refl is
-looks w fires (command.Import b f flags) is = none (first_of (causes w (command.Import b f flags))) (reported w (command.Import b f flags)) refl is
-looks w fires (command.Export f b flags) is = none (first_of (causes w (command.Export f b flags))) (reported w (command.Export f b flags)) refl is
-looks w fires (command.Test b u) is = none (first_of (causes w (command.Test b u))) (reported w (command.Test b u)) refl is
-looks w fires (command.Trim b) is = none (first_of (causes w (command.Trim b))) (reported w (command.Trim b)) refl is
-looks w fires (command.Watch f cookie) is = none (first_of (causes w (command.Watch f cookie))) (reported w (command.Watch f cookie)) refl is
-looks w fires (command.Unwatch cookie) is = none (first_of (causes w (command.Unwatch cookie))) (reported w (command.Unwatch cookie)) refl is
+looks w fires c is = none (first_of (causes w c)) (reported w c) refl is
 
 pub rows-accepted : (a : Answer) → has_rows a ≡ true → is_refused a ≡ false
-rows-accepted (answer.Info i) is = refl
-rows-accepted (answer.Show rows) is = refl
-rows-accepted (answer.Report report) is = refl
-rows-accepted answer.Done is = refl
-rows-accepted (answer.Value n) is = refl
-rows-accepted (answer.Raised n fired) is = refl
 rows-accepted (answer.Refused r) is = absurd (cc)
+rows-accepted _ is = refl
 
 pub rows-no_cookies : (a : Answer) → has_rows a ≡ true → cookies_of a ≡ []
-rows-no_cookies (answer.Info i) is = refl
-rows-no_cookies (answer.Show rows) is = refl
-rows-no_cookies (answer.Report report) is = refl
-rows-no_cookies answer.Done is = refl
-rows-no_cookies (answer.Value n) is = refl
 rows-no_cookies (answer.Raised n fired) is = absurd (cc)
-rows-no_cookies (answer.Refused r) is = refl
+rows-no_cookies _ is = refl
 
 module _ (new : DeskState) (c : Command) (a : Answer) (rows : has_rows a ≡ true) (history : List Command) (answered : IsAnswer history c a) where
   abbrev w : World

@@ -75,20 +75,7 @@ world-room w (command.Unwatch cookie) len capacity ready accepted room =
 world-room w (command.Info f) len capacity ready accepted room =
     let none = none-reported w f (file_named w.files f) in
     omega (arith, none, room)
-world-room w (command.Timeline t) len capacity ready accepted room = none-fired len (length w.watches) capacity room
-world-room w (command.Value t) len capacity ready accepted room = none-fired len (length w.watches) capacity room
-world-room w (command.Fence f t p) len capacity ready accepted room = none-fired len (length w.watches) capacity room
-world-room w (command.Merge f a b) len capacity ready accepted room = none-fired len (length w.watches) capacity room
-world-room w (command.Close f) len capacity ready accepted room = none-fired len (length w.watches) capacity room
-world-room w (command.Wait f) len capacity ready accepted room = none-fired len (length w.watches) capacity room
-world-room w (command.Buffer b) len capacity ready accepted room = none-fired len (length w.watches) capacity room
-world-room w (command.Add b t p u) len capacity ready accepted room = none-fired len (length w.watches) capacity room
-world-room w (command.Import b f flags) len capacity ready accepted room = none-fired len (length w.watches) capacity room
-world-room w (command.Export f b flags) len capacity ready accepted room = none-fired len (length w.watches) capacity room
-world-room w (command.Test b u) len capacity ready accepted room = none-fired len (length w.watches) capacity room
-world-room w (command.Trim b) len capacity ready accepted room = none-fired len (length w.watches) capacity room
-world-room w (command.Show b) len capacity ready accepted room = none-fired len (length w.watches) capacity room
-world-room w command.Report len capacity ready accepted room = none-fired len (length w.watches) capacity room
+world-room w _ len capacity ready accepted room = none-fired len (length w.watches) capacity room
 
 -- the answer of an accepted command is what it reports
 reported-accepted : (cause : Option Refusal) (a : Answer) → is_refused (refused_or cause a) ≡ false → refused_or cause a ≡ a
@@ -96,13 +83,8 @@ reported-accepted None a is = refl
 reported-accepted (Some r) a is = absurd (cc)
 
 no-cookies : (a : Answer) → is_refused a ≡ true → cookies_of a ≡ []
-no-cookies (answer.Refused r) is = refl
-no-cookies answer.Done is = refl
-no-cookies (answer.Value n) is = refl
 no-cookies (answer.Raised n fired) is = absurd (cc)
-no-cookies (answer.Info i) is = refl
-no-cookies (answer.Show rows) is = refl
-no-cookies (answer.Report report) is = refl
+no-cookies _ is = refl
 
 module _ (old new : DeskState) (c : Command) (given : Answer) (history : List Command) (len capacity : ℕ) where
   abbrev w : World

@@ -16,34 +16,12 @@ pub record ServiceState : Type 0 where
 -- the cookies that the answer fires
 abbrev pub cookies_of : Answer → List ℕ
 cookies_of (answer.Raised n fired) = fired
-cookies_of answer.Done = []
-cookies_of (answer.Value n) = []
-cookies_of (answer.Info i) = []
-cookies_of (answer.Show rows) = []
-cookies_of (answer.Report report) = []
-cookies_of (answer.Refused r) = []
+cookies_of _ = []
 
 -- the command registers a watch
 abbrev pub registers_watch : Command → Bool
 registers_watch (command.Watch f cookie) = true
-registers_watch (command.Timeline t) = false
-registers_watch (command.Inc t n) = false
-registers_watch (command.Value t) = false
-registers_watch (command.Shut t) = false
-registers_watch (command.Fence f t p) = false
-registers_watch (command.Merge f a b) = false
-registers_watch (command.Close f) = false
-registers_watch (command.Wait f) = false
-registers_watch (command.Info f) = false
-registers_watch (command.Buffer b) = false
-registers_watch (command.Add b t p u) = false
-registers_watch (command.Import b f flags) = false
-registers_watch (command.Export f b flags) = false
-registers_watch (command.Test b u) = false
-registers_watch (command.Trim b) = false
-registers_watch (command.Unwatch cookie) = false
-registers_watch (command.Show b) = false
-registers_watch command.Report = false
+registers_watch _ = false
 
 -- a command that registers a watch finds room for all watches that can be pending
 abbrev pub IsReadyFor : Command → ℕ → ℕ → Type 0
