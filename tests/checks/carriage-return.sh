@@ -1,0 +1,2 @@
+#!/usr/bin/env bash
+printf 'timeline a\n#= ok 1\r\n'

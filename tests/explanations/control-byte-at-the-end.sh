@@ -1,0 +1,2 @@
+#!/usr/bin/env bash
+printf 'value b ~\x1f\n'

@@ -1,0 +1,2 @@
+#!/usr/bin/env bash
+printf 'a\x7f\n'

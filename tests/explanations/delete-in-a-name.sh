@@ -1,0 +1,2 @@
+#!/usr/bin/env bash
+printf 'value \x7fb c\n'

@@ -1,0 +1,2 @@
+#!/usr/bin/env bash
+printf 'timeline \xc3\xa9\n'

@@ -1,0 +1,2 @@
+#!/usr/bin/env bash
+printf 'timeline\ta\n'

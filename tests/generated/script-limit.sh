@@ -1,0 +1,8 @@
+#!/usr/bin/env bash
+# A script of one byte too many.
+set -euo pipefail
+source "$(dirname "$0")/../lib/shared"
+
+first=$'timeline a\n'
+printf '%s' "$first"
+empty_lines $(($(limit SCRIPT_BYTES) + 1 - ${#first}))

@@ -1,0 +1,11 @@
+#!/usr/bin/env bash
+# Commands that spaces fill up to the limit of a line and past it, and a note past it.
+set -euo pipefail
+source "$(dirname "$0")/../lib/shared"
+
+bytes="$(limit LINE_BYTES)"
+printf '%s\n' "timeline a"
+for length in "$bytes" $((bytes + 1)); do
+    printf '%-*s\n' "$length" "value a"
+done
+printf '#%s\n' "$(copies "$bytes" x)"

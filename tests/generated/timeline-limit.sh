@@ -1,0 +1,21 @@
+#!/usr/bin/env bash
+# All timelines that there can be, and one more. A closing makes room for none.
+set -euo pipefail
+source "$(dirname "$0")/../lib/shared"
+
+timelines="$(limit CONTEXTS)"
+for number in $(seq "$timelines"); do
+    printf 'timeline t%d\n#= ok %d\n' "$number" "$number"
+done
+cat <<END
+timeline t$((timelines + 1))
+#= err 6 Limit timelines
+timeline t1
+#= err 3 Exists
+shut t1
+#= ok 0
+timeline t$((timelines + 1))
+#= err 6 Limit timelines
+timeline t1
+#= err 3 Exists
+END
