@@ -51,7 +51,7 @@ pending-filter cookie p xs =
     let both = sum_by-filter_both p (λ x. not (p x)) (λ x. refl) (one_of cookie) xs in
     omega (arith, both)
 
--- where no watch has the cookie, and where one has
+-- if no watch has the cookie, and if one has
 
 none_by : (b rest : Bool) (n all : ℕ) → (b || rest) ≡ false → all ≡ cond b 1 0 + n → (rest ≡ false → n ≡ 0) → all ≡ 0
 none_by true rest n all is sum less = absurd (cc)

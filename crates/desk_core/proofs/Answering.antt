@@ -40,7 +40,7 @@ pub AreAccepted-push : (w : World) (history : List Command) (c : Command) → Ar
 AreAccepted-push w [] c accepted is = (is, tt)
 AreAccepted-push w (d ∷ history) c accepted is = (accepted.0, AreAccepted-push (after w d) history c accepted.1 is)
 
--- a command takes memory for the desk exactly where it does in the world
+-- a command takes memory for the desk exactly when it does in the world
 takes_memory-holds : {desk : DeskState} {world : World} → Keeps desk world → (c : Command) → takes_memory (fires_kept desk) c ≡ takes_memory (fires_some world) c
 takes_memory-holds k (command.Inc t n) = fires_kept-holds k (command.Inc t n)
 takes_memory-holds k (command.Shut t) = fires_kept-holds k (command.Shut t)

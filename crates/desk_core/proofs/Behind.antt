@@ -1,4 +1,4 @@
--- No context behind those that were made has a pending point in a table.
+-- No context after those that were made has a pending point in a table.
 use Rattle.std.proofs.Common.{◌≡◌, ℕ, ◌<◌, ◌≤◌, ap, ◌∙◌, List, ◌++◌, None, arith, All, inl, inr}
 use Rattle.std.proofs.lemmas.Bool.{cases_lt}
 use Rattle.std.proofs.lemmas.List.Elements.{All-contains}

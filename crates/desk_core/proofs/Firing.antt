@@ -30,7 +30,7 @@ numbers_of xs = map (λ (x : MadeWatch). x.number) xs
 abbrev times_pending : ℕ → List MadeWatch → ℕ
 times_pending number xs = sum_by (λ (x : MadeWatch). cond (nat_eq number x.number) 1 0) xs
 
--- 1 where that registration is still to come
+-- 1 if that registration is still to come
 abbrev times_to_come : ℕ → ℕ → ℕ
 times_to_come number made = cond (nat_le made number) 1 0
 

@@ -34,7 +34,7 @@ apart-at name_of a [] i d apart h = absurd (omega arith)
 apart-at name_of a (x ∷ xs) zero d apart h = apart.0
 apart-at name_of a (x ∷ xs) (suc i) d apart h = apart-at name_of a xs i d apart.1 (omega arith)
 
--- where names are distinct, each thing is found by its own
+-- if names are distinct, each thing is found by its own
 pub named-own : {X : Type 0} (name_of : X → List ℕ) (xs : List X) (i : ℕ) (d : X) → IsDistinct same_name (map name_of xs) → i < length xs → named name_of xs (name_of (get_or xs i d)) ≡ Some (get_or xs i d)
 named-own name_of [] i d distinct h = absurd (omega arith)
 named-own name_of (x ∷ xs) zero d distinct h = ap (λ b. cond b (Some x) (find (is_named name_of (name_of x)) xs)) (nat_list_eq_equiv.refl (name_of x))

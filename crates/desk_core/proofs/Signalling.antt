@@ -1,4 +1,4 @@
--- A file is signalled where all that was put into it is, and so is a buffer.
+-- A file is signalled if all that was put into it is, and so is a buffer.
 use Rattle.std.proofs.Common.{◌≡◌, ℕ, List, Bool}
 use Rattle.std.specs.Prelude.{◌↔◌}
 use Rattle.point_core.specs.Agreement.{as_entries, IsReached, all_reached}
@@ -29,6 +29,6 @@ all_reached-keeps {desk} {world} k name = all_reached-AgreesAbove 0 (AgreesAbove
 pub IsReached-table : {desk : DeskState} {world : World} → Keeps desk world → (name : List ℕ) (usage : ℕ) → IsReached (entries_of desk.buffers name) usage (reach_of world.timelines) ↔ IsReached (buffer_put_set world.buffers name) usage (reach_of world.timelines)
 IsReached-table {desk} {world} k name usage = (IsReached-AgreesAbove usage (k.holds.tables name), IsReached-AgreesAbove usage (AgreesAbove-sym (k.holds.tables name)))
 
--- the status of points by all that was put, where these are reached when all of that is
+-- the status of points by all that was put, if these are reached when all of that is
 pub common_status-reported : (clocks : List Clock) (ps : List Point) (put : List Entry) → all_reached (reach_of_clocks clocks) 0 (as_entries ps) ≡ all_reached (reach_of_clocks clocks) 0 put → common_status clocks ps ≡ status_of (all_reached (reach_of_clocks clocks) 0 put) (some_cancelled clocks ps)
 common_status-reported clocks ps put same = ap (λ b. status_of b (some_cancelled clocks ps)) (sym (all_reached-points (reach_of_clocks clocks) ps) ∙ same)

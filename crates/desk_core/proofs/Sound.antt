@@ -112,7 +112,7 @@ reached-shut [] zs name k low = omega arith
 reached-shut (t ∷ ts) zs name zero low = reached-shut_if (is_named name t) t (All-head IsWithin t ts low)
 reached-shut (t ∷ ts) zs name (suc k) low = reached-shut ts zs name k (All-tail IsWithin t ts low)
 
--- nor where a timeline is closed, since no value passes the greatest
+-- nor if a timeline is closed, since no value passes the greatest
 pub IsAtLeast-shut : (ts : List Timeline) (name : List ℕ) → All IsWithin ts → IsAtLeast (reach_of (shut ts name)) (reach_of ts)
 IsAtLeast-shut ts name low =
     rw (length-shut ts name)

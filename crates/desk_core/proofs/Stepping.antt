@@ -63,7 +63,7 @@ and-true : (b : Bool) → (b && true) ≡ b
 and-true true = refl
 and-true false = refl
 
--- where there is a file, it is signalled where all that was put into it is reached
+-- if there is a file, it is signalled if all that was put into it is reached
 with_file : {X : Type 0} (has reached : Bool) (of : Bool → X) (none : X) → (if not has then none else of (has && reached)) ≡ (if has then of reached else none)
 with_file true reached of none = refl
 with_file false reached of none = refl
@@ -204,7 +204,7 @@ Holds-timeline {desk} {world} h name low =
       watches_made = h.watches_made;
     }
 
--- a file is put behind the others
+-- a file is put after the others
 pub Holds-file : {desk : DeskState} {world : World} → Holds desk world → (kept : File) (f : MadeFile) → kept.name ≡ f.name → kept.points ≡ listed_points f → Holds (record { timelines = desk.timelines; files = desk.files ++ kept ∷ []; buffers = desk.buffers; watches = desk.watches }) (record world { files = world.files ++ f ∷ [] })
 Holds-file {desk} {world} h kept f name points = record {
   timelines = h.timelines;
@@ -246,7 +246,7 @@ Holds-export {desk} {world} h name b flags points floor is =
     Holds-file h (file_of name points floor) _ refl
     (is ∙ ap (λ ts. listing (entries_of desk.buffers b) (usage_number (export_usage flags)) (reach_of ts)) h.timelines ∙ listing-exported flags (h.tables b))
 
--- a buffer is put behind the others
+-- a buffer is put after the others
 pub Holds-buffer : {desk : DeskState} {world : World} → Holds desk world → (b : List ℕ) → AreBuffers (desk.buffers ++ (b, empty) ∷ []) → Holds (record { timelines = desk.timelines; files = desk.files; buffers = desk.buffers ++ (b, empty) ∷ []; watches = desk.watches }) (after world (command.Buffer b))
 Holds-buffer {desk} {world} h b kept = record {
   timelines = h.timelines;
@@ -289,7 +289,7 @@ Holds-trim {desk} {world} h b new kept now only =
       watches_made = h.watches_made;
     }
 
--- a watch is put behind the others, with the points that its file lists
+-- a watch is put after the others, with the points that its file lists
 pub Holds-watch : {desk : DeskState} {world : World} → Keeps desk world → (f : List ℕ) (cookie : ℕ) (points : List Point) (reach : List ℕ) → points ≡ points_at desk.files f → Holds (record { timelines = desk.timelines; files = desk.files; buffers = desk.buffers; watches = with_kept_watch desk.watches cookie points reach }) (after world (command.Watch f cookie))
 Holds-watch {desk} {world} k f cookie points reach is = record {
   timelines = k.holds.timelines;

@@ -107,7 +107,7 @@ pub uncaused : {T : Type 0} (o : Option Refusal) (r : Result T Refusal) (t : T) 
 uncaused None r t refused ok = refl
 uncaused (Some cause) r t refused ok = absurd (cc)
 
--- what a call tells that is refused where there is none of that name
+-- what a call reports that fails if there is none of that name
 pub reported_where : (b : Bool) (r : Result Bool Refusal) (s : Bool) (P : Bool → Type 0) → MatchBool b (IsOkAnd r P) (r ≡ Err NoEntry) → r ≡ Ok s → P s
 reported_where true (Ok s') s P reported ok = let same : s' ≡ s = cc in rw (← same) reported
 reported_where true (Err e) s P reported ok = absurd (cc)

@@ -41,7 +41,7 @@ cookie_of x = x.cookie
 abbrev pub put_of : MadeWatch → List Entry
 put_of x = x.put
 
--- where more is reached
+-- if more is reached
 
 module _ {desk : DeskState} {world : World} (h : Holds desk world) (reach : List ℕ) (rises : IsAtLeast reach (reach_of world.timelines)) where
   pub watches-later : AreWatchesOf reach desk.watches.pending world.watches
@@ -61,7 +61,7 @@ pub fired-holds : {desk : DeskState} {world : World} → Holds desk world → (n
 fired-holds {desk} {world} h name n =
     ap (fired_by desk.watches) (raised-holds h name n) ∙ fired-later h (raised_reach world name n) (IsAtLeast-raised world.timelines name n)
 
--- the same of a closing, where no value passes the greatest
+-- the same of a closing, if no value passes the greatest
 shut-holds : {desk : DeskState} {world : World} → Holds desk world → (name : List ℕ) → reach_of (shut desk.timelines name) ≡ shut_reach world name
 shut-holds h name = ap (λ ts. reach_of (shut ts name)) h.timelines
 
@@ -98,7 +98,7 @@ has_room-holds {desk} {world} h =
     ∙ ap (λ n. not (nat_le WATCHES n || nat_le WATCHES_EVER desk.watches.made)) (sym (AllZip-long (IsWatchOf cookie_of put_of (reach_of world.timelines)) desk.watches.pending world.watches h.watches))
     ∙ ap (λ m. not (nat_le WATCHES (length world.watches) || nat_le WATCHES_EVER m)) h.watches_made
 
--- a cookie is pending for the desk exactly where it is in the world
+-- a cookie is pending for the desk exactly when it is in the world
 pub has_watch-holds : {desk : DeskState} {world : World} → Holds desk world → (cookie : ℕ) → has_watch desk.watches cookie ≡ has_made_watch world.watches cookie
 has_watch-holds {desk} {world} h cookie = list_any-is_for cookie_of put_of (reach_of world.timelines) cookie desk.watches.pending world.watches h.watches
 
@@ -202,7 +202,7 @@ shut_reach-is ts name ctx value reach at is kept has still low greatest =
     ∙ ap (λ v. reaching (reach_of ts) (point_of (context_of ts name) v)) greatest
     ∙ sym (reach_of-shut-reaching ts name kept has still low)
 
--- where no watch is due, none is refused for want of memory
+-- if no watch is due, none is refused for want of memory
 pub sure-fired : {T : Type 0} (d : DeskState) (reach later : List ℕ) (r : Result T Refusal) (e : Refusal) → reach ≡ later → keeps_due d later ≡ false → (fired_by d.watches reach ≡ [] → IsOk r) → r ≡ Err e → ⊥
 sure-fired d reach later (Ok v) e at none ok err = absurd (cc)
 sure-fired d reach later (Err f) e at none ok err = false≢true (ok (ap (fired_by d.watches) at ∙ fired-none later d.watches.pending none))

@@ -126,7 +126,7 @@ history_before-all number history (m ∷ ls) (g ∷ given) answers all =
     ap (λ b. if b then history_before number (history_after_line history m.body g) ls given else history) (lt-ltb m.number number (All-head (IsBelow number) m ls all))
     ∙ history_before-all number (history_after_line history m.body g) ls given answers.1 (All-tail (IsBelow number) m ls all)
 
--- the lines where columns end, with one column more
+-- the lines at which columns end, with one column more
 
 pub line_after-earlier : (window : Window) (old new : List Column) (line column : ℕ) → lines_drawn new ≡ lines_drawn old ++ line ∷ [] → column ≤ length old → line_after window new column ≡ line_after window old column
 line_after-earlier window old new line zero is low = refl

@@ -52,7 +52,7 @@ module _ (R : List Command → List Command → (ℕ → List Bar → List Bar) 
   by_line history (Bad refusal) given reported = none history
   by_line history (Cmd c) given reported = line_if history c given (is_refused given) refl reported
 
--- all that a line keeps of the bars, where the desk has the history
+-- all that a line keeps of the bars, if the desk has the history
 abbrev Keeps : List Command → List Command → (ℕ → List Bar → List Bar) → Type 0
 Keeps old new change = (column : ℕ) (bars : List Bar) → (desk : DeskState) → HasHistory desk old → AreBarsOf (world_of old) column bars →
     (AreBarsOf (world_of new) column (change column bars))

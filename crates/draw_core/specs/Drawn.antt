@@ -13,15 +13,15 @@ use Rattle.picture_core.specs.Bars.{drawn_at}
 use Rattle.picture_core.specs.declared.bar.Bar.{Bar}
 use Rattle.picture_core.specs.declared.waiting.Waiting.{Waiting}
 
--- the status of a file by the desk, as its information shows it; none where there is no file of that name
+-- the status of a file by the desk, as its information shows it; none if there is no file of that name
 abbrev pub file_status : DeskState → List ℕ → Option Status
 file_status desk name = option_map (λ (f : File). common_status (clocks_of desk.timelines) f.points) (file_at desk.files name)
 
--- where it is settled, that is in this column or before, and as signalled or cancelled
+-- if it is settled, that is in this column or before, and as signalled or cancelled
 abbrev pub IsSettledBy : ℕ → Bar → Type 0
 IsSettledBy column b = IfSome b.settled (λ s. (s.column ≤ column) × (is_signalled s.status ≡ true))
 
--- A bar after the command of a column, by the desk as that command left it. Where it was still pending and its file is there,
+-- A bar after the command of a column, by the desk as that command left it. If it was still pending and its file is there,
 -- it is drawn in that column with the file's status. Earlier columns don't change, and
 -- neither does a bar that is settled or closed.
 pub record IsAsked (desk : DeskState) (column : ℕ) (old new : Bar) : Type 0 where

@@ -19,13 +19,13 @@ abbrev pub fills_of_status : Option Status → List Fill
 fills_of_status None = []
 fills_of_status (Some s) = fill_of s ∷ []
 
--- what has to be seen of a bar where a column shows that world: its file's status, or nothing where it isn't there
+-- what has to be seen of a bar if a column shows that world: its file's status, or nothing if it isn't there
 abbrev pub fills_in : World → ℕ → Bar → List Fill
 fills_in w column b = if is_there column b then fills_of_status (status_in w b.name) else []
 
 -- A picture shows the run of a script: it has a column for each line in the window that has an answer; the bars that are
--- there in a column are the files of the history up to its line; and where the middle of the column crosses the middle of a
--- bar, the shapes show the bar as pending, signalled or cancelled as its file is then, and nothing where it isn't there.
+-- there in a column are the files of the history up to its line; and if the middle of the column crosses the middle of a
+-- bar, the shapes show the bar as pending, signalled or cancelled as its file is then, and nothing if it isn't there.
 pub record ShowsScript (window : Window) (lines : List Line) (picture : Picture) : Type 0 where
   pub history : History
   pub lines_are : lines_drawn history.columns.items ≡ drawn_lines window lines

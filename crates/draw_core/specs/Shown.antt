@@ -57,7 +57,7 @@ names_there column bars = map (λ (b : Bar). b.name) (filter (is_there column) b
 abbrev pub file_names : World → List (List ℕ)
 file_names w = map (λ (f : MadeFile). f.name) w.files
 
--- the status of the file of that name, where there is one
+-- the status of the file of that name, if there is one
 abbrev pub status_in : World → List ℕ → Option Status
 status_in w name = option_map (file_status w) (file_named w.files name)
 

@@ -136,7 +136,7 @@ impl Run {
         Ok(())
     }
 
-    /// Answers a line up to the window's last, which has a column of its own where it is in the window.
+    /// Answers a line up to the window's last, which has a column of its own if it is in the window.
     ///
     /// Fails with `Memory` alone.
     fn take(&mut self, line: &RawLine<'_>, body: &Body) -> Result<(), Refusal>
@@ -267,7 +267,7 @@ impl Run {
             .enter(self.alloc, column, command, answer, points)
     }
 
-    /// The line, its answer, and where it was refused why.
+    /// The line, its answer, and, if it was refused, why.
     fn note_of(
         &self,
         line: &RawLine<'_>,

@@ -20,7 +20,7 @@ pub fn waiting_for(desk: &Desk, point: &Point) -> Option<Waiting>
     waiting_on(desk, &timeline, point.value)
 }
 
-/// How far a timeline is from that value. None where it is there.
+/// How far a timeline is from that value. None if it is there.
 pub fn waiting_on(desk: &Desk, timeline: &Name, point: u64) -> Option<Waiting>
     ensures waits { IfSome result (λ waiting. IsToGo desk.now timeline.now point waiting) }
     ensures some { is_some result ≡ is_to_come desk.now.timelines timeline.now point }

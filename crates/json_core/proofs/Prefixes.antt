@@ -61,7 +61,7 @@ module _ {lines : List (List ℕ)} {said : List Line} {desk : DeskState} {out : 
         };
       }
 
--- after a line, where it has an answer
+-- after a line, if it has an answer
 pub prefix-next : (lines : List (List ℕ)) (said : List Line) (desk : DeskState) (out : List ℕ) (totals : Totals) (old now new : Option (List ℕ)) (line bytes : List ℕ) (number : ℕ) (body : Option Body)
     → HasWritten lines said desk out totals old now → number ≡ length lines + 1 → bytes ≡ cut line
     → MatchOption body ⊥ (λ b. ReportsPrefix number bytes b desk out now new)
@@ -111,7 +111,7 @@ given-begins before now s given p =
       first = ap (numbered (ending_of script) 1) split ∙ numbered-given (ending_of script) 1 given tail (some_lines (p.front ++ (s.ready ++ after)));
     }
 
--- bytes that end so, where the read did not fail, are all that a script has
+-- bytes that end so, if the read did not fail, are all that a script has
 pub whole-begins : (before left : Option (List ℕ)) (bytes : List ℕ) (end : Ending) → WasRead before left bytes end → (end ≡ ending.Whole) ⊎ (end ≡ ending.TooLong)
     → BeginsScript before (lines_of (take SCRIPT_BYTES bytes)) (lines_until end (take SCRIPT_BYTES bytes))
 whole-begins before left bytes end read ends =
@@ -138,7 +138,7 @@ whole-begins before left bytes end read ends =
       first = same.1 ∙ sym (append-nil (lines_until end (take SCRIPT_BYTES bytes)));
     }
 
--- the last line was answered, where it has an answer
+-- the last line was answered, if it has an answer
 pub ended-begun : (before now left : Option (List ℕ)) (s t : LinesState) (end : Ending) (given : List (List ℕ)) (g : HasGiven before now s given) (e : HasEnded before left t end given) (line : List ℕ) (body : Option Body)
     (desk desk' : DeskState) (out out' : List ℕ) (totals totals' : Totals) (old mid new : Option (List ℕ))
     → body ≡ last_body end line → HasWritten given (ended_lines 1 given) desk out totals old mid

@@ -1,4 +1,4 @@
--- What was written where lines were answered.
+-- What was written when lines were answered.
 use Rattle.std.proofs.Common.{ℕ, List, [], Option, sym, append-nil}
 use Rattle.line_core.specs.declared.line.Line.{Line}
 use Rattle.script_core.specs.Answering.{AnswersState, HasAnswered}

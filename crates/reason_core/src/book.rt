@@ -1,4 +1,4 @@
-// Where names and cookies were made.
+// The lines on which names and cookies were made.
 ghost use Rattle.std.specs.Prelude.{◌≡◌, IfErr};
 ghost use Rattle.point_core.specs.declared.refusal.Refusal.TheVariants.{Memory};
 

@@ -91,7 +91,7 @@ pub record Counts (totals : Totals) (given : List Answer) : Type 0 where
   pub refused : totals.refused ≡ count_by is_refused given
 
 -- The script was answered: each of its lines has its answer, in order, and the texts of these were written, and nothing
--- else. Where no answer is Memory, that is the output of the script.
+-- else. If no answer is Memory, that is the output of the script.
 pub record AnswersScript (script : List ℕ) (totals : Totals) (old new : Option (List ℕ)) : Type 0 where
   pub given : List Answer
   pub answers : WritesAnswers (script_of script) given old new
