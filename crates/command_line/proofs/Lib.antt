@@ -1,4 +1,5 @@
 mod Adding
+mod Alone
 mod Fronts
 mod Instead
 mod Matched

@@ -179,6 +179,11 @@ pub record IsFileOf (words : List Text) (asked : Asked) : Type 0 where
   pub two : words ≡ program ∷ name ∷ []
   pub is : asked ≡ Run (Some name)
 
+-- after the program's own word there is one, run
+pub record IsRunAlone (words : List Text) : Type 0 where
+  pub program : Text
+  pub two : words ≡ program ∷ codes "run" ∷ []
+
 -- what the subcommand asks for; or a file, by words that the command line does not take
 abbrev pub IsAsked : List Text → Asked → Type 0
 IsAsked words asked =

@@ -36,7 +36,7 @@ pub(crate) const FILE: &str = "FILE";
 
 pub(crate) const PATH: &str = "PATH";
 
-const RUN: &str = "run";
+pub(crate) const RUN: &str = "run";
 
 pub(crate) const CHECK: &str = "check";
 

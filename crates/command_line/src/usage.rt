@@ -2,7 +2,7 @@
 ghost use Rattle.std.specs.Prelude.{◌≡◌, Err, IfOk, IfSome, Some, map, string_bytes, true};
 ghost use Rattle.clap.specs.Words.{kind_of, subcommand_of, takes};
 ghost use Rattle.point_core.specs.declared.refusal.Refusal.TheVariants.{Memory};
-ghost use Rattle.command_line.specs.Asked.{IsAsked, IsFileOf, asked_by, asked_of};
+ghost use Rattle.command_line.specs.Asked.{IsAsked, IsFileOf, IsRunAlone, asked_by, asked_of};
 ghost use Rattle.command_line.specs.Words.{fencectl};
 
 use crate::action::Action;
@@ -10,6 +10,7 @@ use crate::arguments::matches_of;
 use crate::asked::action_by;
 use crate::color::Colors;
 use crate::paint::painted;
+use crate::subcommands::RUN;
 use clap::Error;
 use clap::error::ErrorKind;
 use point_core::Refusal;
@@ -34,9 +35,23 @@ pub fn action_of<'a>(
         → IfOk result (λ action. asked_of action
         ≡ Some (asked_by (subcommand_of fencectl (map string_bytes words.entry.now)))) }
 {
+    if is_run_alone(words) {
+        return Ok(Action::Run(Script::StandardInput));
+    }
     match matches_of(alloc, words) {
         Ok(matches) => action_by(alloc, &matches),
         Err(error) => action_instead(rt, alloc, colors, words, &error),
+    }
+}
+
+/// Whether the one word after the program's own is `run`, which asks for the script of standard input: no table of options is
+/// built for it.
+fn is_run_alone(words: &[String]) -> bool
+    ensures alone { result ≡ true → IsRunAlone (map string_bytes words.now) }
+{
+    match words {
+        [_, word] => word.as_str() == RUN,
+        _ => false,
     }
 }
 
