@@ -1,7 +1,7 @@
 -- Of acts that are repeated, the last round has the latest points.
-use Rattle.std.proofs.Common.{◌≡◌, ℕ, zero, suc, ◌+◌, ◌*◌, ◌<◌, ◌≤◌, max, Bool, true, false, List, [], ◌∷◌, ◌++◌, Option, None, Some, inl, inr, refl, sym, ap, ◌∙◌, subst, arith, mul-le-mul_left}
+use Rattle.std.proofs.Common.{◌≡◌, ℕ, zero, suc, ◌+◌, ◌*◌, ◌<◌, ◌≤◌, Bool, true, false, List, [], ◌∷◌, ◌++◌, Option, None, Some, inl, inr, sym, ap, ◌∙◌, subst, arith, mul-le-mul_left}
 use Rattle.std.proofs.lemmas.Bool.Decides.{eqb_tells}
-use Rattle.std.proofs.lemmas.List.Elements.{All-append, All-cons, All-head, All-nil, All-tail}
+use Rattle.std.proofs.lemmas.List.Elements.{All-cons, All-head, All-nil, All-tail}
 use Rattle.point_core.specs.declared.context.TheConstants.{CONTEXTS}
 use Rattle.point_core.specs.declared.entry.Entry.{Entry}
 use Rattle.point_core.specs.Agreement.{HasContexts, applies, point_of, top}
@@ -13,9 +13,8 @@ use Rattle.resv_core.specs.declared.plan.Act.{Act}
 use Rattle.resv_core.specs.declared.plan.Act.TheVariants.{Inc, Put, Look}
 use Rattle.resv_core.specs.declared.tops.Tops.{Tops}
 use Rattle.resv_core.specs.Resv.{entry_of}
-use Rattle.resv_core.specs.Rounds.{in_round, round_of, rounds_of}
+use Rattle.resv_core.specs.Rounds.{round_of, rounds_of}
 use Rattle.resv_core.specs.Settled.{puts_of}
-use Rattle.resv_core.specs.Tops.{AreTops}
 use Rattle.clients_core.specs.Board.{TakesIn}
 use Rattle.clients_core.proofs.PlansOfRounds.{puts-more}
 use Rattle.clients_core.proofs.Topping.{TakesIn-none}

@@ -11,14 +11,12 @@ use Rattle.point_core.specs.declared.entry.Point.{Point}
 use Rattle.point_core.specs.declared.entry.Entry.{Entry}
 use Rattle.point_core.specs.declared.listing.Listing.{Listing}
 use Rattle.point_core.specs.Agreement.{applies, point_of, top, as_entries, HasContexts}
-use Rattle.point_core.specs.Latest.{raised_to, IsLatest}
+use Rattle.point_core.specs.Latest.{raised_to}
 use Rattle.point_core.specs.Reach.{value_at}
 use Rattle.point_core.specs.Usage.{usage_number}
 use Rattle.point_core.proofs.Agreement.{AppliesAt-from_true}
 use Rattle.point_core.proofs.Latest.{raised_to-later, raised_to-if, put_if, put_if-above, applies-true}
-use Rattle.point_core.proofs.Values.{value_at-replicate}
 use Rattle.clients_core.specs.Looks.{is_as_late, shows_point, shows_entry, shows_all}
-use Rattle.clients_core.specs.OwnPuts.{no_points}
 use Rattle.clients_core.proofs.Apart.{top-past}
 
 -- the latest point that the listing shows of a context, by a point or by its floor
@@ -109,22 +107,20 @@ all-late listing usage (e ∷ es) shown ctx =
           omega arith
     ]
 
--- by the table of latest points: where the point of each context is shown
-pub points-shown : (listing : Listing) (usage n : ℕ) (es : List Entry) (own : List ℕ) → n ≤ CONTEXTS → HasContexts es → All (λ e. e.point.ctx ≤ n) es → IsLatest own no_points es usage
-    → ((ctx : ℕ) → 1 ≤ ctx → ctx ≤ n → shows_point listing (point_of ctx (value_at own ctx)) ≡ true) ↔ (shows_all listing usage es ≡ true)
-points-shown listing usage n es own few contexts within puts =
-    let own_is : (ctx : ℕ) → 1 ≤ ctx → ctx ≤ CONTEXTS → value_at own ctx ≡ raised_to 0 (top es usage ctx) =
-    λ ctx low high. puts.values ctx low high ∙ ap (λ (v : ℕ). raised_to v (top es usage ctx)) (value_at-replicate CONTEXTS ctx) in (
-      (λ shown. all-shown listing usage es contexts (λ ctx low high. elim (cases_lt n ctx) [
-        | inl past ↦ let none : raised_to 0 (top es usage ctx) ≡ 0 = ap (raised_to 0) (top-past es usage n ctx past within) in omega arith
-        | inr first ↦
-            let point = point_of ctx (value_at own ctx) in
-            let late = leb-true (value_at own ctx) (shown_at listing ctx) (sym (shows-late listing point) ∙ shown ctx low first) in
-            let is = own_is ctx low high in
-            omega arith
-      ])),
-      (λ all ctx low first.
-          let late = all-late listing usage es all ctx in
-          let is = own_is ctx low (omega arith) in
-          shows-late listing (point_of ctx (value_at own ctx)) ∙ le-leb (value_at own ctx) (shown_at listing ctx) (omega arith)),
-    )
+-- by the latest point of each context: where each is shown
+pub points-shown : (listing : Listing) (usage n : ℕ) (es : List Entry) (own : ℕ → ℕ) → n ≤ CONTEXTS → HasContexts es → All (λ e. e.point.ctx ≤ n) es → ((ctx : ℕ) → 1 ≤ ctx → ctx ≤ n → own ctx ≡ raised_to 0 (top es usage ctx))
+    → ((ctx : ℕ) → 1 ≤ ctx → ctx ≤ n → shows_point listing (point_of ctx (own ctx)) ≡ true) ↔ (shows_all listing usage es ≡ true)
+points-shown listing usage n es own few contexts within puts = (
+  (λ shown. all-shown listing usage es contexts (λ ctx low high. elim (cases_lt n ctx) [
+    | inl past ↦ let none : raised_to 0 (top es usage ctx) ≡ 0 = ap (raised_to 0) (top-past es usage n ctx past within) in omega arith
+    | inr first ↦
+        let point = point_of ctx (own ctx) in
+        let late = leb-true (own ctx) (shown_at listing ctx) (sym (shows-late listing point) ∙ shown ctx low first) in
+        let is = puts ctx low first in
+        omega arith
+  ])),
+  (λ all ctx low first.
+      let late = all-late listing usage es all ctx in
+      let is = puts ctx low first in
+      shows-late listing (point_of ctx (own ctx)) ∙ le-leb (own ctx) (shown_at listing ctx) (omega arith)),
+)

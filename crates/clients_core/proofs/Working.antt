@@ -93,11 +93,14 @@ ended-from {T} puts exports words table number (p ∷ ps) (w ∷ ws) (e ∷ es) 
           (λ index v at. let it = are (suc index) v at in (it.0, omega (arith, it.1), it.2)) kept.1,
     )
 
-pub HaveEnded-workers : {T : Type 0} (puts : T → Puts) (exports : T → Exports) (words : WordsModel) (table : T) (plans : List (List Act)) (workers : List (PromisedHandle Ended (Loan T))) (endings : List Ended) → All (IsWorkerOf words) workers → AreWorkers table plans workers → HaveKept puts exports workers endings → HaveEnded (puts table) (exports table) words 1 plans endings
-HaveEnded-workers puts exports words table plans workers endings lent are kept =
-    let first : 0 + 1 ≡ 1 = omega arith in
-    subst (λ (n : ℕ). HaveEnded (puts table) (exports table) words n plans endings) first
-    (ended-from puts exports words table 0 plans workers endings lent (λ index w at. let it = are index w at in (it.table_is, omega (arith, it.index_is), it.plan_is)) kept)
+-- with what the client of the first plan has come to
+HaveEnded-workers : {T : Type 0} (puts : T → Puts) (exports : T → Exports) (words : WordsModel) (table : T) (plans : List (List Act)) (plan : List Act) (own : Ended) (workers : List (PromisedHandle Ended (Loan T))) (endings : List Ended) → slice_get plans 0 ≡ Some plan → HasEnded (puts table) (exports table) words 1 plan own → All (IsWorkerOf words) workers → AreWorkers table plans 1 workers → HaveKept puts exports workers endings → HaveEnded (puts table) (exports table) words 1 plans (own ∷ endings)
+HaveEnded-workers puts exports words table [] plan own workers endings at ended lent are kept = absurd (none-some plan at)
+HaveEnded-workers puts exports words table (p ∷ ps) plan own workers endings at ended lent are kept = (
+  subst (λ (acts : List Act). HasEnded (puts table) (exports table) words 1 acts own) (sym (same_Some p plan at)) ended,
+  ended-from puts exports words table 1 ps workers endings lent
+      (λ index w at. let it = are index w at in let next : 1 + index ≡ suc index = omega arith in (it.table_is, it.index_is, subst (λ (k : ℕ). slice_get (p ∷ ps) k ≡ Some w.promise.plan.now) next it.plan_is)) kept,
+)
 
 length-kept : {T : Type 0} (puts : T → Puts) (exports : T → Exports) (workers : List (PromisedHandle Ended (Loan T))) (endings : List Ended) → HaveKept puts exports workers endings → length endings ≡ length workers
 length-kept puts exports [] [] kept = refl
@@ -152,17 +155,38 @@ worked-from puts exports words number (p ∷ ps) (e ∷ es) ended ok even =
 
 -- ---- what comes of all of them
 
+-- so many clients have ended, in the order of the plans, and their seats were taken in
+pub record HaveAllEnded (puts : Puts) (exports : Exports) (words : WordsModel) (plans : List (List Act)) (count : ℕ)
+    (before after : SeatModel) (answer : Result (Unit {0}) Refusal) : Type 0 where
+  pub endings : List Ended
+  pub ended : HaveEnded puts exports words 1 plans endings
+  pub all : length endings ≡ count
+  pub seat : after ≡ joined_of before endings
+  pub first : answer ≡ answer_of endings
+
+-- the first plan's client, and the workers of the others
+pub HaveAllEnded-joined : {T : Type 0} (puts : T → Puts) (exports : T → Exports) (words : WordsModel) (table : T) (plans : List (List Act)) (plan : List Act) (own : Ended) (workers : List (PromisedHandle Ended (Loan T))) (before middle after : SeatModel) (first others answer : Result (Unit {0}) Refusal) → slice_get plans 0 ≡ Some plan → HasEnded (puts table) (exports table) words 1 plan own → middle ≡ both_of (both_of before own.driving) own.looking → first ≡ own.answer → All (IsWorkerOf words) workers → AreWorkers table plans 1 workers → HaveJoined puts exports workers middle after others → answer ≡ result_and first others
+    → HaveAllEnded (puts table) (exports table) words plans (length workers + 1) before after answer
+HaveAllEnded-joined puts exports words table plans plan own workers before middle after first others answer at ended taken told lent are joined both =
+    let kept = length-kept puts exports workers joined.endings joined.kept in
+    record {
+      endings = own ∷ joined.endings;
+      ended = HaveEnded-workers puts exports words table plans plan own workers joined.endings at ended lent are joined.kept;
+      all = omega (arith, kept);
+      seat = joined.seat ∙ ap (λ (s : SeatModel). joined_of s joined.endings) taken;
+      first = both ∙ ap (λ r. result_and r others) told ∙ ap (result_and own.answer) joined.first;
+    }
+
 -- all were started, and none was refused
-pub AreWorkedOff-joined : {T : Type 0} (puts : T → Puts) (exports : T → Exports) (words : WordsModel) (table : T) (plans : List (List Act)) (workers : List (PromisedHandle Ended (Loan T))) (before after : SeatModel) (ended started : Result (Unit {0}) Refusal) → All (IsWorkerOf words) workers → AreWorkers table plans workers → before.trace ≡ [] → OnOk started (length workers ≡ length plans) → HaveJoined puts exports workers before after ended → result_and ended started ≡ Ok tt → AreWorkedOff (puts table) (exports table) words plans after
-AreWorkedOff-joined puts exports words table plans workers before after ended started lent are fresh begun joined ok =
+pub AreWorkedOff-ended : (puts : Puts) (exports : Exports) (words : WordsModel) (plans : List (List Act)) (count : ℕ) (before after : SeatModel) (ended started : Result (Unit {0}) Refusal) → before.trace ≡ [] → OnOk started (count ≡ length plans) → HaveAllEnded puts exports words plans count before after ended → result_and ended started ≡ Ok tt → AreWorkedOff puts exports words plans after
+AreWorkedOff-ended puts exports words plans count before after ended started fresh begun all ok =
     let both = both-ok ended started ok in
-    let all : length workers ≡ length plans = subst (λ (r : Result (Unit {0}) Refusal). OnOk r (length workers ≡ length plans)) both.1 begun in
-    let endings = joined.endings in
-    let worked = worked-from (puts table) (exports table) words 1 plans endings (HaveEnded-workers puts exports words table plans workers endings lent are joined.kept) (sym joined.first ∙ both.0) (length-kept puts exports workers endings joined.kept ∙ all) in
+    let whole : count ≡ length plans = subst (λ (r : Result (Unit {0}) Refusal). OnOk r (count ≡ length plans)) both.1 begun in
+    let worked = worked-from puts exports words 1 plans all.endings all.ended (sym all.first ∙ both.0) (all.all ∙ whole) in
     record {
       clients = worked.clients;
       worked = worked.worked;
-      steps = ap (λ (s : SeatModel). s.trace) joined.seat ∙ joined-trace before endings ∙ ap (λ steps. steps ++ steps_of_endings endings) fresh ∙ worked.steps;
+      steps = ap (λ (s : SeatModel). s.trace) all.seat ∙ joined-trace before all.endings ∙ ap (λ steps. steps ++ steps_of_endings all.endings) fresh ∙ worked.steps;
     }
 
 first-refusal : (ended started : Result (Unit {0}) Refusal) (endings : List Ended) (e : Refusal) → ended ≡ answer_of endings → IfErr started (λ f. f ≡ Memory) → result_and ended started ≡ Err e → (answer_of endings ≡ Err e) ⊎ ((answer_of endings ≡ Ok tt) × (e ≡ Memory))
@@ -171,9 +195,9 @@ first-refusal (Ok x) (Err f) endings e first memory is = inr (sym first, subst (
 first-refusal (Ok x) (Ok y) endings e first memory is = absurd (err-ok (Ok y) e is refl)
 
 -- one of them was refused, or a worker could not be started
-pub HasRefused-joined : {T : Type 0} (puts : T → Puts) (exports : T → Exports) (words : WordsModel) (table : T) (plans : List (List Act)) (workers : List (PromisedHandle Ended (Loan T))) (before after : SeatModel) (ended started : Result (Unit {0}) Refusal) (e : Refusal) → All (IsWorkerOf words) workers → AreWorkers table plans workers → IfErr started (λ f. f ≡ Memory) → HaveJoined puts exports workers before after ended → result_and ended started ≡ Err e → HasRefused (puts table) (exports table) words plans e
-HasRefused-joined puts exports words table plans workers before after ended started e lent are memory joined is = record {
-  endings = joined.endings;
-  ended = HaveEnded-workers puts exports words table plans workers joined.endings lent are joined.kept;
-  first = first-refusal ended started joined.endings e joined.first memory is;
+pub HasRefused-ended : (puts : Puts) (exports : Exports) (words : WordsModel) (plans : List (List Act)) (count : ℕ) (before after : SeatModel) (ended started : Result (Unit {0}) Refusal) (e : Refusal) → IfErr started (λ f. f ≡ Memory) → HaveAllEnded puts exports words plans count before after ended → result_and ended started ≡ Err e → HasRefused puts exports words plans e
+HasRefused-ended puts exports words plans count before after ended started e memory all is = record {
+  endings = all.endings;
+  ended = all.ended;
+  first = first-refusal ended started all.endings e all.first memory is;
 }

@@ -1,39 +1,23 @@
 -- The latest points that a client has put into a buffer, for each context and usage.
-use Rattle.std.specs.Prelude.{◌≡◌, ℕ, nat_le, max, if◌then◌else◌, List, length, map, replicate}
-use Rattle.point_core.specs.declared.context.TheConstants.{CONTEXTS}
+use Rattle.std.specs.Prelude.{◌≡◌, ℕ, ◌+◌, ◌-◌, ◌*◌, ◌<◌, ◌≤◌, nat_le, nat_lt, max, ◌&&◌, if◌then◌else◌, List, length, slice_index}
 use Rattle.point_core.specs.declared.entry.Entry.{Entry}
-use Rattle.point_core.specs.declared.entry.Usage.{Usage}
-use Rattle.point_core.specs.declared.entry.Usage.TheVariants.{Kernel, Write, Read, Bookkeep}
-use Rattle.point_core.specs.Agreement.{HasContexts}
-use Rattle.point_core.specs.Latest.{IsLatest}
-use Rattle.point_core.specs.Usage.{usage_number}
-use Rattle.clients_core.specs.declared.own_puts.Latest.{Latest}
+use Rattle.point_core.specs.Agreement.{HasContexts, top}
+use Rattle.point_core.specs.Latest.{raised_to}
+use Rattle.words_core.specs.declared.words.TheConstants.{USAGES}
 use Rattle.clients_core.specs.declared.own_puts.OwnPuts.{OwnPuts}
 
--- where nothing was put, the latest point is 0
-abbrev pub no_points : List ℕ
-no_points = replicate CONTEXTS 0
+-- the latest point of a context at the usage of a number or a stronger one
+abbrev pub point_at : OwnPuts → ℕ → ℕ → ℕ
+point_at own usage ctx = slice_index own.latest.items (USAGES * (ctx - 1) + usage)
 
-abbrev pub no_point : Latest
-no_point = record { kernel = 0; write = 0; read = 0; bookkeep = 0 }
-
--- the latest point of a context at the usage or a stronger one
-abbrev pub point_at : Usage → Latest → ℕ
-point_at Kernel latest = latest.kernel
-point_at Write latest = latest.write
-point_at Read latest = latest.read
-point_at Bookkeep latest = latest.bookkeep
-
--- that of each context
-abbrev pub points_at : Usage → OwnPuts → List ℕ
-points_at usage own = map (point_at usage) own.latest.items
-
--- the later of what was there at the level and of a value that is put with the usage
-abbrev pub later_point : Usage → ℕ → Usage → ℕ → ℕ
-later_point usage value level before = if nat_le (usage_number usage) (usage_number level) then max before value else before
-
--- for each of so many contexts there are the latest points at each usage or a stronger one
+-- for each of so many contexts there are the latest points at each usage or a stronger one; where nothing was put it is 0
 pub record AreOwnPuts (contexts : ℕ) (own : OwnPuts) (es : List Entry) : Type 0 where
   pub valid : HasContexts es
-  pub full : length own.latest.items ≡ contexts
-  pub points : (usage : Usage) → IsLatest (points_at usage own) no_points es (usage_number usage)
+  pub full : length own.latest.items ≡ USAGES * contexts
+  pub points : (usage ctx : ℕ) → usage < USAGES → 1 ≤ ctx → ctx ≤ contexts → point_at own usage ctx ≡ raised_to 0 (top es usage ctx)
+
+-- the points from one place up to another are raised to the value, where they are less, and no others
+pub record AreRaised (from to value : ℕ) (old new : List ℕ) : Type 0 where
+  pub full : length new ≡ length old
+  pub points : (place : ℕ) → slice_index new place
+      ≡ (if nat_le from place && nat_lt place to then max (slice_index old place) value else slice_index old place)

@@ -77,11 +77,11 @@ pub record IsWorkerAt {T : Type 0} (table : T) (plans : List (List Act)) (index 
   pub index_is : worker.promise.index ≡ index
   pub plan_is : slice_get plans index ≡ Some worker.promise.plan.now
 
--- each of these is the worker of the plan at its place
-abbrev pub AreWorkers : {T : Type 0} → T → List (List Act) → List (PromisedHandle Ended (Loan T)) → Type 0
-AreWorkers {T} table plans workers =
+-- these are the workers of the plans from a place on, in order
+abbrev pub AreWorkers : {T : Type 0} → T → List (List Act) → ℕ → List (PromisedHandle Ended (Loan T)) → Type 0
+AreWorkers {T} table plans first workers =
     (index : ℕ) (worker : PromisedHandle Ended (Loan T)) →
-    slice_get workers index ≡ Some worker → IsWorkerAt table plans index worker
+    slice_get workers index ≡ Some worker → IsWorkerAt table plans (first + index) worker
 
 -- the worker has given this back, as it has promised
 abbrev pub HasKept : {T : Type 0} → (T → Puts) → (T → Exports) → PromisedHandle Ended (Loan T) → Ended → Type 0

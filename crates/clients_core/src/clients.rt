@@ -21,8 +21,8 @@ use std::sync::Wait;
 use std::thread::Threads;
 use words_core::{Seat, Words};
 
-/// Runs a client for each plan, each in a thread of its own, against a table of as many buffers, and settles the table
-/// once all of them have ended. Client i, from 1, drives context i. Its acts are made in order, each between the two
+/// Runs a client for each plan, the first on the calling thread and each other in a thread of its own, against a table of as
+/// many buffers, and settles the table once all of them have ended. Client i, from 1, drives context i. Its acts are made in order, each between the two
 /// calls of the gate; a look fails with `Torn` if it does not show a put of its own client before it.
 ///
 /// What comes back is the settled table of the plans, whatever the number of clients and the schedule, and the table

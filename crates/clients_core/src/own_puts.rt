@@ -1,83 +1,26 @@
 // What a client has put into a buffer, for its looks there.
-ghost use Rattle.std.specs.Prelude.{◌≡◌, ℕ, ◌+◌, ◌≤◌, ◌↔◌, ◌++◌, ◌∷◌, [], true, All, List, IsTrue, length, IfErr, IfOk};
+ghost use Rattle.std.specs.Prelude.{◌≡◌, ℕ, ◌+◌, ◌*◌, ◌<◌, ◌≤◌, ◌↔◌, ◌++◌, ◌∷◌, [], true, All, List, IsTrue, length, IfErr, IfOk, vec_len};
 ghost use Rattle.std.specs.List.{list_any};
 ghost use Rattle.point_core.specs.declared.context.TheConstants.{CONTEXTS};
 ghost use Rattle.point_core.specs.declared.entry.Entry.{Entry};
-ghost use Rattle.point_core.specs.declared.entry.Usage.{Usage as UsageOf};
 ghost use Rattle.point_core.specs.declared.refusal.Refusal.TheVariants as refusal;
-ghost use Rattle.point_core.specs.Reach.{value_at};
+ghost use Rattle.point_core.specs.Agreement.{point_of};
 ghost use Rattle.point_core.specs.Usage.{usage_number};
+ghost use Rattle.words_core.specs.declared.words.TheConstants.{USAGES};
 ghost use Rattle.clients_core.specs.Acting.{KnowPuts};
 ghost use Rattle.clients_core.specs.Looks.{is_as_late, shows_all, shows_point};
-ghost use Rattle.clients_core.specs.OwnPuts.{AreOwnPuts, later_point, no_point, point_at, points_at};
+ghost use Rattle.clients_core.specs.OwnPuts.{AreOwnPuts, AreRaised, point_at};
 
 use point_core::{Context, Entry, Listing, Point, Refusal, Usage};
 use std::alloc::Global;
+use words_core::USAGES;
 
-/// The latest points of a context that a client has put into a buffer, at each usage or a stronger one; 0 where there is none.
-#[derive(Clone, Copy, Debug)]
-struct Latest {
-    kernel: u64,
-    write: u64,
-    read: u64,
-    bookkeep: u64,
-}
-
-impl Latest {
-    /// Nothing was put.
-    fn none() -> Latest
-        ensures none { result ≡ no_point }
-    {
-        Latest {
-            kernel: 0,
-            write: 0,
-            read: 0,
-            bookkeep: 0,
-        }
-    }
-
-    /// The latest point at a usage or a stronger one.
-    fn at(&self, usage: Usage) -> u64
-        ensures { result ≡ point_at usage self.now }
-    {
-        match usage {
-            Usage::Kernel => self.kernel,
-            Usage::Write => self.write,
-            Usage::Read => self.read,
-            Usage::Bookkeep => self.bookkeep,
-        }
-    }
-
-    /// The latest point at a level, once another was put.
-    fn later_at(&self, level: Usage, usage: Usage, value: u64) -> u64
-        ensures { result ≡ later_point usage value level (point_at level self.now) }
-    {
-        let before = self.at(level);
-        if usage.number() <= level.number() {
-            before.max(value)
-        } else {
-            before
-        }
-    }
-
-    /// The points, once another was put.
-    fn with(&self, usage: Usage, value: u64) -> Latest
-        ensures put { (level : UsageOf) → point_at level result ≡ later_point usage value level (point_at level self.now) }
-    {
-        Latest {
-            kernel: self.later_at(Usage::Kernel, usage, value),
-            write: self.later_at(Usage::Write, usage, value),
-            read: self.later_at(Usage::Read, usage, value),
-            bookkeep: self.later_at(Usage::Bookkeep, usage, value),
-        }
-    }
-}
-
-/// The latest points that a client has put into a buffer, for each context of the words. So a look costs the same, however many
-/// puts came before it.
+/// The latest points that a client has put into a buffer, for each context of the words, at each usage or a stronger one; 0 where
+/// there is none. So a look costs the same, however many puts came before it.
 #[derive(Debug, Drop)]
 pub(crate) struct OwnPuts {
-    latest: Vec<Latest>,
+    // by context, and then by usage
+    latest: Vec<u64>,
 }
 
 impl OwnPuts {
@@ -85,11 +28,12 @@ impl OwnPuts {
     ///
     /// Fails with `Memory` alone.
     pub(crate) fn none(alloc: Global, contexts: usize) -> Result<OwnPuts, Refusal>
+        requires contexts { contexts ≤ CONTEXTS }
         ensures puts { IfOk result (λ own. AreOwnPuts contexts own []) }
         ensures memory { IfErr result (λ e. e ≡ refusal.Memory) }
     {
         Ok(OwnPuts {
-            latest: Vec::from_elem(alloc, Latest::none(), contexts)?,
+            latest: Vec::from_elem(alloc, 0, USAGES * contexts)?,
         })
     }
 
@@ -99,9 +43,15 @@ impl OwnPuts {
             AreOwnPuts contexts self.old es → AreOwnPuts contexts self.new (es ++ entry.now ∷ []) }
     {
         let Point { ctx, value } = entry.point;
-        let index = ctx.index();
-        if index < self.latest.len() {
-            self.latest[index] = self.latest[index].with(entry.usage, value);
+        let first = USAGES * ctx.index();
+        let strongest = usize::from(entry.usage.number());
+        if first + USAGES <= self.latest.len() {
+            raise(
+                self.latest.as_mut_slice(),
+                first + strongest,
+                first + USAGES,
+                value,
+            );
         }
     }
 
@@ -112,10 +62,11 @@ impl OwnPuts {
         ensures shown { (es : List Entry) → AreOwnPuts contexts self.now es → All (λ e. e.point.ctx ≤ contexts) es →
             IsTrue result ↔ (shows_all listing.now (usage_number usage) es ≡ true) }
     {
+        if self.latest.len() < USAGES * contexts {
+            return false;
+        }
         for index in 0..contexts {
-            let ctx = Context::at(index);
-            let value = self.at(index, usage);
-            if !shows_point(listing, &Point { ctx, value }) {
+            if !shows_point(listing, index, self.at(index, usage)) {
                 return false;
             }
         }
@@ -124,21 +75,34 @@ impl OwnPuts {
 
     /// The latest point of the context at a place, at a usage or a stronger one.
     fn at(&self, index: usize, usage: Usage) -> u64
-        ensures { result ≡ value_at (points_at usage self.now) (index + 1) }
+        requires context { (index < CONTEXTS) × (USAGES * index + USAGES ≤ vec_len self.now.latest) }
+        ensures { result ≡ point_at self.now (usage_number usage) (index + 1) }
     {
-        if index < self.latest.len() {
-            self.latest[index].at(usage)
-        } else {
-            0
-        }
+        self.latest[USAGES * index + usize::from(usage.number())]
     }
 }
 
-/// Whether the listing shows the point, by its floor or by a point of the context that is at least as late.
-fn shows_point(listing: &Listing, point: &Point) -> bool
-    ensures { result ≡ shows_point listing.now point.now }
+/// Raises the points from one place up to another to the value, where they are less.
+fn raise(points: &mut [u64], from: usize, to: usize, value: u64)
+    requires places { (from ≤ to) × (to ≤ length points.old) }
+    ensures raised { AreRaised from to value points.old points.new }
 {
-    point.value <= listing.floor.get(point.ctx) || is_listed(point, listing.points.as_slice())
+    for place in from..to {
+        points[place] = points[place].max(value);
+    }
+}
+
+/// Whether the listing shows the point of the context at a place, by its floor or by a point of the context that is at least as
+/// late.
+fn shows_point(listing: &Listing, index: usize, value: u64) -> bool
+    requires context { index < CONTEXTS }
+    ensures { result ≡ shows_point listing.now (point_of (index + 1) value) }
+{
+    if value <= listing.floor.at(index) {
+        return true;
+    }
+    let ctx = Context::at(index);
+    is_listed(&Point { ctx, value }, listing.points.as_slice())
 }
 
 /// Whether a point of the list is of the same context and at least as late.
@@ -162,6 +126,7 @@ pub(crate) fn no_puts(
     buffers: usize,
     contexts: usize,
 ) -> Result<Vec<OwnPuts>, Refusal>
+    requires contexts { contexts ≤ CONTEXTS }
     ensures buffers { IfOk result (λ own. length own.items ≡ buffers) }
     ensures none { IfOk result (λ own. KnowPuts contexts own.items []) }
     ensures memory { IfErr result (λ e. e ≡ refusal.Memory) }

@@ -1,4 +1,4 @@
-// A thread for each plan.
+// The first plan on the calling thread, and a thread for each other.
 ghost use Rattle.std.specs.Prelude.{◌≡◌, ◌+◌, ◌*◌, ◌^◌, ◌<◌, ◌≤◌, [], length, All, IfErr, IfOk, OnOk, vec_len, vec_capacity};
 ghost use Rattle.point_core.specs.declared.refusal.Refusal.TheVariants as refusal;
 ghost use Rattle.words_core.specs.Seat.{both_of};
@@ -135,10 +135,10 @@ fn start<'s, E, R: Wait + Sync, T: SharedTable, G: Gate>(
     }
 }
 
-/// Starts a worker for each plan, in order, with two seats of one part.
+/// Starts a worker for each plan but the first, in order, with two seats of one part.
 ///
 /// Fails with `Memory` at the first that cannot be started. Those before it run, and are among the workers.
-fn start_all<'s, E, R: Wait + Sync, T: SharedTable, G: Gate>(
+fn start_others<'s, E, R: Wait + Sync, T: SharedTable, G: Gate>(
     scope: &Scope<'s, E>,
     shared: &Shared<'s, R, T, G>,
     plans: &'s [Plan],
@@ -147,19 +147,21 @@ fn start_all<'s, E, R: Wait + Sync, T: SharedTable, G: Gate>(
 ) -> Result<(), Refusal>
     requires own { (T.made_for shared.now.table.now ≡ shared.now.words.now) × (all.old.words ≡ shared.now.words.now) }
     requires plans { ArePlans shared.now.words.now plans.now }
-    requires parts { 2 * CONTEXTS < all.old.parts }
+    requires some { 1 ≤ length plans.now }
+    requires parts { 2 * CONTEXTS < all.old.parts + 2 }
     requires room { (vec_len workers.old ≡ 0) × (vec_capacity workers.old ≡ length plans.now) }
     ensures words { all.new.words ≡ all.old.words }
     ensures promises { All (IsWorkerOf shared.now.words.now) workers.new.items }
-    ensures plans { AreWorkers shared.now.table.now plans.now workers.new.items }
-    ensures all { OnOk result (length workers.new.items ≡ length plans.now) }
+    ensures plans { AreWorkers shared.now.table.now plans.now 1 workers.new.items }
+    ensures all { OnOk result (length workers.new.items + 1 ≡ length plans.now) }
     ensures parts { OnOk result (all.new.parts + 2 * vec_len workers.new ≡ all.old.parts) }
     ensures trace { all.new.trace ≡ all.old.trace }
     ensures memory { IfErr result (λ e. e ≡ refusal.Memory) }
 {
-    for (index, plan) in plans.iter().enumerate() {
+    for index in 1..plans.len() {
         let driving = shared.words.part(all, 1);
         let looking = shared.words.part(all, 1);
+        let plan = &plans[index];
         let worker = start(scope, shared, index, plan, driving, looking)?;
         workers.push_reserved(worker);
     }
@@ -206,7 +208,7 @@ fn take_in(words: &Words, ended: Ended, all: &mut Seat) -> Result<(), Refusal>
     answer
 }
 
-/// Starts the workers, joins them, and has all parts again.
+/// Starts the workers, works the first plan off, joins them, and has all parts again.
 fn work_in<'s, E, R: Threads + Wait + Sync, T: SharedTable, G: Gate>(
     scope: &Scope<'s, E>,
     shared: &Shared<'s, R, T, G>,
@@ -215,6 +217,7 @@ fn work_in<'s, E, R: Threads + Wait + Sync, T: SharedTable, G: Gate>(
 ) -> Result<Seat, Refusal>
     requires own { (T.made_for shared.now.table.now ≡ shared.now.words.now) × (all.words ≡ shared.now.words.now) }
     requires plans { ArePlans shared.now.words.now plans.now }
+    requires some { 1 ≤ length plans.now }
     requires parts { 2 * CONTEXTS < all.parts }
     requires fresh { all.trace ≡ [] }
     ensures whole { IfOk result (λ seat. (seat.words ≡ all.words) × (seat.parts ≡ all.parts)) }
@@ -225,14 +228,20 @@ fn work_in<'s, E, R: Threads + Wait + Sync, T: SharedTable, G: Gate>(
     ensures refusals { IfErr result IsClientRefusal }
 {
     let mut workers = Vec::with_capacity(shared.alloc, plans.len())?;
-    let started = start_all(scope, shared, plans, &mut all, &mut workers);
-    let ended = join_all(shared.rt, shared.words, workers, &mut all);
+    let driving = shared.words.part(&mut all, 1);
+    let looking = shared.words.part(&mut all, 1);
+    let started = start_others(scope, shared, plans, &mut all, &mut workers);
+    let plan = &plans[0];
+    let own = work(shared, 0, plan, driving, looking);
+    let first = take_in(shared.words, own, &mut all);
+    let others = join_all(shared.rt, shared.words, workers, &mut all);
+    let ended = first.and(others);
     ended.and(started)?;
     Ok(all)
 }
 
-/// A worker in a thread of its own for each plan, all of which have ended when it returns. The seat comes back with
-/// all of its parts.
+/// A worker for each plan, the first on the calling thread and each other in a thread of its own. All of them have ended when
+/// it returns. The seat comes back with all of its parts.
 ///
 /// Fails as the client with the least number that was refused: with `Exists`, `TimedOut` and `Torn`, and with `Memory`.
 pub(crate) fn work_all<R: Threads + Wait + Sync, T: SharedTable, G: Gate>(
@@ -246,6 +255,7 @@ pub(crate) fn work_all<R: Threads + Wait + Sync, T: SharedTable, G: Gate>(
 ) -> Result<Seat, Refusal>
     requires own { (T.made_for table.now ≡ words.now) × (all.words ≡ words.now) }
     requires plans { ArePlans words.now plans.now }
+    requires some { 1 ≤ length plans.now }
     requires parts { 2 * CONTEXTS < all.parts }
     requires fresh { all.trace ≡ [] }
     ensures whole { IfOk result (λ seat. (seat.words ≡ all.words) × (seat.parts ≡ all.parts)) }
@@ -259,6 +269,7 @@ pub(crate) fn work_all<R: Threads + Wait + Sync, T: SharedTable, G: Gate>(
         move |scope| -> Result<Seat, Refusal>
             requires own { (T.made_for table.now ≡ words.now) × (all.words ≡ words.now) }
             requires plans { ArePlans words.now plans.now }
+            requires some { 1 ≤ length plans.now }
             requires parts { 2 * CONTEXTS < all.parts }
             requires fresh { all.trace ≡ [] }
             ensures whole { IfOk result (λ seat. (seat.words ≡ all.words) × (seat.parts ≡ all.parts)) }

@@ -10,5 +10,5 @@ returns-then-round-gt0 c =
     let round = c.round-round.result in
     record {
       tops = subst (λ (acts : List Act). TakesIn (puts_of c.args.buffer acts) c.args.tops.now c.put_round.new.tops) c.round-round.ensures.acts
-      (TakesIn-last c.args.buffer round.acts.now round.times c.args.tops.now c.put_round.new.tops c.if-round-gt0.true c.put_round.ensures.tops);
+          (TakesIn-last c.args.buffer round.acts.now round.times c.args.tops.now c.put_round.new.tops c.if-round-gt0.true c.put_round.ensures.tops);
     }
