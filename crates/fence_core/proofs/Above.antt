@@ -136,7 +136,7 @@ AreAbove-none_due ks reach none = λ k there. elim (cases_Bool (is_due k.ctx (va
 pub AreAbove-nothing : (ks : List WaitingPoint) (reach : List ℕ) → ks ≡ [] → AreAbove ks reach
 AreAbove-nothing ks reach is = λ k there. absurd (false≢true (sym (ap (λ xs. holds xs k) is) ∙ there))
 
--- where one context alone has risen, no point of another is due
+-- if one context alone has risen, no point of another is due
 other-not_due : (ks : List WaitingPoint) (kept reach : List ℕ) (p : Point) → reach ≡ reaching kept p → 1 ≤ p.ctx → AreWaiting ks → AreAbove ks kept → (k : WaitingPoint) → holds ks k ≡ true → k.ctx ≢ p.ctx → is_due k.ctx (value_at reach k.ctx) k ≡ false
 other-not_due ks kept reach p is low contexts h k there apart =
     ap (λ v. is_due k.ctx v k) (ap (λ f. value_at f k.ctx) is ∙ value_at-with_value_other kept p.ctx k.ctx (max (value_at kept p.ctx) p.value) low (contexts.contexts k there).0 apart)
@@ -155,7 +155,7 @@ not_due-at reach ctx k none = elim (cases_Bool (nat_eq k.ctx ctx)) [
   | inr other ↦ ap (λ b. b && nat_le k.value (value_at reach ctx)) other
 ]
 
--- where none that is due is left in that context
+-- if none that is due is left in that context
 pub AreAbove-one_context : (ks fewer : List WaitingPoint) (kept reach : List ℕ) (p : Point) → reach ≡ reaching kept p → 1 ≤ p.ctx → AreWaiting ks → AreAbove ks kept → ((k : WaitingPoint) → is_due k.ctx (value_at reach k.ctx) k ≡ true → holds fewer k ≡ true → holds ks k ≡ true)
     → ((k : WaitingPoint) → is_due p.ctx (value_at reach p.ctx) k ≡ true → holds fewer k ≡ false) → AreAbove fewer reach
 AreAbove-one_context ks fewer kept reach p is low contexts h less none = λ k there. elim (cases_Bool (is_due k.ctx (value_at reach k.ctx) k)) [

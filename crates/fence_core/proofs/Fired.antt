@@ -84,13 +84,13 @@ values-reported reach (e ∷ es) = by (fires reach e.1) (values-reported reach e
     by true rest = ap (λ cs. e.1.cookie ∷ cs) rest
     by false rest = rest
 
--- where each registration was reported, the cookies stand by registration
+-- if each registration was reported, the cookies stand by registration
 values-IsReported : (reach : List ℕ) (es : List (ℕ × Watch)) (fired : List (ℕ × ℕ)) → IsStrictlySortedBy nat_cmp (keys_of es) → IsStrictlySortedBy nat_cmp (keys_of fired) → ((r : ℕ) → IsReported es reach fired r) → values_of fired ≡ cookies_of (filter (fires reach) (values_of es))
 values-IsReported reach es fired ordered rising all =
     ap values_of (same_lists fired (reported reach es) rising (ordered-reported reach es ordered) (λ r. all r ∙ sym (at-reported reach es r ordered)))
     ∙ values-reported reach es
 
--- where no watch was reported that doesn't fire, and each that fires was, each was reported
+-- if no watch was reported that doesn't fire, and each that fires was, each was reported
 pub IsReported-all : (reach : List ℕ) (es : List (ℕ × Watch)) (fired : List (ℕ × ℕ)) (r : ℕ) → AreOnlyFiring es reach fired → ((w : Watch) → at es r ≡ Some w → fires reach w ≡ true → IsReported es reach fired r) → IsReported es reach fired r
 IsReported-all reach es fired r some all = by (at fired r) refl
   where
@@ -112,7 +112,7 @@ values-fired reach es places index fired ordered h rising some all =
     let k = fires-due es places index reach r w h found fired_it in
     subst (IsReported es reach fired) k.1 (all k.0 k.3 k.2)))
 
--- where no point is due, no watch fires
+-- if no point is due, no watch fires
 pub none-due : (reach : List ℕ) (es : List (ℕ × Watch)) (places : Places) (index : List WaitingPoint) → IsStrictlySortedBy nat_cmp (keys_of es) → IsIndexed es places index → ((k : WaitingPoint) → holds index k ≡ true → is_due k.ctx (value_at reach k.ctx) k ≡ false) → cookies_of (filter (fires reach) (values_of es)) ≡ []
 unfolding IsStrictlySortedBy
 none-due reach es places index ordered h none =
@@ -188,7 +188,7 @@ without_watches-push cookies c (w ∷ ws) =
         on true = rest
         on false = ap (λ vs. w ∷ vs) rest
 
--- the cookie of a watch is among those of the watches that fire exactly where it fires
+-- the cookie of a watch is among those of the watches that fire exactly if it fires
 any-fires : (reach : List ℕ) (ws : List Watch) (c : ℕ) → AllByRecursion (λ y. nat_eq c y ≡ false) (cookies_of ws) → list_any (nat_eq c) (cookies_of (filter (fires reach) ws)) ≡ false
 any-fires reach [] c apart = refl
 any-fires reach (w ∷ ws) c apart = by (fires reach w) (any-fires reach ws c apart.1)

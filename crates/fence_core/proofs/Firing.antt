@@ -9,7 +9,7 @@ use Rattle.point_core.proofs.Reached.{all_reached-points, all_reached-AgreesAbov
 use Rattle.fence_core.specs.Watch.{Watch, is_for, cookies_of, IsWatchOf}
 use Rattle.fence_core.specs.Watches.{fires}
 
--- a watch whose points agree above the reach with a put set fires exactly where all that was put is reached
+-- a watch whose points agree above the reach with a put set fires exactly if all that was put is reached
 pub fires-AgreesAbove : {reach : List ℕ} (w : Watch) (put : List Entry) → AgreesAbove reach (as_entries w.points) put → fires reach w ≡ all_reached reach 0 put
 fires-AgreesAbove {reach} w put agrees = sym (all_reached-points reach w.points) ∙ all_reached-AgreesAbove 0 agrees (AgreesAbove-sym agrees)
 
@@ -21,7 +21,7 @@ fires-IsReached {reach} w put agrees =
       λ reached. is ∙ told.1 reached,
     )
 
--- where no watch fires, no cookie is told
+-- if no watch fires, no cookie is reported
 pub fired-none : (reach : List ℕ) (ws : List Watch) → list_any (fires reach) ws ≡ false → cookies_of (filter (fires reach) ws) ≡ []
 fired-none reach [] none = refl
 fired-none reach (w ∷ ws) none = by (fires reach w) none (fired-none reach ws)
@@ -74,7 +74,7 @@ module _ {X : Type 0} (cookie_of : X → ℕ) (put_of : X → List Entry) where
   AllZip-without reach cookie (w ∷ ws) [] h = absurd h
   AllZip-without reach cookie (w ∷ ws) (x ∷ xs) h = left_by (IsWatchOf cookie_of put_of reach) (not (is_for cookie w)) (not (nat_eq (cookie_of x) cookie)) w x (filter (λ v. not (is_for cookie v)) ws) (filter (λ y. not (nat_eq (cookie_of y) cookie)) xs) (ap (λ k. not (nat_eq k cookie)) h.0.cookie) h.0 (AllZip-without reach cookie ws xs h.1)
 
-  -- a watch of the cookie is pending exactly where such a thing is
+  -- a watch of the cookie is pending exactly if such a thing is
   pub list_any-is_for : (reach : List ℕ) (cookie : ℕ) (ws : List Watch) (xs : List X) → AllZip (IsWatchOf cookie_of put_of reach) ws xs → list_any (is_for cookie) ws ≡ list_any (λ x. nat_eq (cookie_of x) cookie) xs
   list_any-is_for reach cookie [] [] h = refl
   list_any-is_for reach cookie [] (x ∷ xs) h = absurd h
@@ -83,7 +83,7 @@ module _ {X : Type 0} (cookie_of : X → ℕ) (put_of : X → List Entry) where
       ap (λ k. nat_eq k cookie || list_any (is_for cookie) ws) h.0.cookie
       ∙ ap (λ b. nat_eq (cookie_of x) cookie || b) (list_any-is_for reach cookie ws xs h.1)
 
-  -- some watch fires exactly where all of some thing's put set is reached
+  -- some watch fires exactly if all of some thing's put set is reached
   pub list_any-fires : (reach : List ℕ) (ws : List Watch) (xs : List X) → AllZip (IsWatchOf cookie_of put_of reach) ws xs → list_any (fires reach) ws ≡ list_any (λ x. all_reached reach 0 (put_of x)) xs
   list_any-fires reach [] [] h = refl
   list_any-fires reach [] (x ∷ xs) h = absurd h

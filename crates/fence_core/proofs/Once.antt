@@ -74,12 +74,12 @@ none_by : (q : Watch → Bool) (b : Bool) (v : Watch) (us : List Watch) → q v 
 none_by q true v us is rest = ap (λ a. a || list_any q us) is ∙ rest
 none_by q false v us is rest = rest
 
--- where none passes a test, none that is kept does
+-- if none passes a test, none that is kept does
 pub list_any-filter : (q p : Watch → Bool) (ws : List Watch) → list_any q ws ≡ false → list_any q (filter p ws) ≡ false
 list_any-filter q p [] h = refl
 list_any-filter q p (v ∷ vs) h = let both = or_false (q v) (list_any q vs) h in none_by q (p v) v (filter p vs) both.0 (list_any-filter q p vs both.1)
 
--- where a watch is not kept, no watch of its cookie is
+-- if a watch is not kept, no watch of its cookie is
 pub none-kept : (p : Watch → Bool) (ws : List Watch) (w : Watch) → IsDistinct nat_eq (cookies_of ws) → Contains ws w → p w ≡ false → list_any (is_for w.cookie) (filter p ws) ≡ false
 unfolding IsDistinct
 none-kept p [] w distinct h fails = refl

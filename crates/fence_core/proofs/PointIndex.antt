@@ -161,7 +161,7 @@ first-least ctx value low r rest x ks low_is is its least k due there =
     let also = eqb-true k.ctx ctx (and_parts (nat_eq k.ctx ctx) (nat_le k.value value) due).0 in
     order-value x k (first-before ctx value low r rest x ks low_is is least k due there) (same ∙ sym also)
 
--- where the first is not due, none is
+-- if the first is not due, none is
 pub first-past : (ctx value : ℕ) (low : WaitingPoint) (r rest : List WaitingPoint) (x : WaitingPoint) (ks : List WaitingPoint) → low ≡ record { ctx = ctx; value = 0; registration = 0 } → r ≡ x ∷ rest → is_due ctx value x ≡ false → is_gt (order low x) ≡ false → ((q : WaitingPoint) → IsFrom low q → list_any (λ y. is_eq (order q y)) ks ≡ true → IfSome (slice_get r 0) (λ k. is_gt (order k q) ≡ false)) → (k : WaitingPoint) → is_due ctx value k ≡ true → holds ks k ≡ false
 first-past ctx value low r rest x ks low_is is past above least k due = elim (cases_Bool (holds ks k)) [
   | inl there ↦
@@ -310,7 +310,7 @@ is_of-at (p ∷ ps) (suc i) d r low = by (is_same (waiting p r) (waiting (get_or
     by true there = refl
     by false there = there
 
--- where it is not reached, they are not all reached
+-- if it is not reached, they are not all reached
 pub unreached-at : (reach : List ℕ) (ps : List Point) (i : ℕ) (d : Point) → i < length ps → is_reached reach (get_or ps i d) ≡ false → are_reached reach ps ≡ false
 unreached-at reach [] i d low past = absurd (omega arith)
 unreached-at reach (p ∷ ps) zero d low past = ap (λ b. b && are_reached reach ps) past

@@ -239,7 +239,7 @@ place-undo es places grown back made cookie place h new put out q = elim (cases_
   | inr other ↦ out q ∙ ap (λ b. cond b None (place_at grown q)) other ∙ put q ∙ ap (λ b. cond b (Some place) (place_at places q)) other
 ]
 
--- where no watch passes the test, none that is found does
+-- if no watch passes the test, none that is found does
 pub at-none : (test : Watch → Bool) (es : List (ℕ × Watch)) (r : ℕ) (w : Watch) → list_any test (values_of es) ≡ false → at es r ≡ Some w → test w ≡ false
 at-none test [] r w none is = absurd (none-some w is)
 at-none test (e ∷ es) r w none is = elim (cases_Bool (is_at (nat_cmp r) e.0)) [

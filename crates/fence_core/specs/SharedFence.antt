@@ -32,7 +32,7 @@ pub record AreWithin (contexts : ℕ) (points : List Point) : Type 0 where
 abbrev pub cause_to_refuse_shared : WordsModel → List Point → Option Refusal
 cause_to_refuse_shared words points = if are_within words.contexts points then None else Some Foreign
 
--- what the call that adds a callback may refuse as
+-- what the call that adds a callback may fail with
 abbrev pub IsCallbackRefusal : Refusal → Type 0
 IsCallbackRefusal Exists = ⊤
 IsCallbackRefusal (Limit WatchesKind) = ⊤

@@ -48,7 +48,7 @@ impl CallbackList {
     /// Adds a callback, the last, as Linux's `dma_fence_add_callback` does.
     ///
     /// Fails with `Signalled` if the list was taken; else with `Exists` if the cookie is there, with `Limit` if
-    /// there are `CALLBACKS`, and as `Memory`. Nothing has changed then.
+    /// there are `CALLBACKS`, and with `Memory`. Nothing has changed then.
     pub fn add(&mut self, cookie: u64) -> Result<(), Refusal>
         ensures refused { IsRefusedFor (cause_to_refuse_callback self.old cookie) result }
         ensures last { OnOk result (self.new ≡ with_callback self.old cookie) }
@@ -67,8 +67,8 @@ impl CallbackList {
         Ok(())
     }
 
-    /// Takes the list, and answers its cookies by registration; from then on it is taken. Of a list that was taken it
-    /// answers none.
+    /// Takes the list, and returns its cookies in order of registration; from then on it is taken. A list that was taken
+    /// before has none.
     ///
     /// Takes no memory.
     pub fn take(&mut self) -> Vec<u64>

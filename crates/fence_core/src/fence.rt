@@ -59,7 +59,7 @@ impl Fence {
     }
 
     /// The points that it waits for, by rising context, as Linux's `dma_fence_unwrap_for_each` goes over them. A plain
-    /// fence has itself, and the stub none.
+    /// fence has its own point, and the stub none.
     ///
     /// Takes no memory.
     pub fn members(&self) -> &[Point]

@@ -80,7 +80,7 @@ impl SharedFence {
     }
 
     /// Loads the clocks of its contexts by rising number, up to the first whose point is pending; no point of a closed
-    /// context is. Where none is, it sets the flag by one test-and-set, as Linux's `dma_fence_signal` does.
+    /// context is. If none is, it sets the flag by one test-and-set, as Linux's `dma_fence_signal` does.
     ///
     /// Takes no memory and no lock.
     pub fn signal(&self, words: &Words, seat: &mut Seat) -> Signal
@@ -108,7 +108,7 @@ impl SharedFence {
         }
     }
 
-    /// Adds a callback, under the lock of the list, as `CallbackList::add` says.
+    /// Adds a callback, under the lock of the list, as `CallbackList::add` does.
     ///
     /// Fails as that does: with `Signalled` once the list was handed out; else with `Exists`, `Limit` or `Memory`.
     pub fn add_callback(&self, rt: &impl Wait, cookie: u64) -> Result<(), Refusal>
@@ -117,7 +117,7 @@ impl SharedFence {
         self.callbacks.lock(rt).add(cookie)
     }
 
-    /// Hands the callbacks out by registration, under the lock of the list, as `CallbackList::take` says. It takes the
+    /// Hands the callbacks out by registration, under the lock of the list, as `CallbackList::take` does. It takes the
     /// token of the one call of `signal` that set the flag, so there is one such call at most, ever. What was added
     /// between the two calls is handed out with the rest.
     ///

@@ -73,7 +73,7 @@ impl Watches {
         Ok(Watches::after(alloc, 0))
     }
 
-    /// No watches, after so many were registered.
+    /// No watches, after this many registrations.
     fn after(alloc: Global, made: u64) -> Watches
         ensures { result ≡ registry_of [] made (replicate CONTEXTS 0) }
     {
@@ -152,7 +152,7 @@ impl Watches {
         Ok(())
     }
 
-    /// Removes the watch of that cookie, and says whether there was one, as Linux's `dma_fence_remove_callback`
+    /// Removes the watch of that cookie, and reports whether there was one, as Linux's `dma_fence_remove_callback`
     /// does. The others keep their order.
     ///
     /// Takes no memory.
@@ -170,7 +170,7 @@ impl Watches {
         true
     }
 
-    /// Takes out the watches all of whose points are signalled at this reach, and gives their cookies in order of
+    /// Takes out the watches all of whose points are signalled at this reach, and returns their cookies in order of
     /// registration. It is for any rise; a desk raises one context at a time, by `after_inc`.
     ///
     /// Fails with `Memory` alone, and only when a watch fires; then none has fired, and nothing has changed. The
@@ -195,8 +195,8 @@ impl Watches {
         Ok(cookies)
     }
 
-    /// As `after_rise` to the last reach that was handed in, with the point reached. If no watch stands at a
-    /// point of its context at or below it, nothing else is looked at.
+    /// As `after_rise`, to the last reach that was handed in, with the point reached too. If no watch stands at or below
+    /// the point in its context, nothing else is looked at.
     ///
     /// Fails with `Memory` alone, and only when a watch fires; then none has fired, and nothing has changed.
     pub fn after_inc(&mut self, point: Point) -> Result<Vec<u64>, Refusal>
@@ -214,7 +214,7 @@ impl Watches {
         self.after_rise_of(&point)
     }
 
-    /// As `after_inc`, when a watch may stand at a point of its context at or below it.
+    /// As `after_inc`, when a watch may stand at or below the point in its context.
     fn after_rise_of(&mut self, point: &Point) -> Result<Vec<u64>, Refusal>
         ensures fired { IfOk result (λ cookies. cookies.items ≡ fired_by self.old (reaching self.old.reach point.now)) }
         ensures left { OnOk result (self.new ≡ after_rise_to self.old (reaching self.old.reach point.now)) }
@@ -226,7 +226,7 @@ impl Watches {
         let Point { ctx, value } = *point;
         let mut reach = self.reach;
         reach.raise_to(Point { ctx, value });
-        let cookies = self.fired_by_one_context(point, &reach)?;
+        let cookies = self.fired_by_point(point, &reach)?;
         self.remove_all(cookies.as_slice());
         self.rise_in_one_context(point, &reach);
         Ok(cookies)
@@ -243,8 +243,8 @@ impl Watches {
         listed(self.alloc, &fired)
     }
 
-    /// The same, when the reach is the last one with the point reached.
-    fn fired_by_one_context(&self, point: &Point, reach: &Reach) -> Result<Vec<u64>, Refusal>
+    /// The same, if the point's context alone has risen: the reach is the last one with the point reached.
+    fn fired_by_point(&self, point: &Point, reach: &Reach) -> Result<Vec<u64>, Refusal>
         requires one_context { reach.now ≡ reaching self.now.reach point.now }
         requires context { 1 ≤ point.now.ctx }
         ensures fired { IfOk result (λ cookies. cookies.items ≡ fired_by self.now reach.now) }
@@ -257,7 +257,7 @@ impl Watches {
         }
         let found = self
             .index
-            .fired_by_one_context(self.alloc, &self.pending, point.ctx, reach)?;
+            .fired_in_context(self.alloc, &self.pending, point.ctx, reach)?;
         match found {
             Some(cookies) => Ok(cookies),
             None => self.fired(reach),
@@ -273,7 +273,7 @@ impl Watches {
         }
     }
 
-    /// Keeps the reach, at which no watch fires, and moves the watches that stand at or below it on.
+    /// Keeps the reach, at which no watch fires, and moves on the watches that stand at or below it.
     fn rise_to(&mut self, reach: &Reach)
         requires rises { IsAtLeast reach.now self.old.reach }
         requires none_fires { list_any (fires reach.now) self.old.pending ≡ false }
@@ -284,7 +284,7 @@ impl Watches {
         self.reach.copy_from(reach);
     }
 
-    /// The same, when the reach is the last one with the point reached.
+    /// The same, if the point's context alone has risen: the reach is the last one with the point reached.
     fn rise_in_one_context(&mut self, point: &Point, reach: &Reach)
         requires one_context { reach.now ≡ reaching self.old.reach point.now }
         requires context { 1 ≤ point.now.ctx }

@@ -1,4 +1,4 @@
-// What the points at which watches stand are above.
+// Values below all points at which watches stand.
 ghost use Rattle.std.specs.Prelude.{◌≡◌, ◌^◌, ◌+◌, ◌-◌, ◌<◌, ◌≤◌, ◌↔◌, IsTrue, min, replicate};
 ghost use Rattle.point_core.specs.declared.context.TheConstants.{CONTEXTS};
 ghost use Rattle.point_core.specs.Reach.{value_at, with_value, IsAtLeast};
@@ -6,8 +6,8 @@ ghost use Rattle.point_core.specs.Reach.{value_at, with_value, IsAtLeast};
 use point_core::{CONTEXTS, Context, Point, Reach};
 use std::marker::Model;
 
-/// For each context a value that each point of it at which a watch stands is above. A rise that stays at or below these
-/// values comes to no such point.
+/// For each context a value below every point of it at which a watch stands. A rise up to these values reaches no such
+/// point.
 #[derive(Drop)]
 pub(super) struct DueFloor {
     values: [u64; CONTEXTS],
@@ -22,7 +22,7 @@ impl Model for DueFloor {
 }
 
 impl DueFloor {
-    /// The floor if no point is waited for.
+    /// The floor while no watch stands anywhere.
     pub(super) fn highest() -> DueFloor
         ensures { result ≡ replicate CONTEXTS (2 ^ 64 - 1) }
     {
@@ -31,7 +31,7 @@ impl DueFloor {
         }
     }
 
-    /// Whether the reach is above it at the context of a place, from 0.
+    /// Whether the reach is above the floor in the context at that place, counted from 0.
     pub(super) fn is_below(&self, reach: &Reach, index: usize) -> bool
         requires within { index < CONTEXTS }
         ensures { IsTrue result ↔ (value_at self.now (index + 1) < value_at reach.now (index + 1)) }
@@ -39,7 +39,7 @@ impl DueFloor {
         self.values[index] < reach.at(index)
     }
 
-    /// Whether the reach is above it nowhere.
+    /// Whether the reach is at or below the floor in every context.
     pub(super) fn at_least(&self, reach: &Reach) -> bool
         ensures { IsTrue result ↔ IsAtLeast self.now reach.now }
     {
@@ -51,7 +51,7 @@ impl DueFloor {
         true
     }
 
-    /// Whether its value of the point's context is at or above the point.
+    /// Whether the floor in the point's context is at or above the point.
     pub(super) fn reaches(&self, point: &Point) -> bool
         ensures value { IsTrue result ↔ (point.now.value ≤ value_at self.now point.now.ctx) }
         ensures context { (1 ≤ point.now.ctx) × (point.now.ctx ≤ CONTEXTS) }

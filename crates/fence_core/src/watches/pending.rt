@@ -30,8 +30,8 @@ impl Model for PendingWatch {
     ghost view = { λ w. watch_of w.cookie (members_of w.fence) };
 }
 
-/// The pending watches, by registration. They are only looked up, so they are kept in no order; contracts see them in
-/// it.
+/// The pending watches, by registration. They are only looked up, so they are kept in no order; contracts see them by
+/// rising registration.
 #[derive(Drop)]
 pub(super) struct PendingWatches {
     by_registration: HashMap<Registration, PendingWatch>,

@@ -8,7 +8,7 @@ use point_core::Refusal;
 use std::alloc::Global;
 use std::collections::HashMap;
 
-/// By cookie the point at which a pending watch stands, with its registration.
+/// For each cookie of a pending watch, the point at which the watch stands, with its registration.
 #[derive(Drop)]
 pub(super) struct Places {
     by_cookie: HashMap<u64, WaitingPoint>,
@@ -46,7 +46,7 @@ impl Places {
         Ok(())
     }
 
-    /// Takes the place of the watch of that cookie out.
+    /// Removes the place of the watch of that cookie.
     pub(super) fn remove(&mut self, cookie: u64) -> Option<WaitingPoint>
         ensures value { result ≡ place_at self.old cookie }
         ensures taken { (q : ℕ) →
@@ -55,7 +55,7 @@ impl Places {
         self.by_cookie.remove(&cookie)
     }
 
-    /// Gives the watch of that cookie, which has a place, another.
+    /// Moves the watch of that cookie, which has a place, to another.
     pub(super) fn replace(&mut self, cookie: u64, place: &WaitingPoint)
         requires there { is_some (place_at self.old cookie) ≡ true }
         ensures { (q : ℕ) → place_at self.new q ≡ (if nat_eq cookie q then Some place.now else place_at self.old q) }

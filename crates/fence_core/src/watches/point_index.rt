@@ -17,7 +17,7 @@ mod firing;
 mod single_rise;
 
 use self::firing::report_reached;
-use self::single_rise::fired_by_one_context;
+use self::single_rise::gathered_in_order;
 use super::due_floor::DueFloor;
 use super::pending::PendingWatches;
 use super::places::Places;
@@ -47,7 +47,7 @@ impl WaitingPoint {
         }
     }
 
-    /// The least of a context.
+    /// The least waiting point of a context.
     fn first(ctx: Context) -> WaitingPoint
         ensures { result ≡ record { ctx = ctx; value = 0; registration = 0 } }
     {
@@ -58,7 +58,7 @@ impl WaitingPoint {
         }
     }
 
-    /// The greatest of a context at that value.
+    /// The greatest waiting point of a context at that value.
     fn last(ctx: Context, value: u64) -> WaitingPoint
         ensures { result ≡ record { ctx = ctx; value = value; registration = 2 ^ 64 - 1 } }
     {
@@ -69,7 +69,7 @@ impl WaitingPoint {
         }
     }
 
-    /// Itself, if it is of that context, at or below the value.
+    /// The point itself, if it is of that context, at or below the value.
     fn if_due(&self, ctx: Context, value: u64) -> Option<WaitingPoint>
         ensures due { IfSome result (λ k. (k ≡ self.now) × (is_due ctx value self.now ≡ true)) }
         ensures past { IfNone result (is_due ctx value self.now ≡ false) }
@@ -81,7 +81,7 @@ impl WaitingPoint {
     }
 }
 
-/// The points at which pending watches stand, one for each watch. Those of one context stand by value.
+/// The points at which pending watches stand, one for each watch. Those of one context are in order of value.
 #[derive(Drop)]
 pub(super) struct PointIndex {
     points: BTreeSet<WaitingPoint>,
@@ -123,7 +123,7 @@ impl PointIndex {
         self.floor.at_least(reach)
     }
 
-    /// Whether the floor shows that no point of the point's context is at or below it. What is above a reach is then
+    /// Whether the floor shows that no watch stands at or below the point in its context. What is above a reach is then
     /// above it with the point reached too.
     pub(super) fn is_above_point(&self, point: &Point) -> bool
         ensures { result ≡ true → (reach : List ℕ) → length reach ≡ CONTEXTS → AreAbove self.now reach →
@@ -157,10 +157,10 @@ impl PointIndex {
         self.points.remove(point);
     }
 
-    /// Moves each watch that stands at or below the reach on to a point above it. Only the contexts where the reach is
+    /// Moves each watch that stands at or below the reach to a point above it. Only the contexts where the reach is
     /// above the floor are looked at.
     ///
-    /// Fails with `Memory` alone; some watches may then stand where they stood.
+    /// Fails with `Memory` alone; some watches may then not have moved.
     pub(super) fn settle(
         &mut self,
         places: &mut Places,
@@ -209,7 +209,7 @@ impl PointIndex {
         Ok(())
     }
 
-    /// Moves the first watch of the context on if it stands at or below the reach. Says whether it did.
+    /// Moves the first watch of the context if it stands at or below the reach, and reports whether it did.
     fn move_first(
         &mut self,
         places: &mut Places,
@@ -235,7 +235,7 @@ impl PointIndex {
         Ok(true)
     }
 
-    /// Moves the watch that stands at the point on to its first point above the reach.
+    /// Moves the watch that stands at the point to its first point above the reach.
     fn move_on(
         &mut self,
         due: &WaitingPoint,
@@ -264,7 +264,7 @@ impl PointIndex {
         Ok(())
     }
 
-    /// The first point of the context if it is at or below the value. Else the floor rises to just below it.
+    /// The first point of the context, if it is at or below the value; otherwise the floor rises to just below it.
     fn next_due(&mut self, ctx: Context, value: u64) -> Option<WaitingPoint>
         ensures same { self.new ≡ self.old }
         ensures some { IfSome result (λ k. (is_due ctx value k ≡ true) × (holds self.new k ≡ true)) }
@@ -316,9 +316,9 @@ impl PointIndex {
         Ok(fired)
     }
 
-    /// The cookies of the watches that stand in the context at or below its value and fire, by registration; or none, if
-    /// these watches don't stand by registration there.
-    pub(super) fn fired_by_one_context(
+    /// The cookies of the watches that stand in the context at or below its value and fire, by registration; `None` if
+    /// these watches don't stand there in order of registration.
+    pub(super) fn fired_in_context(
         &self,
         alloc: Global,
         pending: &PendingWatches,
@@ -331,7 +331,7 @@ impl PointIndex {
         ensures memory { IfErr result (λ e. e ≡ Memory) }
         ensures some_fires { OnErr result (Fires pending.now.entries reach.now) }
     {
-        fired_by_one_context(alloc, &self.points, pending, ctx, reach)
+        gathered_in_order(alloc, &self.points, pending, ctx, reach)
     }
 }
 

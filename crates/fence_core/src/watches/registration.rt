@@ -1,7 +1,7 @@
 // The numbers of registrations.
 use std::marker::Model;
 
-/// Which of all watches that were ever registered one is, counted from 0. It never comes again, while a cookie may.
+/// The number of a registration, counted from 0. It is never used again, while a cookie may be.
 #[derive(Clone, Copy, Debug, PartialEq, Eq, Hash, PartialOrd, Ord)]
 pub(super) struct Registration(pub(super) u64);
 

@@ -12,10 +12,10 @@ use point_core::{Context, Reach, Refusal};
 use std::alloc::Global;
 use std::collections::BTreeSet;
 
-/// The cookies of the watches that stand in the context at or below its value and fire, in order of registration; or none,
+/// The cookies of the watches that stand in the context at or below its value and fire, in order of registration; `None`
 /// if they are found in another order.
 #[inline(never)]
-pub(super) fn fired_by_one_context(
+pub(super) fn gathered_in_order(
     alloc: Global,
     points: &BTreeSet<WaitingPoint>,
     pending: &PendingWatches,

@@ -22,7 +22,7 @@ returns-clause-left c =
     (c.remove_all.ensures ∙ ap (without_watches c.args.self.now) (c.as_slice.ensures.value ∙ c.in_ok-cookies.ensures.fired)
     ∙ ap (λ ws. registry_of ws c.args.self.now.made c.args.self.now.reach) (without_fired c.args.reach.now c.args.self.now.pending c.in_ok-cookies.ensures.pending.distinct))
 
--- where no point is due
+-- if no point is due
 
 pub invariant_of-self : goal.invariant_of-self
 invariant_of-self c = (c.self.invariant.0, c.self.invariant.1, λ settled. subst (AreAbove c.self.inside.index) (sym c.copy_from.ensures.values) (c.is_above.ensures c.if-is_above.true))

@@ -5,7 +5,7 @@ use Rattle.fence_core.specs.Watches.{fired_by}
 use Rattle.fence_core.proofs.Above.{due-one_context}
 use Rattle.fence_core.proofs.Fired.{values-fired, Fires-some}
 use Rattle.fence_core.proofs.Gathered.{at_some}
-use Rattle.fence_core.proofs.watches.Watches.fired_by_one_context.Goals as goal
+use Rattle.fence_core.proofs.watches.Watches.fired_by_point.Goals as goal
 
 pub returns-in_err-found-clause-none_fires : goal.returns-in_err-found-clause-none_fires
 returns-in_err-found-clause-none_fires c = λ none. absurd (Fires-some c.args.reach.now c.self.inside.pending.entries c.in_err-found.ensures.some_fires (ap (λ r. fired_by r c.args.reach.now) c.self.view_is ∙ none))

@@ -1,5 +1,5 @@
 use Rattle.fence_core.proofs.Gathered.{HasPassed}
-use Rattle.fence_core.proofs.watches.point_index.single_rise.fired_by_one_context.Given as goal
+use Rattle.fence_core.proofs.watches.point_index.single_rise.gathered_in_order.Given as goal
 
 abbrev pub invariant-loop-due : goal.invariant-loop-due
 invariant-loop-due l =

@@ -2,7 +2,7 @@ use Rattle.std.proofs.Common.{◌∙◌, ap, arith}
 use Rattle.fence_core.specs.PointIndex.{is_due}
 use Rattle.fence_core.proofs.PointIndex.{holds-range}
 use Rattle.fence_core.proofs.Gathered.{HasPassed-none, HasPassed-more, HasPassed-all}
-use Rattle.fence_core.proofs.watches.point_index.single_rise.fired_by_one_context.Goals as goal
+use Rattle.fence_core.proofs.watches.point_index.single_rise.gathered_in_order.Goals as goal
 
 pub loop-due-init : goal.loop-due-init
 loop-due-init c = (
