@@ -270,7 +270,7 @@ HasChecked-end script c c' of p x =
       agrees = counts-agree script p.answers c'.tally.differing differing;
     }
 
--- the last line, where the script was read to its end
+-- the last line, if the script was read to its end
 pub Checked-last : (before now : Option (List ℕ)) (s : LinesState) (end : Ending) (given : List (List ℕ)) (e : HasEnded before now s end given) (bytes : List ℕ) (number : ℕ) (c c' : Checker)
     → end ≡ ending.Whole → number ≡ s.number → bytes ≡ s.line → HasChecked given c → IsEnded c c' number (body_of bytes) (expected_text bytes) → ChecksScript e.bytes c'.tally
 Checked-last before now s ending.TooLong given e bytes number c c' is n held p x = absurd (cc)

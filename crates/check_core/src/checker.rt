@@ -28,7 +28,7 @@ pub(crate) struct Checker<'a> {
     place: Place<'a>,
     desk: Desk,
     pub(crate) tally: Tally,
-    // the number of the last line that has an answer, and its bytes; 0 is above the first
+    // the number of the last line that has an answer, and its bytes; 0 is before the first
     number: u32,
     bytes: Vec<u8>,
     // its answer, and how far that came as expected
@@ -56,7 +56,7 @@ impl<'a> Checker<'a> {
     }
 
     /// Takes the next line: it is answered if it has an answer, or else what it expects is compared with the last answer. Of
-    /// an over-long line its first 257 bytes are enough.
+    /// an over-long line the first 257 bytes are enough.
     pub(crate) fn take<W: Write>(
         &mut self,
         number: u32,

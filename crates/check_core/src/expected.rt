@@ -8,7 +8,7 @@ use crate::prefix::strip_prefix;
 /// How a note begins that expects a line.
 const MARK: &[u8] = b"#=";
 
-/// The text that a line expects: what follows `#=` and one space, or `#=` if no space follows; none of a
+/// The text that a line expects: what follows `#=` and one space, or `#=` if no space follows; `None` for a
 /// line whose first word begins otherwise.
 pub(crate) fn expected_text(line: &[u8]) -> Option<&[u8]>
     ensures text { option_map (λ t. t.now) result ≡ expected_text line.now }

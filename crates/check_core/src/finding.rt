@@ -1,6 +1,6 @@
 // What the expected lines of an answer say of its text.
 
-/// What the expected lines of an answer say of its text, all of them.
+/// What all expected lines of an answer together say of its text.
 #[derive(Clone, Copy)]
 pub(crate) enum Finding {
     /// Nothing was expected, so anything may come.
@@ -13,7 +13,7 @@ pub(crate) enum Finding {
 /// The first line of an answer that differs.
 #[derive(Clone, Copy)]
 pub(crate) struct Difference<'a> {
-    /// The command's line, from 1; 0 stands for what is above the first.
+    /// The command's line, counted from 1; 0 stands for what comes before the first.
     pub(crate) number: u32,
     pub(crate) command: &'a [u8],
     /// None if more came than was expected.

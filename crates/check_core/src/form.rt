@@ -2,13 +2,13 @@
 
 /// How a check reports what it finds.
 #[derive(Clone, Copy)]
-pub enum Form {
+pub enum CheckForm {
     /// A line for each answer that differs and for each script that does not pass, and the counts. File names and line numbers
     /// may be in bold.
     Lines { bold: bool },
     /// The counts alone.
     Counts,
-    /// The Test Anything Protocol of that version: a test for each script, with the answers that differ.
+    /// The Test Anything Protocol, in that version: a test for each script, with the answers that differ.
     Tap(u64),
 }
 
@@ -16,5 +16,5 @@ pub enum Form {
 #[derive(Clone, Copy)]
 pub struct Place<'a> {
     pub name: &'a str,
-    pub form: Form,
+    pub form: CheckForm,
 }

@@ -8,7 +8,7 @@ use point_core::Refusal;
 
 /// What came of the check of a script.
 #[derive(Clone, Copy)]
-pub enum Outcome {
+pub enum CheckOutcome {
     /// It was checked to its end.
     Checked(Tally),
     /// It could not be opened, or not be checked to its end: with `Read` or with `Limit` of a script.
@@ -26,13 +26,13 @@ pub enum Verdict {
     Failed,
 }
 
-impl Outcome {
+impl CheckOutcome {
     pub(crate) fn is_failed(self) -> bool
         ensures { result ≡ is_failed self }
     {
         match self {
-            Outcome::Checked(_) => false,
-            Outcome::Failed(_) => true,
+            CheckOutcome::Checked(_) => false,
+            CheckOutcome::Failed(_) => true,
         }
     }
 
@@ -41,10 +41,10 @@ impl Outcome {
         ensures { result ≡ is_wrong allows_empty self }
     {
         match self {
-            Outcome::Checked(tally) => {
+            CheckOutcome::Checked(tally) => {
                 tally.differing > 0 || (tally.checked == 0 && !allows_empty)
             }
-            Outcome::Failed(_) => false,
+            CheckOutcome::Failed(_) => false,
         }
     }
 
@@ -56,14 +56,14 @@ impl Outcome {
     /// The counts, which are 0 if it was not checked to its end.
     pub(crate) fn tally(self) -> Tally {
         match self {
-            Outcome::Checked(tally) => tally,
-            Outcome::Failed(_) => Tally::new(),
+            CheckOutcome::Checked(tally) => tally,
+            CheckOutcome::Failed(_) => Tally::new(),
         }
     }
 }
 
-/// What came of all of them. No script at all is as one that expects nothing.
-pub(crate) fn verdict_of(outcomes: &[Outcome], allows_empty: bool) -> Verdict
+/// What came of all of them. No script at all counts as one that expects nothing.
+pub(crate) fn verdict_of(outcomes: &[CheckOutcome], allows_empty: bool) -> Verdict
     ensures { result ≡ verdict_of outcomes.now allows_empty }
 {
     if some_failed(outcomes) {
@@ -75,13 +75,13 @@ pub(crate) fn verdict_of(outcomes: &[Outcome], allows_empty: bool) -> Verdict
     }
 }
 
-fn some_failed(outcomes: &[Outcome]) -> bool
+fn some_failed(outcomes: &[CheckOutcome]) -> bool
     ensures { result ≡ list_any is_failed outcomes.now }
 {
     outcomes.iter().any(|outcome| outcome.is_failed())
 }
 
-fn some_wrong(outcomes: &[Outcome], allows_empty: bool) -> bool
+fn some_wrong(outcomes: &[CheckOutcome], allows_empty: bool) -> bool
     ensures { result ≡ list_any (is_wrong allows_empty) outcomes.now }
 {
     outcomes

@@ -1,4 +1,4 @@
-// Texts that are put together of parts.
+// Texts that are made of parts.
 ghost use Rattle.std.specs.Prelude.{◌≡◌, ◌⊎◌, IfErr};
 ghost use Rattle.point_core.specs.declared.refusal.Refusal.TheVariants.{Write as WriteFault, Memory};
 

@@ -41,7 +41,7 @@ pub fn check<R: Read, W: Write>(
     ensures quiet { IfOk result (λ tally. tally.differing ≡ 0
         → Keeps (W.contents writer.old) (W.contents writer.new)) }
 
-    // Whatever the result, no byte is read past the one after a script's limit, and after a failed read not that one.
+    // Whatever the result, it reads at most one byte more than a script may have, and after a failed read not that one.
     ensures within { ConsumesAtMost (SCRIPT_BYTES + 1) (R.remaining reader.old) (R.remaining reader.new) }
     ensures read { result ≡ Err ReadFault
         → ConsumesAtMost SCRIPT_BYTES (R.remaining reader.old) (R.remaining reader.new) }

@@ -3,7 +3,7 @@ ghost use Rattle.std.specs.Prelude.{◌≡◌, ◌⊎◌, IfErr};
 ghost use Rattle.point_core.specs.declared.refusal.Refusal.TheVariants.{Write as WriteFault, Memory};
 
 use crate::finding::Difference;
-use crate::form::{Form, Place};
+use crate::form::{CheckForm, Place};
 use crate::parts::{Part, write_parts};
 use line_core::first_line;
 use point_core::Refusal;
@@ -20,9 +20,9 @@ pub(crate) fn report_difference<'a, W: Write>(
     ensures refusals { IfErr result (λ refusal. (refusal ≡ WriteFault) ⊎ (refusal ≡ Memory)) }
 {
     match place.form {
-        Form::Lines { bold } => report_line(alloc, place.name, bold, difference, writer),
-        Form::Counts => Ok(()),
-        Form::Tap(_) => report_item(alloc, difference, writer),
+        CheckForm::Lines { bold } => report_line(alloc, place.name, bold, difference, writer),
+        CheckForm::Counts => Ok(()),
+        CheckForm::Tap(_) => report_item(alloc, difference, writer),
     }
 }
 

@@ -1,27 +1,27 @@
 // A script whose notes come to expect what is answered.
 use crate::expected::expected_text;
-use crate::page::Page;
+use crate::script_text::ScriptText;
 use desk_core::{Answer, Desk};
 use line_core::{Body, body_of, first_line};
 use point_core::Refusal;
 use script_core::{answer_line, print};
 use std::alloc::{AllocError, Global};
 
-/// How an expected line begins that has no note yet.
+/// How a new note of an expected line begins.
 const FRONT: &[u8] = b"#= ";
 
 /// What a rewriting keeps from line to line: a desk, the last answer, and the notes after what is expected of it.
 #[derive(Drop)]
 pub(crate) struct Rewriter {
     desk: Desk,
-    /// Whether commands of which nothing is expected get expected lines.
+    /// Whether commands without expected lines get some.
     fills: bool,
     /// The last answer, how many of its bytes are expected so far, and whether any should be.
     answer: Vec<u8>,
     expected: usize,
     is_asked: bool,
     /// The notes since the last command or expected line.
-    notes: Page,
+    notes: ScriptText,
 }
 
 impl Rewriter {
@@ -32,63 +32,63 @@ impl Rewriter {
             answer: Vec::new(alloc),
             expected: 0,
             is_asked: false,
-            notes: Page::new(alloc),
+            notes: ScriptText::new(alloc),
         }
     }
 
     /// Takes the next line, and writes what is known by then.
     ///
     /// Fails with `Memory` if memory was refused, also to a command.
-    pub(crate) fn take(&mut self, line: &[u8], page: &mut Page) -> Result<(), Refusal> {
+    pub(crate) fn take(&mut self, line: &[u8], text: &mut ScriptText) -> Result<(), Refusal> {
         match body_of(line) {
-            Some(body) => self.answer(line, body, page),
-            None => Ok(self.note(line, page)?),
+            Some(body) => self.answer(line, body, text),
+            None => Ok(self.note(line, text)?),
         }
     }
 
-    /// No more is expected of the last answer: writes what of it is not expected yet, and the notes after that.
-    pub(crate) fn end(&mut self, page: &mut Page) -> Result<(), AllocError> {
+    /// The last answer's notes have ended: writes the rest of the answer as expected lines, and then the other notes.
+    pub(crate) fn end(&mut self, text: &mut ScriptText) -> Result<(), AllocError> {
         if self.is_asked {
-            self.expect_rest(page)?;
+            self.expect_rest(text)?;
         }
-        page.append(&mut self.notes)
+        text.append(&mut self.notes)
     }
 
     /// A line that has an answer, by its number in what is written.
-    fn answer(&mut self, line: &[u8], body: Body, page: &mut Page) -> Result<(), Refusal> {
-        self.end(page)?;
-        page.push(b"", line)?;
+    fn answer(&mut self, line: &[u8], body: Body, text: &mut ScriptText) -> Result<(), Refusal> {
+        self.end(text)?;
+        text.push(b"", line)?;
         self.is_asked = self.fills;
         self.expected = 0;
         self.answer.clear();
         let answer = answer_line(&mut self.desk, body);
-        print_known(page.lines, &answer, &mut self.answer)
+        print_known(text.lines, &answer, &mut self.answer)
     }
 
-    fn note(&mut self, line: &[u8], page: &mut Page) -> Result<(), AllocError> {
+    fn note(&mut self, line: &[u8], text: &mut ScriptText) -> Result<(), AllocError> {
         match expected_text(line) {
             Some(expected) => {
-                page.append(&mut self.notes)?;
+                text.append(&mut self.notes)?;
                 self.is_asked = true;
-                self.expect(line.strip_suffix(expected).unwrap_or(FRONT), page)
+                self.expect(line.strip_suffix(expected).unwrap_or(FRONT), text)
             }
             None => self.notes.push(b"", line),
         }
     }
 
     /// Writes the next line of the last answer, with that before it, if there is one.
-    fn expect(&mut self, start: &[u8], page: &mut Page) -> Result<(), AllocError> {
+    fn expect(&mut self, start: &[u8], text: &mut ScriptText) -> Result<(), AllocError> {
         let Some(line) = next_line(&self.answer, self.expected) else {
             return Ok(());
         };
-        page.push(start, line)?;
+        text.push(start, line)?;
         self.expected = self.expected.saturating_add(line.len()).saturating_add(1);
         Ok(())
     }
 
-    fn expect_rest(&mut self, page: &mut Page) -> Result<(), AllocError> {
+    fn expect_rest(&mut self, text: &mut ScriptText) -> Result<(), AllocError> {
         for _ in 0..self.answer.len() {
-            self.expect(FRONT, page)?;
+            self.expect(FRONT, text)?;
         }
         Ok(())
     }
@@ -102,7 +102,7 @@ fn print_known(number: u32, answer: &Answer, text: &mut Vec<u8>) -> Result<(), R
     }
 }
 
-/// The first line after so many bytes of a text, each of whose lines has its line feed.
+/// The line that begins at that byte of a text, each of whose lines has its line feed.
 fn next_line(text: &[u8], start: usize) -> Option<&[u8]> {
     let (line, _) = first_line(text.get(start..)?)?;
     Some(line)

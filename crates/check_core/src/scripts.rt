@@ -5,8 +5,8 @@ ghost use Rattle.source_core.specs.Script.{file_named};
 ghost use Rattle.source_core.specs.Source.{HasUnread};
 ghost use Rattle.check_core.specs.Outcome.{CameOf, CameOfEach, ComesOf, IsOutcome};
 
-use crate::form::{Form, Place};
-use crate::outcome::{Outcome, Verdict, verdict_of};
+use crate::form::{CheckForm, Place};
+use crate::outcome::{CheckOutcome, Verdict, verdict_of};
 use crate::reading::check;
 use crate::sink::Sink;
 use crate::summary::report_summary;
@@ -20,7 +20,7 @@ use std::rt::Files;
 /// How scripts are checked.
 #[derive(Clone, Copy)]
 pub struct Plan {
-    pub form: Form,
+    pub form: CheckForm,
     /// Whether a script may expect nothing.
     pub allows_empty: bool,
 }
@@ -53,13 +53,13 @@ pub fn check_scripts<R: Files + Eprint + AllocGlobal, S: Read + Copy + Drop, O: 
     )
 }
 
-/// The same, while no script was checked yet.
+/// The same, before any script was checked.
 fn check_all<R: Files + Eprint + AllocGlobal, S: Read + Copy + Drop, O: Write, W: Write>(
     rt: &R,
     plan: &Plan,
     names: &[String],
     standard_input: S,
-    outcomes: &mut Vec<Outcome>,
+    outcomes: &mut Vec<CheckOutcome>,
     output: &mut O,
     errors: &mut W,
 ) -> Result<Verdict, Refusal>
@@ -80,7 +80,7 @@ fn check_each<R: Files + Eprint + AllocGlobal, S: Read + Copy + Drop, O: Write, 
     plan: &Plan,
     names: &[String],
     standard_input: S,
-    outcomes: &mut Vec<Outcome>,
+    outcomes: &mut Vec<CheckOutcome>,
     output: &mut O,
     errors: &mut W,
 ) -> Result<(), Refusal>
@@ -105,14 +105,14 @@ fn check_each<R: Files + Eprint + AllocGlobal, S: Read + Copy + Drop, O: Write, 
     Ok(())
 }
 
-fn push(outcomes: &mut Vec<Outcome>, outcome: Outcome) -> Result<(), AllocError>
+fn push(outcomes: &mut Vec<CheckOutcome>, outcome: CheckOutcome) -> Result<(), AllocError>
     ensures { OnOk result (outcomes.new.items ≡ outcomes.old.items ++ outcome ∷ []) }
 {
     outcomes.push(outcome)?;
     Ok(())
 }
 
-/// Checks a script, before which so many were, and reports what is found of it.
+/// Checks a script, the next after that many others, and reports what is found.
 fn check_script<R: Files + Eprint + AllocGlobal, S: Read + Drop, O: Write, W: Write>(
     rt: &R,
     plan: &Plan,
@@ -121,7 +121,7 @@ fn check_script<R: Files + Eprint + AllocGlobal, S: Read + Drop, O: Write, W: Wr
     standard_input: S,
     output: &mut O,
     errors: &mut W,
-) -> Result<Outcome, Refusal>
+) -> Result<CheckOutcome, Refusal>
     ensures outcome { IfOk result (CameOf (HasUnread R.File.remaining S.remaining
         (file_named (Some name.now)) standard_input)) }
     ensures refusals { IfErr result (λ refusal. (refusal ≡ WriteFault) ⊎ (refusal ≡ Memory)) }
@@ -129,7 +129,7 @@ fn check_script<R: Files + Eprint + AllocGlobal, S: Read + Drop, O: Write, W: Wr
     let form = plan.form;
     let place = Place { name, form };
     match form {
-        Form::Tap(_) => {
+        CheckForm::Tap(_) => {
             let mut differences = Vec::new(rt.alloc());
             let mut sink: Sink<'_, W> = Sink::Kept(&mut differences);
             let outcome = outcome_of(rt, &place, standard_input, &mut sink);
@@ -143,22 +143,22 @@ fn check_script<R: Files + Eprint + AllocGlobal, S: Read + Drop, O: Write, W: Wr
                 output,
             )
         }
-        Form::Lines { .. } | Form::Counts => {
+        CheckForm::Lines { .. } | CheckForm::Counts => {
             outcome_of(rt, &place, standard_input, &mut Sink::Through(errors))
         }
     }
 }
 
-/// Reports the test of a script. Its differences were kept, so if a write of one failed, memory was refused.
+/// Reports the test of a script. Its differences were kept in memory, so a write of one failed only for want of it.
 fn report_test<'a, O: Write>(
     alloc: Global,
     plan: &Plan,
     before: usize,
     name: &'a str,
-    outcome: Result<Outcome, Refusal>,
+    outcome: Result<CheckOutcome, Refusal>,
     differences: &'a [u8],
     output: &mut O,
-) -> Result<Outcome, Refusal>
+) -> Result<CheckOutcome, Refusal>
     ensures outcome { IfOk result (λ reported. outcome ≡ Ok reported) }
     ensures refusals { IfErr result (λ refusal. (refusal ≡ WriteFault) ⊎ (refusal ≡ Memory)) }
 {
@@ -198,14 +198,14 @@ fn outcome_of<R: Files + Eprint + AllocGlobal, S: Read + Drop, W: Write>(
     place: &Place<'_>,
     standard_input: S,
     sink: &mut Sink<'_, W>,
-) -> Result<Outcome, Refusal>
+) -> Result<CheckOutcome, Refusal>
     ensures outcome { IfOk result (CameOf (HasUnread R.File.remaining S.remaining
         (file_named (Some place.now.name.now)) standard_input)) }
     ensures refusals { IfErr result (λ refusal. (refusal ≡ WriteFault) ⊎ (refusal ≡ Memory)) }
 {
     match Source::open(rt, Script::named(place.name), standard_input) {
         Ok(mut source) => outcome_of_reader(rt.alloc(), place, &mut source, sink),
-        Err(refusal) => Ok(Outcome::Failed(refusal)),
+        Err(refusal) => Ok(CheckOutcome::Failed(refusal)),
     }
 }
 
@@ -217,14 +217,14 @@ fn outcome_of_reader<R: Read, W: Write>(
     place: &Place<'_>,
     reader: &mut R,
     sink: &mut Sink<'_, W>,
-) -> Result<Outcome, Refusal>
+) -> Result<CheckOutcome, Refusal>
     ensures outcome { IfOk result (IsOutcome (R.remaining reader.old)) }
     ensures refusals { IfErr result (λ refusal. (refusal ≡ WriteFault) ⊎ (refusal ≡ Memory)) }
 {
     match check(alloc, place, reader, sink) {
-        Ok(tally) => Ok(Outcome::Checked(tally)),
+        Ok(tally) => Ok(CheckOutcome::Checked(tally)),
         Err(Refusal::Write) => Err(Refusal::Write),
         Err(Refusal::Memory) => Err(Refusal::Memory),
-        Err(refusal) => Ok(Outcome::Failed(refusal)),
+        Err(refusal) => Ok(CheckOutcome::Failed(refusal)),
     }
 }

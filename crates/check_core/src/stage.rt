@@ -21,7 +21,7 @@ pub(crate) enum Stage {
 impl Stage {
     ghost use Rattle.check_core.specs.Stage.{place_of, left_of, is_different, IsAt};
 
-    /// The part of the text that the next expected line is compared with; none if that can't matter.
+    /// The part of the text that the next expected line is compared with; `None` if that can't matter.
     pub(crate) fn left(self, text: &[u8]) -> Option<&[u8]>
         requires within { place_of self ≤ length text.now }
         ensures left { option_map (λ l. l.now) result ≡ left_of self text.now }
@@ -33,7 +33,7 @@ impl Stage {
         }
     }
 
-    /// With one more line that is expected.
+    /// The stage after one more expected line.
     pub(crate) fn with(self, text: &[u8], line: &[u8]) -> Stage
         requires within { place_of self ≤ length text.now }
         ensures within { place_of result ≤ length text.now }

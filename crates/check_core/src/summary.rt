@@ -4,8 +4,8 @@ ghost use Rattle.std.specs.Io.KnownBytes.{Appends, Keeps};
 ghost use Rattle.point_core.specs.declared.refusal.Refusal.TheVariants.{Write as WriteFault, Memory};
 ghost use Rattle.check_core.specs.Tally.{count_text, totals_text};
 
-use crate::form::Form;
-use crate::outcome::Outcome;
+use crate::form::CheckForm;
+use crate::outcome::CheckOutcome;
 use crate::parts::{Part, write_parts};
 use crate::scripts::Plan;
 use crate::tally::Tally;
@@ -21,18 +21,18 @@ pub(crate) fn report_summary<W: Write>(
     alloc: Global,
     plan: &Plan,
     names: &[String],
-    outcomes: &[Outcome],
+    outcomes: &[CheckOutcome],
     writer: &mut W,
 ) -> Result<(), Refusal>
     ensures refusals { IfErr result (λ refusal. (refusal ≡ WriteFault) ⊎ (refusal ≡ Memory)) }
 {
     match plan.form {
-        Form::Lines { .. } => {
+        CheckForm::Lines { .. } => {
             report_scripts(alloc, names, outcomes, plan.allows_empty, writer)?;
             report_totals(outcomes.len(), &totals_of(outcomes), writer)
         }
-        Form::Counts => report_totals(outcomes.len(), &totals_of(outcomes), writer),
-        Form::Tap(_) => flush(writer),
+        CheckForm::Counts => report_totals(outcomes.len(), &totals_of(outcomes), writer),
+        CheckForm::Tap(_) => flush(writer),
     }
 }
 
@@ -40,7 +40,7 @@ pub(crate) fn report_summary<W: Write>(
 fn report_scripts<W: Write>(
     alloc: Global,
     names: &[String],
-    outcomes: &[Outcome],
+    outcomes: &[CheckOutcome],
     allows_empty: bool,
     writer: &mut W,
 ) -> Result<(), Refusal>
@@ -55,7 +55,7 @@ fn report_scripts<W: Write>(
 fn report_script<W: Write>(
     alloc: Global,
     name: &str,
-    outcome: Outcome,
+    outcome: CheckOutcome,
     allows_empty: bool,
     writer: &mut W,
 ) -> Result<(), Refusal>
@@ -80,20 +80,20 @@ fn report_script<W: Write>(
 }
 
 /// What is wrong with a script that does not pass.
-pub(crate) fn parts_of_outcome(outcome: Outcome) -> [Part<'static>; 5] {
+pub(crate) fn parts_of_outcome(outcome: CheckOutcome) -> [Part<'static>; 5] {
     let none = Part::Text("");
     match outcome {
-        Outcome::Checked(tally) if tally.checked == 0 => {
+        CheckOutcome::Checked(tally) if tally.checked == 0 => {
             [Part::Text("expects nothing"), none, none, none, none]
         }
-        Outcome::Checked(tally) => [
+        CheckOutcome::Checked(tally) => [
             Part::Text("differs in "),
             Part::Number(tally.differing),
             Part::Text(" of "),
             Part::Number(tally.checked),
             Part::Text(" answers"),
         ],
-        Outcome::Failed(refusal) => [
+        CheckOutcome::Failed(refusal) => [
             Part::Text("not checked: "),
             Part::Number(u64::from(refusal.number())),
             Part::Text(" "),
@@ -104,7 +104,7 @@ pub(crate) fn parts_of_outcome(outcome: Outcome) -> [Part<'static>; 5] {
 }
 
 /// The counts of all of them together.
-fn totals_of(outcomes: &[Outcome]) -> Tally {
+fn totals_of(outcomes: &[CheckOutcome]) -> Tally {
     let mut totals = Tally::new();
     for outcome in outcomes {
         totals = totals.with(&outcome.tally());

@@ -9,7 +9,7 @@ use crate::finding::Finding;
 pub struct Tally {
     /// The lines that have an answer.
     pub lines: u64,
-    /// How many of them have expected lines. Lines that are expected above the first command count as one more.
+    /// How many of them have expected lines. Lines that are expected before the first command count as one more.
     pub checked: u64,
     /// How many of the checked ones answered otherwise.
     pub differing: u64,
@@ -28,7 +28,7 @@ impl Tally {
         }
     }
 
-    /// One finding more.
+    /// Counts one more finding.
     pub(crate) fn count(&mut self, finding: Finding)
         requires { HasRoom self.old }
         ensures lines { self.new.lines ≡ self.old.lines }

@@ -2,8 +2,8 @@
 ghost use Rattle.std.specs.Prelude.{◌≡◌, ◌⊎◌, IfErr};
 ghost use Rattle.point_core.specs.declared.refusal.Refusal.TheVariants.{Write as WriteFault, Memory};
 
-use crate::form::Form;
-use crate::outcome::Outcome;
+use crate::form::CheckForm;
+use crate::outcome::CheckOutcome;
 use crate::parts::{Part, write_parts};
 use crate::summary::parts_of_outcome;
 use point_core::Refusal;
@@ -13,13 +13,13 @@ use std::io::Write;
 /// Writes the version and the plan, which has that many tests. Other forms have neither.
 pub(crate) fn write_plan<W: Write>(
     alloc: Global,
-    form: Form,
+    form: CheckForm,
     tests: usize,
     writer: &mut W,
 ) -> Result<(), Refusal>
     ensures refusals { IfErr result (λ refusal. (refusal ≡ WriteFault) ⊎ (refusal ≡ Memory)) }
 {
-    let Form::Tap(version) = form else {
+    let CheckForm::Tap(version) = form else {
         return Ok(());
     };
     let parts = [
@@ -35,10 +35,10 @@ pub(crate) fn write_plan<W: Write>(
 /// The test of a script.
 #[derive(Clone, Copy)]
 pub(crate) struct Test<'a> {
-    /// How many tests stand before it.
+    /// How many tests come before it.
     pub(crate) before: usize,
     pub(crate) name: &'a str,
-    pub(crate) outcome: Outcome,
+    pub(crate) outcome: CheckOutcome,
     /// Each answer that differs, as an item.
     pub(crate) differences: &'a [u8],
 }

@@ -3,10 +3,10 @@ ghost use Rattle.std.specs.Prelude.{◌≡◌, IfOk};
 ghost use Rattle.check_core.specs.Update.{Passes};
 
 use crate::expected::expected_text;
-use crate::form::{Form, Place};
-use crate::page::Page;
+use crate::form::{CheckForm, Place};
 use crate::reading::check;
 use crate::rewriter::Rewriter;
+use crate::script_text::ScriptText;
 use line_core::{SCRIPT_BYTES, first_line};
 use point_core::{LimitKind, Refusal};
 use std::alloc::{AllocError, Global};
@@ -23,39 +23,43 @@ pub fn updated(alloc: Global, script: &[u8]) -> Result<Vec<u8>, Refusal>
     if script.len() > SCRIPT_BYTES {
         return Err(Refusal::Limit(LimitKind::Script));
     }
-    let mut page = Page::new(alloc);
-    rewrite(alloc, script, &mut page)?;
-    if differences(alloc, page.bytes.as_slice())? == 0 {
-        Ok(page.bytes)
+    let mut text = ScriptText::new(alloc);
+    rewrite(alloc, script, &mut text)?;
+    if differences(alloc, text.bytes.as_slice())? == 0 {
+        Ok(text.bytes)
     } else {
         Err(Refusal::Torn)
     }
 }
 
-fn rewrite(alloc: Global, script: &[u8], page: &mut Page) -> Result<(), Refusal> {
+fn rewrite(alloc: Global, script: &[u8], text: &mut ScriptText) -> Result<(), Refusal> {
     let mut rewriter = Rewriter::new(alloc, !expects(script));
-    let rewritten = rewrite_lines(&mut rewriter, script, page);
+    let rewritten = rewrite_lines(&mut rewriter, script, text);
     // For the proof: what a call drops is taken apart once, and not here.
     drop(rewriter);
     rewritten
 }
 
-/// Writes the new script to an empty page. Its last line lacks its line feed if that of the script does.
-fn rewrite_lines(rewriter: &mut Rewriter, script: &[u8], page: &mut Page) -> Result<(), Refusal> {
+/// Writes the new script to an empty text. Its last line lacks its line feed if that of the script does.
+fn rewrite_lines(
+    rewriter: &mut Rewriter,
+    script: &[u8],
+    text: &mut ScriptText,
+) -> Result<(), Refusal> {
     let mut rest = script;
     for _ in 0..script.len() {
         let Some((line, more)) = first_line(rest) else {
             break;
         };
-        rewriter.take(line, page)?;
+        rewriter.take(line, text)?;
         rest = more;
     }
     if rest.is_empty() {
-        return Ok(rewriter.end(page)?);
+        return Ok(rewriter.end(text)?);
     }
-    rewriter.take(rest, page)?;
-    rewriter.end(page)?;
-    page.bytes.pop();
+    rewriter.take(rest, text)?;
+    rewriter.end(text)?;
+    text.bytes.pop();
     Ok(())
 }
 
@@ -80,7 +84,7 @@ fn differences(alloc: Global, script: &[u8]) -> Result<u64, Refusal>
 {
     let place = Place {
         name: "",
-        form: Form::Counts,
+        form: CheckForm::Counts,
     };
     let mut reader = script;
     let tally = check(alloc, &place, &mut reader, &mut Vec::new(alloc))?;

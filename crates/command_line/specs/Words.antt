@@ -8,8 +8,8 @@ use Rattle.clap.specs.declared.builder.value_parser.ValueParser.TheVariants as p
 use Rattle.clients_core.specs.declared.plans.TheConstants.{CLIENTS}
 use Rattle.clients_core.specs.declared.rounds.TheConstants.{ROUNDS}
 use Rattle.command_line.specs.declared.subcommands.Argument.{Argument}
-use Rattle.command_line.specs.declared.subcommands.Form.{Form}
-use Rattle.command_line.specs.declared.subcommands.Form.TheVariants as form
+use Rattle.command_line.specs.declared.subcommands.ArgumentForm.{ArgumentForm}
+use Rattle.command_line.specs.declared.subcommands.ArgumentForm.TheVariants as form
 use Rattle.command_line.specs.declared.subcommands.Subcommand.{Subcommand}
 
 abbrev pub file_rule : Text → Rule
@@ -73,7 +73,7 @@ abbrev pub fencectl : App
 fencectl = with_subcommands program_app apps
 
 -- the rows of the table
-abbrev pub rule_in : Text → Form → Rule
+abbrev pub rule_in : Text → ArgumentForm → Rule
 rule_in name form.File = file_rule name
 rule_in name form.Paths = paths_rule name
 rule_in name form.Flag = flag_rule name

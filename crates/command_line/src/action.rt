@@ -14,7 +14,7 @@ pub enum Action<'a> {
     Json(Script<'a>),
     /// Compare the answers of scripts with those that they expect.
     Check(Check<'a>),
-    /// Put scripts in their place that expect what comes: of files, and of those below folders.
+    /// Rewrite scripts so that they expect what they answer: files, and those below folders.
     Update(Vec<&'a str>),
     /// Run a script, print its answers, and explain why lines were refused.
     Explain(Script<'a>),

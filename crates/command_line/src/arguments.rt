@@ -4,7 +4,7 @@ ghost use Rattle.clap.specs.declared.builder.value_parser.ValueParser.TheVariant
 ghost use Rattle.clap.specs.Words.{kind_of, rule_of, subcommand_of, subcommand_rows_of, takes};
 ghost use Rattle.command_line.specs.Words.{IsApp, app_by, fencectl, program_app, rule_by};
 
-use crate::subcommands::{Argument, Form, Subcommand, subcommands};
+use crate::subcommands::{Argument, ArgumentForm, Subcommand, subcommands};
 use clap::builder::ValueParser;
 use clap::error::ErrorKind;
 use clap::{Arg, ArgAction, ArgMatches, Command, Error, value_parser};
@@ -155,14 +155,14 @@ fn argument_of<'a>(alloc: Global, argument: &Argument) -> Arg<'a>
 {
     let arg = Arg::new(alloc, argument.name).help(argument.help);
     match argument.form {
-        Form::File => arg.default_value(STANDARD_INPUT),
-        Form::Paths => arg.action(ArgAction::Append).default_value(STANDARD_INPUT),
-        Form::Flag => arg.long(argument.name).action(ArgAction::SetTrue),
-        Form::Option(value) => arg
+        ArgumentForm::File => arg.default_value(STANDARD_INPUT),
+        ArgumentForm::Paths => arg.action(ArgAction::Append).default_value(STANDARD_INPUT),
+        ArgumentForm::Flag => arg.long(argument.name).action(ArgAction::SetTrue),
+        ArgumentForm::Option(value) => arg
             .long(argument.name)
             .action(ArgAction::Set)
             .value_name(value),
-        Form::Number(most) => arg.required(true).value_parser(up_to(most)),
+        ArgumentForm::Number(most) => arg.required(true).value_parser(up_to(most)),
     }
 }
 

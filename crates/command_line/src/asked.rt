@@ -36,7 +36,7 @@ use std::alloc::Global;
 /// What the matches of a command line ask for.
 ///
 /// Fails with `Limit` of the clients or of the plan if one of their numbers is not in its range, which the command line
-/// refuses before.
+/// refuses earlier.
 pub(crate) fn action_by<'a>(alloc: Global, matches: &ArgMatches<'a>) -> Result<Action<'a>, Refusal>
     ensures asked { IfOk result (λ action. asked_of action ≡ Some (asked_by (subcommand_rows_of matches.now))) }
 {

@@ -20,8 +20,8 @@ use std::io::Write;
 use std::sync::Wait;
 use std::thread::Threads;
 
-/// Runs so many clients, each in a thread of its own, for so many rounds over the board, and writes the text of what they
-/// settle. That is the text of the plans' settled table, whatever the schedule.
+/// Runs `n` clients, each in a thread of its own, for that many rounds over the board, and writes the text of what they
+/// settle, which is that of the plans' settled table, whatever the schedule.
 ///
 /// Fails as `run_clients`, which refuses none of these plans before its threads start, and with Write if a write
 /// failed or took no byte, or the flush failed. Then a prefix of the text is written.

@@ -14,12 +14,12 @@ pub(crate) struct Subcommand {
 /// An argument: the name by which it is read, its form, and what the help says of it.
 pub(crate) struct Argument {
     pub name: &'static str,
-    pub form: Form,
+    pub form: ArgumentForm,
     pub help: &'static str,
 }
 
 /// What is given for an argument.
-pub(crate) enum Form {
+pub(crate) enum ArgumentForm {
     /// A file, or else standard input.
     File,
     /// Files and folders, or else standard input.
@@ -96,12 +96,12 @@ static SUBCOMMANDS: &[Subcommand] = &[
         arguments: &[
             Argument {
                 name: FILE,
-                form: Form::File,
+                form: ArgumentForm::File,
                 help: "The script's file, or - for standard input",
             },
             Argument {
                 name: JSON,
-                form: Form::Flag,
+                form: ArgumentForm::Flag,
                 help: "Writes a JSON object for each answer, on a line of its own",
             },
         ],
@@ -112,27 +112,27 @@ static SUBCOMMANDS: &[Subcommand] = &[
         arguments: &[
             Argument {
                 name: PATH,
-                form: Form::Paths,
+                form: ArgumentForm::Paths,
                 help: "Scripts' files, folders with such files (*.fence), or - for standard input",
             },
             Argument {
                 name: QUIET,
-                form: Form::Flag,
+                form: ArgumentForm::Flag,
                 help: "Reports the counts alone",
             },
             Argument {
                 name: TAP,
-                form: Form::Flag,
+                form: ArgumentForm::Flag,
                 help: "Writes TAP version 14 to standard output, a test for each file",
             },
             Argument {
                 name: ALLOW_EMPTY,
-                form: Form::Flag,
+                form: ArgumentForm::Flag,
                 help: "Lets a file pass that expects nothing",
             },
             Argument {
                 name: UPDATE,
-                form: Form::Flag,
+                form: ArgumentForm::Flag,
                 help: "Writes the answers that come into the files, as what they expect",
             },
         ],
@@ -142,7 +142,7 @@ static SUBCOMMANDS: &[Subcommand] = &[
         about: "Runs a script, and explains on standard error why lines were refused",
         arguments: &[Argument {
             name: FILE,
-            form: Form::File,
+            form: ArgumentForm::File,
             help: "The script's file, or - for standard input",
         }],
     },
@@ -152,37 +152,37 @@ static SUBCOMMANDS: &[Subcommand] = &[
         arguments: &[
             Argument {
                 name: FILE,
-                form: Form::File,
+                form: ArgumentForm::File,
                 help: "The trace's text, or - for standard input",
             },
             Argument {
                 name: JSON,
-                form: Form::Flag,
+                form: ArgumentForm::Flag,
                 help: "Writes the report as one JSON document",
             },
             Argument {
                 name: SCRIPT,
-                form: Form::Flag,
+                form: ArgumentForm::Flag,
                 help: "Writes what happened as a script instead",
             },
             Argument {
                 name: DRAW,
-                form: Form::Flag,
+                form: ArgumentForm::Flag,
                 help: "Draws what happened as SVG instead",
             },
             Argument {
                 name: PERFETTO,
-                form: Form::Flag,
+                form: ArgumentForm::Flag,
                 help: "Writes what happened as trace events, in JSON, for Perfetto instead",
             },
             Argument {
                 name: FROM,
-                form: Form::Option("SECONDS"),
+                form: ArgumentForm::Option("SECONDS"),
                 help: "Begins the script, the picture or the events at that time",
             },
             Argument {
                 name: TO,
-                form: Form::Option("SECONDS"),
+                form: ArgumentForm::Option("SECONDS"),
                 help: "Ends them at that time",
             },
         ],
@@ -193,27 +193,27 @@ static SUBCOMMANDS: &[Subcommand] = &[
         arguments: &[
             Argument {
                 name: FILE,
-                form: Form::File,
+                form: ArgumentForm::File,
                 help: "The script's file, or - for standard input",
             },
             Argument {
                 name: GRAPH,
-                form: Form::Flag,
+                form: ArgumentForm::Flag,
                 help: "Draws what waits for what at the end, as a graph in DOT",
             },
             Argument {
                 name: LINE,
-                form: Form::Option("N"),
+                form: ArgumentForm::Option("N"),
                 help: "Draws the graph after line N",
             },
             Argument {
                 name: LINES,
-                form: Form::Option("A..B"),
+                form: ArgumentForm::Option("A..B"),
                 help: "Draws these lines alone",
             },
             Argument {
                 name: OUTPUT,
-                form: Form::Option("PICTURE"),
+                form: ArgumentForm::Option("PICTURE"),
                 help: "Writes this file, as a whole or not at all",
             },
         ],
@@ -224,17 +224,17 @@ static SUBCOMMANDS: &[Subcommand] = &[
         arguments: &[
             Argument {
                 name: COUNT,
-                form: Form::Number(CLIENTS as u16),
+                form: ArgumentForm::Number(CLIENTS as u16),
                 help: "How many clients, 1 to 8",
             },
             Argument {
                 name: ROUNDS_WORD,
-                form: Form::Number(ROUNDS as u16),
+                form: ArgumentForm::Number(ROUNDS as u16),
                 help: "How many rounds each of them makes, 1 to 10000",
             },
             Argument {
                 name: LOCKS,
-                form: Form::Flag,
+                form: ArgumentForm::Flag,
                 help: "Shares buffers under locks instead of a lock-free board",
             },
         ],

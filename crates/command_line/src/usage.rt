@@ -29,7 +29,7 @@ pub fn action_of<'a>(
     words: &'a [String],
 ) -> Result<Action<'a>, Refusal>
     ensures asked { IfOk result (λ action. IfSome (asked_of action) (IsAsked (map string_bytes words.entry.now))) }
-    // Words that the command line takes are neither help nor wrong usage, nor a file.
+    // Words that the command line takes are no help, no wrong usage and no file.
     ensures taken { takes fencectl (map string_bytes words.entry.now) ≡ true
         → IfOk result (λ action. asked_of action
         ≡ Some (asked_by (subcommand_of fencectl (map string_bytes words.entry.now)))) }

@@ -1,6 +1,6 @@
 // Checks of scripts piece by piece.
 use crate::pipes::{PIECES, sink_of, source_of};
-use check_core::{Form, Place, check};
+use check_core::{CheckForm, Place, check};
 
 const SCRIPT: &[u8] = b"value b
 timeline a
@@ -18,7 +18,7 @@ s:7: info f: expected nothing more, came \"fence a sw_sync 5 0\"
 
 const PLACE: Place<'static> = Place {
     name: "s",
-    form: Form::Lines { bold: false },
+    form: CheckForm::Lines { bold: false },
 };
 
 #[test]

@@ -163,7 +163,7 @@ fn read_script<S: Read>(rt: &HostRuntime, source: &mut S) -> Result<Vec<u8>, Ref
     }
 }
 
-/// Whether a picture would have too many columns, whose lines are not chosen.
+/// Whether a picture would have too many columns, if no lines were chosen.
 fn is_too_long(rt: &HostRuntime, asked: &Draw<'_>, script: &[u8]) -> Result<bool, Refusal> {
     if asked.graph || asked.lines.is_some() {
         return Ok(false);

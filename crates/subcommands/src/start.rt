@@ -3,7 +3,7 @@ use crate::drawing::draw;
 use crate::scripts::{explain_script, json_script};
 use crate::status::status_of_verdict;
 use crate::traces::trace;
-use check_core::{Form, Plan, check_scripts, update_scripts};
+use check_core::{CheckForm, Plan, check_scripts, update_scripts};
 use command_line::{
     Action, Check, ColorChoice, Colors, Report, action_of, report_clients, take_color,
 };
@@ -152,13 +152,13 @@ fn update(rt: &HostRuntime, paths: &[&str]) -> Result<u8, Refusal> {
     Ok(status_of_verdict(verdict))
 }
 
-fn form_of(rt: &HostRuntime, colors: Colors, report: Report) -> Form {
+fn form_of(rt: &HostRuntime, colors: Colors, report: Report) -> CheckForm {
     match report {
-        Report::All => Form::Lines {
+        Report::All => CheckForm::Lines {
             bold: colors.errors,
         },
-        Report::Counts => Form::Counts,
-        Report::Tap => Form::Tap(tap_version(rt)),
+        Report::Counts => CheckForm::Counts,
+        Report::Tap => CheckForm::Tap(tap_version(rt)),
     }
 }
 

@@ -1,4 +1,4 @@
--- The script is what was read of it, where the reader is at its end. Each call says why it was refused.
+-- The script is what was read of it, if the reader is at its end. Each call says why it was refused.
 use Rattle.std.proofs.Common.{inl, inr, refl, ◌≡◌, ◌⊎◌, Result, Err}
 use Rattle.std.proofs.lemmas.Result.{err_from_is_err_and}
 use Rattle.point_core.specs.declared.refusal.Refusal.{Refusal}

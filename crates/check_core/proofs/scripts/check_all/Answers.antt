@@ -1,5 +1,5 @@
 use Rattle.std.proofs.Common.{◌≡◌, List, subst}
-use Rattle.check_core.specs.declared.outcome.Outcome.{Outcome}
+use Rattle.check_core.specs.declared.outcome.CheckOutcome.{CheckOutcome}
 use Rattle.check_core.specs.Outcome.{verdict_of}
 use Rattle.check_core.proofs.scripts.check_all.Goals as goal
 
@@ -10,5 +10,5 @@ returns-clause-verdict g c =
       outcomes = c.check_each.new.outcomes.items;
       count = each.count;
       each = each.each;
-      is = subst (λ (outcomes : List Outcome). c.verdict_of.result ≡ verdict_of outcomes c.args.plan.now.allows_empty) c.as_slice-2.ensures.value c.verdict_of.ensures;
+      is = subst (λ (outcomes : List CheckOutcome). c.verdict_of.result ≡ verdict_of outcomes c.args.plan.now.allows_empty) c.as_slice-2.ensures.value c.verdict_of.ensures;
     }

@@ -1,22 +1,22 @@
-// Lines of a script that is written.
+// The text of a script that is being written.
 use std::alloc::{AllocError, Global};
 
-/// Lines of a script.
+/// The lines of a script so far, and how many they are.
 #[derive(Drop)]
-pub(crate) struct Page {
+pub(crate) struct ScriptText {
     pub(crate) bytes: Vec<u8>,
     pub(crate) lines: u32,
 }
 
-impl Page {
-    pub(crate) fn new(alloc: Global) -> Page {
-        Page {
+impl ScriptText {
+    pub(crate) fn new(alloc: Global) -> ScriptText {
+        ScriptText {
             bytes: Vec::new(alloc),
             lines: 0,
         }
     }
 
-    /// One line more, of these two parts.
+    /// Adds a line of these two parts.
     pub(crate) fn push(&mut self, start: &[u8], line: &[u8]) -> Result<(), AllocError> {
         self.bytes.extend_from_slice(start)?;
         self.bytes.extend_from_slice(line)?;
@@ -25,8 +25,8 @@ impl Page {
         Ok(())
     }
 
-    /// Moves the lines of the other here.
-    pub(crate) fn append(&mut self, other: &mut Page) -> Result<(), AllocError> {
+    /// Moves the other's lines to the end of this one.
+    pub(crate) fn append(&mut self, other: &mut ScriptText) -> Result<(), AllocError> {
         self.bytes.append(&mut other.bytes)?;
         self.lines = self.lines.saturating_add(other.lines);
         other.lines = 0;
