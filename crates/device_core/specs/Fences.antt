@@ -55,7 +55,7 @@ abbrev pub place_of : ℕ → List Fence → ℕ
 place_of timeline [] = 0
 place_of timeline (f ∷ fs) = if nat_lt f.timeline timeline then suc (place_of timeline fs) else 0
 
--- the fences with one more at its place, where another may be: of one timeline the later stays, or the one that is there
+-- the fences with one more at its place, if another may be: of one timeline the later stays, or the one that is there
 -- if they are equal
 abbrev pub with_fence_at : List Fence → ℕ → Option Fence → Fence → List Fence
 with_fence_at fs place None g = insert fs place g

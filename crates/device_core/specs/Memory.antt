@@ -37,6 +37,6 @@ pub record KeepsWhatIsAlive (d : DeviceState) : Type 0 where
   pub buffers : length d.buffers ≤ alive (buffer_at d) d.next
   pub waiting : length d.index ≤ pending_alive (objects_of d)
 
--- a buffer that is alive has no more fences than so many times those that it had after its last trim
+-- a buffer that is alive has at most that many times the fences that it had after its last trim
 abbrev pub AreTrimmed : Objects → Type 0
 AreTrimmed d = (n : ℕ) (b : BufferState) → d.buffers n ≡ Some b → length b.fences ≤ GROWTH * max b.left UNTRIMMED

@@ -193,7 +193,7 @@ Reports d (request.Import buffer file flags) given = given ≡ answer.Done
 Reports d (request.Test buffer usage) given =
     OnObject (d.buffers buffer) (λ b. answer.Signalled (none_waits d.timelines usage b.fences)) given
 
--- it is the first cause, or that memory is short where there is none
+-- it is the first cause, or that memory is short if there is none
 abbrev pub IsCause : Option Refusal → Bool → Refusal → Type 0
 IsCause (Some cause) takes given = given ≡ cause
 IsCause None takes given = (given ≡ NoMemory) × (takes ≡ true)

@@ -9,7 +9,7 @@ ahead_of value point = (point + 2 ^ 32 - value % 2 ^ 32) % 2 ^ 32
 abbrev pub is_later : ℕ → ℕ → Bool
 is_later value point = nat_lt 0 (ahead_of value point) && nat_lt (ahead_of value point) (2 ^ 31)
 
--- the point of 64 bits that it stands for: the nearest to the value, or 0 where that would be below it
+-- the point of 64 bits that it stands for: the nearest to the value, or 0 if that would be below it
 abbrev pub unwrapped : ℕ → ℕ → ℕ
 unwrapped value point =
     if nat_lt (ahead_of value point) (2 ^ 31)

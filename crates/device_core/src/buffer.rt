@@ -17,10 +17,10 @@ use point_core::Usage;
 use std::alloc::Global;
 use std::marker::Model;
 
-/// A table is trimmed before it has more than so many times the fences that it had after its last trim.
+/// A table is trimmed before it has more than this many times the fences that it had after its last trim.
 const GROWTH: usize = 2;
 
-/// A table of `GROWTH` times so many fences or fewer is not trimmed.
+/// A table of at most `GROWTH` times this many fences is not trimmed.
 const UNTRIMMED: usize = 8;
 
 const _: () = prove!(GROWTH == 2);
@@ -156,8 +156,8 @@ fn put_option(listed: &mut Vec<Fence>, fence: Option<Fence>) -> Result<(), Refus
     }
 }
 
-/// Drops what no longer waits if the table would grow too much by so many more since its last trim, and gives how many
-/// it then had after its last trim.
+/// Drops what no longer waits, if the table would have grown too much since its last trim by that many more fences.
+/// Returns how many the table has after its last trim.
 fn trim_grown(
     fences: &mut Vec<BufferFence>,
     left: usize,

@@ -124,7 +124,7 @@ impl Device {
     }
 
     /// Raises a timeline, as `SW_SYNC_IOC_INC` does: what is pending at or below the new value is signalled now. Gives
-    /// the files that signal by it, by rising number. A rise that comes to no point at which a file waits looks at no
+    /// the files that signal by it, by rising number. A rise that reaches no point at which a file waits looks at no
     /// file, and mostly compares once.
     ///
     /// Fails with `NoEntry`, or with `WrongKind` at a file or a buffer, then with `Overflow`, then with `NoMemory`;

@@ -4,13 +4,13 @@ ghost use Rattle.device_core.specs.State.{at};
 
 use std::collections::HashMap;
 
-/// A map with at least so many places for each entry gives some back.
+/// A map with at least this many places for each entry gives some back.
 const MOST_PLACES: usize = 4;
 
 /// How many places for each entry it then keeps.
 const KEPT_PLACES: usize = 2;
 
-/// A map with at most so many places keeps them all.
+/// A map with at most this many places keeps them all.
 const FEW_PLACES: usize = 64;
 
 const _: () = prove!(KEPT_PLACES < MOST_PLACES);

@@ -14,7 +14,7 @@ use point_core::Usage;
 
 impl Device {
     /// The answer to one request: the first refusal whose cause holds, else what the request gives. `NoMemory` comes
-    /// last, where a growth was really refused; `Status`, `IsSignalled`, `Test` and the closing of a file or a buffer are
+    /// last, and only if a growth was really refused; `Status`, `IsSignalled`, `Test` and the closing of a file or a buffer are
     /// never answered it. A refused request changes nothing.
     #[inline(always)]
     pub fn serve(&mut self, request: Request) -> Result<Answer, Refusal>

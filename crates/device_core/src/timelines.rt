@@ -29,7 +29,7 @@ pub(crate) struct OpenTimeline {
 }
 
 impl OpenTimeline {
-    /// Raises it by n if that is below its floor, and says whether it is.
+    /// Raises it by n if that is below its floor, and reports whether it is.
     fn rise_below_floor(&mut self, n: u32) -> bool
         ensures below { OnTrue result (self.old.timeline.value + n < self.old.floor) }
         ensures fits { OnTrue result (self.old.timeline.value + n < 2 ^ 64) }

@@ -1,4 +1,4 @@
--- Bytes that are written piece by piece: a front that stays a front.
+-- Bytes that are written piece by piece: a prefix that stays a prefix.
 use Rattle.std.proofs.Common.{◌≡◌, ℕ, List, ◌++◌, length, drop, ap, ◌∙◌, append_assoc}
 use Rattle.std.proofs.Math.Seq.{take-append_seam}
 use Rattle.std.proofs.KnownBytes.{starts_with_rest}

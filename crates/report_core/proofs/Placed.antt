@@ -22,7 +22,7 @@ take-put row text put place within is =
     let size : length (take place row) ≡ place = length-take-le place row within in
     ap (take place) (is ∙ append_assoc (take place row) text (drop (place + length text) row)) ∙ take-front (take place row) (text ++ drop (place + length text) row) place size
 
--- a text that is put behind another is put with it
+-- a text that is put after another is put with it
 pub put-next : (row one two : List ℕ) (place : ℕ) → place + length one ≤ length row → (first : List ℕ) → first ≡ take place row ++ one ++ drop (place + length one) row → take (place + length one) first ++ two ++ drop (place + length one + length two) first ≡ take place row ++ (one ++ two) ++ drop (place + length (one ++ two)) row
 put-next row one two place room first is =
     let next = place + length one in

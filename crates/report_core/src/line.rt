@@ -32,7 +32,7 @@ impl Model for TextLine {
 
     ghost view = { λ l. drop l.start l.bytes };
 
-    // What nothing was put into yet is spaces.
+    // Where nothing was put yet there are spaces.
     ghost invariant = { λ l. (l.start ≤ TEXT_LINE_BYTES) × (take l.start l.bytes ≡ spaces l.start) };
 }
 
@@ -58,7 +58,7 @@ impl TextLine {
         TEXT_LINE_BYTES - self.start
     }
 
-    /// Puts so many spaces before the line.
+    /// Puts that many spaces before the line.
     #[inline(always)]
     pub fn put_spaces(&mut self, count: usize)
         requires { length self.old + count ≤ TEXT_LINE_BYTES }

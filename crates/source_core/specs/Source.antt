@@ -1,4 +1,4 @@
--- Which bytes the reader of a script has, where its own reader says so.
+-- Which bytes the reader of a script has, if its own reader says so.
 use Rattle.std.specs.Prelude.{◌≡◌, ℕ, List, Option, Some, None}
 use Rattle.source_core.specs.declared.source.Source.{Source}
 use Rattle.source_core.specs.declared.source.Source.TheVariants.{StandardInput, File}

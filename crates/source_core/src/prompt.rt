@@ -4,8 +4,8 @@ use std::io::{Read, Write};
 
 const PROMPT: &[u8] = b"fencectl> ";
 
-/// A reader at a terminal: before a line is read a prompt is written to another writer, and a line feed when the reader ends. A
-/// prompt that can't be written changes nothing of what is read.
+/// A reader at a terminal: before each line it writes a prompt to another writer, and when the reader ends a line feed. If a
+/// prompt can't be written, what is read stays the same.
 #[derive(Drop)]
 pub struct Prompted<R, W> {
     reader: R,
@@ -15,7 +15,7 @@ pub struct Prompted<R, W> {
 }
 
 impl<R: Read + Drop, W: Write + Drop> Prompted<R, W> {
-    /// Of a reader that nothing was read of.
+    /// Wraps a reader from which nothing was read yet.
     pub fn new(reader: R, prompts: W) -> Prompted<R, W> {
         Prompted {
             reader,

@@ -4,7 +4,7 @@ use std::io::{Read, Write};
 use std::rt::Files;
 use std::{fs, io};
 
-/// The bytes of a file, up to one more than that many.
+/// The bytes of a file, of which it reads at most one more than `most`.
 pub fn read_file<R: Files + AllocGlobal>(rt: &R, name: &str, most: u64) -> io::Result<Vec<u8>> {
     let mut bytes = Vec::new(rt.alloc());
     let file = fs::open(rt, name)?;
@@ -12,10 +12,11 @@ pub fn read_file<R: Files + AllocGlobal>(rt: &R, name: &str, most: u64) -> io::R
     Ok(bytes)
 }
 
-/// Puts bytes in the place of a file, which links may lead to: a file beside it is written, with the same permissions, and
-/// takes its name once it is whole and on its disk. So the name always stands for a whole file.
+/// Replaces a file, to which links may lead, by bytes: a file beside it is written, with the same permissions, and takes its
+/// name once it is whole and on disk. So the name always stands for a whole file.
 ///
-/// Where that fails the file stays as it was, and the other is removed. One that is there already is left alone, which fails.
+/// If that fails, the file stays as it was, and the one beside it is removed. If there was one beside it before, it is left
+/// alone, and the call fails.
 pub fn replace_file<R: Files + AllocGlobal>(rt: &R, name: &str, bytes: &[u8]) -> io::Result<()> {
     let path = fs::canonicalize(rt, name)?;
     let mut beside = String::from_str(rt.alloc(), path.as_str())?;
@@ -23,7 +24,7 @@ pub fn replace_file<R: Files + AllocGlobal>(rt: &R, name: &str, bytes: &[u8]) ->
     let file = File::create_new(rt, beside.as_str())?;
     let replaced = replace(rt, path.as_str(), beside.as_str(), file, bytes);
     if replaced.is_err() {
-        // Whether it can be removed changes nothing of what failed.
+        // What failed first is reported, whether or not it can be removed.
         let _ = fs::remove_file(rt, beside.as_str());
     }
     replaced
@@ -44,7 +45,7 @@ fn make_file<R: Files + AllocGlobal>(rt: &R, name: &str, bytes: &[u8]) -> io::Re
     let file = File::create_new(rt, beside.as_str())?;
     let made = make(rt, name, beside.as_str(), file, bytes);
     if made.is_err() {
-        // Whether it can be removed changes nothing of what failed.
+        // What failed first is reported, whether or not it can be removed.
         let _ = fs::remove_file(rt, beside.as_str());
     }
     made

@@ -14,7 +14,7 @@ pub enum Script<'a> {
 }
 
 impl<'a> Script<'a> {
-    /// By a word of the command line.
+    /// The script that a word of the command line names.
     pub fn named(name: &'a str) -> Script<'a>
         ensures { file_of result ≡ file_named (Some name.entry.now) }
     {

@@ -57,12 +57,12 @@ impl<'r, 'a, R: Files + Eprint, S: Read + Drop> Read for Source<'r, 'a, R, S> {
     }
 }
 
-/// What a call on a file of that name gave. Where it failed, the name and the system's reason are reported.
+/// What a call on a file of that name gave. If it failed, the name and the system's reason are reported.
 pub fn reported<T: Drop>(rt: &impl Eprint, name: &str, given: io::Result<T>) -> io::Result<T>
     ensures same { result ≡ given }
 {
     if let Err(error) = &given {
-        // Whether this could be written changes nothing: the line of the fault follows.
+        // It doesn't matter whether this could be written: the line of the fault follows.
         let _ = eprintln!(rt; "fencectl: {name}: {error}");
     }
     given
