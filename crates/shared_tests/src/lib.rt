@@ -1,0 +1,26 @@
+//! Tests of fences that threads share and of the callbacks of one fence, of the tables that clients share, of clients on threads,
+//! and of what they settle, as the program prints it.
+#![tactic(auto)]
+
+#[cfg(test)]
+mod callbacks;
+#[cfg(test)]
+mod closed_fences;
+#[cfg(test)]
+mod closed_tables;
+#[cfg(test)]
+mod gates;
+#[cfg(test)]
+mod plans;
+#[cfg(test)]
+mod runs;
+#[cfg(test)]
+mod settled;
+#[cfg(test)]
+mod shared_fences;
+#[cfg(test)]
+mod table_plans;
+#[cfg(test)]
+mod tables;
+#[cfg(test)]
+mod wrapping;
