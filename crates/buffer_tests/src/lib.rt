@@ -1,9 +1,11 @@
-//! Worked buffers: what is added, imported and exported.
-//!
-//! The crate has tests alone, over the public names of `dmabuf_core`.
+//! Tests of reservations with the plans of clients, and of buffers.
 #![tactic(auto)]
 
 #[cfg(test)]
 mod buffers;
+#[cfg(test)]
+mod plans;
+#[cfg(test)]
+mod reservations;
 #[cfg(test)]
 mod values;

@@ -1,15 +1,11 @@
 // Fences of points of two contexts.
 ghost use Rattle.std.specs.Prelude.{◌≡◌};
 
+use crate::values::holds;
 use fence_core::Fence;
 use point_core::{Context, Point, Reach, Refusal};
 use std::alloc::Global;
 use std::process::Abort;
-
-/// Ends the test unless the condition holds. An `assert!` costs more to prove than a call of this function.
-pub(crate) fn holds(rt: &impl Abort, condition: bool) {
-    assert!(rt; condition);
-}
 
 /// A point of the first context.
 fn first_point(value: u64) -> Point

@@ -1,5 +1,6 @@
 // Watches beside a plain list of them, which is gone through at each rise.
-use crate::fences::{fence_of, holds, reach_of};
+use crate::fences::{fence_of, reach_of};
+use crate::values::holds;
 use crate::watches::Watching;
 use fence_core::Fence;
 use point_core::{Context, Point, Refusal};

@@ -5,7 +5,7 @@ ghost use Rattle.point_core.specs.declared.refusal.Refusal.TheVariants as refusa
 ghost use Rattle.fence_core.specs.Watch.{registry_of};
 ghost use Rattle.fence_core.specs.Watches.{cause_to_refuse};
 
-use crate::fences::holds;
+use crate::values::holds;
 use fence_core::{Fence, WATCHES_EVER, Watches};
 use point_core::{Point, Reach, Refusal};
 use std::alloc::Global;

@@ -1,6 +1,12 @@
-//! Tests of words, on one thread and on two.
+//! Tests of words that threads share, on one thread and on two, and of sync files beside the timelines that drivers advance.
 #![tactic(auto)]
 
+#[cfg(test)]
+mod closing;
+#[cfg(test)]
+mod driving;
+#[cfg(test)]
+mod files;
 #[cfg(test)]
 mod seats;
 #[cfg(test)]

@@ -1,0 +1,101 @@
+// What is answered, against what it should be.
+use crate::values::holds;
+use device_core::{Answer, Driver, FenceInfo, FileInfo, Kept, Refusal, Request};
+use point_core::Status;
+use std::process::Abort;
+
+/// An answer, or a refusal.
+#[derive(Clone, Copy, Debug, PartialEq, Eq)]
+pub(crate) enum Wanted {
+    Number(u64),
+    Woken(&'static [u64]),
+    Status(Status),
+    Signalled(bool),
+    Info(&'static [u8], Status, &'static [Row]),
+    Done,
+    Refused(Refusal),
+}
+
+/// What is reported of a fence: the name of its timeline, its driver and status, and when it signalled.
+pub(crate) type Row = (&'static [u8], Driver, Status, u64);
+
+/// Checks that each answer is the one beside its request.
+pub(crate) fn check(
+    rt: &impl Abort,
+    answers: &[Result<Answer, Refusal>],
+    asked: &[(Request, Wanted)],
+) {
+    let mut left = asked;
+    for answer in answers {
+        let Some((first, rest)) = left.split_first() else {
+            break;
+        };
+        holds(rt, is_wanted(answer, &first.1));
+        left = rest;
+    }
+    holds(rt, left.is_empty() && answers.len() == asked.len());
+}
+
+/// Checks how many timelines, files and buffers are kept, and at how many points files wait.
+pub(crate) fn check_kept(rt: &impl Abort, kept: &Kept, wanted: [usize; 4]) {
+    let counts = [kept.timelines, kept.files, kept.buffers, kept.waiting];
+    holds(rt, counts == wanted);
+}
+
+fn is_wanted(given: &Result<Answer, Refusal>, wanted: &Wanted) -> bool {
+    match given {
+        Ok(answer) => is_answer(answer, wanted),
+        Err(refusal) => *wanted == Wanted::Refused(*refusal),
+    }
+}
+
+fn is_answer(answer: &Answer, wanted: &Wanted) -> bool {
+    match answer {
+        Answer::Number(number) => *wanted == Wanted::Number(*number),
+        Answer::Woken(woken) => is_woken(woken.as_slice(), wanted),
+        Answer::Status(status) => *wanted == Wanted::Status(*status),
+        Answer::Signalled(signalled) => *wanted == Wanted::Signalled(*signalled),
+        Answer::Info(info) => is_info(info, wanted),
+        Answer::Done => *wanted == Wanted::Done,
+    }
+}
+
+fn is_woken(woken: &[u64], wanted: &Wanted) -> bool {
+    match wanted {
+        Wanted::Woken(files) => woken == *files,
+        _ => false,
+    }
+}
+
+fn is_info(info: &FileInfo, wanted: &Wanted) -> bool {
+    match wanted {
+        Wanted::Info(name, status, rows) => {
+            info.name.as_bytes() == *name
+                && info.status == *status
+                && are_rows(info.fences.as_slice(), rows)
+        }
+        _ => false,
+    }
+}
+
+fn are_rows(fences: &[FenceInfo], rows: &[Row]) -> bool {
+    let mut are = fences.len() == rows.len();
+    for (place, fence) in fences.iter().enumerate() {
+        are = are && is_at(rows, place, fence);
+    }
+    are
+}
+
+fn is_at(rows: &[Row], place: usize, fence: &FenceInfo) -> bool {
+    match rows.get(place) {
+        Some(row) => is_row(fence, row),
+        None => false,
+    }
+}
+
+fn is_row(fence: &FenceInfo, row: &Row) -> bool {
+    fence.timeline.as_bytes() == row.0
+        && fence.driver == row.1
+        && fence.status == row.2
+        && fence.at == row.3
+}
