@@ -58,7 +58,6 @@ pub fn item_of(piece: &[u8]) -> Item<'_>
     }
 }
 
-#[inline(always)]
 #[tactic(auto, unfolding(crate::specs::Piece::record_or_other))]
 fn record_or_other(piece: &[u8]) -> Item<'_>
     ensures item { meaning_of result ≡ record_or_other piece.now }

@@ -64,7 +64,6 @@ pub(crate) fn number_at(bytes: &[u8]) -> Option<(u32, &[u8])>
 }
 
 /// The number that the digits before the place spell, which is that value where it has 32 bits, and the rest.
-#[inline(always)]
 fn number_before(bytes: &[u8], place: usize, value: u64) -> Option<(u32, &[u8])>
     requires digits { prefix_len is_ascii_digit bytes.now ≡ place }
     requires within { place ≤ length bytes.now }

@@ -44,7 +44,6 @@ pub(crate) fn first_piece(bytes: &[u8], whole: bool) -> Option<Piece<'_>>
     })
 }
 
-#[inline(always)]
 fn is_unread(item: &Item<'_>) -> bool
     ensures unread { result ≡ is_unread (meaning_of item.now) }
 {

@@ -144,7 +144,6 @@ impl Pieces {
 }
 
 /// Whether the line that so many bytes are of is too long.
-#[inline(always)]
 fn is_long(long: bool, unread: usize) -> bool
     ensures { result ≡ (long || nat_lt PIECE_BYTES unread) }
 {
@@ -152,7 +151,6 @@ fn is_long(long: bool, unread: usize) -> bool
 }
 
 /// How many of the bytes are kept: of a line that is too long none.
-#[inline(always)]
 fn kept(long: bool, unread: usize) -> usize
     ensures { result ≡ (if long then 0 else unread) }
 {

@@ -16,7 +16,6 @@ pub(crate) enum Class {
     Group,
 }
 
-#[inline(always)]
 fn is_of(class: Class, byte: u8) -> bool
     ensures { result ≡ is_of class byte }
 {
@@ -30,7 +29,6 @@ fn is_of(class: Class, byte: u8) -> bool
 }
 
 /// How many bytes of the class come first.
-#[inline(always)]
 pub(crate) fn run(bytes: &[u8], class: Class) -> usize
     ensures count { result ≡ prefix_len (is_of class) bytes.now }
     ensures within { result ≤ length bytes.now }
@@ -44,7 +42,6 @@ pub(crate) fn run(bytes: &[u8], class: Class) -> usize
 }
 
 /// How many bytes stand before those of the class at the end.
-#[inline(always)]
 pub(crate) fn before_run(bytes: &[u8], class: Class) -> usize
     ensures count { result + suffix_len (is_of class) bytes.now ≡ length bytes.now }
 {
@@ -56,7 +53,6 @@ pub(crate) fn before_run(bytes: &[u8], class: Class) -> usize
 }
 
 /// The bytes after those of the class that come first.
-#[inline(always)]
 pub(crate) fn without_run(bytes: &[u8], class: Class) -> &[u8]
     ensures rest { result.now ≡ drop (prefix_len (is_of class) bytes.now) bytes.now }
 {
@@ -64,7 +60,6 @@ pub(crate) fn without_run(bytes: &[u8], class: Class) -> &[u8]
 }
 
 /// The bytes of the class that come first, and the rest.
-#[inline(always)]
 pub(crate) fn split_run(bytes: &[u8], class: Class) -> (&[u8], &[u8])
     ensures front { result.0.now ≡ take (prefix_len (is_of class) bytes.now) bytes.now }
     ensures rest { result.1.now ≡ drop (prefix_len (is_of class) bytes.now) bytes.now }

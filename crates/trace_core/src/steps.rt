@@ -6,7 +6,6 @@ ghost use Rattle.trace_core.specs.Steps.{after, before, without_blanks, after_bl
 use crate::runs::{Class, without_run};
 
 /// Whether the bytes begin with the text. It is unrolled where the text is a literal.
-#[inline(always)]
 fn begins_with(bytes: &[u8], text: &[u8]) -> bool
     ensures begins { result ≡ bytes_eq (take (length text.now) bytes.now) text.now }
     ensures fits { result ≡ true → length text.now ≤ length bytes.now }
@@ -23,7 +22,6 @@ fn begins_with(bytes: &[u8], text: &[u8]) -> bool
 }
 
 /// What follows the text, where the bytes begin with it.
-#[inline(always)]
 #[tactic(auto, unfolding(crate::specs::Steps::after))]
 pub(crate) fn after<'a>(bytes: &'a [u8], text: &[u8]) -> Option<&'a [u8]>
     ensures rest { option_map (λ r. r.now) result ≡ after bytes.now text.now }
@@ -36,7 +34,6 @@ pub(crate) fn after<'a>(bytes: &'a [u8], text: &[u8]) -> Option<&'a [u8]>
 }
 
 /// What stands before the text, where the bytes end with it.
-#[inline(always)]
 pub(crate) fn before<'a>(bytes: &'a [u8], text: &[u8]) -> Option<&'a [u8]>
     ensures front { option_map (λ r. r.now) result ≡ before bytes.now text.now }
 {
@@ -52,7 +49,6 @@ pub(crate) fn before<'a>(bytes: &'a [u8], text: &[u8]) -> Option<&'a [u8]>
 }
 
 /// The bytes without the blanks that they begin with.
-#[inline(always)]
 #[tactic(auto, unfolding(crate::specs::Steps::without_blanks))]
 pub(crate) fn without_blanks(bytes: &[u8]) -> &[u8]
     ensures rest { result.now ≡ without_blanks bytes.now }
@@ -61,7 +57,6 @@ pub(crate) fn without_blanks(bytes: &[u8]) -> &[u8]
 }
 
 /// What follows the blanks, where the bytes begin with one at least.
-#[inline(always)]
 #[tactic(auto, unfolding(crate::specs::Steps::after_blanks))]
 pub(crate) fn after_blanks(bytes: &[u8]) -> Option<&[u8]>
     ensures rest { option_map (λ r. r.now) result ≡ after_blanks bytes.now }
@@ -70,7 +65,6 @@ pub(crate) fn after_blanks(bytes: &[u8]) -> Option<&[u8]>
 }
 
 /// What stands before the first place at which the text stands, and what follows it.
-#[inline(always)]
 pub(crate) fn part_at<'a>(bytes: &'a [u8], text: &[u8]) -> Option<(&'a [u8], &'a [u8])>
     ensures parts { option_map (λ p. (p.0.now, p.1.now)) result ≡ part_at text.now bytes.now }
 {
@@ -83,7 +77,6 @@ pub(crate) fn part_at<'a>(bytes: &'a [u8], text: &[u8]) -> Option<(&'a [u8], &'a
 }
 
 /// Whether the word is that text.
-#[inline(always)]
 pub(crate) fn is(word: &[u8], text: &str) -> bool
     ensures same { result ≡ bytes_eq word.now text.now }
 {

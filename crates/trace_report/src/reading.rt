@@ -1,8 +1,8 @@
 // A trace from a reader.
 use point_core::Refusal;
 use std::io::Read;
-use trace_core::{Pieces, Progress};
-use track_core::Tracker;
+use trace_core::Pieces;
+use track_core::{Tracker, read_on};
 
 /// Takes in a text to its end.
 ///
@@ -17,11 +17,8 @@ pub(crate) fn read_trace<R: Read>(tracker: &mut Tracker, reader: &mut R) -> Resu
                 pieces.pass(length);
             }
             None => {
-                if pieces.is_whole() {
+                if !read_on(&mut pieces, reader)? {
                     return Ok(());
-                }
-                if pieces.read(reader) == Progress::Failed {
-                    return Err(Refusal::Read);
                 }
             }
         }

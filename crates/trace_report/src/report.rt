@@ -1,11 +1,14 @@
 // A report of a trace.
+ghost use Rattle.std.specs.Prelude.{◌≡◌, IfOk, OnOk};
+ghost use Rattle.trace_report.specs.declared.report.Form.TheVariants.{Json};
+ghost use Rattle.trace_report.specs.declared.report.Outcome.TheVariants.{NoEvents};
+ghost use Rattle.trace_report.specs.Document.{WritesDocument};
+
 use crate::found::Found;
-use crate::json::write_json;
-use crate::page::Page;
+use crate::document::write_json;
 use crate::reading::read_trace;
-use crate::table::Timelines;
+use crate::table::{Content, Timelines};
 use crate::text::write_text;
-use crate::walk::Content;
 use point_core::Refusal;
 use std::alloc::Global;
 use std::io::{Read, Write};
@@ -38,7 +41,10 @@ pub fn report_trace<R: Read, W: Write>(
     form: Form,
     reader: &mut R,
     writer: &mut W,
-) -> Result<Outcome, Refusal> {
+) -> Result<Outcome, Refusal>
+    ensures document { IfOk result (λ outcome. form ≡ Json → (outcome ≡ NoEvents → ⊥) →
+        WritesDocument (W.contents writer.old) (W.contents writer.new)) }
+{
     let mut tracker = Tracker::new(alloc);
     read_and_report(alloc, form, &mut tracker, reader, writer)
 }
@@ -49,7 +55,10 @@ fn read_and_report<R: Read, W: Write>(
     tracker: &mut Tracker,
     reader: &mut R,
     writer: &mut W,
-) -> Result<Outcome, Refusal> {
+) -> Result<Outcome, Refusal>
+    ensures document { IfOk result (λ outcome. form ≡ Json → (outcome ≡ NoEvents → ⊥) →
+        WritesDocument (W.contents writer.old) (W.contents writer.new)) }
+{
     read_trace(tracker, reader)?;
     if tracker.ledger.events() == 0 {
         return Ok(Outcome::NoEvents);
@@ -65,37 +74,36 @@ fn write_found<W: Write>(
     tracker: &Tracker,
     found: &Found,
     writer: &mut W,
-) -> Result<(), Refusal> {
+) -> Result<(), Refusal>
+    ensures document { OnOk result (form ≡ Json → WritesDocument (W.contents writer.old) (W.contents writer.new)) }
+{
     let timelines = Timelines::new(alloc, found)?;
     let content = Content {
         tracker,
         found,
         timelines: &timelines,
     };
-    write_page(alloc, form, content, writer)
+    write_form(alloc, form, content, writer)
 }
 
-fn write_page<W: Write>(
+fn write_form<W: Write>(
     alloc: Global,
     form: Form,
     content: Content<'_>,
     writer: &mut W,
-) -> Result<(), Refusal> {
-    let mut page = Page::new(alloc);
-    write_form(&mut page, form, content, writer)
-}
-
-fn write_form<W: Write>(
-    page: &mut Page,
-    form: Form,
-    content: Content<'_>,
-    writer: &mut W,
-) -> Result<(), Refusal> {
+) -> Result<(), Refusal>
+    ensures document { OnOk result (form ≡ Json → WritesDocument (W.contents writer.old) (W.contents writer.new)) }
+{
     match form {
-        Form::Text => write_text(page, content, writer)?,
-        Form::Json => write_json(page, content, writer)?,
+        Form::Text => {
+            write_text(alloc, content, writer)?;
+            Ok(())
+        }
+        Form::Json => {
+            write_json(alloc, content, writer)?;
+            Ok(())
+        }
     }
-    page.write(writer)
 }
 
 fn outcome_of(tracker: &Tracker, found: &Found) -> Outcome {

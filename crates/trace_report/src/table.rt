@@ -1,9 +1,17 @@
-// What stands beside the counts of each timeline.
+// What a report is of.
 use crate::found::{Found, Pending};
 use indexmap::IndexMap;
 use point_core::Refusal;
 use std::alloc::Global;
 use track_core::{TimelineKey, Tracker};
+
+/// What a report is of.
+#[derive(Clone, Copy)]
+pub(crate) struct Content<'a> {
+    pub(crate) tracker: &'a Tracker,
+    pub(crate) found: &'a Found,
+    pub(crate) timelines: &'a Timelines,
+}
 
 /// How many fences of each timeline are pending.
 #[derive(Drop)]
@@ -41,20 +49,5 @@ impl Timelines {
             }
         }
         Ok(())
-    }
-}
-
-/// The names of a timeline's driver and of the timeline.
-pub(crate) fn names_of<'t>(tracker: &'t Tracker, key: &TimelineKey) -> (&'t [u8], &'t [u8]) {
-    let driver = tracker.drivers.name(key.driver).unwrap_or(b"");
-    let timeline = tracker.timelines.name(key.timeline).unwrap_or(b"");
-    (driver, timeline)
-}
-
-/// The latest time of the trace, in microseconds.
-pub(crate) fn latest(tracker: &Tracker) -> u64 {
-    match tracker.summary.clock {
-        Some(clock) => clock.latest,
-        None => 0,
     }
 }

@@ -1,15 +1,28 @@
 // The report as text.
+mod page;
+
 use crate::found::{Found, Pending};
-use crate::page::{Page, Part};
-use crate::report::Form;
-use crate::table::{latest, names_of};
-use crate::walk::{Content, add_longest, add_waiters, write_open, write_pending, write_timelines};
+use crate::table::Content;
+use page::{Page, Part};
 use point_core::Refusal;
+use std::alloc::Global;
 use std::io::Write;
 use track_core::{FenceKey, Summary, Tally, TimelineKey, Tracker, Wait};
 
 /// Writes what was read, what hangs, who waits, which rules were broken, and what each timeline did.
+///
+/// Fails with `Memory`, and with `Write` where the writer fails.
 pub(crate) fn write_text<W: Write>(
+    alloc: Global,
+    content: Content<'_>,
+    writer: &mut W,
+) -> Result<(), Refusal> {
+    let mut page = Page::new(alloc);
+    write_parts(&mut page, content, writer)?;
+    page.write(writer)
+}
+
+fn write_parts<W: Write>(
     page: &mut Page,
     content: Content<'_>,
     writer: &mut W,
@@ -19,16 +32,16 @@ pub(crate) fn write_text<W: Write>(
     add_read(page, tracker);
     add_losses(page, &tracker.summary);
     add_hangs(page, found);
-    write_pending(page, Form::Text, tracker, found.hangs.as_slice(), writer)?;
+    write_pending(page, tracker, found.hangs.as_slice(), writer)?;
     add_first(page, tracker, found.hangs.as_slice());
     add_unknown(page, found);
-    write_pending(page, Form::Text, tracker, found.unknown.as_slice(), writer)?;
+    write_pending(page, tracker, found.unknown.as_slice(), writer)?;
     write_waits(page, tracker, writer)?;
     add_broken(page, &tracker.ledger.total());
     page.add(&[Part::Text(
         "\ntimelines, with the seconds from making or emitting to signalling:\n",
     )]);
-    write_timelines(page, Form::Text, content, writer)
+    write_timelines(page, content, writer)
 }
 
 fn add_read(page: &mut Page, tracker: &Tracker) {
@@ -152,8 +165,22 @@ fn add_unknown(page: &mut Page, found: &Found) {
     }
 }
 
+/// The fences, each with the tasks that wait for it.
+fn write_pending<W: Write>(
+    page: &mut Page,
+    tracker: &Tracker,
+    pending: &[Pending],
+    writer: &mut W,
+) -> Result<(), Refusal> {
+    for fence in pending {
+        add_pending(page, tracker, fence);
+        page.write_block(writer)?;
+    }
+    Ok(())
+}
+
 /// A fence, and a line for each task that waits for it.
-pub(crate) fn add_pending(page: &mut Page, tracker: &Tracker, fence: &Pending) {
+fn add_pending(page: &mut Page, tracker: &Tracker, fence: &Pending) {
     let key = fence.key();
     page.add(&[Part::Text("  ")]);
     add_fence(page, tracker, &key);
@@ -161,13 +188,21 @@ pub(crate) fn add_pending(page: &mut Page, tracker: &Tracker, fence: &Pending) {
         Part::Text(" since "),
         Part::Seconds(fence.since),
         Part::Text(" for "),
-        Part::Seconds(latest(tracker).saturating_sub(fence.since)),
+        Part::Seconds(tracker.latest().saturating_sub(fence.since)),
         Part::Text(" s\n"),
     ]);
-    add_waiters(page, Form::Text, tracker, &key);
+    add_waiters(page, tracker, &key);
 }
 
-pub(crate) fn add_waiter(page: &mut Page, wait: &Wait) {
+fn add_waiters(page: &mut Page, tracker: &Tracker, key: &FenceKey) {
+    for (_, wait) in tracker.waits.open().iter() {
+        if wait.key == *key {
+            add_waiter(page, wait);
+        }
+    }
+}
+
+fn add_waiter(page: &mut Page, wait: &Wait) {
     page.add(&[
         Part::Text("    "),
         Part::Name(wait.task.as_bytes()),
@@ -181,7 +216,7 @@ pub(crate) fn add_waiter(page: &mut Page, wait: &Wait) {
 
 /// `DRIVER/TIMELINE context N seqno N`.
 fn add_fence(page: &mut Page, tracker: &Tracker, key: &FenceKey) {
-    let (driver, timeline) = names_of(tracker, &key.timeline_key());
+    let (driver, timeline) = tracker.names(&key.timeline_key());
     page.add(&[
         Part::Name(driver),
         Part::Text("/"),
@@ -203,10 +238,31 @@ fn write_waits<W: Write>(
         Part::Number(tracker.waits.open().len() as u64),
         Part::Text(" not ended\n"),
     ]);
-    write_open(page, Form::Text, tracker, writer)?;
+    write_open(page, tracker, writer)?;
     add_ended(page, tracker);
-    add_longest(page, Form::Text, tracker);
+    add_longest(page, tracker);
     Ok(())
+}
+
+/// The waits that have not ended, as long as they are at the end of the text.
+fn write_open<W: Write>(
+    page: &mut Page,
+    tracker: &Tracker,
+    writer: &mut W,
+) -> Result<(), Refusal> {
+    for (_, wait) in tracker.waits.open().iter() {
+        let length = tracker.latest().saturating_sub(wait.start);
+        add_wait(page, tracker, wait, length);
+        page.write_block(writer)?;
+    }
+    Ok(())
+}
+
+/// The longest waits that ended.
+fn add_longest(page: &mut Page, tracker: &Tracker) {
+    for wait in tracker.waits.longest() {
+        add_wait(page, tracker, wait, wait.length);
+    }
 }
 
 fn add_ended(page: &mut Page, tracker: &Tracker) {
@@ -222,7 +278,7 @@ fn add_ended(page: &mut Page, tracker: &Tracker) {
     ]);
 }
 
-pub(crate) fn add_wait(page: &mut Page, tracker: &Tracker, wait: &Wait, length: u64) {
+fn add_wait(page: &mut Page, tracker: &Tracker, wait: &Wait, length: u64) {
     page.add(&[
         Part::Text("  "),
         Part::Seconds(length),
@@ -266,14 +322,31 @@ fn add_broken(page: &mut Page, total: &Tally) {
     );
 }
 
-pub(crate) fn add_timeline(
+fn write_timelines<W: Write>(
+    page: &mut Page,
+    content: Content<'_>,
+    writer: &mut W,
+) -> Result<(), Refusal> {
+    let Content {
+        tracker,
+        found: _,
+        timelines,
+    } = content;
+    for (key, tally) in tracker.ledger.timelines().by_key().iter() {
+        add_timeline(page, tracker, key, tally, timelines.pending(key));
+        page.write_block(writer)?;
+    }
+    Ok(())
+}
+
+fn add_timeline(
     page: &mut Page,
     tracker: &Tracker,
     key: &TimelineKey,
     tally: &Tally,
     pending: u64,
 ) {
-    let (driver, timeline) = names_of(tracker, key);
+    let (driver, timeline) = tracker.names(key);
     let delay = tracker.delays.delay(key);
     page.add(&[
         Part::Text("  "),

@@ -11,3 +11,4 @@ pub mod History
 pub mod Names
 pub mod Tracker
 pub mod Window
+pub mod Text

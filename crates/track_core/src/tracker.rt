@@ -9,7 +9,7 @@ use crate::finding::Finding;
 use crate::ledger::{Ledger, Sight};
 use crate::life::Life;
 use crate::names::Names;
-use crate::sighting::{FenceKey, Sighting};
+use crate::sighting::{FenceKey, Sighting, TimelineKey};
 use crate::summary::Summary;
 use crate::task::TaskName;
 use crate::waits::{Wait, Waits};
@@ -77,6 +77,21 @@ impl Tracker {
             | Item::Note => {}
         }
         Ok(None)
+    }
+
+    /// The names of the timeline's driver and of the timeline, each empty if it was not seen.
+    pub fn names(&self, key: &TimelineKey) -> (&[u8], &[u8]) {
+        let driver = self.drivers.name(key.driver).unwrap_or(b"");
+        let timeline = self.timelines.name(key.timeline).unwrap_or(b"");
+        (driver, timeline)
+    }
+
+    /// The latest time of an event, in microseconds, or 0 if there was none.
+    pub fn latest(&self) -> u64 {
+        match self.summary.clock {
+            Some(clock) => clock.latest,
+            None => 0,
+        }
     }
 
     fn see(&mut self, event: &Record<'_>) -> Result<Seen, Refusal>

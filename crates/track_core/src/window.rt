@@ -10,7 +10,7 @@ pub struct Span {
 }
 
 /// Microseconds of a second.
-const SECOND: u64 = 1_000_000;
+pub(crate) const SECOND: u64 = 1_000_000;
 
 /// The decimals of a second.
 const DECIMALS: usize = 6;

@@ -1,0 +1,5 @@
+use Rattle.trace_report.proofs.Writing.{grows-by}
+use Rattle.trace_report.proofs.document.writing.Document.add.Goals as goal
+
+pub returns : goal.returns
+returns c = record { grown = grows-by c.put_all.result _ _ _ c.put_all.ensures.added }

@@ -1,0 +1,85 @@
+// The fences that are pending, and who waits for them.
+ghost use Rattle.std.specs.Prelude.{OnOk};
+ghost use Rattle.trace_report.specs.Document.{Carries};
+
+use crate::found::Pending;
+use crate::document::add_fence;
+use crate::document::writing::Document;
+use crate::document::part::Part;
+use crate::document::waits::add_task;
+use point_core::Refusal;
+use std::io::Write;
+use track_core::{FenceKey, Tracker, Wait};
+
+/// The member of that name, with the fences.
+pub(crate) fn write_pending<W: Write>(
+    document: &mut Document,
+    name: &str,
+    tracker: &Tracker,
+    pending: &[Pending],
+    writer: &mut W,
+) -> Result<(), Refusal>
+    ensures carried { OnOk result (Carries document.old.text document.new.text
+        (W.contents writer.old) (W.contents writer.new)) }
+{
+    document.add(&[Part::Key(name), Part::BeginArray])?;
+    for fence in pending {
+        write_fence(document, tracker, fence, writer)?;
+    }
+    document.add(&[Part::EndArray])?;
+    Ok(())
+}
+
+fn write_fence<W: Write>(
+    document: &mut Document,
+    tracker: &Tracker,
+    fence: &Pending,
+    writer: &mut W,
+) -> Result<(), Refusal>
+    ensures carried { OnOk result (Carries document.old.text document.new.text
+        (W.contents writer.old) (W.contents writer.new)) }
+{
+    let key = fence.key();
+    document.open(&Part::BeginObject, writer)?;
+    add_fence(document, tracker, &key)?;
+    document.add(&[Part::Key("since_us"), Part::Number(fence.since)])?;
+    write_waiters(document, tracker, &key, writer)?;
+    document.add(&[Part::EndObject])?;
+    Ok(())
+}
+
+/// The tasks that wait for the fence.
+fn write_waiters<W: Write>(
+    document: &mut Document,
+    tracker: &Tracker,
+    key: &FenceKey,
+    writer: &mut W,
+) -> Result<(), Refusal>
+    ensures carried { OnOk result (Carries document.old.text document.new.text
+        (W.contents writer.old) (W.contents writer.new)) }
+{
+    document.add(&[Part::Key("waiters"), Part::BeginArray])?;
+    for (_, wait) in tracker.waits.open().iter() {
+        write_waiter(document, key, wait, writer)?;
+    }
+    document.add(&[Part::EndArray])?;
+    Ok(())
+}
+
+/// The task of the wait, where it is for the fence.
+fn write_waiter<W: Write>(
+    document: &mut Document,
+    key: &FenceKey,
+    wait: &Wait,
+    writer: &mut W,
+) -> Result<(), Refusal>
+    ensures carried { OnOk result (Carries document.old.text document.new.text
+        (W.contents writer.old) (W.contents writer.new)) }
+{
+    if wait.key != *key {
+        return Ok(());
+    }
+    document.open(&Part::BeginObject, writer)?;
+    add_task(document, wait)?;
+    Ok(())
+}
