@@ -20,8 +20,8 @@ use std::io::Write;
 use std::sync::Wait;
 use std::thread::Threads;
 
-/// Runs `n` clients, each in a thread of its own, for that many rounds over the board, and writes the text of what they
-/// settle, which is that of the plans' settled table, whatever the schedule.
+/// Runs `n` clients for that many rounds over the board, the first on the calling thread and each other in a thread of
+/// its own, and writes the text of what they settle, which is that of the plans' settled table, whatever the schedule.
 ///
 /// Fails as `run_clients`, which refuses none of these plans before its threads start, and with Write if a write
 /// failed or took no byte, or the flush failed. Then a prefix of the text is written.

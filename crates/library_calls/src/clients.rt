@@ -42,6 +42,7 @@ pub(crate) fn make_calls<R: Threads + Wait + Sync, T: SharedTable>(
         &[
             &[Act::Put(0, point(0, 1), Usage::Write)],
             &[Act::Put(0, point(1, 1), Usage::Write)],
+            &[Act::Put(0, point(2, 1), Usage::Write)],
         ],
     );
 }

@@ -113,11 +113,15 @@ fn put_event(alloc: Global, writer: &mut Writer, event: &TraceEvent<'_>) -> Resu
 {
     match event {
         TraceEvent::Process(process, name) => {
-            put_named(alloc, writer, "process_name", Row::of_process(*process), name)
+            put_named(
+                alloc,
+                writer,
+                "process_name",
+                Row::of_process(*process),
+                name,
+            )
         }
-        TraceEvent::Thread(row, name) => {
-            put_named(alloc, writer, "thread_name", *row, name)
-        }
+        TraceEvent::Thread(row, name) => { put_named(alloc, writer, "thread_name", *row, name) }
         TraceEvent::Order(row, place) => put_order(alloc, writer, row, *place),
         TraceEvent::Slice(row, slice, names) => put_slice(alloc, writer, row, slice, names),
         TraceEvent::FlowBegin(row, number, time) => {

@@ -144,12 +144,7 @@ fn put_fence(
     Ok(())
 }
 
-fn put_name(
-    alloc: Global,
-    writer: &mut Writer,
-    name: &str,
-    value: &[u8],
-) -> Result<(), AllocError>
+fn put_name(alloc: Global, writer: &mut Writer, name: &str, value: &[u8]) -> Result<(), AllocError>
     ensures added { OnOk result (Adds writer.old writer.new (text name.now (utf8_lossy value.now))) }
 {
     writer.key(name)?;

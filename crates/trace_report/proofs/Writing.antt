@@ -21,8 +21,9 @@ pub grows-then : (a b c : Written) → Grows a b → Grows b c → Grows a c
 grows-then a b c first next = record {
   tokens = first.tokens ++ next.tokens;
   added = (
-      next.added.0 ∙ ap (λ ts. ts ++ next.tokens) first.added.0 ∙ append_assoc a.tokens first.tokens next.tokens,
-      next.added.1 ∙ first.added.1);
+    next.added.0 ∙ ap (λ ts. ts ++ next.tokens) first.added.0 ∙ append_assoc a.tokens first.tokens next.tokens,
+    next.added.1 ∙ first.added.1,
+  );
 }
 
 -- after more tokens
@@ -64,12 +65,12 @@ carried-opened old opened new t held rest now after opens added is passed before
       whole = λ ts.
           more.whole ts
           ∙ ap (λ b. more.written ++ (opened.before ++ b)) (
-              ap (λ us. print (us ++ ts)) added.0 ∙ print-opened old.tokens t ts opens ∙ sym (ap (λ us. print us ++ print ts) added.0))
+          ap (λ us. print (us ++ ts)) added.0 ∙ print-opened old.tokens t ts opens ∙ sym (ap (λ us. print us ++ print ts) added.0))
           ∙ ap (λ b. more.written ++ b) (
-              sym (append_assoc opened.before (print opened.tokens) (print ts))
-              ∙ sym (ap (λ b. b ++ print ts) is)
-              ∙ ap (λ b. b ++ print ts) passed.whole
-              ∙ append_assoc passed.written rest (print ts))
+          sym (append_assoc opened.before (print opened.tokens) (print ts))
+          ∙ sym (ap (λ b. b ++ print ts) is)
+          ∙ ap (λ b. b ++ print ts) passed.whole
+          ∙ append_assoc passed.written rest (print ts))
           ∙ sym (append_assoc more.written passed.written (rest ++ print ts))
           ∙ sym (ap (λ b. (more.written ++ passed.written) ++ (b ++ print ts)) before-is)
           ∙ sym (ap (λ us. (more.written ++ passed.written) ++ (new.before ++ print (us ++ ts))) tokens-are);

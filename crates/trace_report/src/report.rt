@@ -4,8 +4,8 @@ ghost use Rattle.trace_report.specs.declared.report.Form.TheVariants.{Json};
 ghost use Rattle.trace_report.specs.declared.report.Outcome.TheVariants.{NoEvents};
 ghost use Rattle.trace_report.specs.Document.{WritesDocument};
 
-use crate::found::Found;
 use crate::document::write_json;
+use crate::found::Found;
 use crate::reading::read_trace;
 use crate::table::{Content, Timelines};
 use crate::text::write_text;

@@ -245,11 +245,7 @@ fn write_waits<W: Write>(
 }
 
 /// The waits that have not ended, as long as they are at the end of the text.
-fn write_open<W: Write>(
-    page: &mut Page,
-    tracker: &Tracker,
-    writer: &mut W,
-) -> Result<(), Refusal> {
+fn write_open<W: Write>(page: &mut Page, tracker: &Tracker, writer: &mut W) -> Result<(), Refusal> {
     for (_, wait) in tracker.waits.open().iter() {
         let length = tracker.latest().saturating_sub(wait.start);
         add_wait(page, tracker, wait, length);

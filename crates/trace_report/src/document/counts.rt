@@ -2,9 +2,9 @@
 ghost use Rattle.std.specs.Prelude.{OnOk};
 ghost use Rattle.trace_report.specs.Document.{Grows};
 
-use crate::found::Found;
-use crate::document::writing::Document;
 use crate::document::part::Part;
+use crate::document::writing::Document;
+use crate::found::Found;
 use std::alloc::AllocError;
 use track_core::{Clock, Summary, Tally, Tracker};
 

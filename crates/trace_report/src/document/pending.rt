@@ -2,11 +2,11 @@
 ghost use Rattle.std.specs.Prelude.{OnOk};
 ghost use Rattle.trace_report.specs.Document.{Carries};
 
-use crate::found::Pending;
 use crate::document::add_fence;
-use crate::document::writing::Document;
 use crate::document::part::Part;
 use crate::document::waits::add_task;
+use crate::document::writing::Document;
+use crate::found::Pending;
 use point_core::Refusal;
 use std::io::Write;
 use track_core::{FenceKey, Tracker, Wait};

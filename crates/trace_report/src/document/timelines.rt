@@ -3,8 +3,8 @@ ghost use Rattle.std.specs.Prelude.{OnOk};
 ghost use Rattle.trace_report.specs.Document.{Carries, Grows};
 
 use crate::document::counts::add_faults;
-use crate::document::writing::Document;
 use crate::document::part::Part;
+use crate::document::writing::Document;
 use crate::table::Content;
 use point_core::Refusal;
 use std::alloc::AllocError;

@@ -3,8 +3,8 @@ ghost use Rattle.std.specs.Prelude.{OnOk};
 ghost use Rattle.trace_report.specs.Document.{Carries, Grows};
 
 use crate::document::add_fence;
-use crate::document::writing::Document;
 use crate::document::part::Part;
+use crate::document::writing::Document;
 use point_core::Refusal;
 use std::alloc::AllocError;
 use std::io::Write;
