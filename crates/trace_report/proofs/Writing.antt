@@ -1,5 +1,5 @@
 -- A document to which tokens are added one after another, and which goes on to a writer.
-use Rattle.std.proofs.Common.{◌≡◌, ℕ, List, [], ◌∷◌, ◌++◌, Option, Bool, false, refl, sym, ap, ◌∙◌, append_assoc, append-nil, subst, fold}
+use Rattle.std.proofs.Common.{◌≡◌, ℕ, List, [], ◌∷◌, ◌++◌, Option, false, refl, sym, ap, ◌∙◌, append_assoc, append-nil, subst}
 use Rattle.std.specs.Io.KnownBytes.{Appends}
 use Rattle.std.proofs.KnownBytes.{Appends-nil, Appends-trans}
 use Rattle.std.specs.Prelude.{OnOk, Result, Ok, Err}
@@ -8,7 +8,7 @@ use Rattle.json.specs.Print.{ends, print, print_from}
 use Rattle.json.specs.Written.{Written}
 use Rattle.json.proofs.Printed.Tokens.{ends_push, print_from-append}
 use Rattle.trace_report.specs.Part.{Adds}
-use Rattle.trace_report.specs.Document.{Carries, EndsDocument, Grows, HasWritten, Passes, WritesDocument}
+use Rattle.trace_report.specs.Document.{Carries, EndsDocument, Grows, HasWritten, Passes}
 
 pub grows-none : (text : Written) → Grows text text
 grows-none text = record { tokens = []; added = (sym (append-nil text.tokens), refl) }
