@@ -1,11 +1,11 @@
 -- The objects of trace events, as the tokens that a reader finds in them, and the document.
-use Rattle.std.specs.Prelude.{ℕ, ◌-◌, List, [], ◌∷◌, ◌++◌, codes, decimal}
+use Rattle.std.specs.Prelude.{ℕ, ◌-◌, List, [], ◌∷◌, ◌++◌, codes}
 use Rattle.std.specs.List.{flat_map}
 use Rattle.std.specs.Str.Lossy.{utf8_lossy}
-use Rattle.json.specs.Token.{Token, begin_object, end_object, key, string, number}
+use Rattle.json.specs.Token.{Token, begin_object, end_object, key}
 use Rattle.json.specs.Print.{print}
-use Rattle.trace_events.specs.declared.event.Row.{Row}
-use Rattle.trace_events.specs.declared.event.Names.{Names}
+use Rattle.trace_events.specs.declared.part.Row.{Row}
+use Rattle.trace_events.specs.declared.part.Names.{Names}
 use Rattle.trace_events.specs.declared.event.Kind.{Kind}
 use Rattle.trace_events.specs.declared.event.Kind.TheVariants.{Signalled, Unseen, Destroyed, Hang, Unknown, Wait, Unfinished}
 use Rattle.trace_events.specs.declared.event.Rule.{Rule}
@@ -14,24 +14,14 @@ use Rattle.trace_events.specs.declared.event.Slice.{Slice}
 use Rattle.trace_events.specs.declared.event.Losses.{Losses}
 use Rattle.trace_events.specs.declared.event.TraceEvent.{TraceEvent}
 use Rattle.trace_events.specs.declared.event.TraceEvent.TheVariants as event
-use Rattle.trace_events.specs.Part.{point_text}
+use Rattle.trace_events.specs.Part.{arrow, at, count, fence, point_text, text}
 
 abbrev pub object : List Token → List Token
 object members = begin_object ∷ members ++ end_object ∷ []
 
-abbrev pub text : List ℕ → List ℕ → List Token
-text name value = key name ∷ string value ∷ []
-
-abbrev pub count : List ℕ → ℕ → List Token
-count name value = key name ∷ number (decimal value) ∷ []
-
 -- what the format calls a phase: M names something, X is a slice, s and f are the ends of an arrow, i is an instant
 abbrev pub phase : List ℕ → List Token
 phase letter = text (codes "ph") letter
-
--- a process and its thread
-abbrev pub at : ℕ → ℕ → List Token
-at process thread = count (codes "pid") process ++ count (codes "tid") thread
 
 abbrev pub arguments : List Token → List Token
 arguments members = key (codes "args") ∷ object members
@@ -54,9 +44,7 @@ category_of Wait = codes "wait"
 category_of Unfinished = codes "unfinished"
 
 abbrev pub fence_tokens : Slice → Names → List Token
-fence_tokens slice names = arguments (text (codes "driver") (utf8_lossy names.driver.now)
-    ++ text (codes "timeline") (utf8_lossy names.timeline.now)
-    ++ count (codes "context") slice.key.context ++ count (codes "seqno") slice.key.seqno)
+fence_tokens slice names = arguments (fence slice.key names)
 
 -- its length is no less than 0
 abbrev pub slice_tokens : Row → Slice → Names → List Token
@@ -66,14 +54,13 @@ slice_tokens row slice names = object (text (codes "name") (point_text slice.key
     ++ at row.process row.thread ++ fence_tokens slice names)
 
 abbrev pub flow_begin_tokens : Row → ℕ → ℕ → List Token
-flow_begin_tokens row arrow time = object (text (codes "name") (codes "signal") ++ text (codes "cat") (codes "flow")
-    ++ phase (codes "s") ++ count (codes "id") arrow ++ count (codes "ts") time ++ at row.process row.thread)
+flow_begin_tokens row arrow_number time = object (text (codes "name") (codes "signal") ++ text (codes "cat") (codes "flow")
+    ++ phase (codes "s") ++ arrow arrow_number time row)
 
 -- it binds to the slice that it is in
 abbrev pub flow_end_tokens : Row → ℕ → ℕ → List Token
-flow_end_tokens row arrow time = object (text (codes "name") (codes "signal") ++ text (codes "cat") (codes "flow")
-    ++ phase (codes "f") ++ text (codes "bp") (codes "e")
-    ++ count (codes "id") arrow ++ count (codes "ts") time ++ at row.process row.thread)
+flow_end_tokens row arrow_number time = object (text (codes "name") (codes "signal") ++ text (codes "cat") (codes "flow")
+    ++ phase (codes "f") ++ text (codes "bp") (codes "e") ++ arrow arrow_number time row)
 
 abbrev pub rule_name : Rule → List ℕ
 rule_name Overtaken = codes "overtaken"
@@ -103,8 +90,8 @@ event_tokens (event.Process process name) = named_tokens (codes "process_name") 
 event_tokens (event.Thread row name) = named_tokens (codes "thread_name") row.process row.thread name.now
 event_tokens (event.Order row place) = order_tokens row place
 event_tokens (event.Slice row slice names) = slice_tokens row slice names
-event_tokens (event.FlowBegin row arrow time) = flow_begin_tokens row arrow time
-event_tokens (event.FlowEnd row arrow time) = flow_end_tokens row arrow time
+event_tokens (event.FlowBegin row arrow_number time) = flow_begin_tokens row arrow_number time
+event_tokens (event.FlowEnd row arrow_number time) = flow_end_tokens row arrow_number time
 event_tokens (event.Broken rule process slice names) = broken_tokens rule process slice names
 event_tokens (event.Lost time losses) = lost_tokens time losses
 

@@ -4,8 +4,9 @@ ghost use Rattle.trace_events.specs.Event.{head};
 ghost use Rattle.trace_events.specs.Page.{Carries, Grows, HasWritten, WritesDocument};
 ghost use Rattle.trace_events.specs.Slices.{destroyed, signalled, slices_of, waited, waits_of};
 
-use crate::event::{Kind, Losses, Names, Row, Rule, Slice, TraceEvent};
+use crate::event::{Kind, Losses, Rule, Slice, TraceEvent};
 use crate::page::Page;
+use crate::part::{Names, Row};
 use crate::pending::{Pending, pending_of};
 use crate::rows::{Place, Rows, Track, process_of_driver};
 use indexmap::{IndexMap, IndexSet};
@@ -348,7 +349,7 @@ impl Chart {
         ensures written { OnOk result ((before : Option (List ℕ)) →
             HasWritten self.old.page before (W.contents writer.old) → WritesDocument before (W.contents writer.new)) }
     {
-        let time = latest(tracker);
+        let time = tracker.latest();
         self.add_losses(time)?;
         self.add_pending(tracker, time, writer)?;
         self.add_waits(tracker, time, writer)?;
@@ -495,10 +496,8 @@ fn track_name(alloc: Global, track: Track, names: &Names<'_>) -> Result<Vec<u8>,
 
 /// The names of the fence's driver and of its timeline.
 fn names_of<'t>(tracker: &'t Tracker, key: &FenceKey) -> Names<'t> {
-    Names {
-        driver: tracker.drivers.name(key.driver).unwrap_or(b""),
-        timeline: tracker.timelines.name(key.timeline).unwrap_or(b""),
-    }
+    let (driver, timeline) = tracker.names(&key.timeline_key());
+    Names { driver, timeline }
 }
 
 /// The waits that have not ended.
@@ -508,12 +507,4 @@ fn open_waits(alloc: Global, tracker: &Tracker) -> Result<Vec<Wait>, Refusal> {
         waits.push(*wait).map_err(|_| Refusal::Memory)?;
     }
     Ok(waits)
-}
-
-/// The latest time so far, in microseconds.
-fn latest(tracker: &Tracker) -> u64 {
-    match tracker.summary.clock {
-        Some(clock) => clock.latest,
-        None => 0,
-    }
 }

@@ -5,24 +5,10 @@ ghost use Rattle.trace_events.specs.Event.{broken_tokens, category_of, end_text,
 ghost use Rattle.trace_events.specs.Event.{flow_begin_tokens, flow_end_tokens, lost_tokens, named_tokens, order_tokens};
 ghost use Rattle.trace_events.specs.Event.{rule_name, slice_tokens};
 
-use crate::part::{Part, put_all};
+use crate::part::{Names, Part, Row, put_all};
 use json::Writer;
 use std::alloc::{AllocError, Global};
 use track_core::FenceKey;
-
-/// A row: a thread of a process, by its number and that of the process.
-#[derive(Clone, Copy)]
-pub(crate) struct Row {
-    pub(crate) process: u64,
-    pub(crate) thread: u64,
-}
-
-/// The names of a driver and of its timeline.
-#[derive(Clone, Copy)]
-pub(crate) struct Names<'a> {
-    pub(crate) driver: &'a [u8],
-    pub(crate) timeline: &'a [u8],
-}
 
 /// What a slice stands for, by which it has its category.
 #[derive(Clone, Copy)]
@@ -156,21 +142,14 @@ fn put_named<'a>(
     ensures added { OnOk result (Adds writer.old writer.new (named_tokens what.now process thread name.now)) }
 {
     let parts = [
-        Part::BeginObject,
-        Part::Key("name"),
-        Part::Text(what),
-        Part::Key("ph"),
-        Part::Text("M"),
-        Part::Key("pid"),
-        Part::Number(process),
-        Part::Key("tid"),
-        Part::Number(thread),
-        Part::Key("args"),
-        Part::BeginObject,
-        Part::Key("name"),
-        Part::Name(name),
-        Part::EndObject,
-        Part::EndObject,
+        Part::Begin,
+        Part::Text("name", what),
+        Part::Text("ph", "M"),
+        Part::Row(Row { process, thread }),
+        Part::Arguments,
+        Part::Name("name", name),
+        Part::End,
+        Part::End,
     ];
     put_all(alloc, writer, &parts)
 }
@@ -179,21 +158,14 @@ fn put_order(alloc: Global, writer: &mut Writer, row: &Row, place: u64) -> Resul
     ensures added { OnOk result (Adds writer.old writer.new (order_tokens row.now place)) }
 {
     let parts = [
-        Part::BeginObject,
-        Part::Key("name"),
-        Part::Text("thread_sort_index"),
-        Part::Key("ph"),
-        Part::Text("M"),
-        Part::Key("pid"),
-        Part::Number(row.process),
-        Part::Key("tid"),
-        Part::Number(row.thread),
-        Part::Key("args"),
-        Part::BeginObject,
-        Part::Key("sort_index"),
-        Part::Number(place),
-        Part::EndObject,
-        Part::EndObject,
+        Part::Begin,
+        Part::Text("name", "thread_sort_index"),
+        Part::Text("ph", "M"),
+        Part::Row(*row),
+        Part::Arguments,
+        Part::Count("sort_index", place),
+        Part::End,
+        Part::End,
     ];
     put_all(alloc, writer, &parts)
 }
@@ -209,35 +181,18 @@ fn put_slice(
 {
     let category = category_of(slice.kind);
     let length = slice.end.saturating_sub(slice.begin);
-    let key = slice.key;
     let parts = [
-        Part::BeginObject,
-        Part::Key("name"),
-        Part::Point(key.context, key.seqno),
-        Part::Key("cat"),
-        Part::Text(category),
-        Part::Key("ph"),
-        Part::Text("X"),
-        Part::Key("ts"),
-        Part::Number(slice.begin),
-        Part::Key("dur"),
-        Part::Number(length),
-        Part::Key("pid"),
-        Part::Number(row.process),
-        Part::Key("tid"),
-        Part::Number(row.thread),
-        Part::Key("args"),
-        Part::BeginObject,
-        Part::Key("driver"),
-        Part::Name(names.driver),
-        Part::Key("timeline"),
-        Part::Name(names.timeline),
-        Part::Key("context"),
-        Part::Small(key.context),
-        Part::Key("seqno"),
-        Part::Small(key.seqno),
-        Part::EndObject,
-        Part::EndObject,
+        Part::Begin,
+        Part::Point(slice.key),
+        Part::Text("cat", category),
+        Part::Text("ph", "X"),
+        Part::Count("ts", slice.begin),
+        Part::Count("dur", length),
+        Part::Row(*row),
+        Part::Arguments,
+        Part::Fence(slice.key, *names),
+        Part::End,
+        Part::End,
     ];
     put_all(alloc, writer, &parts)
 }
@@ -266,22 +221,12 @@ fn put_flow_begin(
     ensures added { OnOk result (Adds writer.old writer.new (flow_begin_tokens row.now number time)) }
 {
     let parts = [
-        Part::BeginObject,
-        Part::Key("name"),
-        Part::Text("signal"),
-        Part::Key("cat"),
-        Part::Text("flow"),
-        Part::Key("ph"),
-        Part::Text("s"),
-        Part::Key("id"),
-        Part::Number(number),
-        Part::Key("ts"),
-        Part::Number(time),
-        Part::Key("pid"),
-        Part::Number(row.process),
-        Part::Key("tid"),
-        Part::Number(row.thread),
-        Part::EndObject,
+        Part::Begin,
+        Part::Text("name", "signal"),
+        Part::Text("cat", "flow"),
+        Part::Text("ph", "s"),
+        Part::Arrow(number, time, *row),
+        Part::End,
     ];
     put_all(alloc, writer, &parts)
 }
@@ -296,24 +241,13 @@ fn put_flow_end(
     ensures added { OnOk result (Adds writer.old writer.new (flow_end_tokens row.now number time)) }
 {
     let parts = [
-        Part::BeginObject,
-        Part::Key("name"),
-        Part::Text("signal"),
-        Part::Key("cat"),
-        Part::Text("flow"),
-        Part::Key("ph"),
-        Part::Text("f"),
-        Part::Key("bp"),
-        Part::Text("e"),
-        Part::Key("id"),
-        Part::Number(number),
-        Part::Key("ts"),
-        Part::Number(time),
-        Part::Key("pid"),
-        Part::Number(row.process),
-        Part::Key("tid"),
-        Part::Number(row.thread),
-        Part::EndObject,
+        Part::Begin,
+        Part::Text("name", "signal"),
+        Part::Text("cat", "flow"),
+        Part::Text("ph", "f"),
+        Part::Text("bp", "e"),
+        Part::Arrow(number, time, *row),
+        Part::End,
     ];
     put_all(alloc, writer, &parts)
 }
@@ -329,35 +263,18 @@ fn put_broken(
     ensures added { OnOk result (Adds writer.old writer.new (broken_tokens rule process slice.now names.now)) }
 {
     let name = rule_name(rule);
-    let key = slice.key;
     let parts = [
-        Part::BeginObject,
-        Part::Key("name"),
-        Part::Text(name),
-        Part::Key("cat"),
-        Part::Text("broken"),
-        Part::Key("ph"),
-        Part::Text("i"),
-        Part::Key("s"),
-        Part::Text("p"),
-        Part::Key("ts"),
-        Part::Number(slice.end),
-        Part::Key("pid"),
-        Part::Number(process),
-        Part::Key("tid"),
-        Part::Number(process),
-        Part::Key("args"),
-        Part::BeginObject,
-        Part::Key("driver"),
-        Part::Name(names.driver),
-        Part::Key("timeline"),
-        Part::Name(names.timeline),
-        Part::Key("context"),
-        Part::Small(key.context),
-        Part::Key("seqno"),
-        Part::Small(key.seqno),
-        Part::EndObject,
-        Part::EndObject,
+        Part::Begin,
+        Part::Text("name", name),
+        Part::Text("cat", "broken"),
+        Part::Text("ph", "i"),
+        Part::Text("s", "p"),
+        Part::Count("ts", slice.end),
+        Part::Process(process),
+        Part::Arguments,
+        Part::Fence(slice.key, *names),
+        Part::End,
+        Part::End,
     ];
     put_all(alloc, writer, &parts)
 }
@@ -380,31 +297,19 @@ fn put_lost(
     ensures added { OnOk result (Adds writer.old writer.new (lost_tokens time losses.now)) }
 {
     let parts = [
-        Part::BeginObject,
-        Part::Key("name"),
-        Part::Text("events were lost"),
-        Part::Key("cat"),
-        Part::Text("lost"),
-        Part::Key("ph"),
-        Part::Text("i"),
-        Part::Key("s"),
-        Part::Text("g"),
-        Part::Key("ts"),
-        Part::Number(time),
-        Part::Key("pid"),
-        Part::Number(0),
-        Part::Key("tid"),
-        Part::Number(0),
-        Part::Key("args"),
-        Part::BeginObject,
-        Part::Key("lines"),
-        Part::Number(losses.lines),
-        Part::Key("events"),
-        Part::Number(losses.events),
-        Part::Key("late_buffers"),
-        Part::Number(losses.late_buffers),
-        Part::EndObject,
-        Part::EndObject,
+        Part::Begin,
+        Part::Text("name", "events were lost"),
+        Part::Text("cat", "lost"),
+        Part::Text("ph", "i"),
+        Part::Text("s", "g"),
+        Part::Count("ts", time),
+        Part::Process(0),
+        Part::Arguments,
+        Part::Count("lines", losses.lines),
+        Part::Count("events", losses.events),
+        Part::Count("late_buffers", losses.late_buffers),
+        Part::End,
+        Part::End,
     ];
     put_all(alloc, writer, &parts)
 }
@@ -413,22 +318,14 @@ fn put_end(alloc: Global, writer: &mut Writer, time: u64) -> Result<(), AllocErr
     ensures added { OnOk result (Adds writer.old writer.new (end_tokens time)) }
 {
     let parts = [
-        Part::BeginObject,
-        Part::Key("name"),
-        Part::Text("end of the trace"),
-        Part::Key("cat"),
-        Part::Text("end"),
-        Part::Key("ph"),
-        Part::Text("i"),
-        Part::Key("s"),
-        Part::Text("g"),
-        Part::Key("ts"),
-        Part::Number(time),
-        Part::Key("pid"),
-        Part::Number(0),
-        Part::Key("tid"),
-        Part::Number(0),
-        Part::EndObject,
+        Part::Begin,
+        Part::Text("name", "end of the trace"),
+        Part::Text("cat", "end"),
+        Part::Text("ph", "i"),
+        Part::Text("s", "g"),
+        Part::Count("ts", time),
+        Part::Process(0),
+        Part::End,
     ];
     put_all(alloc, writer, &parts)
 }

@@ -1,8 +1,9 @@
 // Rows, on which no two slices overlap.
-use crate::event::Row;
-use indexmap::IndexMap;
+use crate::part::Row;
+use indexmap::IndexSet;
 use point_core::Refusal;
 use std::alloc::Global;
+use std::collections::BTreeSet;
 use track_core::{ContextKey, TimelineKey};
 
 /// The numbers that Linux gives to threads are less than this one, its `PID_MAX_LIMIT`. Processes that stand for drivers have greater
@@ -39,11 +40,12 @@ pub(crate) fn process_of_driver(driver: u32) -> u64 {
     u64::from(driver).saturating_add(PIDS + 1)
 }
 
-/// A row with the end of its last slice.
-#[derive(Clone, Copy)]
+/// A row, by its track and then by the end of its last slice.
+#[derive(Clone, Copy, PartialEq, Eq, PartialOrd, Ord)]
 struct Used {
-    thread: u64,
+    track: u64,
     end: u64,
+    thread: u64,
 }
 
 /// The row of a slice, and what is new of it.
@@ -59,89 +61,79 @@ pub(crate) struct Place {
 /// The rows of each track.
 #[derive(Drop)]
 pub(crate) struct Rows {
-    alloc: Global,
-    by_track: IndexMap<Track, Vec<Used>>,
-    // how many rows there are
-    count: u64,
+    tracks: IndexSet<Track>,
+    used: BTreeSet<Used>,
 }
 
 impl Rows {
     /// No rows. It takes no memory.
     pub(crate) fn new(alloc: Global) -> Rows {
         Rows {
-            alloc,
-            by_track: IndexMap::new(alloc),
-            count: 0,
+            tracks: IndexSet::new(alloc),
+            used: BTreeSet::new(alloc),
         }
     }
 
-    /// The first row of the track on which each slice ended before this one begins.
+    /// A row of the track on which each slice ended before this one begins: of several, the one that was left last, and a new
+    /// one if there is none.
     ///
     /// Fails with `Memory` alone.
     pub(crate) fn place(&mut self, track: Track, begin: u64, end: u64) -> Result<Place, Refusal> {
-        let number = self.number(track)?;
-        let process = track.process();
-        let thread = self.next_thread(&track);
-        let Some(rows) = self.by_track.get_index_mut(number) else {
+        let Ok((number, is_first)) = self.tracks.insert_full(track) else {
             return Err(Refusal::Memory);
         };
-        let track = number as u64;
-        if let Some(thread) = use_row(rows.as_mut_slice(), begin, end) {
-            let row = Row { process, thread };
-            return Ok(Place {
-                row,
-                is_new: false,
-                track,
-            });
-        }
-        rows.push(Used { thread, end })
-            .map_err(|_| Refusal::Memory)?;
-        self.count = self.count.saturating_add(1);
-        let row = Row { process, thread };
+        let number = number as u64;
+        let free = self.take_free(number, begin);
+        let thread = match free {
+            Some(thread) => thread,
+            None => self.next_thread(track, is_first),
+        };
+        self.keep(Used {
+            track: number,
+            end,
+            thread,
+        })?;
         Ok(Place {
-            row,
-            is_new: true,
-            track,
+            row: Row {
+                process: track.process(),
+                thread,
+            },
+            is_new: free.is_none(),
+            track: number,
         })
     }
 
-    /// The place of the track.
-    fn number(&mut self, track: Track) -> Result<usize, Refusal> {
-        if let Some(number) = self.by_track.get_index_of(&track) {
-            return Ok(number);
-        }
-        let number = self.by_track.len();
-        let Ok(_none) = self.by_track.insert(track, Vec::new(self.alloc)) else {
-            return Err(Refusal::Memory);
+    /// Takes away the row of the track on which a slice ended last before that time. Gives its number.
+    fn take_free(&mut self, track: u64, begin: u64) -> Option<u64> {
+        let row = self.free(track, begin)?;
+        self.used.remove(&row);
+        Some(row.thread)
+    }
+
+    fn free(&self, track: u64, begin: u64) -> Option<Used> {
+        let limit = Used {
+            track,
+            end: begin,
+            thread: 0,
         };
-        Ok(number)
+        let row = *self.used.range(..limit).next_back()?;
+        if row.track == track { Some(row) } else { None }
+    }
+
+    fn keep(&mut self, row: Used) -> Result<(), Refusal> {
+        match self.used.insert(row) {
+            Ok(_) => Ok(()),
+            Err(_) => Err(Refusal::Memory),
+        }
     }
 
     /// The number of the next row: for the first row of a thread that of the thread.
-    fn next_thread(&self, track: &Track) -> u64 {
+    fn next_thread(&self, track: Track, is_first: bool) -> u64 {
         if let Track::Task(pid) = track {
-            if u64::from(*pid) < PIDS && self.is_unused(track) {
-                return u64::from(*pid);
+            if u64::from(pid) < PIDS && is_first {
+                return u64::from(pid);
             }
         }
-        ROWS.saturating_add(self.count)
+        ROWS.saturating_add(self.used.len() as u64)
     }
-
-    fn is_unused(&self, track: &Track) -> bool {
-        match self.by_track.get(track) {
-            Some(rows) => rows.is_empty(),
-            None => true,
-        }
-    }
-}
-
-/// Takes the first row on which each slice ended before this one begins. Gives its number, or none where there is no such row.
-fn use_row(rows: &mut [Used], begin: u64, end: u64) -> Option<u64> {
-    for row in rows {
-        if row.end < begin {
-            row.end = end;
-            return Some(row.thread);
-        }
-    }
-    None
 }

@@ -8,8 +8,8 @@ use crate::chart::Chart;
 use point_core::Refusal;
 use std::alloc::Global;
 use std::io::{Read, Write};
-use trace_core::{Item, Piece, Pieces, Progress};
-use track_core::{Span, Stage, Tracker};
+use trace_core::{Item, Piece, Pieces};
+use track_core::{Span, Stage, Tracker, read_on};
 
 /// What was written of a trace.
 #[derive(Clone, Copy)]
@@ -95,11 +95,8 @@ fn read_window<R: Read, W: Write>(
                 chart.page.write_block(writer)?;
             }
             None => {
-                if pieces.is_whole() {
+                if !read_on(&mut pieces, reader)? {
                     return Ok(());
-                }
-                if pieces.read(reader) == Progress::Failed {
-                    return Err(Refusal::Read);
                 }
             }
         }

@@ -1,18 +1,15 @@
 -- The parts of a script's lines, as bytes.
-use Rattle.std.specs.Prelude.{ℕ, ◌+◌, ◌/◌, ◌%◌, ◌&&◌, nat_le, if◌then◌else◌, List, ◌∷◌, ◌++◌, drop, take, map, decimal}
+use Rattle.std.specs.Prelude.{ℕ, ◌&&◌, nat_le, if◌then◌else◌, List, ◌∷◌, ◌++◌, take, map, decimal}
 use Rattle.std.specs.List.{flat_map}
+use Rattle.track_core.specs.Text.{seconds}
 use Rattle.trace_script.specs.declared.part.File.{File}
 use Rattle.trace_script.specs.declared.part.Part.{Part}
 use Rattle.trace_script.specs.declared.part.Part.TheVariants as part
-use Rattle.trace_script.specs.declared.part.TheConstants.{NOTED_BYTES, SECOND}
+use Rattle.trace_script.specs.declared.part.TheConstants.{NOTED_BYTES}
 
 -- a printable byte of ASCII itself, and `?` for any other
 abbrev pub noted : ℕ → ℕ
 noted byte = if nat_le 32 byte && nat_le byte 126 then byte else 63
-
--- seconds with six decimals; 46 is the point
-abbrev pub seconds : ℕ → List ℕ
-seconds time = decimal (time / SECOND) ++ 46 ∷ drop 1 (decimal (SECOND + time % SECOND))
 
 -- the name of a fence's file: its timeline's, its context and its seqno, with points between
 abbrev pub file_name : List ℕ → ℕ → ℕ → List ℕ

@@ -170,8 +170,9 @@ impl Acts {
     }
 
     fn make(&mut self, alloc: Global, tracker: &Tracker, key: FenceKey) -> Result<(), Refusal> {
-        let raw = tracker.timelines.name(key.timeline).unwrap_or(b"");
-        let timeline = self.names.place(alloc, key.timeline_key(), raw)?;
+        let timeline_key = key.timeline_key();
+        let (_, raw) = tracker.names(&timeline_key);
+        let timeline = self.names.place(alloc, timeline_key, raw)?;
         if timeline >= self.signalled.len() {
             self.signalled.push(0).map_err(|_| Refusal::Memory)?;
         }

@@ -1,12 +1,9 @@
 // The parts of a script's lines.
-ghost use Rattle.std.specs.Prelude.{◌≡◌, ◌++◌, OnOk, drop, decimal, map, take};
-ghost use Rattle.trace_script.specs.Part.{bytes_of, file_text, noted, seconds, text_of};
+ghost use Rattle.std.specs.Prelude.{◌≡◌, ◌++◌, OnOk, map, take};
+ghost use Rattle.trace_script.specs.Part.{bytes_of, file_text, noted, text_of};
 
-use itoa::Buffer;
 use std::alloc::AllocError;
-
-/// Microseconds of a second.
-const SECOND: u64 = 1_000_000;
+use track_core::{push_number, push_seconds};
 
 /// The bytes of a name that a note has, so that its line is short enough.
 const NOTED_BYTES: usize = 64;
@@ -85,32 +82,6 @@ fn noted(byte: u8) -> u8
         byte
     } else {
         b'?'
-    }
-}
-
-fn push_number(text: &mut Vec<u8>, number: u64) -> Result<(), AllocError>
-    ensures added { OnOk result (text.new.items ≡ text.old.items ++ decimal number) }
-{
-    let mut digits = Buffer::new();
-    text.extend_from_slice(digits.format(number).as_bytes())
-}
-
-fn push_seconds(text: &mut Vec<u8>, time: u64) -> Result<(), AllocError>
-    ensures added { OnOk result (text.new.items ≡ text.old.items ++ seconds time) }
-{
-    push_number(text, time / SECOND)?;
-    text.push(b'.')?;
-    push_decimals(text, SECOND + time % SECOND)
-}
-
-/// Adds the digits but the first.
-fn push_decimals(text: &mut Vec<u8>, number: u64) -> Result<(), AllocError>
-    ensures added { OnOk result (text.new.items ≡ text.old.items ++ drop 1 (decimal number)) }
-{
-    let mut digits = Buffer::new();
-    match digits.format(number).as_bytes().split_first() {
-        Some((_, decimals)) => text.extend_from_slice(decimals),
-        None => Ok(()),
     }
 }
 

@@ -1,9 +1,8 @@
 // Names that a script may hold, for timelines.
 use indexmap::{IndexMap, IndexSet};
-use itoa::Buffer;
 use point_core::Refusal;
 use std::alloc::Global;
-use track_core::TimelineKey;
+use track_core::{TimelineKey, push_number};
 
 /// The bytes that a timeline's name has at most, so that a file's name has room for a context and a seqno after it.
 pub(crate) const SAFE_BYTES: usize = 9;
@@ -93,11 +92,8 @@ fn safe(alloc: Global, raw: &[u8]) -> Result<Vec<u8>, Refusal> {
 fn numbered(alloc: Global, number: u32) -> Result<Vec<u8>, Refusal> {
     let mut name = Vec::new(alloc);
     push(&mut name, b't')?;
-    let mut digits = Buffer::new();
-    match name.extend_from_slice(digits.format(number).as_bytes()) {
-        Ok(()) => Ok(name),
-        Err(_) => Err(Refusal::Memory),
-    }
+    push_number(&mut name, u64::from(number))?;
+    Ok(name)
 }
 
 fn push(name: &mut Vec<u8>, byte: u8) -> Result<(), Refusal> {

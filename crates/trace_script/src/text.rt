@@ -12,8 +12,8 @@ use point_core::{CONTEXTS, Refusal};
 use std::alloc::{AllocError, Global};
 use std::io::Read;
 use syncfile_core::FILES;
-use trace_core::{Event, Item, Piece, Pieces, Progress};
-use track_core::{Seen, Span, Stage, TaskName, Tracker};
+use trace_core::{Event, Item, Piece, Pieces};
+use track_core::{Seen, Span, Stage, TaskName, Tracker, read_on};
 
 /// What a trace gave.
 #[derive(Drop)]
@@ -95,11 +95,8 @@ fn read_window<R: Read>(
                 pieces.pass(length);
             }
             None => {
-                if pieces.is_whole() {
+                if !read_on(&mut pieces, reader)? {
                     return end(alloc, stage, tracker, acts);
-                }
-                if pieces.read(reader) == Progress::Failed {
-                    return Err(Refusal::Read);
                 }
             }
         }
@@ -279,9 +276,10 @@ impl Text {
         let Some(key) = acts.names.key(place) else {
             return Ok(());
         };
+        let (driver, raw) = tracker.names(key);
         self.add(&Line::Timeline {
-            driver: tracker.drivers.name(key.driver).unwrap_or(b""),
-            raw: tracker.timelines.name(key.timeline).unwrap_or(b""),
+            driver,
+            raw,
             name: acts.names.name(place),
         })
     }

@@ -1,7 +1,7 @@
 -- What is UTF-8 is written as it stands.
 use Rattle.std.proofs.lemmas.Str.{utf8_lossy-IsUtf8}
 use Rattle.trace_events.proofs.Adding.{added-by}
-use Rattle.trace_events.proofs.part.put_name.Goals as goal
+use Rattle.trace_events.proofs.part.put_lossy.Goals as goal
 
 pub returns-in-Ok : goal.returns-in-Ok
 returns-in-Ok c =
