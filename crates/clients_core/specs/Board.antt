@@ -32,7 +32,7 @@ place_of e = (e.point.ctx, e.usage)
 abbrev pub word_at : WordsModel → ℕ → Place → ℕ
 word_at words buffer place = board_word words buffer place.0 place.1
 
--- the place, where its usage is up to the level
+-- the place, if its usage is up to the level
 abbrev pub place_to : Usage → ℕ → Usage → List Place
 place_to level ctx usage = if nat_le (usage_number usage) (usage_number level) then (ctx, usage) ∷ [] else []
 
@@ -107,7 +107,7 @@ pub record TakesIn (entries : List Entry) (old new : Tops) : Type 0 where
   pub tops : (reach : List ℕ) (es : List Entry) → AreTops old reach es → AreTops new reach (es ++ entries)
   pub contexts : HasContexts entries
 
--- the greatest point that a place was raised to, where the seat has all parts
+-- the greatest point that a place was raised to, if the seat has all parts
 abbrev pub raised_entry : WordsModel → SeatModel → ℕ → Place → Entry
 raised_entry words seat buffer place = entry_of (point_of place.0 (raised_to seat (word_at words buffer place))) place.1
 

@@ -10,13 +10,14 @@ use Rattle.clients_core.specs.declared.own_puts.OwnPuts.{OwnPuts}
 abbrev pub point_at : OwnPuts → ℕ → ℕ → ℕ
 point_at own usage ctx = slice_index own.latest.items (USAGES * (ctx - 1) + usage)
 
--- for each of so many contexts there are the latest points at each usage or a stronger one; where nothing was put it is 0
+-- for each of so many contexts there are the latest points at each usage or a stronger one; if nothing was put it is 0
 pub record AreOwnPuts (contexts : ℕ) (own : OwnPuts) (es : List Entry) : Type 0 where
   pub valid : HasContexts es
   pub full : length own.latest.items ≡ USAGES * contexts
-  pub points : (usage ctx : ℕ) → usage < USAGES → 1 ≤ ctx → ctx ≤ contexts → point_at own usage ctx ≡ raised_to 0 (top es usage ctx)
+  pub points : (usage ctx : ℕ) → usage < USAGES → 1 ≤ ctx → ctx ≤ contexts →
+    point_at own usage ctx ≡ raised_to 0 (top es usage ctx)
 
--- the points from one place up to another are raised to the value, where they are less, and no others
+-- the points from one place up to another are raised to the value, if they are less, and no others
 pub record AreRaised (from to value : ℕ) (old new : List ℕ) : Type 0 where
   pub full : length new ≡ length old
   pub points : (place : ℕ) → slice_index new place

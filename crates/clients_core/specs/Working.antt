@@ -58,7 +58,7 @@ pub record AreWorkedOff (puts : Puts) (exports : Exports) (words : WordsModel) (
   pub worked : HaveWorked puts exports words 1 plans clients
   pub steps : all.trace ≡ steps_of_all clients
 
--- both seats came back, and no other refusal; where the answer is Ok, they are those of the client once it had worked its
+-- both seats came back, and no other refusal; if the answer is Ok, they are those of the client once it had worked its
 -- plan off
 abbrev pub HasEnded : Puts → Exports → WordsModel → ℕ → List Act → Ended → Type 0
 HasEnded puts exports words number plan ended =
@@ -96,7 +96,7 @@ HaveKept puts exports [] (e ∷ es) = ⊥
 HaveKept puts exports (w ∷ ws) [] = ⊥
 HaveKept puts exports (w ∷ ws) (e ∷ es) = HasKept puts exports w e × HaveKept puts exports ws es
 
--- the refusal of the first that was refused, where one was
+-- the refusal of the first that was refused, if one was
 abbrev pub answer_of : List Ended → Result (Unit {0}) Refusal
 answer_of [] = Ok tt
 answer_of (e ∷ es) = result_and e.answer (answer_of es)

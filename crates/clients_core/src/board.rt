@@ -81,7 +81,7 @@ impl Board {
         Ok(listing)
     }
 
-    /// The same look, into a listing that its caller keeps for many looks: what it had goes. Its list takes memory only where
+    /// The same look, into a listing that its caller keeps for many looks: what it had goes. Its list takes memory only if
     /// there is no room in it for a point of each context of the words.
     ///
     /// Fails with `Memory` alone. Nothing is said of the listing then.
@@ -112,8 +112,8 @@ impl Board {
 
     /// The values that the gathered seat knows, and the tables of the plans above them.
     ///
-    /// Fails with `Torn` if a context is closed, or where some buffer's raises say something else above these values
-    /// than the plans' puts, and then as `Memory`.
+    /// Fails with `Torn` if a context is closed, or if some buffer's raises say something else above these values than
+    /// the plans' puts, and then with `Memory`.
     pub fn settle(
         &self,
         alloc: Global,
@@ -208,7 +208,7 @@ impl SharedTable for Board {
     }
 }
 
-/// The latest point that a buffer shows of each context up to the level, where it is above the reach, by one look at each
+/// The latest point that a buffer shows of each context up to the level, if it is above the reach, by one look at each
 /// place. What the list had goes.
 ///
 /// Fails with `Memory` alone, before the first look.
@@ -261,7 +261,7 @@ fn latest_at(
     later_at(words, seat, buffer, ctx, Usage::Bookkeep, level, read)
 }
 
-/// The later of a value and of what a place shows. It looks where the place's usage is up to the level.
+/// The later of a value and of what a place shows. It looks if the place's usage is up to the level.
 fn later_at(
     words: &Words,
     seat: &mut Seat,

@@ -32,7 +32,7 @@ pub(crate) struct Shared<'a, R, T, G> {
 
 /// The acts of a client's plan, in order, each between the gate's two calls.
 ///
-/// Ends at the first act that is refused: as `TimedOut` where the gate gave up, as `Torn` and as `Memory`.
+/// Ends at the first act that is refused: with `TimedOut` if the gate gave up, with `Torn` or with `Memory`.
 pub(crate) fn act_all<R: Wait, T: SharedTable, G: Gate>(
     shared: &Shared<R, T, G>,
     client: usize,

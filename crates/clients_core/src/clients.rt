@@ -22,18 +22,19 @@ use std::thread::Threads;
 use words_core::{Seat, Words};
 
 /// Runs a client for each plan, the first on the calling thread and each other in a thread of its own, against a table of as
-/// many buffers, and settles the table once all of them have ended. Client i, from 1, drives context i. Its acts are made in order, each between the two
-/// calls of the gate; a look fails with `Torn` if it does not show a put of its own client before it.
+/// many buffers, and settles the table once all of them have ended. Client i, from 1, drives context i. Its acts are made in
+/// order, each between the two calls of the gate; a look fails with `Torn` if it does not show an earlier put of its own
+/// client.
 ///
 /// What comes back is the settled table of the plans, whatever the number of clients and the schedule, and the table
 /// itself, to be read, on which each client has worked its plan off.
 ///
-/// Refuses, before any thread starts, as `NoEntry` where a plan has a point of a context past the number of plans or a
-/// buffer that is not below `buffers`; as `Limit` of the clients, which are 1 to `CLIENTS`, of the buffers, at most
-/// `BUFFERS`, and of a plan's acts, at most `ACTS`; and as `Overflow` where the increments of a plan sum up past the
-/// greatest u64. Then as the client with the least number that was refused, `Exists`, `TimedOut`, `Torn` or `Memory`,
-/// which is also the refusal of a client whose thread cannot be started. Then as `Torn`, where a context's value is not
-/// what its plan adds up to, and last as the table's `settle`.
+/// Before any thread starts it fails with `NoEntry` if a plan has a point of a context past the number of plans or a
+/// buffer that is not below `buffers`; with `Limit` of the clients, which are 1 to `CLIENTS`, of the buffers, at most
+/// `BUFFERS`, and of a plan's acts, at most `ACTS`; and with `Overflow` if the increments of a plan sum up past the
+/// greatest u64. After that it fails with the refusal of the client with the least number that was refused: `Exists`,
+/// `TimedOut`, `Torn` or `Memory`, which is also what a client whose thread cannot be started fails with. Then with `Torn`
+/// if a context's value is not what its plan adds up to, and last as the table's `settle` does.
 pub fn run_clients<R: Threads + Wait + Sync, T: SharedTable, G: Gate>(
     rt: &R,
     alloc: Global,

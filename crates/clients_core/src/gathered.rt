@@ -29,7 +29,7 @@ pub(crate) fn gathered(words: &Words, all: &mut Whole) -> Reach
     reach
 }
 
-/// The same values, where no context is closed.
+/// The same values, if no context is closed.
 ///
 /// Fails with `Torn` if one is: a floor that was loaded then is the greatest value, above the gathered one.
 pub(crate) fn gathered_open(words: &Words, all: &mut Whole) -> Result<Reach, Refusal>

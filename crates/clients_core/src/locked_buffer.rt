@@ -50,9 +50,8 @@ impl LockedBuffer {
 
     /// Puts a fence in.
     ///
-    /// Refuses, in this order: as `Torn` where the floor is above the reach in some context, which changes nothing, and
-    /// as `Memory`. Else the reach is the floor afterwards, also where it refuses for memory. A refusal leaves the
-    /// journal as it was.
+    /// Fails with `Torn` if the floor is above the reach in some context, which changes nothing, and then with `Memory`.
+    /// Else the reach is the floor afterwards, even if it fails with `Memory`. A refusal leaves the journal as it was.
     pub fn put(&mut self, point: Point, usage: Usage, reach: &Reach) -> Result<(), Refusal>
         ensures torn { (result ≡ Err refusal.Torn) ↔ (¬ IsAtLeast reach.now self.old.floor) }
         ensures refusals { IfErr result (λ e. (e ≡ refusal.Torn) ⊎ (e ≡ refusal.Memory)) }
@@ -117,10 +116,10 @@ impl LockedBuffer {
         self.resv.collect_into(usage, reach, latest, points)
     }
 
-    /// The pending tops of all puts, as `Resv::table` gives them, where the puts say the same above the reach as the
+    /// The pending tops of all puts, as `Resv::table` gives them, if the puts say the same above the reach as the
     /// entries that are expected.
     ///
-    /// Fails as `put` does, and with `Torn`, which changes nothing, where they don't.
+    /// Fails as `put` does, and with `Torn`, which changes nothing, if they don't.
     pub fn settle(&mut self, expected: &[Entry], reach: &Reach) -> Result<Vec<TopRow>, Refusal>
         ensures torn { (result ≡ Err refusal.Torn) ↔
             (¬ (IsAtLeast reach.now self.old.floor × AgreesAbove reach.now self.old.journal expected.now)) }

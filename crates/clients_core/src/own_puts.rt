@@ -15,7 +15,7 @@ use point_core::{Context, Entry, Listing, Point, Refusal, Usage};
 use std::alloc::Global;
 use words_core::USAGES;
 
-/// The latest points that a client has put into a buffer, for each context of the words, at each usage or a stronger one; 0 where
+/// The latest points that a client has put into a buffer, for each context of the words, at each usage or a stronger one; 0 if
 /// there is none. So a look costs the same, however many puts came before it.
 #[derive(Debug, Drop)]
 pub(crate) struct OwnPuts {
@@ -82,7 +82,7 @@ impl OwnPuts {
     }
 }
 
-/// Raises the points from one place up to another to the value, where they are less.
+/// Raises the points from one place up to another to the value, if they are less.
 fn raise(points: &mut [u64], from: usize, to: usize, value: u64)
     requires places { (from ≤ to) × (to ≤ length points.old) }
     ensures raised { AreRaised from to value points.old points.new }

@@ -21,7 +21,7 @@ const _: () = prove!(ACTS == 65_536);
 
 /// Whether clients may be started with these plans, one for each.
 ///
-/// Refuses, in this order: as `NoEntry`, as `Limit` of the clients, the buffers and the plan, and as `Overflow`.
+/// Fails, in this order, with `NoEntry`, with `Limit` of the clients, the buffers and the plan, and with `Overflow`.
 pub(crate) fn check_plans(buffers: usize, plans: &[Plan]) -> Result<(), Refusal>
     ensures refused { IfErr result (λ e. cause_to_refuse_plans buffers plans.now ≡ Some e) }
     ensures none { OnOk result (cause_to_refuse_plans buffers plans.now ≡ None) }

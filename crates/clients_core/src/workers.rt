@@ -25,7 +25,7 @@ pub(crate) struct Ended {
     pub answer: Result<(), Refusal>,
 }
 
-/// A worker's promise: it gives both seats of these words back, and where it answers Ok, it has worked this plan off on this
+/// A worker's promise: it gives both seats of these words back, and if it answers Ok, it has worked this plan off on this
 /// table, as the client of the plan at that place.
 #[derive(Drop)]
 pub(crate) struct Loan<'a, T> {

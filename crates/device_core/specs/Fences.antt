@@ -88,7 +88,7 @@ point_in f = point_of f.timeline f.value
 abbrev pub entries_in : List Fence → List Entry
 entries_in fs = as_entries (map point_in fs)
 
--- no timeline comes twice, and they stand by rising number
+-- no timeline comes twice, and their numbers rise
 abbrev pub HasRisingTimelines : List Fence → Type 0
 HasRisingTimelines fs = IsStrictlyIncreasing (map (λ (f : Fence). f.timeline) fs)
 

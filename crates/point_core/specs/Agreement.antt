@@ -94,7 +94,7 @@ covers by other =
 abbrev pub HasContexts : List Entry → Type 0
 HasContexts es = All (λ e. (1 ≤ e.point.ctx) × (e.point.ctx ≤ CONTEXTS)) es
 
--- no context comes twice, and they stand by rising number
+-- no context comes twice, and their numbers rise
 abbrev pub HasRisingContexts : List Point → Type 0
 HasRisingContexts ps = IsStrictlyIncreasing (map (λ (p : Point). p.ctx) ps)
 

@@ -74,7 +74,7 @@ pub fn agreement_lasts_as_the_reach_rises()
         IsAtLeast later reach → AgreesAbove reach es fs → AgreesAbove later es fs }
 {}
 
-/// The points of a listing are pending, and stand by rising context. Nothing is listed exactly when each entry at
+/// The points of a listing are pending, and their contexts rise. Nothing is listed exactly when each entry at
 /// that usage or a stronger one is reached, and a list that is as listings are is its own listing.
 pub fn a_listing_is_what_is_pending()
     ensures rising { (es : List Entry) (usage : ℕ) (reach : List ℕ) → HasRisingContexts (listing es usage reach) }

@@ -29,11 +29,13 @@ pub trait Answerer<N> {
     ) -> Result<(), Refusal>
         requires few { answers.old.totals.lines < line.now.number }
         ensures ok { OnOk result ((done : List Line) → (start : Option (List ℕ)) →
-            HasAnswered done answers.old start (W.contents writer.old)
-            → HasAnswered (done ++ answered line.now.number (last_body ending line.now.bytes.now) []) answers.new start (W.contents writer.new)) }
+            HasAnswered done answers.old start (W.contents writer.old) →
+            HasAnswered (done ++ answered line.now.number (last_body ending line.now.bytes.now) [])
+            answers.new start (W.contents writer.new)) }
         ensures err { OnErr result ((done : List Line) → (start : Option (List ℕ)) →
-            HasAnswered done answers.old start (W.contents writer.old)
-            → WritesPrefix (done ++ answered line.now.number (last_body ending line.now.bytes.now) []) start (W.contents writer.new)) }
+            HasAnswered done answers.old start (W.contents writer.old) →
+            WritesPrefix (done ++ answered line.now.number (last_body ending line.now.bytes.now) [])
+            start (W.contents writer.new)) }
         ensures lines { answers.new.totals.lines ≤ answers.old.totals.lines + 1 }
         ensures refusals { IfErr result (λ refusal. (refusal ≡ WriteFault) ⊎ (refusal ≡ Memory)) };
 }
