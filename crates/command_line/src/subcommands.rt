@@ -92,7 +92,7 @@ pub(crate) const LOCKS: &str = "locks";
 static SUBCOMMANDS: &[Subcommand] = &[
     Subcommand {
         word: RUN,
-        about: "Runs the script of a file; without one that of standard input, as no word at all does",
+        about: "Runs the script of a file, or that of standard input",
         arguments: &[
             Argument {
                 name: FILE,
