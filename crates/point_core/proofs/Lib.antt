@@ -3,9 +3,11 @@ pub mod Canonical
 pub mod InUse
 pub mod Latest
 pub mod Listings
+pub mod Marked
 pub mod Merges
 pub mod Named
 pub mod Names
+pub mod Padded
 pub mod Reached
 pub mod Results
 mod Rows

@@ -1,5 +1,6 @@
-use Rattle.std.specs.Prelude.{◌≡◌, ℕ, ◌-◌, ◌≤◌, Bool, true, nat_le, ◌&&◌, ◌||◌, ◌==◌, List, ◌++◌, length, take, replicate}
+use Rattle.std.specs.Prelude.{◌≡◌, ℕ, ◌-◌, ◌≤◌, Bool, true, nat_le, ◌&&◌, ◌||◌, ◌==◌, List, ◌++◌, length, take, replicate, get_or, slice_set}
 use Rattle.std.specs.List.{list_all}
+use Rattle.point_core.specs.declared.lanes.TheConstants.{LANES}
 use Rattle.point_core.specs.declared.name.TheConstants.{NAME_BYTES}
 
 -- both ends belong to the range
@@ -16,9 +17,16 @@ IsName bytes = (1 ≤ length bytes) × (length bytes ≤ NAME_BYTES) × (list_al
 
 -- the bytes of a name, and zeros after them
 abbrev pub padded : List ℕ → List ℕ
-padded bytes = bytes ++ replicate (NAME_BYTES - length bytes) 0
+padded bytes = bytes ++ replicate (LANES - length bytes) 0
 
--- the first bytes are a name, and zeros fill the rest
-abbrev pub IsStored : ℕ → List ℕ → Type 0
-IsStored len bytes =
-    (len ≤ NAME_BYTES) × IsName (take len bytes) × (length (take len bytes) ≡ len) × (padded (take len bytes) ≡ bytes)
+-- the lanes that hold a name: its bytes, zeros after them, and its length last
+abbrev pub lanes_of : List ℕ → List ℕ
+lanes_of bytes = slice_set (padded bytes) NAME_BYTES (length bytes)
+
+-- as many of the lanes as the last says
+abbrev pub bytes_of : List ℕ → List ℕ
+bytes_of lanes = take (get_or lanes NAME_BYTES 0) lanes
+
+-- the lanes hold a name
+abbrev pub IsStored : List ℕ → Type 0
+IsStored lanes = IsName (bytes_of lanes) × (lanes_of (bytes_of lanes) ≡ lanes)

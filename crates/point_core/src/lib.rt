@@ -11,6 +11,7 @@ mod context_values;
 mod entry;
 mod floor;
 mod items;
+mod lanes;
 mod latest_points;
 pub mod laws;
 mod limits;

@@ -1,10 +1,13 @@
 // A name of a timeline, a file or a buffer.
-ghost use Rattle.std.specs.Prelude.{◌≡◌, ◌≤◌, ◌↔◌, IsTrue, IsSome, IfSome, length};
+ghost use Rattle.std.specs.Prelude.{◌≡◌, ◌≤◌, ◌↔◌, IsSome, IfSome, length, map, slice_set};
 ghost use Rattle.std.specs.List.{list_all};
+ghost use Rattle.std.specs.Simd.Lanes.{mask_l};
 ghost use Rattle.point_core.specs.Name.{IsName, is_name_byte, padded};
 
+use crate::lanes::padded;
 use std::hash::{Hash, Hasher};
 use std::marker::Model;
+use std::simd::prelude::*;
 
 /// The most bytes of a name: the kernel's 32 of a sync file's name, less the closing zero.
 pub const NAME_BYTES: usize = 31;
@@ -14,20 +17,20 @@ const _: () = prove!(NAME_BYTES == 31);
 /// A name: 1 to `NAME_BYTES` letters, digits, `_`, `.` or `-`, held without memory.
 #[derive(Clone, Copy, Debug)]
 pub struct Name {
-    len: u8,
-    bytes: [u8; NAME_BYTES],
+    // The bytes, zeros after them, and the length last.
+    lanes: u8x32,
 }
 
 impl Model for Name {
-    ghost use Rattle.std.specs.Prelude.{◌≡◌, ◌++◌, List, ℕ, length, take};
-    ghost use Rattle.point_core.specs.Name.{IsStored};
+    ghost use Rattle.std.specs.Prelude.{◌≡◌, List, ℕ};
+    ghost use Rattle.point_core.specs.Name.{IsStored, bytes_of};
     ghost use Rattle.point_core.specs.StoredName.{inside_of, inside_of_stored};
 
     ghost Value = { List ℕ };
 
-    ghost view = { λ n. take n.len n.bytes };
+    ghost view = { λ n. bytes_of n.lanes };
 
-    ghost invariant = { λ n. IsStored n.len n.bytes };
+    ghost invariant = { λ n. IsStored n.lanes };
 
     ghost inverse = { inside_of };
 
@@ -36,16 +39,20 @@ impl Model for Name {
 
 impl Name {
     /// The name of those bytes, or none if they are not 1 to `NAME_BYTES` allowed bytes.
+    #[inline(always)]
     pub fn read(bytes: &[u8]) -> Option<Name>
         ensures valid { IsSome result ↔ IsName bytes.now }
         ensures value { IfSome result (λ name. name ≡ bytes.now) }
     {
-        if !is_name(bytes) {
+        if bytes.is_empty() || bytes.len() > NAME_BYTES {
+            return None;
+        }
+        let lanes = padded(bytes);
+        if !are_name_bytes(bytes, lanes) {
             return None;
         }
         Some(Name {
-            len: bytes.len() as u8,
-            bytes: padded(bytes),
+            lanes: with_length(lanes, bytes.len()),
         })
     }
 
@@ -54,49 +61,43 @@ impl Name {
         ensures value { result.now ≡ self.now }
         ensures name { IsName result.now }
     {
-        &self.bytes[..usize::from(self.len)]
+        let lanes = self.lanes.as_array();
+        &lanes[..usize::from(lanes[NAME_BYTES])]
     }
 }
 
-fn is_name(bytes: &[u8]) -> bool
-    ensures { IsTrue result ↔ IsName bytes.now }
+/// The lanes of the bytes of a name, with the length of the name in the last.
+#[inline(always)]
+fn with_length(lanes: u8x32, length: usize) -> u8x32
+    requires length { length ≤ NAME_BYTES }
+    ensures lanes { result ≡ slice_set lanes NAME_BYTES length }
 {
-    !bytes.is_empty() && bytes.len() <= NAME_BYTES && are_name_bytes(bytes)
+    let mut lanes = lanes.to_array();
+    lanes[NAME_BYTES] = length as u8;
+    u8x32::from_array(lanes)
 }
 
-fn are_name_bytes(bytes: &[u8]) -> bool
+/// Whether each of the bytes is allowed. The lanes hold them.
+#[inline(always)]
+fn are_name_bytes(bytes: &[u8], lanes: u8x32) -> bool
+    requires most { length bytes.now ≤ NAME_BYTES }
+    requires lanes { lanes ≡ padded bytes.now }
     ensures { result ≡ list_all is_name_byte bytes.now }
 {
-    bytes.iter().all(|byte| is_name_byte(*byte))
+    name_marks(lanes).trailing_ones() as usize >= bytes.len()
 }
 
-fn padded(bytes: &[u8]) -> [u8; NAME_BYTES]
-    requires { length bytes.now ≤ NAME_BYTES }
-    ensures { result ≡ padded bytes.now }
+/// A number with a bit for each lane, which is set if the lane is an allowed byte.
+#[inline(always)]
+fn name_marks(lanes: u8x32) -> u64
+    ensures { result ≡ mask_l (map is_name_byte lanes) }
 {
-    let mut stored = [0; NAME_BYTES];
-    stored[..bytes.len()].copy_from_slice(bytes);
-    stored
-}
-
-// How many values a byte has.
-const BYTE_VALUES: usize = 1 << u8::BITS;
-
-// For each byte that is allowed in a name the byte itself, and a comma for each other.
-static ALLOWED_BYTES: [u8; BYTE_VALUES] = *b"\
-    ,,,,,,,,,,,,,,,,,,,,,,,,,,,,,,,,\
-    ,,,,,,,,,,,,,-.,0123456789,,,,,,\
-    ,ABCDEFGHIJKLMNOPQRSTUVWXYZ,,,,_\
-    ,abcdefghijklmnopqrstuvwxyz,,,,,\
-    ,,,,,,,,,,,,,,,,,,,,,,,,,,,,,,,,\
-    ,,,,,,,,,,,,,,,,,,,,,,,,,,,,,,,,\
-    ,,,,,,,,,,,,,,,,,,,,,,,,,,,,,,,,\
-    ,,,,,,,,,,,,,,,,,,,,,,,,,,,,,,,,";
-
-fn is_name_byte(byte: u8) -> bool
-    ensures { result ≡ is_name_byte byte }
-{
-    ALLOWED_BYTES[usize::from(byte)] != b','
+    let lower_case = lanes | u8x32::splat(b'a' - b'A');
+    let is_letter = (lower_case - u8x32::splat(b'a')).simd_le(u8x32::splat(b'z' - b'a'));
+    let is_digit = (lanes - u8x32::splat(b'0')).simd_le(u8x32::splat(b'9' - b'0'));
+    let is_dash_or_dot = (lanes - u8x32::splat(b'-')).simd_le(u8x32::splat(b'.' - b'-'));
+    let is_underscore = lanes.simd_eq(u8x32::splat(b'_'));
+    (is_letter | is_digit | is_dash_or_dot | is_underscore).to_bitmask()
 }
 
 impl PartialEq for Name {
@@ -109,8 +110,9 @@ impl PartialEq for Name {
 
     ghost laws = { partial_equiv_from_equiv nat_list_eq_equiv };
 
+    #[inline(always)]
     fn eq(&self, other: &Name) -> bool {
-        self.as_bytes() == other.as_bytes()
+        self.lanes.simd_eq(other.lanes).all()
     }
 }
 
@@ -124,14 +126,15 @@ impl Hash for Name {
     ghost use Rattle.std.specs.Prelude.{[], ◌∷◌};
     ghost use Rattle.std.proofs.Common.{ap, sym};
     ghost use Rattle.std.specs.Cmp.Lexicographic.{same_text};
-    ghost use Rattle.point_core.specs.Name.{padded};
+    ghost use Rattle.point_core.specs.Name.{lanes_of};
 
-    ghost hash_input = { λ name. padded name ∷ [] };
+    ghost hash_input = { λ name. lanes_of name ∷ [] };
 
-    ghost respects_eq = { λ x y same. ap (λ name. padded name ∷ []) (same_text x y (sym same)) };
+    ghost respects_eq = { λ x y same. ap (λ name. lanes_of name ∷ []) (same_text x y (sym same)) };
 
     // As one piece of a fixed length, since a slice would be written byte by byte.
+    #[inline(always)]
     fn hash<H: Hasher>(&self, state: &mut H) {
-        state.write(&self.bytes);
+        state.write(self.lanes.as_array());
     }
 }

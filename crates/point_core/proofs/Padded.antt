@@ -1,0 +1,99 @@
+-- Bytes with zeros after them, as the digits of a number.
+use Rattle.std.proofs.Common.{◌≡◌, ℕ, zero, suc, ◌+◌, ◌-◌, ◌*◌, ◌/◌, ◌%◌, ◌^◌, ◌<◌, ◌≤◌, List, [], ◌∷◌, ◌++◌, length, get_or, take, drop, replicate, refl, sym, ap, subst, ◌∙◌, arith, w8, Fits, mul_assoc, length-drop, take_all, drop-drop}
+use Rattle.std.proofs.lemmas.List.{length-append, length-replicate, get_or-drop, drop-replicate}
+use Rattle.std.proofs.lemmas.Nat.{shr-shr, shr_le, or_shifted}
+use Rattle.std.specs.Simd.Lanes.{Each1, chunk, number_l, digits_l}
+use lib.Bits.{bit_or}
+use lib.Pow.{pow-add}
+use native.Mathlib.Nat.{mod-eq_of_lt}
+use Rattle.point_core.specs.declared.lanes.TheConstants.{LANES}
+use Rattle.point_core.specs.Name.{padded}
+
+abbrev pub AreBytes : List ℕ → Type 0
+AreBytes xs = (k : ℕ) → get_or xs k 0 < 256
+
+parted : (x rest : ℕ) → x < 256 → ((x + 256 * rest) % 256 ≡ x) × ((x + 256 * rest) / 256 ≡ rest)
+parted x rest h = (omega arith, omega arith)
+
+digits-zero : (n : ℕ) → digits_l 256 n 0 ≡ replicate n 0
+digits-zero zero = refl
+digits-zero (suc n) = ap (λ zeros. 0 ∷ zeros) (digits-zero n)
+
+digits-number : (n : ℕ) (xs : List ℕ) → length xs ≤ n → AreBytes xs → digits_l 256 n (number_l 256 xs) ≡ xs ++ replicate (n - length xs) 0
+digits-number n [] few bytes =
+    let same : n ≡ n - 0 = omega arith in
+    digits-zero n ∙ ap (λ k. replicate k 0) same
+digits-number zero (x ∷ xs) few bytes = absurd (omega arith)
+digits-number (suc n) (x ∷ xs) few bytes =
+    let parts = parted x (number_l 256 xs) (bytes 0) in
+    let same : n - length xs ≡ suc n - suc (length xs) = omega arith in
+    let rest = ap (digits_l 256 n) parts.1 ∙ digits-number n xs (omega arith) (λ k. bytes (suc k)) ∙ ap (λ k. xs ++ replicate k 0) same in
+    λ i. parts.0 i ∷ rest i
+
+number-drop : (n : ℕ) (xs : List ℕ) → AreBytes xs → number_l 256 xs / 2 ^ (8 * n) ≡ number_l 256 (drop n xs)
+number-drop zero xs bytes = omega arith
+number-drop (suc n) [] bytes = omega (arith, shr_le 0 (8 * suc n))
+number-drop (suc n) (x ∷ xs) bytes =
+    let all = number_l 256 (x ∷ xs) in
+    let next : 8 * suc n ≡ 8 + 8 * n = omega arith in
+    ap (λ k. all / 2 ^ k) next ∙ sym (shr-shr all 8 (8 * n))
+    ∙ ap (λ m. m / 2 ^ (8 * n)) (parted x (number_l 256 xs) (bytes 0)).1 ∙ number-drop n xs (λ k. bytes (suc k))
+
+abbrev power-more : (n : ℕ) → 2 ^ (8 * suc n) ≡ 256 * 2 ^ (8 * n)
+power-more n =
+    let next : 8 * suc n ≡ 8 + 8 * n = omega arith in
+    ap (λ k. 2 ^ k) next ∙ pow-add 2 8 (8 * n)
+
+number-below : (xs : List ℕ) → Each1 (Fits w8) xs → number_l 256 xs < 2 ^ (8 * length xs)
+number-below [] fit = omega arith
+number-below (x ∷ xs) fit = omega (arith, power-more (length xs), number-below xs fit.1, fit.0.fits)
+
+-- lanes of which one wider lane is made
+pub number-of_lanes : (n : ℕ) (xs : List ℕ) → length xs ≡ n → Each1 (Fits w8) xs → number_l 256 xs % 2 ^ (8 * n) ≡ number_l 256 xs
+number-of_lanes n xs long fit = mod-eq_of_lt (subst (λ k. number_l 256 xs < 2 ^ (8 * k)) long (number-below xs fit))
+
+number-split : (n : ℕ) (xs : List ℕ) → number_l 256 (take n xs) + 2 ^ (8 * n) * number_l 256 (drop n xs) ≡ number_l 256 xs
+number-split zero xs = omega arith
+number-split (suc n) [] = omega arith
+number-split (suc n) (x ∷ xs) =
+    let first = number_l 256 (take n xs) in
+    let rest = number_l 256 (drop n xs) in
+    ap (λ p. x + 256 * first + p * rest) (power-more n) ∙ ap (λ m. x + 256 * first + m) (mul_assoc 256 (2 ^ (8 * n)) rest)
+    ∙ omega (arith, number-split n xs)
+
+-- the number of the first n bytes and that of the last n, of which those that are among the first are taken out
+pub number-joined : (n : ℕ) (xs : List ℕ) → AreBytes xs → n ≤ length xs → length xs ≤ n + n
+    → number_l 256 (chunk 0 n xs) + 2 ^ (8 * n) * (number_l 256 (chunk (length xs - n) n xs) / 2 ^ (8 * (2 * n - length xs))) ≡ number_l 256 xs
+number-joined n xs bytes least most =
+    let last = length xs - n in
+    let more = 2 * n - length xs in
+    let back : chunk last n xs ≡ drop last xs = take_all n (drop last xs) (omega (arith, length-drop last xs)) in
+    let past : last + more ≡ n = omega arith in
+    let rest : number_l 256 (chunk last n xs) / 2 ^ (8 * more) ≡ number_l 256 (drop n xs) =
+    ap (λ ys. number_l 256 ys / 2 ^ (8 * more)) back ∙ number-drop more (drop last xs) (λ k. subst (λ b. b < 256) (sym (get_or-drop last xs k 0)) (bytes (last + k)))
+    ∙ ap (number_l 256) (drop-drop more last xs ∙ ap (λ k. drop k xs) past) in
+    ap (λ m. number_l 256 (take n xs) + 2 ^ (8 * n) * m) rest ∙ number-split n xs
+
+pub or-joined : (low high : ℕ) → low < 2 ^ 32 → high < 2 ^ 32 → bit_or (high * 2 ^ 32 % 2 ^ 64) low ≡ low + 2 ^ 32 * high
+or-joined low high p q =
+    let whole : high * 2 ^ 32 % 2 ^ 64 ≡ high * 2 ^ 32 = omega arith in
+    ap (λ m. bit_or m low) whole ∙ or_shifted high 32 low p ∙ omega arith
+
+-- at most three bytes
+pub number-of_three : (xs : List ℕ) → length xs ≤ 3 → number_l 256 (get_or xs 0 0 ∷ get_or xs 1 0 ∷ get_or xs 2 0 ∷ 0 ∷ []) ≡ number_l 256 xs
+number-of_three [] few = omega arith
+number-of_three (x ∷ []) few = omega arith
+number-of_three (x ∷ y ∷ []) few = omega arith
+number-of_three (x ∷ y ∷ z ∷ []) few = omega arith
+number-of_three (x ∷ y ∷ z ∷ w ∷ xs) few = absurd (omega arith)
+
+pub length-padded : (xs : List ℕ) → length xs ≤ 32 → length (padded xs) ≡ 32
+length-padded xs few =
+    let zeros : List ℕ = replicate (32 - length xs) 0 in
+    omega (arith, length-append xs zeros, length-replicate {A = ℕ} (32 - length xs) 0)
+
+pub padded-zeros : (xs : List ℕ) → xs ++ drop (length xs) (replicate LANES 0) ≡ padded xs
+padded-zeros xs = ap (λ zeros. xs ++ zeros) (drop-replicate (length xs) LANES 0)
+
+pub digits-padded : (xs : List ℕ) (n : ℕ) → n ≡ number_l 256 xs → AreBytes xs → length xs ≤ 32 → digits_l 256 32 n ≡ padded xs
+digits-padded xs n is bytes few = ap (digits_l 256 32) is ∙ digits-number 32 xs few bytes
