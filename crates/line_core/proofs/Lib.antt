@@ -12,3 +12,4 @@ pub mod Lowest
 pub mod Notes
 pub mod Numbers
 pub mod Runs
+pub mod Taking

@@ -9,5 +9,6 @@ pub mod Reading
 pub mod Script
 pub mod ScriptLines
 pub mod Table
+pub mod Takes
 pub mod Usages
 pub mod Words

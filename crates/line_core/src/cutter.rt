@@ -1,7 +1,8 @@
 // A script's lines, byte by byte.
 ghost use Rattle.std.specs.Prelude.{◌≡◌, ◌+◌, ◌^◌, ◌<◌, ◌≤◌, ◌==◌, [], length};
 
-use crate::line::{LINE_BYTES, Line, body_of};
+use crate::line::{LINE_BYTES, Line};
+use crate::takes::body_of;
 use std::marker::Model;
 
 /// How many bytes are held of a line: as many as a line may have, and one that shows that it has more.

@@ -3,7 +3,6 @@
 //! Lines, words, names and numbers are given as functions of the bytes (`specs/`).
 #![tactic(auto)]
 
-mod command;
 mod cutter;
 mod keys;
 pub mod laws;
@@ -13,13 +12,15 @@ mod number;
 mod script;
 mod script_lines;
 mod table;
+mod takes;
 mod usages;
 mod words;
 
 pub use cutter::LineCutter;
-pub use line::{Body, LINE_BYTES, Line, body_of};
+pub use line::{Body, LINE_BYTES, Line};
 pub use number::{DIGITS, is_number};
 pub use script::{Ending, SCRIPT_BYTES, first_line, last_body, read_script};
 pub use script_lines::{RawLine, ScriptLines};
 pub use table::{CommandForm, Operand, command_form, commands};
+pub use takes::{Takes, body_of, take_line};
 pub use usages::{is_flags, is_usage};

@@ -1,10 +1,8 @@
 // One line of a script.
 ghost use Rattle.std.specs.Prelude.{◌≡◌, IsTrue, None};
-ghost use Rattle.line_core.specs.Line.{body_from, body_of};
+ghost use Rattle.line_core.specs.Line.{body_from};
 ghost use Rattle.line_core.specs.Words.{words_of};
 
-use crate::command::command;
-use crate::words::Words;
 use command_core::Command;
 use point_core::Refusal;
 
@@ -30,29 +28,8 @@ pub enum Body {
     Bad(Refusal),
 }
 
-/// What the line says, in this order: LongLine; none for a line without words or whose first word begins with `#`;
-/// Syntax if the words fit no row of the table; else the command.
-pub fn body_of(line: &[u8]) -> Option<Body>
-    ensures body { result ≡ body_of line.now }
-{
-    if line.len() > LINE_BYTES {
-        return Some(Body::Bad(Refusal::LongLine));
-    }
-    if begins_as_note(line) {
-        return None;
-    }
-    let (word, rest) = Words::of(line).first()?;
-    if word.starts_with(b"#") {
-        return None;
-    }
-    match command(word, &rest) {
-        Some(command) => Some(Body::Cmd(command)),
-        None => Some(Body::Bad(Refusal::Syntax)),
-    }
-}
-
 /// Whether the line begins with `#`, as most notes do. Then its words need not be found.
-fn begins_as_note(line: &[u8]) -> bool
+pub(crate) fn begins_as_note(line: &[u8]) -> bool
     ensures note { IsTrue result → body_from (words_of line.now) ≡ None }
 {
     line.starts_with(b"#")

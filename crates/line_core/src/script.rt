@@ -3,7 +3,8 @@ ghost use Rattle.std.specs.Prelude.{◌≡◌, ◌+◌, ◌^◌, ◌<◌, ◌∷
 ghost use Rattle.point_core.specs.declared.refusal.Refusal.TheVariants.{Memory};
 ghost use Rattle.line_core.specs.Script.{is_line_feed, lines_of, lines_until, script_of, ending_of, last_body, answered};
 
-use crate::line::{Body, Line, body_of};
+use crate::line::{Body, Line};
+use crate::takes::body_of;
 use memchr::memchr;
 use point_core::{LimitKind, Refusal};
 use std::alloc::Global;

@@ -1,0 +1,22 @@
+use Rattle.std.proofs.Common.{rules, ◌≡◌, ap, sym, subst, Option, None, Some, ◌∙◌}
+use Rattle.line_core.specs.Line.{body_of, command_or_syntax}
+use Rattle.line_core.specs.Table.{command_from}
+use Rattle.line_core.specs.Takes.{TakesCommand, TakesIfSome}
+use Rattle.line_core.proofs.Taking.{TakesCommand-none, TakesCommand-some}
+use Rattle.line_core.proofs.takes.take_by_cases.Goals as goal
+
+pub take-requires-in-None : goal.take-requires-in-None
+take-requires-in-None g c =
+    let none = TakesCommand-none g.V.Takes.takes c.args.to.now c.take_command.new.to (command_from c.in_ok-word.word.now c.in_ok-word.rest) c.in-None.ensures.taken in
+    subst g.V.Takes.can_take (sym none.1) c.requires.ready
+
+pub returns-in-Some : goal.returns-in-Some
+returns-in-Some g c =
+    let said : body_of c.args.line.now ≡ Some (command_or_syntax (command_from c.in_ok-word.word.now c.in_ok-word.rest)) = search rules in
+    rw said (record { taken = TakesCommand-some g.V.Takes.takes c.args.to.now c.take_command.new.to (command_from c.in_ok-word.word.now c.in_ok-word.rest) c.in-Some.given c.in-Some.ensures.taken })
+
+pub returns-in-None : goal.returns-in-None
+returns-in-None g c =
+    let none = TakesCommand-none g.V.Takes.takes c.args.to.now c.take_command.new.to (command_from c.in_ok-word.word.now c.in_ok-word.rest) c.in-None.ensures.taken in
+    let said : body_of c.args.line.now ≡ Some (command_or_syntax (command_from c.in_ok-word.word.now c.in_ok-word.rest)) = search rules in
+    rw said (rw none.0 (record { taken = subst (λ s. g.V.Takes.takes s _ c.take-in-None.result c.take-in-None.new.self) none.1 c.take-in-None.ensures }))
