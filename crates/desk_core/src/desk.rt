@@ -1,9 +1,9 @@
 // One command in, one answer out.
-ghost use Rattle.std.specs.Prelude.{◌≡◌, ◌≢◌, ◌↔◌, false, List, [], option_copied, option_map, IsTrue, IsSome, IfSome, IsOk, IfOk, IfErr, OnErr};
+ghost use Rattle.std.specs.Prelude.{◌≡◌, ◌≢◌, ◌↔◌, false, List, [], option_copied, option_map, IsTrue, IsSome, IfSome, IsOk, IfOk, IfErr, OnErr, OnOk};
 ghost use Rattle.command_core.specs.declared.command.Command.{Command};
 
 use crate::{info, report};
-use command_core::{Answer, Command};
+use command_core::{Answer, Command, Info, Report, ShowRow};
 use dmabuf_core::{Buffers, SyncFlags};
 use fence_core::Watches;
 use point_core::{Context, Items, Name, Point, Refusal, Status, Usage};
@@ -87,25 +87,61 @@ impl Desk {
         ensures unchanged { OnErr result (self.new ≡ self.old) }
     {
         match &command {
-            Command::Timeline(name) => self.timeline(*name),
-            Command::Inc(name, n) => self.inc(name, *n),
-            Command::Value(name) => self.value(name),
-            Command::Shut(name) => self.shut(name),
-            Command::Fence(name, timeline, value) => self.fence(*name, timeline, *value),
-            Command::Merge(name, first, second) => self.merge(*name, first, second),
-            Command::Close(name) => self.close(name),
-            Command::Wait(name) => self.wait(name),
-            Command::Info(name) => self.info(*name),
-            Command::Buffer(name) => self.buffer(*name),
-            Command::Add(name, timeline, value, usage) => self.add(name, timeline, *value, *usage),
-            Command::Import(name, file, flags) => self.import(name, file, *flags),
-            Command::Export(name, buffer, flags) => self.export(*name, buffer, *flags),
-            Command::Test(name, usage) => self.test(name, *usage),
-            Command::Trim(name) => self.trim(name),
-            Command::Watch(name, cookie) => self.watch(name, *cookie),
-            Command::Unwatch(cookie) => Ok(self.unwatch(*cookie)),
-            Command::Show(name) => self.show(name),
-            Command::Report => self.report(),
+            Command::Timeline(name) => Ok(Answer::Value(self.timeline(*name)?)),
+            Command::Inc(name, n) => {
+                let (value, fired) = self.inc(name, *n)?;
+                Ok(Answer::Raised(value, fired))
+            }
+            Command::Value(name) => Ok(Answer::Value(self.value(name)?)),
+            Command::Shut(name) => {
+                let (value, fired) = self.shut(name)?;
+                Ok(Answer::Raised(value, fired))
+            }
+            Command::Fence(name, timeline, value) => {
+                self.fence(*name, timeline, *value)?;
+                Ok(Answer::Done)
+            }
+            Command::Merge(name, first, second) => {
+                self.merge(*name, first, second)?;
+                Ok(Answer::Done)
+            }
+            Command::Close(name) => {
+                self.close(name)?;
+                Ok(Answer::Done)
+            }
+            Command::Wait(name) => {
+                self.wait(name)?;
+                Ok(Answer::Done)
+            }
+            Command::Info(name) => Ok(Answer::Info(self.info(*name)?)),
+            Command::Buffer(name) => {
+                self.buffer(*name)?;
+                Ok(Answer::Done)
+            }
+            Command::Add(name, timeline, value, usage) => {
+                self.add(name, timeline, *value, *usage)?;
+                Ok(Answer::Done)
+            }
+            Command::Import(name, file, flags) => {
+                self.import(name, file, *flags)?;
+                Ok(Answer::Done)
+            }
+            Command::Export(name, buffer, flags) => {
+                self.export(*name, buffer, *flags)?;
+                Ok(Answer::Done)
+            }
+            Command::Test(name, usage) => Ok(Answer::Value(self.test(name, *usage)?)),
+            Command::Trim(name) => {
+                self.trim(name)?;
+                Ok(Answer::Done)
+            }
+            Command::Watch(name, cookie) => {
+                self.watch(name, *cookie)?;
+                Ok(Answer::Done)
+            }
+            Command::Unwatch(cookie) => Ok(Answer::Value(self.unwatch(*cookie))),
+            Command::Show(name) => Ok(Answer::Show(self.show(name)?)),
+            Command::Report => Ok(Answer::Report(self.report()?)),
         }
     }
 
@@ -181,19 +217,19 @@ impl Desk {
     // ones, have functions of their own.
 
     #[inline(never)]
-    fn timeline(&mut self, name: Name) -> Result<Answer, Refusal>
+    fn timeline(&mut self, name: Name) -> Result<u64, Refusal>
         ensures refused { IsRefusedFor (cause_of self.old (Command.Timeline name)) result }
-        ensures done { IfOk result (λ given. IsDone self.old (Command.Timeline name) given self.new) }
+        ensures done { IfOk result (λ given. IsDone self.old (Command.Timeline name) (Answer.Value given) self.new) }
         ensures unchanged { OnErr result (self.new ≡ self.old) }
     {
         let ctx = self.timelines.create(name)?;
-        Ok(Answer::Value(u64::from(ctx.number())))
+        Ok(u64::from(ctx.number()))
     }
 
-    fn inc(&mut self, name: &Name, n: u64) -> Result<Answer, Refusal>
+    fn inc(&mut self, name: &Name, n: u64) -> Result<(u64, Items<u64>), Refusal>
         ensures refused { IsRefusedFor (cause_of self.old (Command.Inc name.now n)) result }
         ensures sure { fires_kept self.old (Command.Inc name.now n) ≡ false → IfErr result (λ e. e ≢ Refusal.Memory) }
-        ensures done { IfOk result (λ given. IsDone self.old (Command.Inc name.now n) given self.new) }
+        ensures done { IfOk result (λ given. IsDone self.old (Command.Inc name.now n) (Answer.Raised given.0 given.1) self.new) }
         ensures unchanged { OnErr result (self.new ≡ self.old) }
     {
         let ctx = self.timelines.context(name).ok_or(Refusal::NoEntry)?;
@@ -204,23 +240,24 @@ impl Desk {
         let value = clock.value.checked_add(n).ok_or(Refusal::Overflow)?;
         let fired = self.watches.after_inc(Point { ctx, value })?;
         self.timelines.raise_to(Point { ctx, value });
-        Ok(Answer::Raised(value, Items::of(fired)))
+        Ok((value, Items::of(fired)))
     }
 
-    fn value(&self, name: &Name) -> Result<Answer, Refusal>
+    fn value(&self, name: &Name) -> Result<u64, Refusal>
         ensures refused { IsRefusedFor (cause_of self.now (Command.Value name.now)) result }
         ensures sure { IfErr result (λ e. e ≢ Refusal.Memory) }
-        ensures done { IfOk result (λ given. IsDone self.now (Command.Value name.now) given self.now) }
+        ensures done { IfOk result (λ value. IsDone self.now (Command.Value name.now) (Answer.Value value) self.now) }
     {
-        Ok(Answer::Value(self.timelines.value(name)?))
+        let value = self.timelines.value(name)?;
+        Ok(value)
     }
 
     // The watches are asked first, at the greatest value: if they find no memory, nothing has changed.
     #[inline(never)]
-    fn shut(&mut self, name: &Name) -> Result<Answer, Refusal>
+    fn shut(&mut self, name: &Name) -> Result<(u64, Items<u64>), Refusal>
         ensures refused { IsRefusedFor (cause_of self.old (Command.Shut name.now)) result }
         ensures sure { fires_kept self.old (Command.Shut name.now) ≡ false → IfErr result (λ e. e ≢ Refusal.Memory) }
-        ensures done { IfOk result (λ given. IsDone self.old (Command.Shut name.now) given self.new) }
+        ensures done { IfOk result (λ given. IsDone self.old (Command.Shut name.now) (Answer.Raised given.0 given.1) self.new) }
         ensures unchanged { OnErr result (self.new ≡ self.old) }
     {
         let ctx = self.timelines.context(name).ok_or(Refusal::NoEntry)?;
@@ -234,12 +271,12 @@ impl Desk {
         };
         let fired = self.watches.after_inc(last)?;
         let kept = self.timelines.shut(name)?;
-        Ok(Answer::Raised(kept, Items::of(fired)))
+        Ok((kept, Items::of(fired)))
     }
 
-    fn fence(&mut self, name: Name, timeline: &Name, value: u64) -> Result<Answer, Refusal>
+    fn fence(&mut self, name: Name, timeline: &Name, value: u64) -> Result<(), Refusal>
         ensures refused { IsRefusedFor (cause_of self.old (Command.Fence name timeline.now value)) result }
-        ensures done { IfOk result (λ given. IsDone self.old (Command.Fence name timeline.now value) given self.new) }
+        ensures done { OnOk result (IsDone self.old (Command.Fence name timeline.now value) Answer.Done self.new) }
         ensures unchanged { OnErr result (self.new ≡ self.old) }
     {
         let ctx = self.timelines.context(timeline).ok_or(Refusal::NoEntry)?;
@@ -248,96 +285,89 @@ impl Desk {
             return Err(Refusal::Cancelled);
         }
         self.files.create(name, Point { ctx, value })?;
-        Ok(Answer::Done)
+        Ok(())
     }
 
-    fn merge(&mut self, name: Name, first: &Name, second: &Name) -> Result<Answer, Refusal>
+    fn merge(&mut self, name: Name, first: &Name, second: &Name) -> Result<(), Refusal>
         ensures refused { IsRefusedFor (cause_of self.old (Command.Merge name first.now second.now)) result }
-        ensures done { IfOk result (λ given. IsDone self.old (Command.Merge name first.now second.now) given self.new) }
+        ensures done { OnOk result (IsDone self.old (Command.Merge name first.now second.now) Answer.Done self.new) }
         ensures unchanged { OnErr result (self.new ≡ self.old) }
     {
         let reach = self.timelines.as_reach();
         self.files.merge(name, first, second, reach)?;
-        Ok(Answer::Done)
+        Ok(())
     }
 
-    fn close(&mut self, name: &Name) -> Result<Answer, Refusal>
+    fn close(&mut self, name: &Name) -> Result<(), Refusal>
         ensures refused { IsRefusedFor (cause_of self.old (Command.Close name.now)) result }
         ensures sure { IfErr result (λ e. e ≢ Refusal.Memory) }
-        ensures done { IfOk result (λ given. IsDone self.old (Command.Close name.now) given self.new) }
+        ensures done { OnOk result (IsDone self.old (Command.Close name.now) Answer.Done self.new) }
         ensures unchanged { OnErr result (self.new ≡ self.old) }
     {
         self.files.close(name)?;
-        Ok(Answer::Done)
+        Ok(())
     }
 
-    fn wait(&self, name: &Name) -> Result<Answer, Refusal>
+    fn wait(&self, name: &Name) -> Result<(), Refusal>
         ensures refused { IsRefusedFor (cause_of self.now (Command.Wait name.now)) result }
         ensures sure { IfErr result (λ e. e ≢ Refusal.Memory) }
-        ensures done { IfOk result (λ given. IsDone self.now (Command.Wait name.now) given self.now) }
+        ensures done { OnOk result (IsDone self.now (Command.Wait name.now) Answer.Done self.now) }
     {
         let clocks = self.timelines.as_clocks();
         if self.files.status(name, clocks)?.is_signalled() {
-            Ok(Answer::Done)
+            Ok(())
         } else {
             Err(Refusal::TimedOut)
         }
     }
 
     #[inline(never)]
-    fn info(&self, name: Name) -> Result<Answer, Refusal>
+    fn info(&self, name: Name) -> Result<Info, Refusal>
         ensures refused { IsRefusedFor (cause_of self.now (Command.Info name)) result }
-        ensures done { IfOk result (λ given. IsDone self.now (Command.Info name) given self.now) }
+        ensures done { IfOk result (λ given. IsDone self.now (Command.Info name) (Answer.Info given) self.now) }
     {
         let file = self.files.get(&name).ok_or(Refusal::NoEntry)?;
         let info = info::of_points(self.alloc, name, file.points.as_slice(), &self.timelines)?;
-        Ok(Answer::Info(info))
+        Ok(info)
     }
 
     #[inline(never)]
-    fn buffer(&mut self, name: Name) -> Result<Answer, Refusal>
+    fn buffer(&mut self, name: Name) -> Result<(), Refusal>
         ensures refused { IsRefusedFor (cause_of self.old (Command.Buffer name)) result }
-        ensures done { IfOk result (λ given. IsDone self.old (Command.Buffer name) given self.new) }
+        ensures done { OnOk result (IsDone self.old (Command.Buffer name) Answer.Done self.new) }
         ensures unchanged { OnErr result (self.new ≡ self.old) }
     {
         self.buffers.create(name)?;
-        Ok(Answer::Done)
+        Ok(())
     }
 
-    fn add(
-        &mut self,
-        name: &Name,
-        timeline: &Name,
-        value: u64,
-        usage: Usage,
-    ) -> Result<Answer, Refusal>
+    fn add(&mut self, name: &Name, timeline: &Name, value: u64, usage: Usage) -> Result<(), Refusal>
         ensures refused { IsRefusedFor (cause_of self.old (Command.Add name.now timeline.now value usage)) result }
-        ensures done { IfOk result (λ given.
-            IsDone self.old (Command.Add name.now timeline.now value usage) given self.new) }
+        ensures done { OnOk result (IsDone self.old (Command.Add name.now timeline.now value usage) Answer.Done self.new) }
         ensures unchanged { OnErr result (self.new ≡ self.old) }
     {
         let ctx = self.timelines.context(timeline).ok_or(Refusal::NoEntry)?;
         let reach = self.timelines.as_reach();
         self.buffers.add(name, Point { ctx, value }, usage, reach)?;
-        Ok(Answer::Done)
+        Ok(())
     }
 
     #[inline(never)]
-    fn import(&mut self, name: &Name, file: &Name, flags: u32) -> Result<Answer, Refusal>
+    fn import(&mut self, name: &Name, file: &Name, flags: u32) -> Result<(), Refusal>
         ensures refused { IsRefusedFor (cause_of self.old (Command.Import name.now file.now flags)) result }
-        ensures done { IfOk result (λ given. IsDone self.old (Command.Import name.now file.now flags) given self.new) }
+        ensures done { OnOk result (IsDone self.old (Command.Import name.now file.now flags) Answer.Done self.new) }
         ensures unchanged { OnErr result (self.new ≡ self.old) }
     {
         let file = self.files.get(file).ok_or(Refusal::NoEntry)?;
         let reach = self.timelines.as_reach();
         self.buffers.import(name, file, flags, reach)?;
-        Ok(Answer::Done)
+        Ok(())
     }
 
     #[inline(never)]
-    fn export(&mut self, name: Name, buffer: &Name, flags: u32) -> Result<Answer, Refusal>
+    fn export(&mut self, name: Name, buffer: &Name, flags: u32) -> Result<(), Refusal>
         ensures refused { IsRefusedFor (cause_of self.old (Command.Export name buffer.now flags)) result }
-        ensures done { IfOk result (λ given. IsDone self.old (Command.Export name buffer.now flags) given self.new) }
+        ensures done { OnOk result (IsDone self.old (Command.Export name buffer.now flags) Answer.Done self.new) }
         ensures unchanged { OnErr result (self.new ≡ self.old) }
     {
         if !self.buffers.has(buffer) {
@@ -348,41 +378,41 @@ impl Desk {
         let reach = self.timelines.as_reach();
         let listing = self.buffers.export(buffer, flags, reach)?;
         self.files.adopt(name, listing)?;
-        Ok(Answer::Done)
+        Ok(())
     }
 
-    fn test(&self, name: &Name, usage: Usage) -> Result<Answer, Refusal>
+    fn test(&self, name: &Name, usage: Usage) -> Result<u64, Refusal>
         ensures refused { IsRefusedFor (cause_of self.now (Command.Test name.now usage)) result }
         ensures sure { IfErr result (λ e. e ≢ Refusal.Memory) }
-        ensures done { IfOk result (λ given. IsDone self.now (Command.Test name.now usage) given self.now) }
+        ensures done { IfOk result (λ given. IsDone self.now (Command.Test name.now usage) (Answer.Value given) self.now) }
     {
         let signalled = self.buffers.test(name, usage, self.timelines.as_reach())?;
-        Ok(Answer::Value(u64::from(signalled)))
+        Ok(u64::from(signalled))
     }
 
     #[inline(never)]
-    fn trim(&mut self, name: &Name) -> Result<Answer, Refusal>
+    fn trim(&mut self, name: &Name) -> Result<(), Refusal>
         ensures refused { IsRefusedFor (cause_of self.old (Command.Trim name.now)) result }
         ensures sure { IfErr result (λ e. e ≢ Refusal.Memory) }
-        ensures done { IfOk result (λ given. IsDone self.old (Command.Trim name.now) given self.new) }
+        ensures done { OnOk result (IsDone self.old (Command.Trim name.now) Answer.Done self.new) }
         ensures unchanged { OnErr result (self.new ≡ self.old) }
     {
         let reach = self.timelines.as_reach();
         self.buffers.trim(name, reach)?;
-        Ok(Answer::Done)
+        Ok(())
     }
 
     #[inline(never)]
-    fn watch(&mut self, name: &Name, cookie: u64) -> Result<Answer, Refusal>
+    fn watch(&mut self, name: &Name, cookie: u64) -> Result<(), Refusal>
         ensures refused { IsRefusedFor (cause_of self.old (Command.Watch name.now cookie)) result }
-        ensures done { IfOk result (λ given. IsDone self.old (Command.Watch name.now cookie) given self.new) }
+        ensures done { OnOk result (IsDone self.old (Command.Watch name.now cookie) Answer.Done self.new) }
         ensures unchanged { OnErr result (self.new ≡ self.old) }
     {
         let file = self.files.get(name).ok_or(Refusal::NoEntry)?;
         let reach = self.timelines.as_reach();
         self.watches
             .register(cookie, file.points.as_slice(), reach)?;
-        Ok(Answer::Done)
+        Ok(())
     }
 
     /// Whether a watch of the file of that name may be registered under the cookie.
@@ -400,28 +430,28 @@ impl Desk {
         Ok(())
     }
 
-    fn unwatch(&mut self, cookie: u64) -> Answer
-        ensures done { IsDone self.old (Command.Unwatch cookie) result self.new }
+    fn unwatch(&mut self, cookie: u64) -> u64
+        ensures done { IsDone self.old (Command.Unwatch cookie) (Answer.Value result) self.new }
     {
-        Answer::Value(u64::from(self.watches.remove(cookie)))
+        u64::from(self.watches.remove(cookie))
     }
 
     #[inline(never)]
-    fn show(&self, name: &Name) -> Result<Answer, Refusal>
+    fn show(&self, name: &Name) -> Result<Items<ShowRow>, Refusal>
         ensures refused { IsRefusedFor (cause_of self.now (Command.Show name.now)) result }
-        ensures done { IfOk result (λ given. IsDone self.now (Command.Show name.now) given self.now) }
+        ensures done { IfOk result (λ given. IsDone self.now (Command.Show name.now) (Answer.Show given) self.now) }
     {
         let tops = self.buffers.table(name, self.timelines.as_reach())?;
         let rows = report::show_rows(self.alloc, &tops, &self.timelines)?;
-        Ok(Answer::Show(Items::of(rows)))
+        Ok(Items::of(rows))
     }
 
     #[inline(never)]
-    fn report(&self) -> Result<Answer, Refusal>
+    fn report(&self) -> Result<Report, Refusal>
         ensures refused { IsRefusedFor (cause_of self.now Command.Report) result }
-        ensures done { IfOk result (λ given. IsDone self.now Command.Report given self.now) }
+        ensures done { IfOk result (λ given. IsDone self.now Command.Report (Answer.Report given) self.now) }
     {
         let report = report::of_all(self.alloc, &self.timelines, &self.files, &self.buffers)?;
-        Ok(Answer::Report(report))
+        Ok(report)
     }
 }
