@@ -1,7 +1,9 @@
 -- Lines that are answered one after another.
-use Rattle.std.specs.Prelude.{◌≡◌, ℕ, List, [], ◌∷◌, ◌++◌, take, Option}
+use Rattle.std.specs.Prelude.{◌≡◌, ◌≤◌, ◌+◌, ◌⊎◌, ℕ, List, [], ◌∷◌, ◌++◌, take, Option, None, Some, Result, Ok, OnOk, OnErr, IfOk, IfErr}
 use Rattle.std.specs.Io.KnownBytes.{Appends}
 use Rattle.point_core.specs.declared.refusal.Refusal.{Refusal}
+use Rattle.point_core.specs.declared.refusal.Refusal.TheVariants.{Write as WriteFault, Memory}
+use Rattle.line_core.specs.declared.line.Body.{Body}
 use Rattle.command_core.specs.declared.command.Command.{Command}
 use Rattle.command_core.specs.declared.answer.Answer.{Answer}
 use Rattle.desk_core.specs.Desk.{DeskState, HasHistory}
@@ -12,7 +14,7 @@ use Rattle.script_core.specs.declared.totals.Totals.{Totals}
 use Rattle.line_core.specs.Reading.{WasRead}
 use Rattle.script_core.specs.Bytes.{PassesOn}
 use Rattle.script_core.specs.Text.{text_of}
-use Rattle.script_core.specs.Output.{history_after_line, IsLineAnswer, AreLineAnswers, refusal_of, texts_of, WritesAnswers, Counts}
+use Rattle.script_core.specs.Output.{history_after_line, IsLineAnswer, AreLineAnswers, refusal_of, texts_of, WritesAnswers, WritesPrefix, Counts}
 use Rattle.line_core.specs.Script.{lines_until}
 
 -- the history after lines that were answered so
@@ -65,3 +67,20 @@ pub record HasAnsweredBytes (before after : Option (List ℕ)) (end : Ending) (s
   pub bytes : List ℕ
   pub read : WasRead before after bytes end
   pub answered : HasAnswered (lines_until end (take SCRIPT_BYTES bytes)) s old new
+
+-- A line of that number was answered, or an answer could not be passed on: the clauses of `answer_body`, as one.
+pub record IsAnswered (number : ℕ) (body : Body) (given : Result (Option Refusal) Refusal) (before after : AnswersState)
+    (old new : Option (List ℕ)) : Type 0 where
+  pub ok : OnOk given ((done : List Line) → (start : Option (List ℕ)) → HasAnswered done before start old
+      → HasAnswered (done ++ record { number = number; body = body } ∷ []) after start new)
+  pub refused : IfOk given (λ refused. AnswersLine (record { number = number; body = body }) refused before after old new)
+  pub err : OnErr given ((done : List Line) → (start : Option (List ℕ)) → HasAnswered done before start old
+      → WritesPrefix (done ++ record { number = number; body = body } ∷ []) start new)
+  pub lines : after.totals.lines ≤ before.totals.lines + 1
+  pub refusals : IfErr given (λ refusal. (refusal ≡ WriteFault) ⊎ (refusal ≡ Memory))
+
+-- If there is a body, its line was answered; else nothing happened.
+abbrev pub IsAnsweredIf : ℕ → Option Body → Result (Option Refusal) Refusal → AnswersState → AnswersState
+    → Option (List ℕ) → Option (List ℕ) → Type 0
+IsAnsweredIf number None given before after old new = (given ≡ Ok None) × (after ≡ before) × (new ≡ old)
+IsAnsweredIf number (Some body) given before after old new = IsAnswered number body given before after old new

@@ -1,7 +1,8 @@
 // How a line is answered.
 
 use crate::answers::Answers;
-use line_core::{Ending, RawLine, body_of, last_body};
+use crate::next_line::answer_bytes;
+use line_core::{Ending, RawLine, last_body};
 use point_core::Refusal;
 use std::io::Write;
 
@@ -55,7 +56,7 @@ impl Answerer<()> for NoNotes {
         _notes: &mut (),
     ) -> Result<(), Refusal> {
         match ending {
-            Ending::Whole => answers.answer(line.number, body_of(line.bytes), writer)?,
+            Ending::Whole => answer_bytes(answers, line.number, line.bytes, writer)?,
             _ => answers.answer(line.number, last_body(ending, line.bytes), writer)?,
         };
         Ok(())

@@ -93,7 +93,12 @@ impl Answers {
         }
     }
 
-    fn answer_body<W: Write>(
+    /// Answers the line of that number, which says this. It is inlined where the body is made: then neither the command nor
+    /// its answer is in memory as a whole.
+    ///
+    /// Fails as `answer`.
+    #[inline(always)]
+    pub(crate) fn answer_body<W: Write>(
         &mut self,
         number: u32,
         body: Body,
@@ -170,6 +175,7 @@ pub fn answer_line(desk: &mut Desk, body: Body) -> Answer
 }
 
 /// The refusal, if the answer is one.
+#[inline(always)]
 fn refusal_of(answer: &Answer) -> Option<Refusal>
     ensures { result ≡ refusal_of answer.now }
 {

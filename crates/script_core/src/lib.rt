@@ -5,6 +5,7 @@
 
 mod answerer;
 mod answers;
+mod next_line;
 mod passing;
 mod reading;
 mod text;

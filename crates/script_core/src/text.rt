@@ -103,6 +103,7 @@ pub(crate) fn push_owned(line: u32, answer: Answer, out: &mut Vec<u8>) -> Result
     }
 }
 
+#[inline(always)]
 fn push_done(out: &mut Vec<u8>) -> Result<(), Refusal>
     ensures ok { OnOk result (out.new.items ≡ out.old.items ++ line_text (codes "ok" ∷ [])) }
     ensures err { OnErr result ((result ≡ Err Memory) × StartsWith out.new.items out.old.items) }

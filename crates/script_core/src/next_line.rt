@@ -1,0 +1,87 @@
+// A line that is answered where it is read.
+ghost use Rattle.std.specs.Prelude.{◌≡◌, ◌+◌, ◌<◌, ◌≤◌, ◌⊎◌, ◌++◌, [], List, ℕ, Option, None, MatchOption, IfOk, OnOk, OnErr, IfErr};
+ghost use Rattle.point_core.specs.declared.refusal.Refusal.TheVariants.{Write as WriteFault, Memory};
+ghost use Rattle.line_core.specs.declared.line.Line.{Line};
+ghost use Rattle.line_core.specs.Line.{body_of};
+ghost use Rattle.line_core.specs.Script.{answered};
+ghost use Rattle.script_core.specs.Answering.{HasAnswered, AnswersLine, IsAnsweredIf};
+ghost use Rattle.script_core.specs.Output.{WritesPrefix};
+
+use crate::answers::Answers;
+use line_core::{Body, Takes, take_line};
+use point_core::Refusal;
+use std::io::Write;
+
+/// Answers the line of that number and of these bytes, if it has an answer, and gives the refusal if the answer is one.
+///
+/// Fails as `Answers::answer`.
+#[inline(always)]
+pub(crate) fn answer_bytes<W: Write>(
+    answers: &mut Answers,
+    number: u32,
+    bytes: &[u8],
+    writer: &mut W,
+) -> Result<Option<Refusal>, Refusal>
+    requires few { answers.old.totals.lines < number }
+    ensures ok { OnOk result ((done : List Line) → (start : Option (List ℕ)) →
+        HasAnswered done answers.old start (W.contents writer.old)
+        → HasAnswered (done ++ answered number (body_of bytes.now) []) answers.new start (W.contents writer.new)) }
+    ensures refused { IfOk result (λ refused. MatchOption (body_of bytes.now) (refused ≡ None) (λ said.
+        AnswersLine (record { number = number; body = said }) refused answers.old answers.new
+        (W.contents writer.old) (W.contents writer.new))) }
+    ensures err { OnErr result ((done : List Line) → (start : Option (List ℕ)) →
+        HasAnswered done answers.old start (W.contents writer.old)
+        → WritesPrefix (done ++ answered number (body_of bytes.now) []) start (W.contents writer.new)) }
+    ensures lines { answers.new.totals.lines ≤ answers.old.totals.lines + 1 }
+    ensures refusals { IfErr result (λ refusal. (refusal ≡ WriteFault) ⊎ (refusal ≡ Memory)) }
+{
+    take_bytes(answers, number, bytes, writer)
+}
+
+#[inline(always)]
+fn take_bytes<W: Write>(
+    answers: &mut Answers,
+    number: u32,
+    bytes: &[u8],
+    writer: &mut W,
+) -> Result<Option<Refusal>, Refusal>
+    requires few { answers.old.totals.lines < number }
+    ensures answered { IsAnsweredIf number (body_of bytes.now) result answers.old answers.new
+        (W.contents writer.old) (W.contents writer.new) }
+{
+    let mut next = NextLine {
+        answers,
+        number,
+        writer,
+    };
+    match take_line(bytes, &mut next) {
+        Some(given) => given,
+        None => Ok(None),
+    }
+}
+
+/// Takes what the line of that number says, and answers it to the writer.
+#[derive(Drop)]
+struct NextLine<'a, W> {
+    answers: &'a mut Answers,
+    number: u32,
+    writer: &'a mut W,
+}
+
+impl<'a, W: Write> Takes for NextLine<'a, W> {
+    ghost use Rattle.std.specs.Prelude.{◌≡◌, ◌<◌};
+    ghost use Rattle.script_core.specs.Answering.{IsAnswered};
+
+    type Given = Result<Option<Refusal>, Refusal>;
+
+    ghost can_take = { λ s. s.answers.now.totals.lines < s.number };
+
+    ghost takes = { λ s body given t. (t.answers.ghost_name ≡ s.answers.ghost_name)
+        × (t.writer.ghost_name ≡ s.writer.ghost_name)
+        × IsAnswered s.number body given s.answers.now t.answers.now (W.contents s.writer.now) (W.contents t.writer.now) };
+
+    #[inline(always)]
+    fn take(&mut self, body: Body) -> Result<Option<Refusal>, Refusal> {
+        self.answers.answer_body(self.number, body, self.writer)
+    }
+}
