@@ -1,10 +1,11 @@
 -- The words of a command fit the operands of its row.
-use Rattle.std.proofs.Common.{◌≡◌, ℕ, Bool, true, false, ◌&&◌, cond, is_some, List, [], ◌∷◌, Option, None, Some, option_map, refl, subst, ◌∙◌, arith}
+use Rattle.std.proofs.Common.{◌≡◌, ℕ, Bool, true, false, ◌&&◌, cond, is_some, List, [], ◌∷◌, Option, None, Some, option_map, refl, sym, ap, subst, ◌∙◌, codes, arith}
 use Rattle.std.specs.Option.{option_and_then}
+use Rattle.std.proofs.lemmas.Bool.{false_from_ne_true}
 use Rattle.std.proofs.lemmas.Bool.Decides.{nat_tests}
+use Rattle.std.proofs.lemmas.Slice.Eq.{bytes_eq-Decides}
 use Rattle.std.specs.Str.{bytes_eq}
 use Rattle.point_core.specs.declared.entry.Usage.{Usage as UsageOf}
-use Rattle.line_core.specs.declared.table.CommandWord.TheVariants.{Report}
 use Rattle.line_core.specs.declared.table.Operand.{Operand}
 use Rattle.line_core.specs.declared.table.Operand.TheVariants.{Name, Number, Usage, Flags}
 use Rattle.command_core.specs.declared.command.Command.{Command}
@@ -12,7 +13,7 @@ use Rattle.command_core.specs.declared.command.Command.TheVariants as command
 use Rattle.line_core.specs.Following.{is_name, name_of, both, all_three, all_four, one_name, one_number, name_and_number, two_names_and_number, three_names, two_names_number_and_usage, two_names_and_flags, name_and_usage}
 use Rattle.line_core.specs.Number.{is_number, number_of}
 use Rattle.line_core.specs.Usages.{usage_of, flags_of}
-use Rattle.line_core.specs.Table.{Form, forms, form_at, matches, fit, command_by}
+use Rattle.line_core.specs.Table.{Form, forms, form_at, matches, fit, command_from}
 use Rattle.line_core.specs.Words.{one_of, two_of, three_of, four_of, are_none}
 
 and-false : (b : Bool) → false ≡ (b && false)
@@ -97,27 +98,31 @@ fit-four o p q m r s t u h k l n (a ∷ b ∷ c ∷ d ∷ e ∷ more) = and-fals
 some_words : (word : List ℕ) (words : List (List ℕ)) → are_none (word ∷ words) ≡ false
 some_words word words = grind (arith, nat_tests)
 
-fit-none : (words : List (List ℕ)) → is_some (command_by (Some Report) words) ≡ fit [] words
+fit-none : (words : List (List ℕ)) → is_some (cond (are_none words) (Some command.Report) None) ≡ fit [] words
 fit-none [] = refl
 fit-none (word ∷ words) = is_some-chosen (are_none (word ∷ words)) command.Report ∙ some_words word words
 
-abbrev Fits : Form → Type 0
-Fits form = (words : List (List ℕ)) → is_some (command_by (Some form.asks) words) ≡ fit form.operands words
+-- with that first word, the words make a command just when they fit the row
+abbrev FitsAt : List ℕ → Form → Type 0
+FitsAt word form = (words : List (List ℕ)) → is_some (command_from word words) ≡ fit form.operands words
 
 abbrev AllFit : List Form → Type 0
 AllFit [] = Unit {0}
-AllFit (form ∷ forms) = Fits form × AllFit forms
+AllFit (form ∷ forms) = FitsAt form.word form × AllFit forms
 
 same : (f g : Form) → Some f ≡ Some g → f ≡ g
 same f g e = cc
 
-step : (b : Bool) (f form : Form) (rest : Option Form) → cond b (Some f) rest ≡ Some form → Fits f → (rest ≡ Some form → Fits form) → Fits form
-step true f form rest e here more = subst Fits (same f form e) here
-step false f form rest e here more = more e
+step : (word : List ℕ) (b : Bool) (f form : Form) (rest : Option Form) → cond b (Some f) rest ≡ Some form → (b ≡ true → FitsAt word f) → (rest ≡ Some form → FitsAt word form) → FitsAt word form
+step word true f form rest e here more = subst (FitsAt word) (same f form e) (here refl)
+step word false f form rest e here more = more e
 
-fit-at : (fs : List Form) (word : List ℕ) (form : Form) → AllFit fs → form_at fs word ≡ Some form → Fits form
+fit-at : (fs : List Form) (word : List ℕ) (form : Form) → AllFit fs → form_at fs word ≡ Some form → FitsAt word form
 fit-at [] word form all e = absurd (cc)
-fit-at (f ∷ fs) word form all e = step (bytes_eq word f.word) f form (form_at fs word) e all.0 (fit-at fs word form all.1)
+fit-at (f ∷ fs) word form all e =
+    step word (bytes_eq word f.word) f form (form_at fs word) e
+    (λ h. subst (λ w. FitsAt w f) (sym ((bytes_eq-Decides word f.word).0 h)) all.0)
+    (fit-at fs word form all.1)
 
 by-one_name : (make : List ℕ → Command) (words : List (List ℕ)) → is_some (option_map make (one_name words)) ≡ fit (Name ∷ []) words
 by-one_name make words = is_some-map make (one_name words) ∙ fit-one Name name_of named words
@@ -170,5 +175,38 @@ all_fit =
     also fit-none
     also tt
 
-pub fit-row : (word : List ℕ) (form : Form) → form_at forms word ≡ Some form → (words : List (List ℕ)) → is_some (command_by (Some form.asks) words) ≡ fit form.operands words
+pub fit-row : (word : List ℕ) (form : Form) → form_at forms word ≡ Some form → FitsAt word form
 fit-row word form e = fit-at forms word form all_fit e
+
+-- a word without a row is none that has one
+other : (word known : List ℕ) → form_at forms word ≡ None → is_some (form_at forms known) ≡ true → bytes_eq word known ≡ false
+other word known e has =
+    false_from_ne_true _ (λ h. none (form_at forms known) (ap (form_at forms) (sym ((bytes_eq-Decides word known).0 h)) ∙ e) has)
+  where
+    none : (o : Option Form) → o ≡ None → is_some o ≡ true → ⊥
+    none None e has = absurd (cc)
+    none (Some form) e has = absurd (cc)
+
+pub no-row : (word : List ℕ) (words : List (List ℕ)) → form_at forms word ≡ None → command_from word words ≡ None
+no-row word words e =
+    rw (
+      other word (codes "close") e refl,
+      other word (codes "merge") e refl,
+      other word (codes "fence") e refl,
+      other word (codes "wait") e refl,
+      other word (codes "inc") e refl,
+      other word (codes "watch") e refl,
+      other word (codes "add") e refl,
+      other word (codes "import") e refl,
+      other word (codes "export") e refl,
+      other word (codes "test") e refl,
+      other word (codes "value") e refl,
+      other word (codes "timeline") e refl,
+      other word (codes "buffer") e refl,
+      other word (codes "info") e refl,
+      other word (codes "show") e refl,
+      other word (codes "trim") e refl,
+      other word (codes "unwatch") e refl,
+      other word (codes "shut") e refl,
+      other word (codes "report") e refl,
+    ) refl

@@ -6,7 +6,6 @@ pub mod Fitting
 pub mod Fronts
 pub mod GivenLines
 pub mod Inputs
-pub mod Keyed
 pub mod LineLemmas
 pub mod Lowest
 pub mod Notes

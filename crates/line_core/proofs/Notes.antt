@@ -1,8 +1,8 @@
 -- A line that begins with `#` has no answer.
-use Rattle.std.proofs.Common.{◌≡◌, ℕ, ◌<◌, Bool, true, false, ◌&&◌, cond, eqb, List, [], ◌∷◌, length, take, drop, None, Some, unwrap_or, refl, sym, ap, ◌∙◌, arith}
+use Rattle.std.proofs.Common.{◌≡◌, ℕ, ◌<◌, true, false, cond, eqb, List, [], ◌∷◌, length, take, drop, None, Some, unwrap_or, refl, sym, ap, ◌∙◌, arith}
 use Rattle.std.specs.List.{position}
 use Rattle.std.specs.Cmp.Lexicographic.{pointwise}
-use Rattle.std.proofs.lemmas.Bool.{and_parts, eqb-true, ne_eqb}
+use Rattle.std.proofs.lemmas.Bool.{and_parts, eqb-true}
 use Rattle.line_core.specs.Line.{is_comment, command_or_syntax, body_from}
 use Rattle.line_core.specs.Table.{command_from}
 use Rattle.line_core.specs.Words.{is_space, words_of}

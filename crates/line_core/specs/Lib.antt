@@ -1,6 +1,5 @@
 pub mod Cutting
 pub mod Following
-pub mod Keys
 pub mod Line
 pub mod Lines
 pub mod Marks

@@ -8,8 +8,8 @@ use std::marker::Model;
 /// How many bytes are held of a line: as many as a line may have, and one that shows that it has more.
 pub(crate) const HELD_BYTES: usize = LINE_BYTES + 1;
 
-/// Cuts a script into its lines, byte by byte. It holds the number of its line, from 1, and the line's bytes so far, or that
-/// they are more than `LINE_BYTES`.
+/// Cuts a script into its lines, byte by byte. It holds the number of its line, from 1, and the line's bytes so far, or
+/// that they are more than `LINE_BYTES`.
 ///
 /// Takes no memory.
 #[derive(Debug, Drop)]

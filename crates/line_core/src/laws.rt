@@ -12,8 +12,8 @@ pub fn limits_of_a_script()
     ensures digits { DIGITS ≡ 20 }
 {}
 
-/// A line is a command just when its first word has a row in the table, and the other words fit that row: one word for each
-/// operand, which matches it.
+/// A line is a command just when its first word has a row in the table, and the other words fit that row: one word for
+/// each operand, which matches it.
 pub fn a_command_is_a_word_and_its_operands()
     ensures unknown { (word : List ℕ) → (words : List (List ℕ)) →
         form_at forms word ≡ None → command_from word words ≡ None }

@@ -3,8 +3,8 @@
 //! Lines, words, names and numbers are given as functions of the bytes (`specs/`).
 #![tactic(auto)]
 
+mod command;
 mod cutter;
-mod keys;
 pub mod laws;
 mod line;
 mod marks;

@@ -1,5 +1,5 @@
-// Marks of bytes: a number with a bit for each byte that says whether the byte is of a word. With them words are found without
-// a look at each byte.
+// Marks of bytes: a number with a bit for each byte that says whether the byte is of a word. With them words are found
+// without a look at each byte.
 ghost use Rattle.std.specs.Prelude.{◌≡◌, ◌+◌, ◌*◌, ◌≤◌, not, drop, take, length, position, unwrap_or, IfSome};
 ghost use Rattle.line_core.specs.Marks.{HasMarks, MayHaveMarks, marks_of};
 ghost use Rattle.line_core.specs.Words.{is_space};

@@ -16,8 +16,8 @@ const _: () = prove!(SCRIPT_BYTES == 1_048_576);
 
 /// The lines of a script that have an answer, in order.
 ///
-/// Of a script of more than `SCRIPT_BYTES` bytes, the lines whose line feed is within that limit, and after them the line
-/// that the limit cuts, as `Bad(Limit(Script))`.
+/// Of a script of more than `SCRIPT_BYTES` bytes, the lines whose line feed is within that limit, and after them the
+/// line that the limit cuts, as `Bad(Limit(Script))`.
 ///
 /// Fails only with Memory.
 pub fn read_script(alloc: Global, bytes: &[u8]) -> Result<Vec<Line>, Refusal>

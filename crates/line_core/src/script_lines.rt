@@ -22,8 +22,8 @@ pub struct RawLine<'a> {
     pub length: usize,
 }
 
-/// The lines of a script from a reader, one after another. It keeps one block of the script, and of a line that began before
-/// that block no more than its first bytes.
+/// The lines of a script from a reader, one after another. It keeps one block of the script, and of a line that began
+/// before that block no more than its first bytes.
 ///
 /// Takes no memory.
 #[derive(Drop)]
@@ -126,8 +126,8 @@ impl ScriptLines {
         }
     }
 
-    /// Reads once, up to a block's bytes; none if some were read, else how the script ends. An interrupted read counts as
-    /// failed. No byte is read past the one after the limit of a script.
+    /// Reads once, up to a block's bytes; none if some were read, else how the script ends. An interrupted read counts
+    /// as failed. No byte is read past the one after the limit of a script.
     pub fn read<R: Read>(&mut self, reader: &mut R) -> Option<Ending>
         requires drained { IsDrained self.old }
         ensures more { result ≡ None → (before : Option (List ℕ)) → (given : List (List ℕ)) →

@@ -1,4 +1,4 @@
-use Rattle.std.proofs.Common.{◌≤◌, length, sym, subst, ap, ◌∙◌, arith, w64}
+use Rattle.std.proofs.Common.{◌≤◌, length, sym, subst, ap, ◌∙◌, w64}
 use Rattle.std.specs.Int.{trailing_ones}
 use Rattle.line_core.proofs.Lowest.{marked-end, marked-end_within}
 use Rattle.line_core.proofs.marks.marked_end.Goals as goal

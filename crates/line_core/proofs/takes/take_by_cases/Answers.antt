@@ -1,7 +1,6 @@
-use Rattle.std.proofs.Common.{rules, ◌≡◌, ap, sym, subst, Option, None, Some, ◌∙◌}
+use Rattle.std.proofs.Common.{rules, ◌≡◌, sym, subst, Some}
 use Rattle.line_core.specs.Line.{body_of, command_or_syntax}
 use Rattle.line_core.specs.Table.{command_from}
-use Rattle.line_core.specs.Takes.{TakesCommand, TakesIfSome}
 use Rattle.line_core.proofs.Taking.{TakesCommand-none, TakesCommand-some}
 use Rattle.line_core.proofs.takes.take_by_cases.Goals as goal
 
