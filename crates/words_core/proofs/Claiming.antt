@@ -9,6 +9,7 @@ use Rattle.atomic_table.proofs.Lists.{at_map}
 use Rattle.words_core.specs.declared.trace.Step.{Step}
 use Rattle.words_core.specs.declared.trace.View.{View}
 use Rattle.words_core.specs.declared.words.Sizes.{Sizes}
+use Rattle.words_core.specs.declared.words.TheConstants.{CLAIM}
 use Rattle.words_core.specs.Layout.{value_place, claim_place, mark_place, IsClaimOrFlag}
 use Rattle.words_core.specs.Trace.{on, total, added, is_win, is_test, wins_of, shuts_of, set_once_step}
 use Rattle.words_core.specs.Rule.{context_trace, mark_trace, word_trace, made_in, known_in, wins_on, AddsAsDriver, ShutsAsDriver, IsKept}
@@ -73,7 +74,7 @@ pub claims_context-allowed : (z : Sizes) (slots id c : ℕ) (me : Holder) → c 
 claims_context-allowed z slots id c me low live s h homes at small =
     let v : View = me.0 in let k : ℕ = claim_place c in let n : ℕ = slice_index s.words k in let views : List View = s.views in
     let is = IsClaimOrFlag-claim z c low in
-    let back : k - 1 ≡ value_place c = omega arith in
+    let back : k - CLAIM ≡ value_place c = omega arith in
     let on_ : k + 1 ≡ mark_place c = omega arith in (
       view_with v (set_once_step k n),
       keeps,

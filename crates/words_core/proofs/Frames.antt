@@ -17,7 +17,7 @@ use Rattle.words_core.proofs.Totals.{total-set, total-append, Each-set, Each-at,
 use Rattle.words_core.proofs.Traces.{on-append_here, on-append_other}
 use Rattle.words_core.proofs.ValueSteps.{grown, claimed, IsValue-claimed}
 use Rattle.words_core.proofs.MarkSteps.{IsMark-claimed}
-use Rattle.words_core.proofs.WordKinds.{IsClaimOrFlag-not_value, IsClaimOrFlag-not_mark, IsBoardWord-not_value, IsBoardWord-not_mark, IsBoardWord-not_flag, IsUnused-not_value, IsUnused-not_mark, IsUnused-not_set_once, IsUnused-not_entry}
+use Rattle.words_core.proofs.WordKinds.{IsClaimOrFlag-not_value, IsClaimOrFlag-not_mark, IsBoardWord-not_value, IsBoardWord-not_mark, IsBoardWord-not_flag, IsBoardWord-inside, IsUnused-not_value, IsUnused-not_mark, IsUnused-not_set_once, IsUnused-not_entry, lines_of}
 
 -- the traces of a word and a claim, after a step on the word, on the claim, or on neither
 
@@ -164,13 +164,13 @@ pub IsKept-value : (z : Sizes) (words : List ℕ) (views : List View) (id c m : 
     → IsMark m (get_or words (mark_place c) 0) (map (mark_trace c) views)
     → IsKept z (set words (value_place c) m) (set views id (view_with v s))
 IsKept-value z words views id c m v s low live at on_c no_win h fits valued =
-    IsKept-step z words views id (value_place c) m v s (omega arith) live at on_c (let few = h.won_once s.word in omega arith)
+    IsKept-step z words views id (value_place c) m v s (let lines = lines_of z in omega arith) live at on_c (let few = h.won_once s.word in omega arith)
     record {
       value = λ b lower e. let same : c ≡ b = omega arith in subst (λ (y : ℕ). IsValue m (set (map (context_trace y) views) id (grown (context_trace y v) s))) same fits;
       valued = λ b lower e. let same : c ≡ b = omega arith in subst (λ (y : ℕ). IsMark m (get_or words (mark_place y) 0) (map (mark_trace y) views)) same valued;
       mark = λ b lower bad. absurd (omega arith);
       set_once = λ is. absurd (IsClaimOrFlag-not_value z (value_place c) c low is refl);
-      entry = λ is. absurd (IsBoardWord-not_value z (value_place c) c low is refl);
+      entry = λ is. absurd (IsBoardWord-not_value z (value_place c) c is refl);
       unused = λ is. absurd (IsUnused-not_value z (value_place c) c low is refl);
     } h
 
@@ -179,13 +179,13 @@ pub IsKept-mark : (z : Sizes) (words : List ℕ) (views : List View) (id c m : �
     → IsMark (get_or words (value_place c) 0) m (set (map (mark_trace c) views) id (grown (mark_trace c v) s))
     → IsKept z (set words (mark_place c) m) (set views id (view_with v s))
 IsKept-mark z words views id c m v s low live at on_c no_win h fits =
-    IsKept-step z words views id (mark_place c) m v s (omega arith) live at on_c (let few = h.won_once s.word in omega arith)
+    IsKept-step z words views id (mark_place c) m v s (let lines = lines_of z in omega arith) live at on_c (let few = h.won_once s.word in omega arith)
     record {
       value = λ b lower bad. absurd (omega arith);
       valued = λ b lower bad. absurd (omega arith);
       mark = λ b lower e. let same : c ≡ b = omega arith in subst (λ (y : ℕ). IsMark (get_or words (value_place y) 0) m (set (map (mark_trace y) views) id (grown (mark_trace y v) s))) same fits;
       set_once = λ is. absurd (IsClaimOrFlag-not_mark z (mark_place c) c low is refl);
-      entry = λ is. absurd (IsBoardWord-not_mark z (mark_place c) c low is refl);
+      entry = λ is. absurd (IsBoardWord-not_mark z (mark_place c) c is refl);
       unused = λ is. absurd (IsUnused-not_mark z (mark_place c) c low is refl);
     } h
 
@@ -209,11 +209,11 @@ pub IsKept-entry : (z : Sizes) (words : List ℕ) (views : List View) (id k m : 
     → IsEntry m (set (map (word_trace k) views) id (grown (word_trace k v) s))
     → IsKept z (set words k m) (set views id (view_with v s))
 IsKept-entry z words views id k m v s named live at on_k no_win h fits =
-    IsKept-step z words views id k m v s (let to = named.to in omega arith) live at on_k (let few = h.won_once s.word in omega arith)
+    IsKept-step z words views id k m v s (IsBoardWord-inside z k named) live at on_k (let few = h.won_once s.word in omega arith)
     record {
-      value = λ b low bad. absurd (IsBoardWord-not_value z k b low named bad);
-      valued = λ b low bad. absurd (IsBoardWord-not_value z k b low named bad);
-      mark = λ b low bad. absurd (IsBoardWord-not_mark z k b low named bad);
+      value = λ b low bad. absurd (IsBoardWord-not_value z k b named bad);
+      valued = λ b low bad. absurd (IsBoardWord-not_value z k b named bad);
+      mark = λ b low bad. absurd (IsBoardWord-not_mark z k b named bad);
       set_once = λ is. absurd (IsBoardWord-not_flag z k k is named refl);
       entry = λ _. fits;
       unused = λ is. absurd (IsUnused-not_entry z k k named is refl);

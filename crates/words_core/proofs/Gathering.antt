@@ -8,6 +8,7 @@ use Rattle.words_core.specs.declared.seat.TheConstants.{PARTS}
 use Rattle.words_core.specs.declared.trace.Step.{Step}
 use Rattle.words_core.specs.declared.trace.View.{View}
 use Rattle.words_core.specs.declared.words.Sizes.{Sizes}
+use Rattle.words_core.specs.declared.words.TheConstants.{MARK}
 use Rattle.words_core.specs.Layout.{value_place, claim_place, mark_place, IsClaimOrFlag, IsBoardWord}
 use Rattle.words_core.specs.Trace.{on, amount_of, total, raised, is_win, is_loss, is_shut, shut_to, is_test, is_load_of, is_add_to, is_raise_to, is_sight_of, load, shown, IsDecided}
 use Rattle.words_core.specs.Rule.{WordTrace, context_trace, mark_trace, word_trace, made_in, known_in, wins_on, IsAtMost, KnowsZeroOr, RaisesNoMore, parts_of, IsEmptyIfSpent, IsKept}
@@ -79,7 +80,7 @@ loads_total_mark-allowed z slots id c me low all s h homes at small =
     let own : (f : Step → ℕ) → total (made_in f) traces ≡ total f (on w v.trace) = λ f. total-map (made_in f) (mark_trace c) views ∙ total_whole z s.words views id v (λ steps. total f (on w steps)) refl at h all in
     let added : value ≡ total amount_of (on (value_place c) v.trace) =
     (h.values c low).summed ∙ total-map (made_in amount_of) (context_trace c) views ∙ total_whole z s.words views id v (λ steps. total amount_of (on (value_place c) steps)) refl at h all in
-    let back : w - 2 ≡ value_place c = omega arith in
+    let back : w - MARK ≡ value_place c = omega arith in
     let shuts = own is_shut in (
       view_with v (load w n),
       keeps,

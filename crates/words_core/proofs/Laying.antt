@@ -1,10 +1,10 @@
 -- Where the entries of the board lie.
-use Rattle.std.proofs.Common.{◌≡◌, ℕ, zero, suc, ◌+◌, ◌-◌, ◌*◌, ◌/◌, ◌<◌, ◌≤◌, refl, ap, arith}
+use Rattle.std.proofs.Common.{◌≡◌, ◌↔◌, ℕ, zero, suc, ◌+◌, ◌-◌, ◌*◌, ◌/◌, ◌<◌, ◌≤◌, refl, ap, arith}
 use Rattle.point_core.specs.declared.entry.Usage.{Usage}
 use Rattle.point_core.specs.declared.entry.Usage.TheVariants.{Kernel, Write, Read, Bookkeep}
 use Rattle.point_core.specs.Usage.{usage_number}
 use Rattle.words_core.specs.declared.words.TheConstants.{LINE_WORDS}
-use Rattle.words_core.specs.Layout.{board_word}
+use Rattle.words_core.specs.Layout.{board_word, value_word}
 use Rattle.words_core.specs.Words.{WordsModel}
 
 pub usage_number_le : (usage : Usage) → usage_number usage ≤ 3
@@ -43,6 +43,14 @@ pub lines_apart : (words : WordsModel) (buffer ctx other other_ctx : ℕ) (usage
 lines_apart words buffer ctx other other_ctx usage other_usage low high low' high' e =
     let u = usage_number_le usage in let v = usage_number_le other_usage in
     let r = row_and_place buffer other words.contexts (ctx - 1) (other_ctx - 1) (omega arith) (omega arith) (omega arith) in (r.0, omega arith)
+
+-- the line of a value has the entries of the first buffer for its context, and no others
+pub lines_of_values : (words : WordsModel) (buffer ctx other_ctx : ℕ) (usage : Usage) → 1 ≤ ctx → ctx ≤ words.contexts → 1 ≤ other_ctx → other_ctx ≤ words.contexts
+    → (board_word words buffer ctx usage / LINE_WORDS ≡ value_word other_ctx / LINE_WORDS) ↔ ((buffer ≡ 0) × (ctx ≡ other_ctx))
+lines_of_values words buffer ctx other_ctx usage low high low' high' = let u = usage_number_le usage in (
+  λ e. let r = row_and_place buffer 0 words.contexts (ctx - 1) (other_ctx - 1) (omega arith) (omega arith) (omega arith) in (r.0, omega arith),
+  λ same. let first : buffer * words.contexts ≡ 0 * words.contexts = ap (λ (b : ℕ). b * words.contexts) same.0 in let at = same.1 in omega arith,
+)
 
 pub entries_apart : (words : WordsModel) (buffer ctx other other_ctx : ℕ) (usage other_usage : Usage) → 1 ≤ ctx → ctx ≤ words.contexts → 1 ≤ other_ctx → other_ctx ≤ words.contexts
     → board_word words buffer ctx usage ≡ board_word words other other_ctx other_usage → (buffer ≡ other) × (ctx ≡ other_ctx) × (usage ≡ other_usage)

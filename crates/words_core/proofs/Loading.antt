@@ -7,6 +7,7 @@ use Rattle.atomic_table.proofs.Lists.{at_map}
 use Rattle.words_core.specs.declared.trace.Step.{Step}
 use Rattle.words_core.specs.declared.trace.View.{View}
 use Rattle.words_core.specs.declared.words.Sizes.{Sizes}
+use Rattle.words_core.specs.declared.words.TheConstants.{MARK}
 use Rattle.words_core.specs.Layout.{value_place, mark_place}
 use Rattle.words_core.specs.Trace.{load, on, total, greatest, is_shut}
 use Rattle.words_core.specs.Rule.{WordTrace, context_trace, mark_trace, made_in, IsAtMost, KnowsZeroOr, IsKept}
@@ -62,7 +63,7 @@ loads_mark-allowed z slots id c me low live s h homes at small =
     let value : ℕ = slice_index s.words (value_place c) in
     let known = mark_known z s.words s.views id c v low at h in
     let mine = Each-at (IsAtMost value) (map (context_trace c) s.views) id (context_trace c v) (h.values c low).traced.below (at_map (context_trace c) s.views id v at) in
-    let back : w - 2 ≡ value_place c = omega arith in (
+    let back : w - MARK ≡ value_place c = omega arith in (
       view_with v (load w n),
       keeps,
       tt,

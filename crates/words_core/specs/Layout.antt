@@ -1,10 +1,10 @@
--- Where each word lies: a line for each context, with its value, its claim and its mark; a line for each buffer and context, with
--- an entry for each usage; then the flags.
-use Rattle.std.specs.Prelude.{◌≡◌, ℕ, ◌+◌, ◌-◌, ◌*◌, ◌%◌, ◌<◌, ◌≤◌}
+-- Where each word lies: a line for each buffer and context, with an entry for each usage; on those of the first buffer also
+-- the context's value, claim and mark; after the lines the flags.
+use Rattle.std.specs.Prelude.{◌≡◌, ℕ, ◌+◌, ◌-◌, ◌*◌, ◌%◌, ◌<◌, ◌≤◌, max}
 use Rattle.point_core.specs.declared.entry.Usage.{Usage}
 use Rattle.point_core.specs.Usage.{usage_number}
 use Rattle.words_core.specs.declared.words.Sizes.{Sizes}
-use Rattle.words_core.specs.declared.words.TheConstants.{LINE_WORDS, USAGES}
+use Rattle.words_core.specs.declared.words.TheConstants.{LINE_WORDS, USAGES, CLAIM, MARK}
 use Rattle.words_core.specs.Words.{WordsModel, sizes_of}
 
 -- the value of the context at a place, which is its number less 1
@@ -13,21 +13,27 @@ value_place place = LINE_WORDS * place
 
 -- its claim, which is won by its driver
 abbrev pub claim_place : ℕ → ℕ
-claim_place place = LINE_WORDS * place + 1
+claim_place place = LINE_WORDS * place + CLAIM
 
 -- its mark, which is 0 until its driver closes it
 abbrev pub mark_place : ℕ → ℕ
-mark_place place = LINE_WORDS * place + 2
-
-abbrev pub board_start : Sizes → ℕ
-board_start sizes = LINE_WORDS * sizes.contexts
+mark_place place = LINE_WORDS * place + MARK
 
 -- a buffer's entry for the context at a place and the usage of a number
 abbrev pub board_place : Sizes → ℕ → ℕ → ℕ → ℕ
-board_place sizes buffer place usage = board_start sizes + LINE_WORDS * (buffer * sizes.contexts + place) + usage
+board_place sizes buffer place usage = LINE_WORDS * (buffer * sizes.contexts + place) + 1 + usage
 
+-- the end of the lines of contexts
+abbrev pub contexts_end : Sizes → ℕ
+contexts_end sizes = LINE_WORDS * sizes.contexts
+
+-- the end of the lines of buffers
+abbrev pub board_end : Sizes → ℕ
+board_end sizes = LINE_WORDS * (sizes.buffers * sizes.contexts)
+
+-- without a buffer the contexts have their lines, too
 abbrev pub flags_start : Sizes → ℕ
-flags_start sizes = board_start sizes + LINE_WORDS * (sizes.buffers * sizes.contexts)
+flags_start sizes = LINE_WORDS * (max sizes.buffers 1 * sizes.contexts)
 
 abbrev pub word_count : Sizes → ℕ
 word_count sizes = flags_start sizes + sizes.flags
@@ -62,17 +68,19 @@ IsMarkOf sizes k place = (place < sizes.contexts) × (k ≡ mark_place place)
 -- the word k is a claim or a flag
 pub record IsClaimOrFlag (sizes : Sizes) (k : ℕ) : Type 0 where
   pub inside : k < word_count sizes
-  pub claim : k < board_start sizes → k % LINE_WORDS ≡ 1
-  pub flag : board_start sizes ≤ k → flags_start sizes ≤ k
+  pub claim : k < contexts_end sizes → k % LINE_WORDS ≡ CLAIM
+  pub flag : contexts_end sizes ≤ k → flags_start sizes ≤ k
 
 -- the word k is an entry of the board
 pub record IsBoardWord (sizes : Sizes) (k : ℕ) : Type 0 where
-  pub from : board_start sizes ≤ k
-  pub to : k < flags_start sizes
-  pub entry : k % LINE_WORDS < USAGES
+  pub to : k < board_end sizes
+  pub from_entry : 1 ≤ k % LINE_WORDS
+  pub to_entry : k % LINE_WORDS ≤ USAGES
 
--- the word k lies after a mark or after the entries of a line
+-- the word k is none of these, and no value and no mark
 pub record IsUnused (sizes : Sizes) (k : ℕ) : Type 0 where
   pub to : k < flags_start sizes
-  pub context : k < board_start sizes → 3 ≤ k % LINE_WORDS
-  pub board : board_start sizes ≤ k → USAGES ≤ k % LINE_WORDS
+  pub value : k % LINE_WORDS ≡ 0 → contexts_end sizes ≤ k
+  pub claim : k % LINE_WORDS ≡ CLAIM → contexts_end sizes ≤ k
+  pub mark : k % LINE_WORDS ≡ MARK → contexts_end sizes ≤ k
+  pub entry : 1 ≤ k % LINE_WORDS → k % LINE_WORDS ≤ USAGES → board_end sizes ≤ k

@@ -4,6 +4,7 @@ use Rattle.atomic_table.specs.Table.{Me, Step as TableStep}
 use Rattle.words_core.specs.declared.seat.TheConstants.{PARTS}
 use Rattle.words_core.specs.declared.trace.Step.{Step}
 use Rattle.words_core.specs.declared.trace.View.{View}
+use Rattle.words_core.specs.declared.words.TheConstants.{CLAIM, MARK}
 use Rattle.words_core.specs.Trace.{load, add, raise, shown, set_once_step, is_test, total, on, greatest, raised, added, wins_of, shut, shuts_of, mark_of, LoadsWereLeft, SightsWereRaised, IsDecided}
 use Rattle.words_core.specs.Rule.{view, spent_view, IsZeroOr}
 
@@ -23,20 +24,20 @@ seen_by w v = greatest (on w (v.start ++ v.trace))
 abbrev pub tests_by : ℕ → View → ℕ
 tests_by w v = total is_test (on w (v.start ++ v.trace))
 
--- the value is entered, and it is at least what was seen. If the context's mark, two words on, was seen above 0, it is 1 less
+-- the value is entered, and it is at least what was seen. If the context's mark was seen above 0, it is 1 less
 abbrev pub loads_value : TableStep (Unit {0}) → Holder → ℕ → Holder → Type 0
 loads_value s me found after =
     (after ≡ (view_with me.0 (load s.word found), me.1))
     × (seen_by s.word me.0 ≤ found)
-    × (0 < seen_by (s.word + 2) me.0 → seen_by (s.word + 2) me.0 ≡ found + 1)
+    × (0 < seen_by (s.word + MARK) me.0 → seen_by (s.word + MARK) me.0 ≡ found + 1)
 
--- a mark is entered. One that was seen above 0 stays, and no value past it was seen, two words before
+-- a mark is entered. One that was seen above 0 stays, and no value past it was seen
 abbrev pub loads_mark : TableStep (Unit {0}) → Holder → ℕ → Holder → Type 0
 loads_mark s me found after =
     (after ≡ (view_with me.0 (load s.word found), me.1))
     × (seen_by s.word me.0 ≤ found)
     × (0 < seen_by s.word me.0 → found ≡ seen_by s.word me.0)
-    × (0 < found → seen_by (s.word - 2) me.0 < found)
+    × (0 < found → seen_by (s.word - MARK) me.0 < found)
 
 -- a mark was 0, and nobody had seen another
 abbrev pub shuts_mark : TableStep (Unit {0}) → Holder → ℕ → Holder → Type 0
@@ -51,11 +52,11 @@ sets_once s me found after =
     (after ≡ (view_with me.0 (set_once_step s.word found), me.1))
     × (found ≡ 0 → (tests_by s.word me.0 ≡ 0) × (wins_of s.word me.0.trace ≡ 0))
 
--- if a claim is won, nothing was added to the context's value, the word before it, nor was its mark set, the word after it
+-- if a claim is won, nothing was added to the context's value, nor was its mark set, the word after the claim
 abbrev pub claims_context : TableStep (Unit {0}) → Holder → ℕ → Holder → Type 0
 claims_context s me found after =
     sets_once s me found after
-    × (found ≡ 0 → (added (on (s.word - 1) me.0.trace) ≡ 0) × (shuts_of (s.word + 1) me.0.trace ≡ 0))
+    × (found ≡ 0 → (added (on (s.word - CLAIM) me.0.trace) ≡ 0) × (shuts_of (s.word + 1) me.0.trace ≡ 0))
 
 -- the word was all that the seat had added
 abbrev pub adds_to_value : TableStep (Unit {0}) → Holder → ℕ → Holder → Type 0
@@ -67,23 +68,23 @@ adds_to_value s me found after =
 abbrev pub counts_parts : TableStep (Unit {0}) → Holder → ℕ → Holder → Type 0
 counts_parts s me found after = (after ≡ me) × (me.0.parts ≤ PARTS) × ((w : ℕ) → wins_of w me.0.trace ≤ 1)
 
--- a seat with all parts has added all that the word is, and its claim is the word after it
+-- a seat with all parts has added all that the word is, and won its claim once at most
 abbrev pub loads_total : TableStep (Unit {0}) → Holder → ℕ → Holder → Type 0
 loads_total s me found after =
     (after ≡ (view_with me.0 (load s.word found), me.1))
     × (seen_by s.word me.0 ≤ found)
     × (found ≡ added (on s.word me.0.trace))
     × LoadsWereLeft s.word me.0.trace
-    × IsDecided (s.word + 1) me.0.trace
+    × IsDecided (s.word + CLAIM) me.0.trace
 
--- a seat with all parts has set a mark once at most, to 1 more than all that it has added to the value, two words before
+-- a seat with all parts has set a mark once at most, to 1 more than all that it has added to the value
 abbrev pub loads_total_mark : TableStep (Unit {0}) → Holder → ℕ → Holder → Type 0
 loads_total_mark s me found after =
     (after ≡ (view_with me.0 (load s.word found), me.1))
     × (seen_by s.word me.0 ≤ found)
     × (found ≡ mark_of s.word me.0.trace)
     × (shuts_of s.word me.0.trace ≤ 1)
-    × (0 < shuts_of s.word me.0.trace → found ≡ added (on (s.word - 2) me.0.trace) + 1)
+    × (0 < shuts_of s.word me.0.trace → found ≡ added (on (s.word - MARK) me.0.trace) + 1)
     × IsZeroOr found (on s.word me.0.trace)
 
 -- a flag is how often a seat with all parts has won it

@@ -1,5 +1,5 @@
 //! What holds of all words and seats: each law is the contract of a function with an empty body.
-ghost use Rattle.std.specs.Prelude.{◌≡◌, ◌≢◌, ℕ, ◌+◌, ◌/◌, ◌<◌, ◌≤◌, ◌⊎◌, List};
+ghost use Rattle.std.specs.Prelude.{◌≡◌, ◌≢◌, ◌↔◌, ℕ, ◌+◌, ◌/◌, ◌<◌, ◌≤◌, ◌⊎◌, List};
 ghost use Rattle.point_core.specs.Clocks.{common_status};
 ghost use Rattle.point_core.specs.declared.entry.Point.{Point};
 ghost use Rattle.point_core.specs.declared.entry.Usage.{Usage};
@@ -7,12 +7,13 @@ ghost use Rattle.point_core.specs.declared.status.Status.TheVariants.{Active};
 ghost use Rattle.words_core.specs.declared.trace.Step.{Step};
 ghost use Rattle.words_core.specs.declared.words.TheConstants.{LINE_WORDS};
 ghost use Rattle.words_core.specs.declared.words.Sizes.{Sizes};
-ghost use Rattle.words_core.specs.Layout.{board_word, word_count, IsValueOf, IsMarkOf, IsClaimOrFlag, IsBoardWord, IsUnused};
+ghost use Rattle.words_core.specs.Layout.{board_word, value_word, word_count, IsValueOf, IsMarkOf, IsClaimOrFlag, IsBoardWord, IsUnused};
 ghost use Rattle.words_core.specs.Loads.{clocks_seen, HasLoadedAll};
 ghost use Rattle.words_core.specs.Seat.{SeatModel, seen, tests_of, with_step, parted, both_of};
 ghost use Rattle.words_core.specs.Words.{WordsModel};
 
-/// No two entries of the board are one word, and those of two buffers or two contexts lie on two lines.
+/// No two entries of the board are one word, and those of two buffers or two contexts lie on two lines. An entry is on
+/// the line of a context's value exactly if it is of the first buffer and that context.
 pub fn entries_lie_apart()
     ensures words { (words : WordsModel) (buffer ctx other other_ctx : ℕ) (usage other_usage : Usage) →
         1 ≤ ctx → ctx ≤ words.contexts → 1 ≤ other_ctx → other_ctx ≤ words.contexts →
@@ -22,6 +23,10 @@ pub fn entries_lie_apart()
         1 ≤ ctx → ctx ≤ words.contexts → 1 ≤ other_ctx → other_ctx ≤ words.contexts →
         board_word words buffer ctx usage / LINE_WORDS ≡ board_word words other other_ctx other_usage / LINE_WORDS →
         (buffer ≡ other) × (ctx ≡ other_ctx) }
+    ensures values { (words : WordsModel) (buffer ctx other_ctx : ℕ) (usage : Usage) →
+        1 ≤ ctx → ctx ≤ words.contexts → 1 ≤ other_ctx → other_ctx ≤ words.contexts →
+        (board_word words buffer ctx usage / LINE_WORDS ≡ value_word other_ctx / LINE_WORDS) ↔
+        ((buffer ≡ 0) × (ctx ≡ other_ctx)) }
 {}
 
 /// Each word is the value of a context or its mark, a claim or a flag, an entry of the board, or unused. So the rule says all that

@@ -8,7 +8,7 @@ ghost use Rattle.words_core.specs.Trace.{load, shut, on, wins_of, shuts_of, mark
 
 use crate::plays::{LoadsMark, LoadsTotalMark, ShutsMark};
 use crate::seat::Seat;
-use crate::words::{LINE_WORDS, Words};
+use crate::words::{LINE_WORDS, MARK, Words};
 use point_core::Context;
 
 impl Words {
@@ -24,7 +24,7 @@ impl Words {
     {
         self.table
             .shared
-            .fetch_or::<ShutsMark>(&mut seat.token, LINE_WORDS * ctx.index() + 2, mark);
+            .fetch_or::<ShutsMark>(&mut seat.token, LINE_WORDS * ctx.index() + MARK, mark);
     }
 
     // The mark of a context: 0 while it is open, and 1 more than its last value once it is closed.
@@ -38,7 +38,7 @@ impl Words {
     {
         self.table
             .shared
-            .load::<LoadsMark>(&mut seat.token, LINE_WORDS * ctx.index() + 2)
+            .load::<LoadsMark>(&mut seat.token, LINE_WORDS * ctx.index() + MARK)
     }
 
     // The load of a seat with all parts: the mark is what its trace has set it to.
@@ -55,6 +55,6 @@ impl Words {
     {
         self.table
             .shared
-            .load::<LoadsTotalMark>(&mut seat.token, LINE_WORDS * ctx.index() + 2)
+            .load::<LoadsTotalMark>(&mut seat.token, LINE_WORDS * ctx.index() + MARK)
     }
 }

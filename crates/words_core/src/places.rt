@@ -15,7 +15,7 @@ impl Words {
         ensures entry { IsBoardWord (sizes_of self.now) result }
     {
         let line = buffer * self.sizes.contexts + ctx.index();
-        LINE_WORDS * self.sizes.contexts + LINE_WORDS * line + usize::from(usage.number())
+        LINE_WORDS * line + 1 + usize::from(usage.number())
     }
 
     // The place of a flag.
@@ -24,7 +24,7 @@ impl Words {
         ensures value { result ≡ flag_word self.now flag }
         ensures inside { result < word_count (sizes_of self.now) }
     {
-        let lines = self.sizes.contexts + self.sizes.buffers * self.sizes.contexts;
+        let lines = self.sizes.buffers.max(1) * self.sizes.contexts;
         LINE_WORDS * lines + flag
     }
 }

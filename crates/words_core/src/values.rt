@@ -11,7 +11,7 @@ ghost use Rattle.words_core.specs.Trace.{load, add, won, lost, wins_of, shuts_of
 use crate::driver::Driver;
 use crate::plays::{AddsToValue, ClaimsContext, LoadsTotal, LoadsValue};
 use crate::seat::Seat;
-use crate::words::{LINE_WORDS, Words};
+use crate::words::{CLAIM, LINE_WORDS, Words};
 use point_core::{Context, Point, Reach, Refusal};
 
 impl Words {
@@ -51,7 +51,7 @@ impl Words {
     {
         self.table
             .shared
-            .fetch_or::<ClaimsContext>(&mut seat.token, LINE_WORDS * ctx.index() + 1, 1)
+            .fetch_or::<ClaimsContext>(&mut seat.token, LINE_WORDS * ctx.index() + CLAIM, 1)
             == 0
     }
 

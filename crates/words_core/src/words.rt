@@ -23,8 +23,9 @@ pub const FLAGS: usize = 65_536;
 
 const _: () = prove!(FLAGS == 65_536);
 
-/// How many words lie on a cache line of 64 bytes. Each context has a line, and so has each buffer for each context,
-/// so that no two timelines share one, and neither do the puts of two clients.
+/// How many words lie on a cache line of 64 bytes. Each buffer has a line for each context, so that no two timelines
+/// share one, and neither do the entries of two buffers. The first buffer's has the context's value, claim and mark too,
+/// so that one line tells of both.
 pub const LINE_WORDS: usize = 8;
 
 const _: () = prove!(LINE_WORDS * 8 == 64);
@@ -33,6 +34,12 @@ const _: () = prove!(LINE_WORDS * 8 == 64);
 pub const USAGES: usize = 4;
 
 const _: () = prove!(USAGES == 4);
+
+// Where on its context's line a claim lies: after the value and the first buffer's entries.
+pub(crate) const CLAIM: usize = 1 + USAGES;
+
+// Where on its context's line a mark lies: after the claim.
+pub(crate) const MARK: usize = 2 + USAGES;
 
 /// How many contexts, buffers and flags a set of words has.
 #[derive(Clone, Copy)]
@@ -103,7 +110,7 @@ impl Words {
             buffers,
             flags,
         };
-        let count = LINE_WORDS * contexts + LINE_WORDS * (buffers * contexts) + flags;
+        let count = LINE_WORDS * (buffers.max(1) * contexts) + flags;
         let zeros = Vec::from_elem(alloc, 0u64, count)?;
         let (table, token) = Table::of_words(alloc, zeros.as_slice(), &sizes)?;
         Ok((

@@ -6,6 +6,7 @@ use Rattle.words_core.specs.Layout.{value_place, value_word}
 use Rattle.words_core.specs.Plays.{Holder}
 use Rattle.words_core.specs.Trace.{load, on, greatest}
 use Rattle.words_core.proofs.Seen.{seen-with_step_later}
+use Rattle.words_core.proofs.WordKinds.{lines_of}
 use Rattle.words_core.proofs.Loading.{loads_value-allowed}
 use Rattle.words_core.proofs.words.Words.load.Goals as goal
 
@@ -14,6 +15,7 @@ load-requires c =
     let shared = c.self.inside.table.shared in
     let token = c.seat.inside.token in
     let contexts = ap (λ (w : WordsModel). w.contexts) c.self.view_is in
+    let lines = lines_of c.self.inside.sizes in
     let keyed = ap (λ (z : Sizes). z.contexts) c.self.invariant.0 in (
       ap (λ (s : SeatModel). s.words.table) c.seat.view_is ∙ ap (λ (w : WordsModel). w.table) (c.requires.own ∙ sym c.self.view_is),
       omega arith,

@@ -3,6 +3,7 @@ use Rattle.words_core.specs.declared.words.Sizes.{Sizes}
 use Rattle.words_core.specs.Layout.{IsBoardWord, word_count}
 use Rattle.words_core.specs.Seat.{SeatModel}
 use Rattle.words_core.specs.Words.{WordsModel, sizes_of}
+use Rattle.words_core.proofs.WordKinds.{IsBoardWord-inside}
 use Rattle.words_core.proofs.Showing.{raises_entry-allowed}
 use Rattle.words_core.proofs.words.Words.raise_at.Goals as goal
 
@@ -13,8 +14,7 @@ fetch_max-found-requires c =
     let place = c.args.place in
     let parts = ap (λ (s : SeatModel). s.parts) c.seat.view_is in
     let is = subst (λ (z : Sizes). IsBoardWord z place) (sym (c.self.invariant.0 ∙ ap sizes_of c.self.view_is)) c.requires.entry in
-    let to = is.to in
-    let inside : place < word_count shared.key = omega arith in (
+    let inside = IsBoardWord-inside shared.key place is in (
       ap (λ (s : SeatModel). s.words.table) c.seat.view_is ∙ ap (λ (w : WordsModel). w.table) (c.requires.own ∙ sym c.self.view_is),
       subst (λ (n : ℕ). place < n) (ap word_count c.self.invariant.0 ∙ sym c.self.invariant.1) inside,
       raises_entry-allowed shared.key shared.table_id.slots token.id place c.args.point token.me is (omega arith),

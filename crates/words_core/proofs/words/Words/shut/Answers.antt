@@ -4,6 +4,7 @@ use Rattle.words_core.specs.Seat.{SeatModel}
 use Rattle.words_core.specs.Words.{WordsModel}
 use Rattle.words_core.specs.Layout.{value_place, claim_place, mark_place}
 use Rattle.words_core.specs.Trace.{on, added, wins_of, shuts_of}
+use Rattle.words_core.proofs.WordKinds.{lines_of}
 use Rattle.words_core.proofs.Marking.{shuts_mark-allowed}
 use Rattle.words_core.proofs.words.Words.shut.Goals as goal
 
@@ -13,6 +14,7 @@ fetch_or-requires c =
     let token = c.seat.inside.token in
     let place = c.index.result in
     let contexts = ap (λ (w : WordsModel). w.contexts) c.self.view_is in
+    let lines = lines_of c.self.inside.sizes in
     let keyed = ap (λ (z : Sizes). z.contexts) c.self.invariant.0 in
     let seat = c.seat.view_is in
     let at : c.args.ctx - 1 ≡ place = omega arith in (

@@ -2,6 +2,7 @@ use Rattle.std.proofs.Common.{sym, ap, ◌∙◌, arith}
 use Rattle.words_core.specs.declared.words.Sizes.{Sizes}
 use Rattle.words_core.specs.Seat.{SeatModel}
 use Rattle.words_core.specs.Words.{WordsModel}
+use Rattle.words_core.proofs.WordKinds.{lines_of}
 use Rattle.words_core.proofs.Gathering.{loads_total_mark-allowed}
 use Rattle.words_core.proofs.words.Words.total_mark.Goals as goal
 
@@ -10,6 +11,7 @@ load-requires c =
     let shared = c.self.inside.table.shared in
     let token = c.seat.inside.token in
     let contexts = ap (λ (w : WordsModel). w.contexts) c.self.view_is in
+    let lines = lines_of c.self.inside.sizes in
     let keyed = ap (λ (z : Sizes). z.contexts) c.self.invariant.0 in
     let parts = ap (λ (s : SeatModel). s.parts) c.seat.view_is in (
       ap (λ (s : SeatModel). s.words.table) c.seat.view_is ∙ ap (λ (w : WordsModel). w.table) (c.requires.own ∙ sym c.self.view_is),
