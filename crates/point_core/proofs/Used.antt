@@ -3,7 +3,8 @@ use Rattle.std.proofs.Common.{◌≡◌, ◌≢◌, ℕ, ◌+◌, ◌-◌, ◌<�
 use Rattle.std.proofs.lemmas.Bool.{cases_lt}
 use Rattle.std.proofs.lemmas.List.{get_or_past, get_or-replicate, length-replicate}
 use Rattle.point_core.specs.Reach.{IsAtLeast}
-use Rattle.point_core.specs.Used.{used_of, used_with}
+use Rattle.point_core.specs.declared.context.TheConstants.{CONTEXTS}
+use Rattle.point_core.specs.Used.{used_of, used_with, AreInUse}
 
 used_with-within : (value used n : ℕ) → used ≤ n → used_with value used ≤ suc n
 unfolding used_with
@@ -75,6 +76,10 @@ zeros n k low = elim (cases_lt k n) [
 
 pub used_of-replicate : (n : ℕ) → 0 ≡ used_of (replicate n 0)
 used_of-replicate n = used_of-is (replicate n 0) 0 (zeros n) (λ none. absurd (omega arith))
+
+-- of no values
+pub AreInUse-nil : AreInUse []
+AreInUse-nil = (omega arith, used_of-replicate CONTEXTS)
 
 set_last : (values : List ℕ) (i v : ℕ) → i < length values → 0 < v → 0 < get_or (set values i v) (max (used_of values) (i + 1) - 1) 0
 set_last values i v within some = elim (cases_lt (i + 1) (used_of values)) [

@@ -1,5 +1,5 @@
 // A reach that is kept.
-ghost use Rattle.std.specs.Prelude.{◌≡◌, ℕ, ◌<◌, ◌≤◌, length, IfOk, IfErr};
+ghost use Rattle.std.specs.Prelude.{◌≡◌, ℕ, ◌<◌, ◌≤◌, length, OnOk, IfOk, IfErr};
 ghost use Rattle.point_core.specs.declared.context.TheConstants.{CONTEXTS};
 ghost use Rattle.point_core.specs.Reach.{value_at};
 ghost use Rattle.point_core.specs.Used.{padded, used_of, AreInUse};
@@ -50,6 +50,27 @@ impl Floor {
         Ok(Floor {
             values: reach.values().in_use().to_vec(alloc)?,
         })
+    }
+
+    /// Makes every value 0. The memory is kept.
+    pub fn clear(&mut self)
+        ensures zero { self.new ≡ replicate CONTEXTS 0 }
+    {
+        self.values.clear();
+    }
+
+    /// Takes the values of a reach in place of its own, in the same memory if that is enough.
+    ///
+    /// Fails with `Memory` alone.
+    pub fn copy_from(&mut self, reach: &Reach) -> Result<(), Refusal>
+        ensures floor { OnOk result (self.new ≡ reach.now) }
+        ensures memory { IfErr result (λ e. e ≡ Refusal.Memory) }
+    {
+        let values = reach.values().in_use();
+        self.values.clear();
+        self.values.reserve_exact(values.len())?;
+        self.values.extend_from_slice(values)?;
+        Ok(())
     }
 
     /// The value of a context.

@@ -2,6 +2,7 @@
 ghost use Rattle.std.specs.Prelude.{◌≡◌};
 
 use std::marker::Model;
+use std::mem::swap;
 
 /// A list of a public type's field. It is made of a `Vec`, whose memory it keeps.
 #[derive(Debug, Drop)]
@@ -30,6 +31,14 @@ impl<T> Items<T> {
         ensures { result.now ≡ self.now }
     {
         self.items.as_slice()
+    }
+
+    /// Exchanges the list for that of a `Vec`. Takes no memory.
+    pub fn exchange(&mut self, items: &mut Vec<T>)
+        ensures taken { self.new ≡ items.old.items }
+        ensures given { items.new.items ≡ self.old }
+    {
+        swap(&mut self.items, items);
     }
 
     /// The `Vec` that the list was made of.

@@ -31,7 +31,7 @@ pub use items::Items;
 pub use latest_points::LatestPoints;
 pub use limits::BUFFERS;
 pub use listing::{Listing, TopRow, canon};
-pub use merging::merged;
+pub use merging::{merge_into, merged};
 pub use name::{NAME_BYTES, Name};
 pub use reach::{Reach, is_signalled};
 pub use refusal::{LimitKind, Refusal};

@@ -1,5 +1,6 @@
 // A merge of two lists of points in one pass over both.
-ghost use Rattle.std.specs.Prelude.{◌≡◌, [], IfOk, IfErr, MatchOption};
+ghost use Rattle.std.specs.Prelude.{◌≡◌, ◌+◌, ◌≤◌, min, [], length, vec_capacity, OnOk, IfOk, IfErr, MatchOption};
+ghost use Rattle.point_core.specs.declared.context.TheConstants.{CONTEXTS};
 ghost use Rattle.point_core.specs.Agreement.{as_entries, merged as merge_of, HasContexts, HasRisingContexts};
 ghost use Rattle.point_core.specs.TwoLists.{IsFirstOf, IsPartedAt};
 
@@ -26,8 +27,49 @@ pub fn merged(
     // What the type of a context says of each point.
     ensures contexts { IfOk result (λ ps. HasContexts (as_entries left.now) × HasContexts (as_entries right.now)) }
 {
-    let count = left.len().saturating_add(right.len()).min(CONTEXTS);
+    let count = most_merged(left, right);
     let mut points = Vec::with_capacity(alloc, count)?;
+    push_pending(&mut points, left, right, reach);
+    Ok(points)
+}
+
+/// The same, into a list that is kept, whose points go. It takes memory if they may need more than the list has.
+///
+/// Fails with `Memory` alone.
+pub fn merge_into(
+    points: &mut Vec<Point>,
+    left: &[Point],
+    right: &[Point],
+    reach: &Reach,
+) -> Result<(), Refusal>
+    requires rising { HasRisingContexts left.now × HasRisingContexts right.now }
+    ensures merged { OnOk result (points.new.items ≡ merge_of reach.now left.now right.now) }
+    ensures memory { IfErr result (λ e. e ≡ Refusal.Memory) }
+
+    // What the type of a context says of each point.
+    ensures contexts { OnOk result (HasContexts (as_entries left.now) × HasContexts (as_entries right.now)) }
+{
+    points.clear();
+    points.reserve_exact(most_merged(left, right))?;
+    push_pending(points, left, right, reach);
+    Ok(())
+}
+
+/// How many points a merge of the lists has at most.
+fn most_merged(left: &[Point], right: &[Point]) -> usize
+    ensures { result ≡ min (length left.now + length right.now) CONTEXTS }
+{
+    left.len().saturating_add(right.len()).min(CONTEXTS)
+}
+
+/// Puts the pending points of two lists into an empty one that has room for them.
+fn push_pending(points: &mut Vec<Point>, left: &[Point], right: &[Point], reach: &Reach)
+    requires empty { points.old.items ≡ [] }
+    requires room { min (length left.now + length right.now) CONTEXTS ≤ vec_capacity points.old }
+    requires rising { HasRisingContexts left.now × HasRisingContexts right.now }
+    ensures merged { points.new.items ≡ merge_of reach.now left.now right.now }
+    ensures contexts { HasContexts (as_entries left.now) × HasContexts (as_entries right.now) }
+{
     let mut lists = (left, right);
     while let Some((point, ps, qs)) = first_of(lists.0, lists.1) {
         if point.value > reach.get(point.ctx) {
@@ -35,7 +77,6 @@ pub fn merged(
         }
         lists = (ps, qs);
     }
-    Ok(points)
 }
 
 /// The latest point of the first context of both lists, and what is left of them.

@@ -1,7 +1,7 @@
 use Rattle.std.proofs.Common.{length, length-append, [], ◌∷◌, ap, arith}
 use Rattle.point_core.proofs.TwoLists.{HasMerged-push, HasMerged-skip, merged-HasMerged}
-use Rattle.point_core.proofs.merging.merged.Goals as goal
-use Rattle.point_core.proofs.merging.merged.Goals.{then-point-get, else-point-get}
+use Rattle.point_core.proofs.merging.push_pending.Goals as goal
+use Rattle.point_core.proofs.merging.push_pending.Goals.{then-point-get, else-point-get}
 
 pub loop-point-preserved : goal.loop-point-preserved
 loop-point-preserved c =
