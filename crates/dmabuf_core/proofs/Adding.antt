@@ -1,10 +1,8 @@
 -- Points that are added to a table together.
-use Rattle.std.proofs.Common.{◌≡◌, ℕ, refl, ap, List, [], ◌∷◌, ◌++◌, map}
+use Rattle.std.proofs.Common.{◌≡◌, refl, ap, List, [], ◌∷◌, map, Result, Ok, Err, OnOk}
 use Rattle.point_core.specs.declared.entry.Point.{Point}
-use Rattle.point_core.specs.declared.entry.Entry.{Entry}
 use Rattle.point_core.specs.declared.entry.Usage.{Usage}
-use Rattle.point_core.specs.Agreement.{AgreesAbove, as_entries}
-use Rattle.point_core.proofs.Agreement.{AgreesAbove-append, AgreesAbove-same, AgreesAbove-sym, AgreesAbove-trans}
+use Rattle.point_core.specs.Agreement.{as_entries}
 use Rattle.resv_core.specs.Resv.{entries_as, entry_of}
 use Rattle.dmabuf_core.specs.Flags.{with_usage}
 
@@ -12,6 +10,6 @@ pub entries_as-with_usage : (usage : Usage) (points : List Point) → entries_as
 entries_as-with_usage usage [] = refl
 entries_as-with_usage usage (p ∷ points) = ap (λ es. entry_of p usage ∷ es) (entries_as-with_usage usage points)
 
--- once there is room, what is added agrees with all
-pub AgreesAbove-added : (reach : List ℕ) (usage : Usage) (points : List Point) {before reserved after : List Entry} → AgreesAbove reach before reserved → AgreesAbove reach after (reserved ++ entries_as usage points) → AgreesAbove reach after (before ++ map (with_usage usage) (as_entries points))
-AgreesAbove-added reach usage points room added = AgreesAbove-trans added (AgreesAbove-append (AgreesAbove-sym room) (AgreesAbove-same reach (entries_as-with_usage usage points)))
+pub OnOk-weaker : {T E : Type 0} (r : Result T E) (P Q : Type 0) → (P → Q) → OnOk r P → OnOk r Q
+OnOk-weaker (Ok v) P Q f h = f h
+OnOk-weaker (Err e) P Q f h = tt

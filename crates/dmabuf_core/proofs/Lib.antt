@@ -1,4 +1,3 @@
 mod Adding
-mod Counts
 pub mod Putting
 mod Tables

@@ -13,7 +13,6 @@ use Rattle.indexmap.proofs.CallerLemmas.{insert_entry-new}
 use lib.Pointwise.{pointwise}
 use Rattle.point_core.specs.declared.entry.Entry.{Entry}
 use Rattle.point_core.specs.Agreement.{AgreesAbove}
-use Rattle.point_core.proofs.Agreement.{AgreesAbove-sym, AgreesAbove-trans, AgreesAbove-append, AgreesAbove-refl}
 use Rattle.resv_core.specs.Resv.{Reservation, IsTable, empty}
 use Rattle.point_core.specs.declared.context.TheConstants.{CONTEXTS}
 use Rattle.point_core.specs.declared.limits.TheConstants.{BUFFERS}
@@ -75,10 +74,6 @@ AgreesAbove-written {reach} added bs after name old new found written agrees =
     let now = ap (λ es. entries_of es name) written ∙ entries_of-found (set_value (pointwise nat_eq name) bs new) name new (table_at-set_value bs name old new found) in
     let before = entries_of-found bs name old found in
     rw (now, before) agrees
-
--- an entry is added once there is a place for it
-pub AgreesAbove-reserved : {reach : List ℕ} (es mid fs added : List Entry) → AgreesAbove reach es mid → AgreesAbove reach fs (mid ++ added) → AgreesAbove reach fs (es ++ added)
-AgreesAbove-reserved {reach} es mid fs added reserved more = AgreesAbove-trans more (AgreesAbove-append (AgreesAbove-sym reserved) (AgreesAbove-refl reach added))
 
 pub OnErr-always : {T E : Type 0} (r : Result T E) (P : Type 0) → P → OnErr r P
 OnErr-always (Ok v) P h = tt

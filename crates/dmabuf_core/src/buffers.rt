@@ -14,7 +14,7 @@ use indexmap::IndexMap;
 use point_core::{
     BUFFERS, CONTEXTS, Items, LimitKind, Listing, Name, Point, Reach, Refusal, TopRow, Usage,
 };
-use resv_core::Resv;
+use resv_core::TopTable;
 use std::alloc::Global;
 use std::marker::Model;
 use syncfile_core::SyncFile;
@@ -23,7 +23,7 @@ use syncfile_core::SyncFile;
 /// `resv`.
 #[derive(Drop)]
 pub struct Buffers {
-    by_name: IndexMap<Name, Resv>,
+    by_name: IndexMap<Name, TopTable>,
 }
 
 impl Model for Buffers {
@@ -63,7 +63,7 @@ impl Buffers {
         if self.by_name.len() >= BUFFERS {
             return Err(Refusal::Limit(LimitKind::Buffers));
         }
-        let table = Resv::new(self.allocator())?;
+        let table = TopTable::new(self.allocator());
         match self.by_name.insert(name, table) {
             Ok(_) => Ok(()),
             Err(_) => Err(Refusal::Memory),
@@ -82,7 +82,7 @@ impl Buffers {
     /// Adds one fence to a buffer, as Linux's `dma_resv_add_fence` after a `dma_resv_reserve_fences` of one.
     ///
     /// Fails with `NoEntry`, then with `Memory`, and then leaves every table as it was. Memory is taken by the first fence of
-    /// a buffer alone, as `Resv::make_room` says.
+    /// a buffer alone.
     pub fn add(
         &mut self,
         name: &Name,
@@ -100,14 +100,12 @@ impl Buffers {
         let Some(table) = self.by_name.get_mut(name) else {
             return Err(Refusal::NoEntry);
         };
-        table.make_room(1, reach)?;
-        table.put(point, usage, reach);
-        Ok(())
+        table.put(point, usage)
     }
 
     /// Adds the fences of a sync file to a buffer, as Linux's `DMA_BUF_IOCTL_IMPORT_SYNC_FILE`: with usage `Write` if
     /// the flags have writing, else with usage `Read`. A file without points adds nothing; the kernel adds its stub,
-    /// which is signalled. Places for all fences are reserved before the first is added.
+    /// which is signalled. All fences are added, or none.
     ///
     /// Fails with `NoEntry`, then with `Flags` for any number but 1, 2 and 3, then with `Memory`, and leaves every table as
     /// it was.
@@ -205,7 +203,7 @@ impl Buffers {
         Ok(self.by_name.keys().copied().collect(self.allocator())?)
     }
 
-    fn known(&self, name: &Name) -> Result<&Resv, Refusal>
+    fn known(&self, name: &Name) -> Result<&TopTable, Refusal>
         ensures found { IfOk result (λ table. table_at self.now name.now ≡ Some table.now) }
         ensures unknown { IfErr result (λ e. e ≡ NoEntry) }
         ensures absent { OnErr result (has_buffer self.now name.now ≡ false) }
@@ -218,11 +216,15 @@ impl Buffers {
     }
 }
 
-/// Puts the points of a file into a table, with that usage, once there are places for all.
+/// Puts the points of a file into a table, with that usage.
 ///
 /// Fails with `Memory` alone, and leaves the table as it was.
-fn put_all(table: &mut Resv, points: &[Point], usage: Usage, reach: &Reach) -> Result<(), Refusal>
-    requires rising { HasRisingContexts points.now }
+fn put_all(
+    table: &mut TopTable,
+    points: &[Point],
+    usage: Usage,
+    reach: &Reach,
+) -> Result<(), Refusal>
     ensures table { IsTable table.new }
     ensures agrees { OnOk result (AgreesAbove reach.now table.new.entries
         (table.old.entries ++ map (with_usage usage) (as_entries points.now))) }
@@ -230,21 +232,5 @@ fn put_all(table: &mut Resv, points: &[Point], usage: Usage, reach: &Reach) -> R
     ensures unchanged { OnErr result (table.new ≡ table.old) }
     ensures memory { IfErr result (λ e. e ≡ Memory) }
 {
-    table.make_room(count(points), reach)?;
-    table.put_all(points, usage, reach);
-    Ok(())
-}
-
-/// How many points there are: at most one of each context.
-fn count(points: &[Point]) -> usize
-    requires rising { HasRisingContexts points.now }
-    ensures count { result ≡ length points.now }
-    ensures few { result ≤ CONTEXTS }
-{
-    if let (Some(first), Some(last)) = (points.first(), points.last()) {
-        // For the proof: what a context keeps.
-        prove!(first.ctx.number() >= 1);
-        prove!(usize::from(last.ctx.number()) <= CONTEXTS);
-    }
-    points.len()
+    table.put_all(points, usage)
 }

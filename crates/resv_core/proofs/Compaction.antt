@@ -17,7 +17,7 @@ use Rattle.point_core.proofs.Latest.{put_if, raised_to-if, raised_to-top-append,
 use Rattle.point_core.proofs.Agreement.{AppliesAt-from_true, AgreesAbove-from_raised, raised_to-above, top-is_none, top-outside}
 use Rattle.resv_core.specs.declared.tops.Tops.{Tops}
 use Rattle.resv_core.specs.Resv.{entry_of, IsTrimmed}
-use Rattle.resv_core.specs.Tops.{AreTops, entry_above, entries_at}
+use Rattle.resv_core.specs.Tops.{AreTops, IsRising, entry_above, entries_at}
 
 put_if-stronger : (b c : Bool) (p value higher : ℕ) → value ≤ higher → (b ≡ true → c ≡ true) → put_if b p value ≤ put_if c p higher
 put_if-stronger true c p value higher low is = rw (is refl) (omega arith)
@@ -61,13 +61,6 @@ table_at tops zero = tops.kernel
 table_at tops (suc zero) = tops.write
 table_at tops (suc (suc zero)) = tops.read
 table_at tops (suc (suc (suc usage))) = tops.bookkeep
-
--- the tables rise from the reach to the weakest usage
-record IsRising (tops : Tops) (reach : List ℕ) (ctx : ℕ) : Type 0 where
-  kernel : value_at reach ctx ≤ value_at tops.kernel ctx
-  write : value_at tops.kernel ctx ≤ value_at tops.write ctx
-  read : value_at tops.write ctx ≤ value_at tops.read ctx
-  bookkeep : value_at tops.read ctx ≤ value_at tops.bookkeep ctx
 
 -- the parts of a context's entries
 abbrev kernel_part : Tops → List ℕ → ℕ → List Entry
@@ -187,7 +180,7 @@ AreTops-at h (suc zero) ctx low high = h.write.values ctx low high
 AreTops-at h (suc (suc zero)) ctx low high = h.read.values ctx low high
 AreTops-at {tops} {reach} {es} h (suc (suc (suc usage))) ctx low high = h.bookkeep.values ctx low high ∙ ap (raised_to (value_at reach ctx)) (sym (top-weakest es (suc (suc (suc usage))) ctx (omega arith)))
 
-AreTops-IsRising : {tops : Tops} {reach : List ℕ} {es : List Entry} → AreTops tops reach es → (ctx : ℕ) → 1 ≤ ctx → ctx ≤ CONTEXTS → IsRising tops reach ctx
+pub AreTops-IsRising : {tops : Tops} {reach : List ℕ} {es : List Entry} → AreTops tops reach es → (ctx : ℕ) → 1 ≤ ctx → ctx ≤ CONTEXTS → IsRising tops reach ctx
 AreTops-IsRising {tops} {reach} {es} h ctx low high = record {
   kernel = rw (h.kernel.values ctx low high) (raised_to-above (value_at reach ctx) (top es 0 ctx));
   write = rw (h.kernel.values ctx low high, h.write.values ctx low high) (raised_to-top-stronger (value_at reach ctx) es 0 1 ctx (omega arith));
@@ -245,23 +238,21 @@ IsTrimmed-entries_at tops reach n ctx kept past rising within trimmed =
     subst (IsTrimmed reach) (parts_join kept (kernel_part tops reach ctx) (write_part tops ctx) (read_part tops ctx) (bookkeep_part tops ctx)) bookkeep.trimmed
 
 -- one more context
-pub IsCompacted-more : {tops : Tops} {reach : List ℕ} {es : List Entry} → AreTops tops reach es → {n : ℕ} {kept : List Entry} → IsCompacted tops reach n kept → (ctx : ℕ) → ctx ≡ n + 1 → n < CONTEXTS → IsCompacted tops reach (n + 1) (kept ++ entries_at tops reach ctx)
-IsCompacted-more {tops} {reach} {es} tell {n} {kept} h ctx is low =
-    let rising = AreTops-IsRising tell ctx (omega arith) (omega arith) in
-    record {
-      values = λ usage at from to. elim (cases_eq ctx at) [
-        | inl same ↦ raised_to-then (value_at reach at) kept (entries_at tops reach ctx) usage at
-            (raised_to-top-later (value_at reach at) n at usage kept (omega arith) h.contexts)
-            (rw (← same) (raised_to-entries_at tops reach ctx usage rising))
-        | inr apart ↦ raised_to-then (value_at reach at) kept (entries_at tops reach ctx) usage at
-            (h.values usage at from (omega arith))
-            (raised_to-entries_at_other tops reach ctx usage at (value_at (table_at tops usage) at) apart)
-      ];
-      contexts = All-append (λ (e : Entry). (1 ≤ e.point.ctx) × (e.point.ctx ≤ n + 1)) kept (entries_at tops reach ctx)
-          (All-weaker (λ (e : Entry). (1 ≤ e.point.ctx) × (e.point.ctx ≤ n)) (λ (e : Entry). (1 ≤ e.point.ctx) × (e.point.ctx ≤ n + 1)) (λ e has. (has.0, omega (arith, has.1))) kept h.contexts)
-          (All-entries_at tops reach ctx (n + 1) (omega arith) (omega arith));
-      trimmed = IsTrimmed-entries_at tops reach n ctx kept (omega arith) rising h.contexts h.trimmed;
-    }
+pub IsCompacted-more : {tops : Tops} {reach : List ℕ} {n : ℕ} {kept : List Entry} → IsCompacted tops reach n kept → (ctx : ℕ) → ctx ≡ n + 1 → IsRising tops reach ctx → IsCompacted tops reach (n + 1) (kept ++ entries_at tops reach ctx)
+IsCompacted-more {tops} {reach} {n} {kept} h ctx is rising = record {
+  values = λ usage at from to. elim (cases_eq ctx at) [
+    | inl same ↦ raised_to-then (value_at reach at) kept (entries_at tops reach ctx) usage at
+        (raised_to-top-later (value_at reach at) n at usage kept (omega arith) h.contexts)
+        (rw (← same) (raised_to-entries_at tops reach ctx usage rising))
+    | inr apart ↦ raised_to-then (value_at reach at) kept (entries_at tops reach ctx) usage at
+        (h.values usage at from (omega arith))
+        (raised_to-entries_at_other tops reach ctx usage at (value_at (table_at tops usage) at) apart)
+  ];
+  contexts = All-append (λ (e : Entry). (1 ≤ e.point.ctx) × (e.point.ctx ≤ n + 1)) kept (entries_at tops reach ctx)
+      (All-weaker (λ (e : Entry). (1 ≤ e.point.ctx) × (e.point.ctx ≤ n)) (λ (e : Entry). (1 ≤ e.point.ctx) × (e.point.ctx ≤ n + 1)) (λ e has. (has.0, omega (arith, has.1))) kept h.contexts)
+      (All-entries_at tops reach ctx (n + 1) (omega arith) (omega arith));
+  trimmed = IsTrimmed-entries_at tops reach n ctx kept (omega arith) rising h.contexts h.trimmed;
+}
 
 -- whether there can be the context
 pub cases_context : (n ctx : ℕ) → ((1 ≤ ctx) × (ctx ≤ n)) ⊎ (1 ≤ ctx → ctx ≤ n → ⊥)
@@ -284,11 +275,11 @@ table_at-unused tops reach (suc (suc zero)) ctx h none = (omega (arith, h.bookke
 table_at-unused tops reach (suc (suc (suc usage))) ctx h none = (none, omega (arith, h.kernel, h.write, h.read, h.bookkeep))
 
 -- of all contexts that are in use, what is kept agrees with the entries
-pub AgreesAbove-IsCompacted : {tops : Tops} {reach : List ℕ} {es : List Entry} → AreTops tops reach es → HasContexts es → {n : ℕ} {kept : List Entry} → n ≤ CONTEXTS → ((ctx : ℕ) → n < ctx → value_at tops.bookkeep ctx ≡ 0) → IsCompacted tops reach n kept → AgreesAbove reach es kept
+pub AgreesAbove-IsCompacted : {tops : Tops} {reach : List ℕ} {es : List Entry} → AreTops tops reach es → HasContexts es → {n : ℕ} {kept : List Entry} → n ≤ CONTEXTS → ((ctx : ℕ) → n < ctx → ctx ≤ CONTEXTS → value_at tops.bookkeep ctx ≡ 0) → IsCompacted tops reach n kept → AgreesAbove reach es kept
 AgreesAbove-IsCompacted {tops} {reach} {es} tell within {n} {kept} few past h = AgreesAbove-from_raised (λ usage ctx. elim (cases_context CONTEXTS ctx) [
   | inl has ↦ sym (AreTops-at tell usage ctx has.0 has.1) ∙ elim (cases_lt n ctx) [
     | inl unused ↦
-        let none = table_at-unused tops reach usage ctx (AreTops-IsRising tell ctx has.0 has.1) (past ctx unused) in
+        let none = table_at-unused tops reach usage ctx (AreTops-IsRising tell ctx has.0 has.1) (past ctx unused has.1) in
         none.0 ∙ sym none.1 ∙ sym (raised_to-top-later (value_at reach ctx) n ctx usage kept unused h.contexts)
     | inr used ↦ sym (h.values usage ctx has.0 used)
   ]

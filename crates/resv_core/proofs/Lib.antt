@@ -2,7 +2,9 @@ pub mod Comparing
 pub mod Compaction
 pub mod Counting
 pub mod Dropping
+pub mod Kept
 pub mod Placing
+pub mod Reservations
 pub mod Replacing
 pub mod RoundActs
 pub mod Rows

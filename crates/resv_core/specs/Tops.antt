@@ -18,6 +18,13 @@ pub record AreTops (tops : Tops) (reach : List ℕ) (es : List Entry) : Type 0 w
   pub read : IsLatest tops.read reach es 2
   pub bookkeep : IsLatest tops.bookkeep reach es 3
 
+-- the tables rise from the reach to the weakest usage
+pub record IsRising (tops : Tops) (reach : List ℕ) (ctx : ℕ) : Type 0 where
+  pub kernel : value_at reach ctx ≤ value_at tops.kernel ctx
+  pub write : value_at tops.kernel ctx ≤ value_at tops.write ctx
+  pub read : value_at tops.write ctx ≤ value_at tops.read ctx
+  pub bookkeep : value_at tops.read ctx ≤ value_at tops.bookkeep ctx
+
 -- both have the same points of the context
 abbrev pub AreSameAt : Tops → Tops → ℕ → Type 0
 AreSameAt tops others ctx =

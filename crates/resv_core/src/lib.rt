@@ -4,12 +4,14 @@
 #![tactic(auto)]
 
 mod adding;
+mod kept_tops;
 mod laws;
 mod plan;
 mod putting;
 mod resv;
 mod shared_table;
 mod table_rows;
+mod top_table;
 mod tops;
 
 pub use adding::SCANNED;
@@ -20,4 +22,5 @@ pub use laws::{
 pub use plan::{Act, Plan, Round, Settled};
 pub use resv::{GROWTH, PLACES, PLACES_PER_CONTEXT, Resv};
 pub use shared_table::SharedTable;
+pub use top_table::TopTable;
 pub use tops::Tops;

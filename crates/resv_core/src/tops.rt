@@ -5,7 +5,7 @@ ghost use Rattle.point_core.specs.declared.entry.Entry.{Entry};
 ghost use Rattle.point_core.specs.declared.context.TheConstants.{CONTEXTS};
 ghost use Rattle.point_core.specs.Agreement.{AgreesAbove, HasContexts, point_of};
 ghost use Rattle.point_core.specs.Latest.{IsLatest, points_above};
-ghost use Rattle.point_core.specs.Reach.{value_at};
+ghost use Rattle.point_core.specs.Reach.{value_at, IsAtLeast};
 ghost use Rattle.point_core.specs.Usage.{usage_number};
 ghost use Rattle.point_core.specs.Used.{used_of};
 ghost use Rattle.resv_core.specs.declared.tops.TheConstants.{USAGES};
@@ -104,12 +104,14 @@ impl Tops {
         put_at(&mut self.bookkeep, Usage::Bookkeep, entry);
     }
 
-    /// The points that are above the reach that the tables began as, from the strongest usage to the weakest and by rising
-    /// context.
+    /// The points that are above the reach, from the strongest usage to the weakest and by rising context. The tables began as
+    /// this reach or a lower one.
     ///
     /// Fails with `Memory` alone.
     pub fn rows(&self, alloc: Global, reach: &Reach) -> Result<Vec<TopRow>, Refusal>
         ensures rows { (es : List Entry) → AreTops self.now reach.now es →
+            IfOk result (λ rows. rows.items ≡ rows_of es reach.now) }
+        ensures risen { (lower : List ℕ) (es : List Entry) → AreTops self.now lower es → IsAtLeast reach.now lower →
             IfOk result (λ rows. rows.items ≡ rows_of es reach.now) }
         ensures memory { IfErr result (λ e. e ≡ Refusal.Memory) }
     {

@@ -1,5 +1,5 @@
 use Rattle.std.proofs.Common.{arith}
-use Rattle.resv_core.proofs.Compaction.{IsCompacted-none, IsCompacted-more, AgreesAbove-IsCompacted}
+use Rattle.resv_core.proofs.Compaction.{AreTops-IsRising, IsCompacted-none, IsCompacted-more, AgreesAbove-IsCompacted}
 use Rattle.resv_core.proofs.tops.compact.Goals as goal
 
 pub loop-index-init : goal.loop-index-init
@@ -11,7 +11,9 @@ loop-index-init c = record {
 
 pub loop-index-preserved : goal.loop-index-preserved
 loop-index-preserved c = record {
-  kept = rw c.keep.ensures.items (IsCompacted-more (c.put_entries.ensures.tops c.args.reach.now (record { kernel = c.above-none.ensures.empty 0; write = c.above-none.ensures.empty 1; read = c.above-none.ensures.empty 2; bookkeep = c.above-none.ensures.empty 3 })) c.loop-index.invariant.kept c.at.result c.at.ensures (omega (arith, c.loop-index-test.true, c.used-index-end.ensures.within)));
+  kept =
+      let tell = c.put_entries.ensures.tops c.args.reach.now (record { kernel = c.above-none.ensures.empty 0; write = c.above-none.ensures.empty 1; read = c.above-none.ensures.empty 2; bookkeep = c.above-none.ensures.empty 3 }) in
+      rw c.keep.ensures.items (IsCompacted-more c.loop-index.invariant.kept c.at.result c.at.ensures (AreTops-IsRising tell c.at.result (omega arith) (omega (arith, c.loop-index-test.true, c.used-index-end.ensures.within))));
   few = omega arith;
   places = omega arith;
 }
@@ -20,4 +22,4 @@ pub returns-clause-agrees : goal.returns-clause-agrees
 returns-clause-agrees c =
     let tell = rw c.as_slice.ensures.value at (c.put_entries.ensures.tops c.args.reach.now (record { kernel = c.above-none.ensures.empty 0; write = c.above-none.ensures.empty 1; read = c.above-none.ensures.empty 2; bookkeep = c.above-none.ensures.empty 3 })) in
     let within = rw c.as_slice.ensures.value at c.put_entries.ensures.contexts in
-    AgreesAbove-IsCompacted tell within (omega arith) (λ ctx past. c.used-index-end.ensures.past ctx (omega arith)) c.loop-index.invariant.kept
+    AgreesAbove-IsCompacted tell within (omega arith) (λ ctx past few. c.used-index-end.ensures.past ctx (omega arith)) c.loop-index.invariant.kept

@@ -10,9 +10,9 @@ use Rattle.dmabuf_core.proofs.buffers.Buffers.create.Goals as goal
 last : (c : goal.Joined-insert-2) → c.insert.new.self.entries ≡ c.args.self.now ++ (c.args.name, empty) ∷ []
 last c =
     let new : has_buffer c.args.self.now c.args.name ≡ false = sym c.has.ensures ∙ c.if-has.false in
-    let same : c.in_ok-table.table ≡ empty = cc (c.in_ok-table.ensures.empty) in
+    let same = c.new-table.ensures.empty in
     c.in-Ok.ensures.entries
-    ∙ insert_entry-last c.self.inside.by_name c.args.self.now c.args.name c.in_ok-table.table c.self.view_is new
+    ∙ insert_entry-last c.self.inside.by_name c.args.self.now c.args.name c.new-table.result c.self.view_is new
     ∙ ap (λ t. c.args.self.now ++ (c.args.name, t) ∷ []) same
 
 kept : (c : goal.Joined-insert-2) → AreBuffers c.insert.new.self.entries
