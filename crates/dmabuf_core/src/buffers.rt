@@ -1,7 +1,6 @@
 // The buffers by name.
-ghost use Rattle.std.specs.Prelude.{◌≡◌, false, ◌↔◌, ◌≤◌, ◌++◌, [], ◌∷◌, List, length, map, IfErr, IfOk, IsOk, IsOkAnd, IsTrue, MatchBool, MatchOption, MatchResult, Ok, Err, OnErr, OnOk, Some};
+ghost use Rattle.std.specs.Prelude.{◌≡◌, false, ◌↔◌, ◌++◌, [], ◌∷◌, List, map, IfErr, IfOk, IsOk, IsOkAnd, IsTrue, MatchBool, MatchOption, MatchResult, Ok, Err, OnErr, OnOk, Some};
 ghost use Rattle.point_core.specs.declared.refusal.Refusal.TheVariants.{Memory, NoEntry};
-ghost use Rattle.point_core.specs.declared.context.TheConstants.{CONTEXTS};
 ghost use Rattle.point_core.specs.Agreement.{AgreesAbove, as_entries, HasRisingContexts, IsReached, listing};
 ghost use Rattle.point_core.specs.Usage.{usage_number};
 ghost use Rattle.point_core.specs.Refusal.{IsRefusedFor};
@@ -11,9 +10,7 @@ ghost use Rattle.dmabuf_core.specs.Buffers.{AreBuffers, OnlyChanges, cause_by_fl
 
 use crate::flags::SyncFlags;
 use indexmap::IndexMap;
-use point_core::{
-    BUFFERS, CONTEXTS, Items, LimitKind, Listing, Name, Point, Reach, Refusal, TopRow, Usage,
-};
+use point_core::{BUFFERS, Items, LimitKind, Listing, Name, Point, Reach, Refusal, TopRow, Usage};
 use resv_core::TopTable;
 use std::alloc::Global;
 use std::marker::Model;

@@ -149,9 +149,9 @@ fn first_of(alloc: Global, points: &[Point], usage: Usage) -> Result<Box<Tops>, 
     ensures contexts { HasContexts (entries_as usage points.now) }
     ensures memory { IfErr result (λ e. e ≡ Refusal.Memory) }
 {
-    let mut tops = Tops::above(&Reach::zero());
-    tops.raise_all(points, usage);
-    match Box::new(alloc, tops) {
+    let mut first = Tops::above(&Reach::zero());
+    first.raise_all(points, usage);
+    match Box::new(alloc, first) {
         Ok(tops) => Ok(tops),
         Err(_) => Err(Refusal::Memory),
     }
