@@ -18,8 +18,8 @@ is_of_word b = not (is_space b)
 marks_below : (xs : List ℕ) → marks_of xs < 2 ^ length xs
 marks_below xs = subst (λ n. marks_of xs < 2 ^ n) (length-map xs is_of_word) (mask_l-lt (map is_of_word xs))
 
-marks_fit : (xs : List ℕ) → length xs ≤ 32 → marks_of xs < 2 ^ 32
-marks_fit xs few = omega (arith, marks_below xs, pow_mono {i = length xs} {j = 32} few)
+marks_fit : (xs : List ℕ) → length xs ≤ 63 → marks_of xs < 2 ^ 63
+marks_fit xs few = omega (arith, marks_below xs, pow_mono {i = length xs} {j = 63} few)
 
 bit_within : (xs : List ℕ) (k : ℕ) → k < length xs → bit_at (marks_of xs) k ≡ cond (is_of_word (get_or xs k 0)) 1 0
 bit_within xs k h = bit_mask_l (map is_of_word xs) k ∙ ap (λ b. cond b 1 0) (get_or-map is_of_word xs k 0 false h)
@@ -48,11 +48,11 @@ marked-none xs e =
     ap (λ n. cond (nat_lt n (length xs)) (Some n) None) all
     ∙ ap (λ b. cond b (Some (length xs)) None) (le-ltb (length xs) (length xs) (omega arith))
 
-pub marked-start_within : (xs : List ℕ) → length xs ≤ 32 → 0 < marks_of xs → trailing_zeros w64 (marks_of xs) < length xs
+pub marked-start_within : (xs : List ℕ) → length xs ≤ 63 → 0 < marks_of xs → trailing_zeros w64 (marks_of xs) < length xs
 marked-start_within xs few some =
     set_within xs (trailing_zeros w64 (marks_of xs)) (bit_at-trailing_zeros w64 (marks_of xs) some (omega (arith, marks_fit xs few))).1
 
-pub marked-start : (xs : List ℕ) → length xs ≤ 32 → 0 < marks_of xs → position is_of_word xs ≡ Some (trailing_zeros w64 (marks_of xs))
+pub marked-start : (xs : List ℕ) → length xs ≤ 63 → 0 < marks_of xs → position is_of_word xs ≡ Some (trailing_zeros w64 (marks_of xs))
 marked-start xs few some =
     let n = trailing_zeros w64 (marks_of xs) in
     let at : position_or_len is_of_word xs ≡ n = sym (trailing_mask_l is_of_word 64 xs (omega arith) some) in
@@ -68,7 +68,7 @@ ended n len h =
           ap (λ b. unwrap_or (cond b (Some n) None) len) (le-ltb n len whole) ∙ same
     ]
 
-module _ (xs : List ℕ) (few : length xs ≤ 32) where
+module _ (xs : List ℕ) (few : length xs ≤ 63) where
   lowest_unset : (trailing_ones w64 (marks_of xs) < 64) × (bit_at (marks_of xs) (trailing_ones w64 (marks_of xs)) ≡ 0) × ((k : ℕ) → k < trailing_ones w64 (marks_of xs) → bit_at (marks_of xs) k ≡ 1)
   lowest_unset = bit_at-trailing_ones w64 (marks_of xs) (omega (arith, marks_fit xs few))
 

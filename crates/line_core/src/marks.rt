@@ -6,23 +6,51 @@ ghost use Rattle.line_core.specs.Words.{is_space};
 
 use std::simd::prelude::*;
 
-/// How many bytes are compared at once, and half as many.
-pub(crate) const LANES: usize = 16;
-
+/// How many bytes are compared at once, by the number of bytes that there are.
 const HALF_LANES: usize = 8;
 
-/// The marks of the bytes, or none if these are fewer than half the lanes or more than twice the lanes.
+pub(crate) const LANES: usize = 16;
+
+const WIDE_LANES: usize = 32;
+
+/// The most bytes that have marks: one bit of 64 stays clear, and ends the last word.
+pub(crate) const MARKED_BYTES: usize = 63;
+
+/// The marks of the bytes, or none if these are fewer than half the lanes or more than `MARKED_BYTES`.
 pub(crate) fn marks(bytes: &[u8]) -> Option<u64>
     ensures marks { MayHaveMarks bytes.now result }
 {
     let count = bytes.len();
     if count < HALF_LANES || count > 2 * LANES {
-        None
+        marks_of_rare(bytes)
     } else if count < LANES {
         Some(marks_of_halves(bytes))
     } else {
         Some(marks_of_lanes(bytes))
     }
+}
+
+/// The same of a line that is shorter or longer than most, out of the way of the others.
+#[inline(never)]
+fn marks_of_rare(bytes: &[u8]) -> Option<u64>
+    ensures marks { MayHaveMarks bytes.now result }
+{
+    let count = bytes.len();
+    if count < WIDE_LANES || count > MARKED_BYTES {
+        None
+    } else {
+        Some(marks_of_wide_lanes(bytes))
+    }
+}
+
+fn marks_of_wide_lanes(bytes: &[u8]) -> u64
+    requires least { WIDE_LANES ≤ length bytes.now }
+    requires most { length bytes.now ≤ MARKED_BYTES }
+    ensures marks { HasMarks bytes.now result }
+{
+    let last = bytes.len() - WIDE_LANES;
+    let more = wide_lane_marks(bytes, last) >> (WIDE_LANES - last);
+    (more << WIDE_LANES) | wide_lane_marks(bytes, 0)
 }
 
 /// By the first bytes and the last, which may overlap.
@@ -44,6 +72,15 @@ fn marks_of_halves(bytes: &[u8]) -> u64
     let last = bytes.len() - HALF_LANES;
     let more = half_lane_marks(bytes, last) >> (HALF_LANES - last);
     (more << HALF_LANES) | half_lane_marks(bytes, 0)
+}
+
+fn wide_lane_marks(bytes: &[u8], start: usize) -> u64
+    requires within { start + WIDE_LANES ≤ length bytes.now }
+    ensures marks { result ≡ marks_of (take WIDE_LANES (drop start bytes.now)) }
+{
+    u8x32::from_slice(&bytes[start..])
+        .simd_ne(u8x32::splat(b' '))
+        .to_bitmask()
 }
 
 fn lane_marks(bytes: &[u8], start: usize) -> u64
