@@ -14,17 +14,17 @@ use Rattle.std.proofs.lemmas.List.Folds.{list_all-append}
 use Rattle.std.proofs.lemmas.List.Sorted.{IsPermutation-sym, IsPermutation-trans, IsPermutation-cons, IsPermutation-map, IsPermutation-swap_remove, All-permutation, length_permutation}
 use Rattle.std.proofs.lemmas.Map.Keys.{IsDistinct-IsPermutation, IsDistinct-head, IsDistinct-tail, IsDistinct-push}
 use Rattle.std.proofs.lemmas.Map.Views.{exact_unsigned_eq}
-use Rattle.indexmap.specs.IndexMap.{insert_entry, swap_remove_entry}
-use Rattle.indexmap.proofs.MapLemmas.{lookup_permutation, swap_remove_entry-found, swap_remove_entry-missing, Missing-position, insert_entry-absent, absent_from_lookup}
+use Rattle.indexmap.specs.IndexMap.{swap_remove_entry}
+use Rattle.indexmap.proofs.MapLemmas.{lookup_permutation, swap_remove_entry-found, swap_remove_entry-missing, Missing-position}
 use Rattle.point_core.specs.Named.{same_name, things_in, IsKeyed}
 use Rattle.point_core.proofs.Named.{named-things_in, has_named-things_in, is_some-named, length-things_in, things_in-append, things_in-remove_entry, without_named-absent}
 use Rattle.syncfile_core.specs.declared.by_making.Made.{Made}
 use Rattle.syncfile_core.specs.declared.by_making.Place.{Place}
 use Rattle.syncfile_core.specs.Numbered.{put_in, by_number}
 use Rattle.syncfile_core.specs.SyncFile.{File}
-use Rattle.syncfile_core.specs.Files.{file_name, has_file, file_at, without_file, names_of, number_of, place_of, files_made, AreKept, HasDistinctNames, cause_to_refuse}
+use Rattle.syncfile_core.specs.Files.{file_name, has_file, file_at, without_file, names_of, number_of, files_made, AreKept, HasDistinctNames}
 use Rattle.syncfile_core.specs.Merge.{files_at}
-use Rattle.syncfile_core.proofs.Causes.{is_none, new-by_cause}
+use Rattle.syncfile_core.proofs.Causes.{is_none}
 use Rattle.syncfile_core.proofs.InOrder.{Rises, IsPermutation-by_number, Rises-by_number, by_number-permuted, by_number-last, same_rising, Rises-from, remove_entry-put_in}
 
 is_some-option_map : {X Y : Type 0} (f : X → Y) (o : Option X) → is_some (option_map f o) ≡ is_some o
@@ -36,6 +36,10 @@ Entries = List (List ℕ × Made)
 
 abbrev file_in : Made → File
 file_in m = m.file
+
+-- the name of an entry, and the number of its making
+abbrev pub place_in : List ℕ × Made → Place
+place_in e = record { name = e.0; number = e.1.number }
 
 abbrev IsUnderItsName : List ℕ × Made → Type 0
 IsUnderItsName e = e.0 ≡ e.1.file.name
@@ -78,6 +82,9 @@ module _ (es : Entries) (next : ℕ) (kept : AreKept es next) where
   pub HasDistinctNames-made : HasDistinctNames (files_made es)
   HasDistinctNames-made = subst (IsDistinct same_name) keyed ordered.distinct
 
+  pub names_of-keys : keys_of (by_number number_of es) ≡ names_of (files_made es)
+  names_of-keys = keyed
+
   found-in_order : (name : List ℕ) → lookup (same_name name) (by_number number_of es) ≡ lookup (same_name name) es
   found-in_order name = lookup_permutation nat_list_eq_equiv es (by_number number_of es) (IsPermutation-by_number number_of es) ordered.distinct (same_name name) (nat_list_eq_equiv.congr name)
 
@@ -89,39 +96,39 @@ module _ (es : Entries) (next : ℕ) (kept : AreKept es next) where
 
   -- names and numbers, put in order
 
-  map-keys : (ds : Entries) → map (λ (p : Place). p.name) (map place_of ds) ≡ keys_of ds
+  map-keys : (ds : Entries) → map (λ (p : Place). p.name) (map place_in ds) ≡ keys_of ds
   map-keys [] = refl
   map-keys (d ∷ ds) = ap (λ ns. d.0 ∷ ns) (map-keys ds)
 
-  map-numbers : (ds : Entries) → map (λ (p : Place). p.number) (map place_of ds) ≡ map number_of ds
+  map-numbers : (ds : Entries) → map (λ (p : Place). p.number) (map place_in ds) ≡ map number_of ds
   map-numbers [] = refl
   map-numbers (d ∷ ds) = ap (λ ns. number_of d ∷ ns) (map-numbers ds)
 
-  all-places : (n : ℕ) (ds : Entries) → AllByRecursion (λ d. n < number_of d) ds → AllByRecursion (λ (p : Place). n < p.number) (map place_of ds)
+  all-places : (n : ℕ) (ds : Entries) → AllByRecursion (λ d. n < number_of d) ds → AllByRecursion (λ (p : Place). n < p.number) (map place_in ds)
   all-places n [] all = tt
   all-places n (d ∷ ds) all = (all.0, all-places n ds all.1)
 
-  Rises-places : (ds : Entries) → Rises number_of ds → Rises (λ (p : Place). p.number) (map place_of ds)
+  Rises-places : (ds : Entries) → Rises number_of ds → Rises (λ (p : Place). p.number) (map place_in ds)
   Rises-places [] rises = tt
   Rises-places (d ∷ ds) rises = (all-places (number_of d) ds rises.0, Rises-places ds rises.1)
 
-  pub names_of-places : (ps : List Place) → IsPermutation (map place_of es) ps → IsNonDecreasingBy (λ (p : Place). p.number) ps → map (λ (p : Place). p.name) ps ≡ names_of (files_made es)
+  pub names_of-places : (ps : List Place) → IsPermutation (map place_in es) ps → IsNonDecreasingBy (λ (p : Place). p.number) ps → map (λ (p : Place). p.name) ps ≡ names_of (files_made es)
   names_of-places ps moved rising =
       let number : Place → ℕ = λ p. p.number in
       let numbered = subst (IsDistinct nat_eq) (sym (map-numbers es)) kept.numbered in
-      let rises = Rises-from number ps rising (IsDistinct-IsPermutation nat_eq nat_eq_equiv.symm (map number (map place_of es)) (map number ps) (IsPermutation-map number (map place_of es) ps moved) numbered) in
-      let turned = IsPermutation-map place_of es (by_number number_of es) (IsPermutation-by_number number_of es) in
-      let is = same_rising number ps (map place_of (by_number number_of es)) rises (Rises-places (by_number number_of es) (Rises-by_number number_of es kept.numbered))
-      (IsPermutation-trans ps (map place_of es) (map place_of (by_number number_of es)) (IsPermutation-sym (map place_of es) ps moved) turned) in
+      let rises = Rises-from number ps rising (IsDistinct-IsPermutation nat_eq nat_eq_equiv.symm (map number (map place_in es)) (map number ps) (IsPermutation-map number (map place_in es) ps moved) numbered) in
+      let turned = IsPermutation-map place_in es (by_number number_of es) (IsPermutation-by_number number_of es) in
+      let is = same_rising number ps (map place_in (by_number number_of es)) rises (Rises-places (by_number number_of es) (Rises-by_number number_of es kept.numbered))
+      (IsPermutation-trans ps (map place_in es) (map place_in (by_number number_of es)) (IsPermutation-sym (map place_in es) ps moved) turned) in
       ap (map (λ (p : Place). p.name)) is ∙ map-keys (by_number number_of es) ∙ keyed
 
   -- a new file goes last
-  module _ (x : File) (none : cause_to_refuse (files_made es) x.name ≡ None) where
+  module _ (x : File) (new : has_file (files_made es) x.name ≡ false) where
     abbrev pub made : Made
     made = record { file = x; number = next }
 
     pub absent : lookup (same_name x.name) es ≡ None
-    absent = is_none (lookup (same_name x.name) es) (sym (has_file-made x.name) ∙ new-by_cause (files_made es) x.name none)
+    absent = is_none (lookup (same_name x.name) es) (sym (has_file-made x.name) ∙ new)
 
     no_key : (ds : Entries) → lookup (same_name x.name) ds ≡ None → list_any (same_name x.name) (keys_of ds) ≡ false
     no_key [] is = refl
@@ -153,15 +160,6 @@ module _ (es : Entries) (next : ℕ) (kept : AreKept es next) where
       numbered = subst (IsDistinct nat_eq) (sym (map-append number_of es ((x.name, made) ∷ []))) (IsDistinct-push nat_eq_equiv (map number_of es) next kept.numbered (no_number es (recursion_from_All (λ e. number_of e < next) es kept.below)));
       below = All-push (λ e. number_of e < next + 1) es (x.name, made) (All-weaker (λ e. number_of e < next) (λ e. number_of e < next + 1) (λ e low. omega (arith, low)) es kept.below) (omega arith);
     }
-
-    put-new : insert_entry same_name es x.name made ≡ es ++ (x.name, made) ∷ []
-    put-new = insert_entry-absent same_name x.name made es (absent_from_lookup (same_name x.name) es absent)
-
-    pub files_made-insert_entry : files_made (insert_entry same_name es x.name made) ≡ files_made es ++ x ∷ []
-    files_made-insert_entry = ap files_made put-new ∙ files_made-append
-
-    pub AreKept-insert_entry : AreKept (insert_entry same_name es x.name made) (next + 1)
-    AreKept-insert_entry = subst (λ ds. AreKept ds (next + 1)) (sym put-new) AreKept-append
 
   -- the file of that name is taken out, and moves no other
   module _ (name : List ℕ) where

@@ -3,6 +3,7 @@ pub mod InOrder
 pub mod Kept
 pub mod Merging
 pub mod Passing
+pub mod Placed
 pub mod Polling
 pub mod Reached
 pub mod Renumbering

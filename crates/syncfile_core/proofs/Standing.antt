@@ -1,6 +1,8 @@
 -- What a new file stands for.
 use Rattle.std.proofs.Common.{◌≡◌, false, refl, ap, ◌∙◌, List, ℕ, [], ◌∷◌, ◌++◌, Option, Some, None, cond, Ok, Err, Result}
-use Rattle.std.specs.Prelude.{OnOk, IsOk, MatchOption}
+use Rattle.std.specs.Prelude.{OnOk, IsOk}
+use Rattle.std.proofs.lemmas.Bool.{false≢true}
+use Rattle.point_core.specs.Refusal.{IsRefusedFor}
 use Rattle.std.specs.Option.{option_or}
 use Rattle.std.specs.Cmp.Lexicographic.{nat_list_eq_equiv}
 use Rattle.std.proofs.lemmas.List.Folds.{find-append}
@@ -31,7 +33,19 @@ pub OnOk-from : {T E : Type 0} (r : Result T E) (P Q : Type 0) → (P → Q) →
 OnOk-from (Ok v) P Q from h = from h
 OnOk-from (Err e) P Q from h = tt
 
+pub OnOk-two : {T E : Type 0} (r : Result T E) (P Q R : Type 0) → (P → Q → R) → OnOk r P → OnOk r Q → OnOk r R
+OnOk-two (Ok v) P Q R both p q = both p q
+OnOk-two (Err e) P Q R both p q = tt
+
+-- what was made of a draft that was drawn
+pub OnOk-drawn : (r drawn : Result (Unit {0}) Refusal) (P Q R : Type 0) → (P → Q → R) → OnOk r (IsOk drawn) → OnOk drawn P → OnOk r Q → OnOk r R
+OnOk-drawn (Ok v) (Ok w) P Q R both ok p q = both p q
+OnOk-drawn (Ok v) (Err e) P Q R both ok p q = absurd (false≢true ok)
+OnOk-drawn (Err e) drawn P Q R both ok p q = tt
+
 -- what was accepted had no cause to be refused
-pub uncaused : (o : Option Refusal) (r : Result (Unit {0}) Refusal) (v : Unit {0}) → r ≡ Ok v → MatchOption o (IsOk r) (λ cause. r ≡ Err cause) → o ≡ None
-uncaused None r v ok told = refl
-uncaused (Some cause) r v ok told = absurd (cc)
+pub accepted : (o : Option Refusal) (r : Result (Unit {0}) Refusal) → IsRefusedFor o r → OnOk r (o ≡ None)
+accepted None (Ok v) told = refl
+accepted None (Err e) told = tt
+accepted (Some cause) (Ok v) told = absurd (cc)
+accepted (Some cause) (Err e) told = tt

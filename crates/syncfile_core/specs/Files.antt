@@ -1,5 +1,5 @@
 -- The files by name, in the order of making.
-use Rattle.std.specs.Prelude.{◌≡◌, ℕ, ◌<◌, Bool, nat_eq, nat_lt, if◌then◌else◌, List, All, map, length, Option, None, Some, MatchOption}
+use Rattle.std.specs.Prelude.{◌≡◌, ℕ, ◌<◌, ◌≤◌, Bool, nat_eq, nat_lt, if◌then◌else◌, List, All, map, length, take, Option, None, Some, MatchOption}
 use Rattle.std.specs.List.{IsDistinct}
 use Rattle.std.specs.Map.{keys_of}
 use Rattle.point_core.specs.declared.refusal.Refusal.{Refusal}
@@ -58,6 +58,26 @@ pub record AreKept (es : List (List ℕ × Made)) (next : ℕ) : Type 0 where
   pub numbered : IsDistinct nat_eq (map number_of es)
   pub below : All (λ e. number_of e < next) es
 
--- the name of an entry, and the number of its making
-abbrev pub place_of : List ℕ × Made → Place
-place_of e = record { name = e.0; number = e.1.number }
+-- a file that was made, under its name
+abbrev pub entry_of : Made → List ℕ × Made
+entry_of m = (m.file.name, m)
+
+abbrev pub entries_of : List Made → List (List ℕ × Made)
+entries_of made = map entry_of made
+
+-- the files that are there: as many of the first as there are names
+abbrev pub entries_in : List (List ℕ) → List Made → List (List ℕ × Made)
+entries_in names made = entries_of (take (length names) made)
+
+abbrev pub files_in : List (List ℕ) → List Made → List File
+files_in names made = files_made (entries_in names made)
+
+-- they stand as their names do, and are kept so
+pub record AreInPlace (names : List (List ℕ)) (made : List Made) (next : ℕ) : Type 0 where
+  pub within : length names ≤ length made
+  pub named : names ≡ keys_of (entries_in names made)
+  pub kept : AreKept (entries_in names made) next
+
+-- the name of a file, and the number of its making
+abbrev pub place_of : Made → Place
+place_of m = record { name = m.file.name; number = m.number }

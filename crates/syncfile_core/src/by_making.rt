@@ -1,13 +1,20 @@
 // Files by name, in order of making.
-ghost use Rattle.std.specs.Prelude.{◌≡◌, ◌+◌, ◌^◌, ◌<◌, [], ◌∷◌, ◌++◌, length, map, option_copied, None, Ok, Err, MatchBool, IsOk, OnOk, OnErr, IfOk, IfErr};
+ghost use Rattle.std.specs.Prelude.{◌≡◌, ℕ, ◌+◌, ◌^◌, ◌<◌, ◌≤◌, true, false, [], ◌∷◌, ◌++◌, length, take, map, option_copied, None, Some, Ok, Err, MatchBool, MatchOption, IsOk, IsErr, OnOk, OnErr, IfOk, IfErr};
 ghost use Rattle.point_core.specs.declared.refusal.Refusal.TheVariants.{Memory, NoEntry};
+ghost use Rattle.std.specs.List.{IsDistinct};
 ghost use Rattle.std.specs.List.Sorted.{IsPermutation, IsNonDecreasingBy};
-ghost use Rattle.syncfile_core.specs.Files.{has_file, file_at, without_file, names_of, number_of, place_of, files_made, AreKept, HasDistinctNames, cause_to_refuse};
-ghost use Rattle.syncfile_core.specs.Renumbered.{numbered_from};
+ghost use Rattle.point_core.specs.Agreement.{HasRisingContexts};
+ghost use Rattle.point_core.specs.Named.{same_name};
+ghost use Rattle.point_core.specs.Refusal.{IsRefusedFor};
+ghost use Rattle.syncfile_core.specs.Drafts.{drafted};
+ghost use Rattle.syncfile_core.specs.Files.{has_file, file_at, without_file, names_of, place_of, entries_of, files_made, files_in, AreKept, AreInPlace, HasDistinctNames, cause_to_refuse};
+ghost use Rattle.syncfile_core.specs.Renumbered.{numbered_from, IsNumberedAnew};
 
+use crate::draft::Draft;
+use crate::files::FILES;
 use crate::sync_file::SyncFile;
-use indexmap::IndexMap;
-use point_core::{Name, Refusal};
+use indexmap::IndexSet;
+use point_core::{LimitKind, Name, Refusal};
 use std::alloc::{AllocError, Global};
 use std::marker::Model;
 
@@ -25,25 +32,28 @@ struct Place {
     number: u64,
 }
 
-/// Files by the order of making. A file is found, made and closed in constant time, however many there are: a map keeps them
-/// in no order, and each has the number of its making, by which they are put in order when they are listed.
+/// Files by the order of making. A file is found, made and closed in constant time, however many there are: they stand in no
+/// order, and each has the number of its making, by which they are put in order when they are listed.
 #[derive(Drop)]
 pub(crate) struct ByMaking {
-    by_name: IndexMap<Name, Made>,
-    // Above the number of each file that is there.
+    // of the files that are there, as these stand in `made`
+    names: IndexSet<Name>,
+    // those files, and after them closed ones, whose memory the next files take
+    made: Vec<Made>,
+    // above the number of each file that is there
     next: u64,
 }
 
 impl Model for ByMaking {
     ghost use Rattle.std.specs.Prelude.{List};
     ghost use Rattle.syncfile_core.specs.SyncFile.{File};
-    ghost use Rattle.syncfile_core.specs.Files.{files_made, AreKept};
+    ghost use Rattle.syncfile_core.specs.Files.{files_in, AreInPlace};
 
     ghost Value = { List File };
 
-    ghost view = { λ m. files_made m.by_name.entries };
+    ghost view = { λ m. files_in m.names.keys m.made.items };
 
-    ghost invariant = { λ m. AreKept m.by_name.entries m.next };
+    ghost invariant = { λ m. AreInPlace m.names.keys m.made.items m.next };
 }
 
 impl ByMaking {
@@ -52,7 +62,8 @@ impl ByMaking {
         ensures empty { result ≡ [] }
     {
         ByMaking {
-            by_name: IndexMap::new(alloc),
+            names: IndexSet::new(alloc),
+            made: Vec::new(alloc),
             next: 0,
         }
     }
@@ -61,17 +72,28 @@ impl ByMaking {
     pub(crate) fn get(&self, name: &Name) -> Option<&SyncFile>
         ensures found { option_copied result ≡ file_at self.now name.now }
     {
-        match self.by_name.get(name) {
-            Some(made) => Some(&made.file),
+        match self.names.get_index_of(name) {
+            Some(index) => Some(&self.made[index].file),
             None => None,
         }
+    }
+
+    /// The file of that name.
+    ///
+    /// Fails with `NoEntry`.
+    pub(crate) fn known(&self, name: &Name) -> Result<&SyncFile, Refusal>
+        ensures found { IfOk result (λ file. file_at self.now name.now ≡ Some file.now) }
+        ensures unknown { IfErr result (λ e. e ≡ NoEntry) }
+        ensures absent { OnErr result (file_at self.now name.now ≡ None) }
+    {
+        self.get(name).ok_or(Refusal::NoEntry)
     }
 
     /// How many files there are.
     pub(crate) fn count(&self) -> usize
         ensures { result ≡ length self.now }
     {
-        self.by_name.len()
+        self.names.len()
     }
 
     /// The names, by the order of making.
@@ -82,27 +104,89 @@ impl ByMaking {
         ensures distinct { HasDistinctNames self.now }
         ensures memory { IfErr result (λ e. e ≡ Memory) }
     {
-        let places = in_order(alloc, &self.by_name)?;
+        let places = in_order(alloc, &self.made[..self.names.len()])?;
         Ok(names_of(alloc, places.as_slice())?)
     }
 
-    /// Puts a new file last.
+    /// Whether a file of that name may be made: `Exists` if there is one, `Limit` if there are `FILES` files.
     ///
-    /// Fails with `Memory` alone; nothing has changed then.
-    pub(crate) fn insert(&mut self, file: SyncFile) -> Result<(), Refusal>
-        requires free { cause_to_refuse self.old file.name ≡ None }
-        ensures last { OnOk result (self.new ≡ self.old ++ file ∷ []) }
-        ensures unchanged { OnErr result (self.new ≡ self.old) }
-        ensures memory { IfErr result (λ e. e ≡ Memory) }
+    /// Takes no memory.
+    pub(crate) fn free(&self, name: &Name) -> Result<(), Refusal>
+        ensures free { MatchOption (cause_to_refuse self.now name.now) (IsOk result) (λ cause. result ≡ Err cause) }
     {
-        self.next = next_number(&mut self.by_name, self.next)?;
-        let (name, number) = (file.name, self.next);
-        match self.by_name.insert(name, Made { file, number }) {
-            Ok(_) => {
-                self.next += 1;
-                Ok(())
+        if self.has(name) {
+            return Err(Refusal::Exists);
+        }
+        if self.count() >= FILES {
+            return Err(Refusal::Limit(LimitKind::Files));
+        }
+        Ok(())
+    }
+
+    fn has(&self, name: &Name) -> bool
+        ensures { result ≡ has_file self.now name.now }
+    {
+        self.get(name).is_some()
+    }
+
+    /// Makes a file of a draft, the last, if that could be drawn. The name is looked up once.
+    ///
+    /// Fails as `free` does, then with `Memory`; nothing is made then.
+    pub(crate) fn make(
+        &mut self,
+        alloc: Global,
+        name: Name,
+        draft: &mut Draft,
+        drawn: Result<(), Refusal>,
+    ) -> Result<(), Refusal>
+        requires rising { OnOk drawn (HasRisingContexts draft.old.points.items) }
+        ensures refused { IsRefusedFor (cause_to_refuse self.old name) result }
+        ensures drawn { OnOk result (IsOk drawn) }
+        ensures last { OnOk result (self.new ≡ self.old ++ drafted name draft.old ∷ []) }
+        ensures unchanged { OnErr result (self.new ≡ self.old) }
+    {
+        if drawn.is_err() || self.count() >= FILES {
+            return self.refused(&name);
+        }
+        if self.put(alloc, name, draft) {
+            return Ok(());
+        }
+        self.refused(&name)
+    }
+
+    // Why a file that was not made is refused.
+    fn refused(&self, name: &Name) -> Result<(), Refusal>
+        ensures refused { IsRefusedFor (cause_to_refuse self.now name.now) result }
+        ensures always { IsErr result }
+    {
+        self.free(name)?;
+        Err(Refusal::Memory)
+    }
+
+    // Puts a file of the draft last. False if there is one of that name, or if memory is refused: nothing has changed
+    // then.
+    fn put(&mut self, alloc: Global, name: Name, draft: &mut Draft) -> bool
+        requires rising { HasRisingContexts draft.old.points.items }
+        ensures new { result ≡ true → has_file self.old name ≡ false }
+        ensures last { result ≡ true → self.new ≡ self.old ++ drafted name draft.old ∷ [] }
+        ensures unchanged { result ≡ false → self.new ≡ self.old }
+    {
+        let count = self.names.len();
+        let Ok(()) = add_place(alloc, &mut self.made, count, name) else {
+            return false;
+        };
+        let Ok(number) = next_number(alloc, &mut self.names, &mut self.made, self.next) else {
+            return false;
+        };
+        self.next = number;
+        match self.names.insert(name) {
+            Ok(true) => {
+                self.made[count].take_up(name, draft, number);
+                self.next = number + 1;
+                true
             }
-            Err(_) => Err(Refusal::Memory),
+            Ok(false) => false,
+            Err(_) => false,
         }
     }
 
@@ -113,77 +197,152 @@ impl ByMaking {
         ensures known { MatchBool (has_file self.old name.now) (IsOk result) (result ≡ Err NoEntry) }
         ensures without { self.new ≡ without_file self.old name.now }
     {
-        match self.by_name.swap_remove(name) {
-            Some(_made) => Ok(()),
-            None => Err(Refusal::NoEntry),
+        let Some((index, _name)) = self.names.swap_remove_full(name) else {
+            return Err(Refusal::NoEntry);
+        };
+        let last = self.names.len();
+        self.made.swap(index, last);
+        Ok(())
+    }
+}
+
+impl Made {
+    // In a place that no file had yet.
+    fn blank(alloc: Global, name: Name) -> Made {
+        Made {
+            file: SyncFile::blank(alloc, name),
+            number: 0,
         }
+    }
+
+    // Becomes the file of the draft.
+    fn take_up(&mut self, name: Name, draft: &mut Draft, number: u64)
+        requires rising { HasRisingContexts draft.old.points.items }
+        ensures made { self.new ≡ record { file = drafted name draft.old; number = number } }
+    {
+        self.file.take_up(name, draft);
+        self.number = number;
+    }
+}
+
+/// Makes sure that there is a place after so many files.
+///
+/// Nothing has changed if memory for that is refused.
+fn add_place(
+    alloc: Global,
+    made: &mut Vec<Made>,
+    count: usize,
+    name: Name,
+) -> Result<(), AllocError>
+    requires within { count ≤ length made.old.items }
+    ensures place { OnOk result (count < length made.new.items) }
+    ensures within { count ≤ length made.new.items }
+    ensures same { take count made.new.items ≡ take count made.old.items }
+{
+    if count < made.len() {
+        return Ok(());
+    }
+    match made.push(Made::blank(alloc, name)) {
+        Ok(()) => Ok(()),
+        Err(_) => Err(AllocError),
     }
 }
 
 /// The number of the next file. If `next` is the greatest number, the files are first renumbered, in order of making.
 ///
 /// Nothing has changed if memory for that is refused.
-fn next_number(files: &mut IndexMap<Name, Made>, next: u64) -> Result<u64, AllocError>
-    requires { AreKept files.old.entries next }
-    ensures above { IfOk result (λ number. AreKept files.new.entries number) }
+fn next_number(
+    alloc: Global,
+    names: &mut IndexSet<Name>,
+    made: &mut [Made],
+    next: u64,
+) -> Result<u64, AllocError>
+    requires { AreInPlace names.old.keys made.old next }
+    ensures above { IfOk result (λ number. AreInPlace names.new.keys made.new number) }
     ensures room { IfOk result (λ number. number + 1 < 2 ^ 64) }
-    ensures same { files_made files.new.entries ≡ files_made files.old.entries }
-    ensures unchanged { OnErr result (files.new.entries ≡ files.old.entries) }
+    ensures same { files_in names.new.keys made.new ≡ files_in names.old.keys made.old }
+    ensures count { length names.new.keys ≡ length names.old.keys }
+    ensures places { length made.new ≡ length made.old }
+    ensures unchanged { OnErr result ((names.new.keys ≡ names.old.keys) × (made.new ≡ made.old)) }
 {
     if next < u64::MAX {
         return Ok(next);
     }
-    put_in_order(files)?;
-    Ok(number_anew(files))
+    let count = names.len();
+    let ordered = names_in_order(alloc, &made[..count])?;
+    number_anew(&mut made[..count]);
+    *names = ordered;
+    Ok(count as u64)
 }
 
-/// Puts the files of the map itself in the order of making.
-///
-/// Nothing has changed if memory for that is refused.
-fn put_in_order(files: &mut IndexMap<Name, Made>) -> Result<(), AllocError>
-    ensures same { IsPermutation files.old.entries files.new.entries }
-    ensures rising { OnOk result (IsNonDecreasingBy number_of files.new.entries) }
-    ensures unchanged { OnErr result (files.new.entries ≡ files.old.entries) }
+/// Puts the files in the order of making, and numbers them from 0.
+fn number_anew(made: &mut [Made])
+    ensures numbered { IsNumberedAnew made.old made.new }
 {
-    files.sort_unstable_by_key(|_, made| made.number)?;
-    Ok(())
+    put_in_order(made);
+    number_from_0(made);
 }
 
-/// Numbers the files from 0, as they stand in the map. Returns the number after theirs.
-fn number_anew(files: &mut IndexMap<Name, Made>) -> u64
-    ensures numbered { files.new.entries ≡ numbered_from 0 files.old.entries }
-    ensures next { result ≡ length files.old.entries }
-    ensures small { result < 2 ^ 63 }
+/// Puts the files in the order of making.
+fn put_in_order(made: &mut [Made])
+    ensures same { IsPermutation made.old made.new }
+    ensures rising { IsNonDecreasingBy (λ m. m.number) made.new }
 {
-    let count = files.len();
-    for index in 0..count {
-        let (_, made) = files.pair_mut(index);
-        made.number = index as u64;
+    made.sort_unstable_by_key(|made| made.number);
+}
+
+/// Numbers the files from 0, as they stand.
+fn number_from_0(made: &mut [Made])
+    ensures numbered { made.new ≡ numbered_from 0 made.old }
+{
+    for index in 0..made.len() {
+        made[index].number = index as u64;
     }
-    count as u64
+}
+
+/// The names of the files, by the order of making.
+fn names_in_order(alloc: Global, made: &[Made]) -> Result<IndexSet<Name>, AllocError>
+    requires kept { (next : ℕ) × AreKept (entries_of made.now) next }
+    ensures names { IfOk result (λ names. names.keys ≡ names_of (files_made (entries_of made.now))) }
+{
+    let places = in_order(alloc, made)?;
+    let names = names_of(alloc, places.as_slice())?;
+    set_of(alloc, names.as_slice())
+}
+
+/// The set of the names, in their order.
+fn set_of(alloc: Global, names: &[Name]) -> Result<IndexSet<Name>, AllocError>
+    requires distinct { IsDistinct same_name names.now }
+    ensures names { IfOk result (λ set. set.keys ≡ names.now) }
+{
+    let mut set = IndexSet::with_capacity(alloc, names.len())?;
+    for name in names {
+        let Ok(_) = set.insert(*name) else {
+            return Err(AllocError);
+        };
+    }
+    Ok(set)
 }
 
 /// The places, by the order of making.
-fn in_order(alloc: Global, files: &IndexMap<Name, Made>) -> Result<Vec<Place>, AllocError>
-    ensures same { IfOk result (λ places. IsPermutation (map place_of files.now.entries) places.items) }
+fn in_order(alloc: Global, made: &[Made]) -> Result<Vec<Place>, AllocError>
+    ensures same { IfOk result (λ places. IsPermutation (map place_of made.now) places.items) }
     ensures rising { IfOk result (λ places. IsNonDecreasingBy (λ place. place.number) places.items) }
 {
-    let mut places = places(alloc, files)?;
+    let mut places = places(alloc, made)?;
     places.sort_unstable_by_key(|place| place.number);
     Ok(places)
 }
 
-fn places(alloc: Global, files: &IndexMap<Name, Made>) -> Result<Vec<Place>, AllocError>
-    ensures { IfOk result (λ places. places.items ≡ map place_of files.now.entries) }
+fn places(alloc: Global, made: &[Made]) -> Result<Vec<Place>, AllocError>
+    ensures { IfOk result (λ places. places.items ≡ map place_of made.now) }
 {
-    let mut places = Vec::with_capacity(alloc, files.len())?;
-    for (name, made) in files.iter() {
-        places.push_reserved(Place {
-            name: *name,
+    made.iter()
+        .map(|made| Place {
+            name: made.file.name,
             number: made.number,
-        });
-    }
-    Ok(places)
+        })
+        .collect(alloc)
 }
 
 fn names_of(alloc: Global, places: &[Place]) -> Result<Vec<Name>, AllocError>

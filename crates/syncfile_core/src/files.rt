@@ -11,10 +11,11 @@ ghost use Rattle.point_core.specs.Refusal.{IsRefusedFor};
 ghost use Rattle.syncfile_core.specs.Files.{has_file, file_at, without_file, names_of, HasDistinctNames, HasStanding, cause_to_refuse};
 
 use crate::by_making::ByMaking;
-use crate::merge::{self, Gathered};
+use crate::draft::Draft;
+use crate::merge::Gathered;
 use crate::status::{self, FileInfo};
 use crate::sync_file::SyncFile;
-use point_core::{Clocks, Floor, Items, LimitKind, Listing, Name, Point, Reach, Refusal, Status};
+use point_core::{Clocks, Items, Listing, Name, Point, Reach, Refusal, Status};
 use std::alloc::Global;
 use std::marker::Model;
 
@@ -28,6 +29,8 @@ const _: () = prove!(FILES == 1024);
 pub struct Files {
     alloc: Global,
     made: ByMaking,
+    // the next file
+    draft: Draft,
 }
 
 impl Model for Files {
@@ -47,6 +50,7 @@ impl Files {
         Ok(Files {
             alloc,
             made: ByMaking::new(alloc),
+            draft: Draft::new(alloc),
         })
     }
 
@@ -109,13 +113,7 @@ impl Files {
     pub fn free(&self, name: &Name) -> Result<(), Refusal>
         ensures free { MatchOption (cause_to_refuse self.now name.now) (IsOk result) (λ cause. result ≡ Err cause) }
     {
-        if self.has(name) {
-            return Err(Refusal::Exists);
-        }
-        if self.count() >= FILES {
-            return Err(Refusal::Limit(LimitKind::Files));
-        }
-        Ok(())
+        self.made.free(name)
     }
 
     /// Makes a file of one point, signalled or not, with a floor of 0 everywhere, as sw_sync's create-fence call does.
@@ -127,9 +125,8 @@ impl Files {
         ensures stands { OnOk result (HasStanding self.new name (as_entry point ∷ [])) }
         ensures unchanged { OnErr result (self.new ≡ self.old) }
     {
-        self.free(&name)?;
-        let file = SyncFile::plain(self.alloc, name, point)?;
-        self.insert(file)
+        let drawn = self.draft.draw_plain(point);
+        self.made.make(self.alloc, name, &mut self.draft, drawn)
     }
 
     /// Merges two files, which both stay: the latest pending point of each context of either, above a floor that is the
@@ -145,11 +142,10 @@ impl Files {
             (merge_of self.old name (a.now ∷ b.now ∷ []) reach.now)) }
         ensures unchanged { OnErr result (self.new ≡ self.old) }
     {
-        let left = self.known(a)?;
-        let right = self.known(b)?;
-        self.free(&name)?;
-        let file = merge::of_two(self.alloc, name, left, right, reach)?;
-        self.insert(file)
+        let left = self.made.known(a)?;
+        let right = self.made.known(b)?;
+        let drawn = self.draft.draw_merge(left, right, reach);
+        self.made.make(self.alloc, name, &mut self.draft, drawn)
     }
 
     /// Merges any number of files, as `merge` does two. Of no files, it makes a file without points.
@@ -166,9 +162,8 @@ impl Files {
         for input in inputs {
             gathered.add(self.known(input)?);
         }
-        self.free(&name)?;
-        let file = gathered.file(self.alloc, name, reach)?;
-        self.insert(file)
+        let drawn = gathered.draw(&mut self.draft, reach);
+        self.made.make(self.alloc, name, &mut self.draft, drawn)
     }
 
     /// Makes a file of a listing.
@@ -180,14 +175,8 @@ impl Files {
         ensures last { OnOk result (self.new ≡ self.old ++ file_of name listing.points listing.floor ∷ []) }
         ensures unchanged { OnErr result (self.new ≡ self.old) }
     {
-        self.free(&name)?;
-        let Listing { points, floor } = listing;
-        let file = SyncFile {
-            name,
-            points,
-            floor: Floor::of(self.alloc, &floor)?,
-        };
-        self.insert(file)
+        let drawn = self.draft.draw_listing(listing);
+        self.made.make(self.alloc, name, &mut self.draft, drawn)
     }
 
     /// Closes a file. The others keep their order.
@@ -205,28 +194,6 @@ impl Files {
         ensures unknown { IfErr result (λ e. e ≡ NoEntry) }
         ensures absent { OnErr result (file_at self.now name.now ≡ None) }
     {
-        self.get(name).ok_or(Refusal::NoEntry)
-    }
-
-    fn has(&self, name: &Name) -> bool
-        ensures { result ≡ has_file self.now name.now }
-    {
-        self.get(name).is_some()
-    }
-
-    fn count(&self) -> usize
-        ensures { result ≡ length self.now }
-    {
-        self.made.count()
-    }
-
-    // Puts a new file last.
-    fn insert(&mut self, file: SyncFile) -> Result<(), Refusal>
-        requires free { cause_to_refuse self.old file.name ≡ None }
-        ensures last { OnOk result (self.new ≡ self.old ++ file ∷ []) }
-        ensures unchanged { OnErr result (self.new ≡ self.old) }
-        ensures memory { IfErr result (λ e. e ≡ Memory) }
-    {
-        self.made.insert(file)
+        self.made.known(name)
     }
 }

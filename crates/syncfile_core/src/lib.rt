@@ -4,6 +4,7 @@
 #![tactic(auto)]
 
 mod by_making;
+mod draft;
 mod files;
 mod merge;
 mod running;

@@ -2,10 +2,14 @@
 ghost use Rattle.std.specs.Prelude.{◌≡◌, IfOk, IfErr};
 ghost use Rattle.point_core.specs.declared.refusal.Refusal.TheVariants.{Memory};
 ghost use Rattle.syncfile_core.specs.SyncFile.{plain_file};
+ghost use Rattle.syncfile_core.specs.Drafts.{drafted};
+ghost use Rattle.point_core.specs.Agreement.{HasRisingContexts};
 
+use crate::draft::Draft;
 use point_core::{Floor, Items, Name, Point, Refusal};
 use std::alloc::Global;
 use std::marker::Model;
+use std::mem::swap;
 
 /// A sync file: at most one point of each context, by rising context, and the reach above which they stand for all
 /// that was put into it.
@@ -42,5 +46,26 @@ impl SyncFile {
             points: Items::of(points),
             floor: Floor::zero(alloc),
         })
+    }
+
+    /// An empty file, in whose place one that is made can be put. Takes no memory.
+    pub(crate) fn blank(alloc: Global, name: Name) -> SyncFile
+        ensures named { result.name ≡ name }
+    {
+        SyncFile {
+            name,
+            points: Items::of(Vec::new(alloc)),
+            floor: Floor::zero(alloc),
+        }
+    }
+
+    /// Becomes the file of a draft, which has its memory from then on.
+    pub(crate) fn take_up(&mut self, name: Name, draft: &mut Draft)
+        requires rising { HasRisingContexts draft.old.points.items }
+        ensures file { self.new ≡ drafted name draft.old }
+    {
+        self.name = name;
+        self.points.exchange(&mut draft.points);
+        swap(&mut self.floor, &mut draft.floor);
     }
 }

@@ -1,21 +1,18 @@
-use Rattle.std.proofs.Common.{sym, ap, ◌∙◌, option_map}
-use Rattle.syncfile_core.specs.declared.by_making.Made.{Made}
+use Rattle.std.proofs.Common.{sym, ap, ◌∙◌}
 use Rattle.syncfile_core.specs.Files.{file_at}
-use Rattle.syncfile_core.proofs.Kept.{file_at-made}
+use Rattle.syncfile_core.proofs.Placed.{file_at-found, file_at-missing}
 use Rattle.syncfile_core.proofs.by_making.ByMaking.get.Goals as goal
 
 pub returns-in-Some : goal.returns-in-Some
 returns-in-Some c = record {
   found =
-      ap (option_map (λ (m : Made). m.file)) c.in-Some.ensures.value
-      ∙ sym (file_at-made c.self.inside.by_name.entries c.self.inside.next c.self.invariant c.args.name.now)
+      sym (file_at-found c.self.inside.names.keys c.self.inside.made.items c.self.inside.next c.self.invariant c.args.name.now c.in-Some.index (sym c.in-Some.ensures.index) c.index.result.now c.index.ensures)
       ∙ ap (λ fs. file_at fs c.args.name.now) c.self.view_is;
 }
 
 pub returns-in-None : goal.returns-in-None
 returns-in-None c = record {
   found =
-      ap (option_map (λ (m : Made). m.file)) c.in-None.ensures.value
-      ∙ sym (file_at-made c.self.inside.by_name.entries c.self.inside.next c.self.invariant c.args.name.now)
+      sym (file_at-missing c.self.inside.names.keys c.self.inside.made.items c.self.inside.next c.self.invariant c.args.name.now (sym c.in-None.ensures.index))
       ∙ ap (λ fs. file_at fs c.args.name.now) c.self.view_is;
 }

@@ -1,5 +1,5 @@
-use Rattle.syncfile_core.proofs.Kept.{AreKept-none}
+use Rattle.syncfile_core.proofs.Placed.{AreInPlace-none}
 use Rattle.syncfile_core.proofs.by_making.ByMaking.new.Goals as goal
 
 pub invariant_of-result : goal.invariant_of-result
-invariant_of-result c = AreKept-none _ _ c.new.ensures.empty
+invariant_of-result c = AreInPlace-none _ _ c.new.ensures.empty

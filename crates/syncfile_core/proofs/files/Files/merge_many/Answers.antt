@@ -1,13 +1,13 @@
-use Rattle.std.proofs.Common.{◌≡◌, ◌++◌, [], ◌∷◌, sym, subst}
-use Rattle.std.specs.Prelude.{OnOk}
+use Rattle.std.proofs.Common.{◌++◌, [], ◌∷◌, sym, subst, ap, ◌∙◌}
 use Rattle.std.proofs.lemmas.List.{take_all}
 use Rattle.point_core.specs.declared.refusal.Refusal.TheVariants.{NoEntry}
 use Rattle.point_core.proofs.Named.{has_named-Some, has_named-None}
 use Rattle.syncfile_core.specs.Files.{file_name, has_file}
-use Rattle.syncfile_core.specs.Merge.{files_at, IsGathered}
+use Rattle.syncfile_core.specs.Merge.{files_at, merged_file, IsGathered}
 use Rattle.syncfile_core.proofs.Causes.{OnOk-always, IsRefusedFor-Err, cause_to_refuse_merge-absent}
 use Rattle.syncfile_core.proofs.Kept.{files_at-take_more, list_all-take_more, list_all-fails}
 use Rattle.syncfile_core.proofs.Unions.{StandsForUnion-merged_file}
+use Rattle.syncfile_core.proofs.Standing.{OnOk-drawn}
 use Rattle.syncfile_core.proofs.files.Files.merge_many.Goals as goal
 
 pub returns-in_err-known-clause-refused : goal.returns-in_err-known-clause-refused
@@ -29,11 +29,16 @@ loop-input-preserved c =
 pub returns-clause-last : goal.returns-clause-last
 returns-clause-last c =
     let all = take_all c.loop-input.input-index c.args.inputs.now c.loop-input-test.false in
-    let file = c.in_ok-file.ensures.file (files_at c.args.self.now c.args.inputs.now) (subst (λ names. IsGathered c.loop-input.gathered.latest c.loop-input.gathered.floor c.args.reach.now (files_at c.args.self.now names)) all c.loop-input.invariant.0) in
-    subst (λ f. OnOk c.insert.result (c.insert.new.self ≡ c.args.self.now ++ f ∷ [])) file c.insert.ensures.last
+    let inputs = files_at c.args.self.now c.args.inputs.now in
+    let gathered = subst (λ names. IsGathered c.loop-input.gathered.latest c.loop-input.gathered.floor c.args.reach.now (files_at c.args.self.now names)) all c.loop-input.invariant.0 in
+    OnOk-drawn c.make.result c.draw-drawn.result _ _ _
+    (λ drawn last.
+    last ∙ ap (λ f. c.self-2.inside.made ++ f ∷ []) (drawn c.args.name)
+    ∙ ap (λ fs. fs ++ merged_file c.args.name inputs c.args.reach.now ∷ []) c.self-2.view_is)
+    c.make.ensures.drawn (c.draw-drawn.ensures.file inputs gathered) c.make.ensures.last
 
 pub returns-clause-union : goal.returns-clause-union
 returns-clause-union c =
     let all = take_all c.loop-input.input-index c.args.inputs.now c.loop-input-test.false in
     let gathered = subst (λ names. IsGathered c.loop-input.gathered.latest c.loop-input.gathered.floor c.args.reach.now (files_at c.args.self.now names)) all c.loop-input.invariant.0 in
-    OnOk-always c.insert.result _ (StandsForUnion-merged_file c.args.name (files_at c.args.self.now c.args.inputs.now) c.args.reach.now gathered.contexts gathered.floors)
+    OnOk-always c.make.result _ (StandsForUnion-merged_file c.args.name (files_at c.args.self.now c.args.inputs.now) c.args.reach.now gathered.contexts gathered.floors)

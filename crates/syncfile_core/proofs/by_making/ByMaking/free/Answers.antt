@@ -2,7 +2,7 @@ use Rattle.std.proofs.Common.{◌≡◌, ◌≤◌, ◌<◌, true, false, length
 use Rattle.syncfile_core.specs.Files.{has_file}
 use Rattle.syncfile_core.specs.declared.files.TheConstants.{FILES}
 use Rattle.syncfile_core.proofs.Causes.{cause_to_refuse-there, cause_to_refuse-full, cause_to_refuse-none, MatchOption-Some, MatchOption-None}
-use Rattle.syncfile_core.proofs.files.Files.free.Goals as goal
+use Rattle.syncfile_core.proofs.by_making.ByMaking.free.Goals as goal
 
 pub returns-then-has : goal.returns-then-has
 returns-then-has c =

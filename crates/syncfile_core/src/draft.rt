@@ -1,0 +1,56 @@
+// A file that is being made.
+ghost use Rattle.std.specs.Prelude.{◌≡◌, ℕ, List, OnOk, IfErr};
+ghost use Rattle.point_core.specs.declared.refusal.Refusal.TheVariants.{Memory};
+ghost use Rattle.point_core.specs.Agreement.{HasRisingContexts};
+ghost use Rattle.syncfile_core.specs.SyncFile.{plain_file, file_of};
+ghost use Rattle.syncfile_core.specs.Drafts.{drafted};
+
+use point_core::{Floor, Listing, Point, Refusal};
+use std::alloc::Global;
+
+/// The points and the floor of a file that is being made, in the memory of one that was closed.
+#[derive(Drop)]
+pub(crate) struct Draft {
+    pub(crate) points: Vec<Point>,
+    pub(crate) floor: Floor,
+}
+
+impl Draft {
+    /// Nothing. Takes no memory.
+    pub(crate) fn new(alloc: Global) -> Draft {
+        Draft {
+            points: Vec::new(alloc),
+            floor: Floor::zero(alloc),
+        }
+    }
+
+    /// One point, with a floor of 0 everywhere.
+    ///
+    /// Fails with `Memory` alone.
+    pub(crate) fn draw_plain(&mut self, point: Point) -> Result<(), Refusal>
+        ensures file { OnOk result ((name : List ℕ) → drafted name self.new ≡ plain_file name point) }
+        ensures rising { OnOk result (HasRisingContexts self.new.points.items) }
+        ensures memory { IfErr result (λ e. e ≡ Memory) }
+    {
+        self.points.clear();
+        self.points.reserve_exact(1)?;
+        self.points.push_reserved(point);
+        self.floor.clear();
+        Ok(())
+    }
+
+    /// What a listing has, whose memory is taken.
+    ///
+    /// Fails with `Memory` alone.
+    pub(crate) fn draw_listing(&mut self, listing: Listing) -> Result<(), Refusal>
+        requires rising { HasRisingContexts listing.points }
+        ensures file { OnOk result ((name : List ℕ) →
+            drafted name self.new ≡ file_of name listing.points listing.floor) }
+        ensures rising { OnOk result (HasRisingContexts self.new.points.items) }
+        ensures memory { IfErr result (λ e. e ≡ Memory) }
+    {
+        let Listing { points, floor } = listing;
+        self.points = points.into_vec();
+        self.floor.copy_from(&floor)
+    }
+}
