@@ -52,10 +52,11 @@ impl SyncFile {
     pub(crate) fn blank(alloc: Global, name: Name) -> SyncFile
         ensures named { result.name ≡ name }
     {
+        let (points, floor) = (Items::of(Vec::new(alloc)), Floor::zero(alloc));
         SyncFile {
             name,
-            points: Items::of(Vec::new(alloc)),
-            floor: Floor::zero(alloc),
+            points,
+            floor,
         }
     }
 
