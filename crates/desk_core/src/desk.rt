@@ -226,6 +226,7 @@ impl Desk {
         Ok(u64::from(ctx.number()))
     }
 
+    #[inline(always)]
     fn inc(&mut self, name: &Name, n: u64) -> Result<(u64, Items<u64>), Refusal>
         ensures refused { IsRefusedFor (cause_of self.old (Command.Inc name.now n)) result }
         ensures sure { fires_kept self.old (Command.Inc name.now n) ≡ false → IfErr result (λ e. e ≢ Refusal.Memory) }

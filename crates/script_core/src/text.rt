@@ -21,6 +21,9 @@ use report_core::{
 /// The most bytes of a driver's name, those of `sw_sync`.
 const DRIVER_BYTES: usize = 7;
 
+/// The bytes of the answer that is done, with its line feed.
+const DONE_BYTES: usize = 3;
+
 /// Appends the text of the answer of the line of that number to `out`.
 ///
 /// Fails only with Memory, and then leaves `out` as it was.
@@ -108,11 +111,16 @@ fn push_done(out: &mut Vec<u8>) -> Result<(), Refusal>
     ensures ok { OnOk result (out.new.items ≡ out.old.items ++ line_text (codes "ok" ∷ [])) }
     ensures err { OnErr result ((result ≡ Err Memory) × StartsWith out.new.items out.old.items) }
 {
-    out.extend_from_slice(b"ok\n")?;
+    if out.capacity() - out.len() < DONE_BYTES {
+        out.reserve(DONE_BYTES)?;
+    }
+    out.push_reserved(b'o');
+    out.push_reserved(b'k');
+    out.push_reserved(b'\n');
     Ok(())
 }
 
-#[inline(never)]
+#[inline(always)]
 fn push_value(value: u64, out: &mut Vec<u8>) -> Result<(), Refusal>
     ensures ok { OnOk result (out.new.items ≡ out.old.items ++ value_line value) }
     ensures err { OnErr result ((result ≡ Err Memory) × StartsWith out.new.items out.old.items) }
@@ -131,7 +139,7 @@ fn put_value(line: &mut TextLine, value: u64)
     line.put_text(b"ok");
 }
 
-#[inline(never)]
+#[inline(always)]
 fn push_raised(value: u64, fired: &[u64], out: &mut Vec<u8>) -> Result<(), Refusal>
     ensures ok { OnOk result (out.new.items ≡ out.old.items ++ raised_text value fired.now) }
     ensures err { OnErr result ((result ≡ Err Memory) × StartsWith out.new.items out.old.items) }
@@ -143,7 +151,7 @@ fn push_raised(value: u64, fired: &[u64], out: &mut Vec<u8>) -> Result<(), Refus
     Ok(())
 }
 
-#[inline(always)]
+#[inline(never)]
 fn push_fired(cookie: u64, out: &mut Vec<u8>) -> Result<(), Refusal>
     ensures ok { OnOk result (out.new.items ≡ out.old.items ++ fired_text cookie) }
     ensures err { OnErr result ((result ≡ Err Memory) × StartsWith out.new.items out.old.items) }

@@ -14,6 +14,7 @@ const WRITE_BYTES: usize = 8192;
 /// Writes the texts if they are many, and takes them out.
 ///
 /// Fails as `write_whole`.
+#[inline(always)]
 pub fn write_many<W: Write>(writer: &mut W, out: &mut Vec<u8>) -> Result<(), Refusal>
     ensures ok { OnOk result ((written : List ℕ) × (out.old.items ≡ written ++ out.new.items)
         × Appends (W.contents writer.old) (W.contents writer.new) written) }
@@ -29,6 +30,7 @@ pub fn write_many<W: Write>(writer: &mut W, out: &mut Vec<u8>) -> Result<(), Ref
 /// Writes the texts, and takes them out.
 ///
 /// Fails as `write_whole`.
+#[inline(never)]
 pub fn write_out<W: Write>(writer: &mut W, out: &mut Vec<u8>) -> Result<(), Refusal>
     ensures ok { OnOk result ((written : List ℕ) × (out.old.items ≡ written ++ out.new.items)
         × Appends (W.contents writer.old) (W.contents writer.new) written) }
