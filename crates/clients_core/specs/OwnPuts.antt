@@ -15,7 +15,7 @@ pub record AreOwnPuts (contexts : ℕ) (own : OwnPuts) (es : List Entry) : Type 
   pub valid : HasContexts es
   pub full : length own.latest.items ≡ USAGES * contexts
   pub points : (usage ctx : ℕ) → usage < USAGES → 1 ≤ ctx → ctx ≤ contexts →
-    point_at own usage ctx ≡ raised_to 0 (top es usage ctx)
+      point_at own usage ctx ≡ raised_to 0 (top es usage ctx)
 
 -- the points from one place up to another are raised to the value, if they are less, and no others
 pub record AreRaised (from to value : ℕ) (old new : List ℕ) : Type 0 where
