@@ -1,7 +1,10 @@
 -- Answers, and the histories after them.
-use Rattle.std.proofs.Common.{◌≡◌, ◌≢◌, ℕ, false, refl, sym, ap, subst, ◌∙◌, List, [], ◌∷◌, ◌++◌, length, Option, None, Some, inl, inr, arith, length-append}
+use Rattle.std.proofs.Common.{◌≡◌, ◌≢◌, ℕ, false, refl, sym, ap, subst, ◌∙◌, List, [], ◌∷◌, ◌++◌, length, Option, None, Some, inl, inr, arith, rules, length-append}
 use Rattle.std.specs.Prelude.{Result, Ok, Err, IfOk, IfErr, OnErr}
 use Rattle.std.proofs.lemmas.Bool.{cases_Bool}
+use Rattle.std.proofs.lemmas.List.Elements.{All-nil}
+use Rattle.point_core.proofs.Agreement.{AgreesAbove-refl}
+use Rattle.resv_core.specs.Resv.{IsTable}
 use Rattle.point_core.specs.declared.refusal.Refusal.TheVariants.{Memory}
 use Rattle.point_core.specs.declared.refusal.Refusal.{Refusal}
 use Rattle.command_core.specs.declared.command.Command.{Command}
@@ -12,9 +15,14 @@ use Rattle.point_core.specs.Refusal.{IsRefusedFor}
 use Rattle.desk_core.specs.World.{World, MadeFile, file_named, empty_world, after, fires_some}
 use Rattle.desk_core.specs.Answer.{first_of, causes, reported, info_reported, answer_to, refused_or, is_refused, takes_memory, OnRefused}
 use Rattle.desk_core.specs.History.{world_from, world_of, AreAccepted, IsAnswer, history_after, history_of, AreAnswers}
+use Rattle.timeline_core.specs.Timeline.{Timeline}
+use Rattle.syncfile_core.specs.SyncFile.{File}
+use Rattle.dmabuf_core.specs.Buffers.{Buffer}
+use Rattle.fence_core.specs.Watch.{Registry}
+use Rattle.fence_core.specs.Watches.{no_watches}
 use Rattle.desk_core.specs.Desk.{DeskState, Holds, HasHistory, Answers}
 use Rattle.desk_core.specs.Keeping.{Keeps, cause_of, fires_kept, IsDone, answer_of}
-use Rattle.desk_core.proofs.Sound.{IsSound-history}
+use Rattle.desk_core.proofs.Sound.{IsSound-history, none_distinct}
 use Rattle.desk_core.proofs.Stepping.{causes-keeps}
 use Rattle.desk_core.proofs.Watching.{fires_kept-holds}
 
@@ -123,3 +131,21 @@ HasRun-push {desk} {cs} {given} new c a run answer stands = record {
       subst P (sym (history_of-push [] cs given c a run.each)) (stands (history_of [] cs given) run.stands);
   each = omega (arith, run.each, length-append {A = Command}, length-append {A = Answer});
 }
+
+-- the desk that nothing was put into stands for the empty history
+
+pub HasHistory-new : (timelines : List Timeline) (files : List File) (buffers : List Buffer) (watches : Registry) → timelines ≡ [] → files ≡ [] → buffers ≡ [] → watches ≡ no_watches → HasHistory (record { timelines = timelines; files = files; buffers = buffers; watches = watches }) []
+HasHistory-new timelines files buffers watches no_timelines no_files no_buffers none =
+    rw (no_timelines, no_files, no_buffers, none) (record {
+      accepted = tt;
+      holds = record {
+        timelines = refl;
+        names = refl;
+        points = refl;
+        buffers = refl;
+        kept = record { distinct = none_distinct; within = omega arith; tables = All-nil IsTable };
+        tables = λ name. AgreesAbove-refl _ [];
+        watches = search rules;
+        watches_made = refl;
+      };
+    })

@@ -270,7 +270,7 @@ IsSound-from : (w : World) (history : List Command) → IsSound w → AreAccepte
 IsSound-from w [] s accepted = s
 IsSound-from w (c ∷ history) s accepted = IsSound-from (after w c) history (IsSound-after w c s (causes-accepted w c accepted.0)) accepted.1
 
-none_distinct : IsDistinct same_name []
+pub none_distinct : IsDistinct same_name []
 unfolding IsDistinct
 none_distinct = tt
 
