@@ -1,4 +1,5 @@
-/* What the library has taken of memory it gives back: with each handle that is closed something, and with the last all.
+/* What the library has taken of memory it gives back: with each handle that is closed something, and with the last all. A
+ * desk keeps the memory of a closed file for the next one.
  *
  * It is linked with --wrap=malloc, --wrap=realloc and --wrap=free.
  */
@@ -44,6 +45,14 @@ void __wrap_free(void *block)
         HOLDS(blocks < taken); \
     } while (0)
 
+/* Expects that a call takes no block. */
+#define TAKES_NONE(call) \
+    do { \
+        long long taken = blocks; \
+        call; \
+        HOLDS(blocks == taken); \
+    } while (0)
+
 static void close_a_desk(void)
 {
     bim_desk desk = BIM_DESK_INIT;
@@ -61,7 +70,12 @@ static void close_a_desk(void)
     EXPECT(bim_watch(&desk, "m", 1), BIM_OK);
     EXPECT(bim_watch(&desk, "f", 2), BIM_OK);
     EXPECT(bim_inc(&desk, "a", 5, &value), BIM_OK);
-    GIVES_BACK(EXPECT(bim_close(&desk, "m"), BIM_OK));
+    for (int times = 0; times < 2; times++) {
+        EXPECT(bim_close(&desk, "m"), BIM_OK);
+        EXPECT(bim_merge(&desk, "m", "f", "g"), BIM_OK);
+    }
+    EXPECT(bim_close(&desk, "m"), BIM_OK);
+    TAKES_NONE(EXPECT(bim_merge(&desk, "m", "f", "g"), BIM_OK));
     GIVES_BACK(bim_desk_close(&desk));
 }
 

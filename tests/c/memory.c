@@ -170,16 +170,17 @@ static void begin_call(void)
 }
 
 /* Whether the call is to be made again: memory was refused to it. It must have changed nothing. A list that was refused a
- * block as large as it likes to grow to asks for just what it needs, and then the call goes on. */
+ * block as large as it likes to grow to asks for just what it needs, and then the call goes on. Every other cause of
+ * refusal comes before the want of memory. */
 static bool is_to_call_again(int came, int wanted, const char *call, int line)
 {
     bool was_refused = allocations_before < refused && refused <= allocations;
-    bool asked_again = was_refused && refused < allocations && came == wanted;
+    bool went_on = was_refused && came == wanted && (refused < allocations || wanted != BIM_OK);
 
     counting = false;
     refusals_met += was_refused;
-    expect(__FILE__, line, call, came, was_refused && !asked_again ? no_memory : wanted);
-    if (!was_refused || asked_again)
+    expect(__FILE__, line, call, came, was_refused && !went_on && wanted == BIM_OK ? no_memory : wanted);
+    if (!was_refused || went_on)
         return false;
     write_service(&after);
     HOLDS(strcmp(before.bytes, after.bytes) == 0);
