@@ -1,5 +1,5 @@
-/* A debug console of a desk: each line of standard input is answered, and what it fired is told after its answer, so that
- * what is written is what `fencectl` writes for the same lines. */
+/* A debug console of a desk: each line of standard input is answered, and what it fired follows its answer, so that what
+ * is written is what `fencectl` writes for the same lines. */
 #define _POSIX_C_SOURCE 200809L
 #include <bimphlai.h>
 #include <inttypes.h>

@@ -45,7 +45,7 @@ static int errno_of(int refusal)
     }
 }
 
-/* Returns the value where nothing was refused, else -1 with errno. */
+/* Returns the value if nothing was refused, else -1 with errno. */
 static int answer(int refusal, int value)
 {
     if (refusal == BIM_OK)
