@@ -3,7 +3,8 @@
 rt ci makes it by one more proof of the crate, since of a proved library it keeps what crates above may cite and not the
 proofs. The library can be kept whole, with its proofs. Then the seed is made of these, which spares that proof, but each check
 that loads the library takes longer. So libraries that few checks load are kept whole. When all wrong bodies of a crate were tried,
-rt ci sees whether the crate is proved over its seed, however that was made.
+rt ci sees whether the crate is proved over its seed, however that was made. Other crates have a seed only where tools/try-wrong goes
+on from it: without, their wrong bodies take fewer seconds (tools/batches.py).
 """
 import contextlib
 import json
@@ -18,7 +19,7 @@ LOADING = 10
 
 
 def checks_of(rt, crate):
-    """Returns how many checks of a crate the gate makes."""
+    """Returns how many checks of a crate the gate makes at most."""
     edits = len(rt.edits_of(crate)[0])
     # Of several edits, the seed and the last look at it too.
     return 1 + crate.has_tests() + edits + (2 if edits > 1 else 0)
@@ -65,7 +66,7 @@ def of_library(rt, crate):
 
 
 def take_from_libraries(rt):
-    """Has rt keep some libraries whole, and take their seeds from them."""
+    """Has rt keep some libraries whole, and take their seeds from them. Returns the names of these."""
     names = wholes(rt, rt.rtlib.crates_below(kit.TOP))
     plain_ci, plain_add, plain_seeded = rt.Crate.ci, rt.add_edits, rt.seeded
 
@@ -92,6 +93,7 @@ def take_from_libraries(rt):
         return room or plain_seeded(crate, flags, start)
 
     rt.Crate.ci, rt.add_edits, rt.seeded = ci, add_edits, seeded
+    return names
 
 
 def keep(rt):

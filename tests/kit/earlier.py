@@ -78,7 +78,7 @@ def run(try_wrong, crate, files, meanwhile=lambda: None):
     tries, refused = try_wrong.Tries(rt, [crate], new, earlier), 0
     tries.seen, tries.say = {crate.name: []}, lambda text: None
     for file in new.get(crate.name, []):
-        edit = types.SimpleNamespace(crate=crate, file=file, name=os.path.basename(file))
+        edit = types.SimpleNamespace(crate=crate, file=file, name=os.path.basename(file), must_be_alone=lambda: True)
         refused += tries.edits(crate, [edit], given)[0]
     print(len(files) - sum(map(len, new.values())), "known,", "tried", *(tried or ["none"]), "refused", refused)
 
