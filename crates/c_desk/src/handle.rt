@@ -33,6 +33,7 @@ impl DeskHandle {
     ghost use Rattle.c_desk.specs.Call.{IsAsked};
 
     /// Whether the handle is open.
+    #[inline(always)]
     pub fn is_open(&mut self) -> bool
         ensures { (result ≡ is_open self.old) × (self.new ≡ self.old) }
     {
@@ -55,6 +56,7 @@ impl DeskHandle {
     }
 
     /// The desk itself.
+    #[inline(always)]
     pub fn get_mut(&mut self) -> &mut Service
         requires { is_open self.old ≡ true }
         ensures* writes_back { sem 𝓛 (LendsService self.entry result) }
@@ -79,6 +81,7 @@ impl DeskHandle {
     }
 
     // The same fields, as a handle of Rattle's.
+    #[inline(always)]
     fn handle(&mut self) -> &mut Handle<Service>
         ensures* writes_back { sem 𝓛 (LendsHandle self.entry result) }
         ensures value { result.now ≡ as_handle self.old }

@@ -76,6 +76,7 @@ impl Service {
 /// Makes room for all watches that can be pending, if the command registers one.
 ///
 /// Fails with what the desk refuses the watch for, and with `Memory` if that is nothing.
+#[inline(always)]
 fn reserve(fired: &mut VecDeque<u64>, desk: &Desk, command: &Command) -> Result<(), Refusal>
     ensures items { fired.new.items ≡ fired.old.items }
     ensures len { deque_len fired.new ≡ deque_len fired.old }
@@ -92,6 +93,7 @@ fn reserve(fired: &mut VecDeque<u64>, desk: &Desk, command: &Command) -> Result<
 }
 
 /// Puts what the answer fired into the queue.
+#[inline(always)]
 fn keep(fired: &mut VecDeque<u64>, answer: &Answer)
     requires room { deque_len fired.old + length (cookies_of answer.now) ≤ deque_capacity fired.old }
     ensures items { fired.new.items ≡ fired.old.items ++ cookies_of answer.now }
