@@ -122,8 +122,8 @@ int main(void)
         void (*call)(void);
         int goal;
     } rows[] = {
-        { "bim_inc", inc, 60 },
-        { "bim_wait", wait_once, 40 },
+        { "bim_inc", inc, 30 },
+        { "bim_wait", wait_once, 30 },
         { "bim_seat_load", seat_load, 5 },
         { "bim_file_poll", poll_file, 20 },
         { "getppid", system_call, 0 },
@@ -142,7 +142,7 @@ int main(void)
     for (size_t i = 0; i < sizeof rows / sizeof rows[0]; i++)
         write_row(rows[i].name, cost(rows[i].call), rows[i].goal);
     merge_costs(&merges, &closes);
-    write_row("bim_merge", merges, 150);
+    write_row("bim_merge", merges, 120);
     write_row("bim_close", closes, 0);
     bim_file_close(&file);
     bim_seat_close(&seat);
