@@ -1,14 +1,15 @@
 -- Points that are waited for are above the floor.
-use Rattle.std.proofs.Common.{◌≡◌, ◌≢◌, ◌↔◌, ℕ, ◌-◌, ◌<◌, ◌≤◌, ◌||◌, ◌&&◌, Bool, true, false, nat_eq, nat_le, min, max, refl, sym, ap, ◌∙◌, subst, List, [], length, Result, Ok, Err, OnOk, is_ok, arith, inl, inr}
+use Rattle.std.proofs.Common.{◌≡◌, ◌≢◌, ◌↔◌, ℕ, ◌-◌, ◌<◌, ◌≤◌, ◌||◌, ◌&&◌, Bool, true, false, nat_eq, nat_le, min, max, refl, sym, ap, ◌∙◌, subst, List, [], length, Result, Ok, Err, OnOk, OnErr, is_ok, arith, inl, inr}
 use Rattle.std.specs.Prelude.{IsTrue}
 use Rattle.std.proofs.lemmas.Bool.{and_parts, cases_Bool, eqb-true, eq-eqb, false≢true, le-leb, leb-true, leb-false}
 use Rattle.point_core.specs.declared.context.TheConstants.{CONTEXTS}
 use Rattle.point_core.specs.declared.entry.Point.{Point}
 use Rattle.point_core.specs.Reach.{value_at, with_value, reaching, is_reached, IsAtLeast}
-use Rattle.point_core.proofs.Values.{value_at-with_value_same, value_at-with_value_other, later_values-is, later_values-at_least, IsAtLeast-at, IsAtLeast-with_value}
+use Rattle.point_core.proofs.Values.{value_at-with_value_same, value_at-with_value_other, later_values-is, later_values-at_least, IsAtLeast-at}
 use Rattle.fence_core.specs.declared.watches.point_index.WaitingPoint.{WaitingPoint}
+use Rattle.fence_core.specs.declared.watches.point_index.point_queue.Standing.{Standing}
 use Rattle.fence_core.specs.PointIndex.{waiting, is_same, holds, is_due, AreWaiting, AreAbove}
-use Rattle.fence_core.proofs.PointIndex.{is_same-is, one_point}
+use Rattle.fence_core.proofs.PointIndex.{holds-nothing, is_same-is, one_point}
 use Rattle.fence_core.proofs.Indexed.{or_cases}
 
 -- a context where the reach is not above the floor
@@ -40,11 +41,11 @@ not_due-lower low high k ctx up none = elim (cases_Bool (is_due ctx low k)) [
   | inr other ↦ other
 ]
 
-pub AreAbove-less : (ks fewer : List WaitingPoint) (floor : List ℕ) → AreAbove ks floor → ((k : WaitingPoint) → holds fewer k ≡ true → holds ks k ≡ true) → AreAbove fewer floor
+pub AreAbove-less : (ks fewer : List (List Standing)) (floor : List ℕ) → AreAbove ks floor → ((k : WaitingPoint) → holds fewer k ≡ true → holds ks k ≡ true) → AreAbove fewer floor
 AreAbove-less ks fewer floor h less = λ k there. h k (less k there)
 
 -- another value for one context
-pub AreAbove-with : (ks : List WaitingPoint) (floor changed : List ℕ) (ctx value : ℕ) → changed ≡ with_value floor ctx value → length floor ≡ CONTEXTS → 1 ≤ ctx → ctx ≤ CONTEXTS → AreWaiting ks
+pub AreAbove-with : (ks : List (List Standing)) (floor changed : List ℕ) (ctx value : ℕ) → changed ≡ with_value floor ctx value → length floor ≡ CONTEXTS → 1 ≤ ctx → ctx ≤ CONTEXTS → AreWaiting ks
     → ((k : WaitingPoint) → holds ks k ≡ true → k.ctx ≢ ctx → is_due k.ctx (value_at floor k.ctx) k ≡ false) → ((k : WaitingPoint) → holds ks k ≡ true → k.ctx ≡ ctx → value < k.value) → AreAbove ks changed
 AreAbove-with ks floor changed ctx value is full low high contexts others own = λ k there. elim (cases_Bool (nat_eq k.ctx ctx)) [
   | inl same ↦
@@ -57,13 +58,13 @@ AreAbove-with ks floor changed ctx value is full low high contexts others own = 
 ]
 
 -- the floor lowered
-pub AreAbove-lowered : (ks : List WaitingPoint) (floor lower : List ℕ) (ctx value : ℕ) → lower ≡ with_value floor ctx (min (value_at floor ctx) value) → length floor ≡ CONTEXTS → 1 ≤ ctx → ctx ≤ CONTEXTS → AreWaiting ks → AreAbove ks floor → AreAbove ks lower
+pub AreAbove-lowered : (ks : List (List Standing)) (floor lower : List ℕ) (ctx value : ℕ) → lower ≡ with_value floor ctx (min (value_at floor ctx) value) → length floor ≡ CONTEXTS → 1 ≤ ctx → ctx ≤ CONTEXTS → AreWaiting ks → AreAbove ks floor → AreAbove ks lower
 AreAbove-lowered ks floor lower ctx value is full low high contexts h =
     AreAbove-with ks floor lower ctx (min (value_at floor ctx) value) is full low high contexts (λ k there apart. h k there)
     (λ k there its. let past = past-not_due (value_at floor k.ctx) k (h k there) in let at = ap (value_at floor) its in omega arith)
 
 -- a point put in, and the floor lowered below it
-pub AreAbove-put : (old new : List WaitingPoint) (floor lower : List ℕ) (p : Point) (registration : ℕ) → lower ≡ with_value floor p.ctx (min (value_at floor p.ctx) (p.value - 1)) → length floor ≡ CONTEXTS → 1 ≤ p.ctx → p.ctx ≤ CONTEXTS → 1 ≤ p.value → AreWaiting new → AreAbove old floor
+pub AreAbove-put : (old new : List (List Standing)) (floor lower : List ℕ) (p : Point) (registration : ℕ) → lower ≡ with_value floor p.ctx (min (value_at floor p.ctx) (p.value - 1)) → length floor ≡ CONTEXTS → 1 ≤ p.ctx → p.ctx ≤ CONTEXTS → 1 ≤ p.value → AreWaiting new → AreAbove old floor
     → ((k : WaitingPoint) → holds new k ≡ (is_same (waiting p registration) k || holds old k)) → AreAbove new lower
 AreAbove-put old new floor lower p registration is full low high some contexts h put =
     AreAbove-with new floor lower p.ctx (min (value_at floor p.ctx) (p.value - 1)) is full low high contexts
@@ -77,27 +78,15 @@ AreAbove-put old new floor lower p registration is full low high some contexts h
     ])
 
 -- the floor of a context set to a value below its first point
-pub AreAbove-first : (ks : List WaitingPoint) (floor higher : List ℕ) (ctx first most : ℕ) → higher ≡ with_value floor ctx (first - 1) → length floor ≡ CONTEXTS → 1 ≤ ctx → ctx ≤ CONTEXTS → 1 ≤ first → first ≤ most → AreWaiting ks → AreAbove ks floor
-    → ((k : WaitingPoint) → is_due ctx most k ≡ true → holds ks k ≡ true → first ≤ k.value) → AreAbove ks higher
-AreAbove-first ks floor higher ctx first most is full low high some within contexts h least =
-    AreAbove-with ks floor higher ctx (first - 1) is full low high contexts (λ k there apart. h k there)
-    (λ k there its. elim (cases_Bool (is_due ctx most k)) [
-      | inl due ↦ let above = least k due there in omega arith
-      | inr other ↦ let past = past-not_due most k (ap (λ c. is_due c most k) its ∙ other) in omega arith
-    ])
+pub AreAbove-first : (ks : List (List Standing)) (floor higher : List ℕ) (ctx first : ℕ) → higher ≡ with_value floor ctx (first - 1) → length floor ≡ CONTEXTS → 1 ≤ ctx → ctx ≤ CONTEXTS → 1 ≤ first → AreWaiting ks → AreAbove ks floor
+    → ((k : WaitingPoint) → k.ctx ≡ ctx → holds ks k ≡ true → first ≤ k.value) → AreAbove ks higher
+AreAbove-first ks floor higher ctx first is full low high some contexts h least =
+    AreAbove-with ks floor higher ctx (first - 1) is full low high contexts (λ k there apart. h k there) (λ k there its. let above = least k its there in omega arith)
 
--- and to the greatest where it has none
-pub AreAbove-empty : (ks : List WaitingPoint) (floor higher : List ℕ) (ctx most : ℕ) → higher ≡ with_value floor ctx most → length floor ≡ CONTEXTS → 1 ≤ ctx → ctx ≤ CONTEXTS → AreWaiting ks → AreAbove ks floor → ((k : WaitingPoint) → is_due ctx most k ≡ true → holds ks k ≡ false) → AreAbove ks higher
-AreAbove-empty ks floor higher ctx most is full low high contexts h none =
-    AreAbove-with ks floor higher ctx most is full low high contexts (λ k there apart. h k there)
-    (λ k there its. elim (cases_Bool (is_due ctx most k)) [
-      | inl due ↦ absurd (false≢true (sym (none k due) ∙ there))
-      | inr other ↦ past-not_due most k (ap (λ c. is_due c most k) its ∙ other)
-    ])
-
--- a reach with one more point reached is at least the reach
-pub IsAtLeast-reaching : (reach higher : List ℕ) (p : Point) → higher ≡ reaching reach p → IsAtLeast higher reach
-IsAtLeast-reaching reach higher p is = subst (λ r. IsAtLeast r reach) (sym is) (IsAtLeast-with_value reach p.ctx (max (value_at reach p.ctx) p.value) (omega arith))
+-- and to any where it has none
+pub AreAbove-empty : (ks : List (List Standing)) (floor higher : List ℕ) (ctx value : ℕ) → higher ≡ with_value floor ctx value → length floor ≡ CONTEXTS → 1 ≤ ctx → ctx ≤ CONTEXTS → AreWaiting ks → AreAbove ks floor → ((k : WaitingPoint) → k.ctx ≡ ctx → holds ks k ≡ false) → AreAbove ks higher
+AreAbove-empty ks floor higher ctx value is full low high contexts h none =
+    AreAbove-with ks floor higher ctx value is full low high contexts (λ k there apart. h k there) (λ k there its. absurd (false≢true (sym (none k its) ∙ there)))
 
 -- two reaches of which each is at least the other are one
 pub IsAtLeast-both : (reach other : List ℕ) → length reach ≡ length other → IsAtLeast reach other → IsAtLeast other reach → reach ≡ other
@@ -114,7 +103,7 @@ above-not_due reach p registration past = ap (λ b. nat_eq p.ctx p.ctx && b) pas
     and-false false = refl
 
 -- a point put in above a reach, beside those that were above an earlier one that is as high
-pub AreAbove-put_above : (old new : List WaitingPoint) (p : Point) (registration : ℕ) (before after : List ℕ) → AreAbove old before → IsAtLeast before after → is_reached after p ≡ false
+pub AreAbove-put_above : (old new : List (List Standing)) (p : Point) (registration : ℕ) (before after : List ℕ) → AreAbove old before → IsAtLeast before after → is_reached after p ≡ false
     → ((k : WaitingPoint) → holds new k ≡ (is_same (waiting p registration) k || holds old k)) → AreAbove new after
 AreAbove-put_above old new p registration before after h high past put = λ k there. elim (or_cases (is_same (waiting p registration) k) (holds old k) (sym (put k) ∙ there)) [
   | inl added ↦ subst (λ (x : WaitingPoint). is_due x.ctx (value_at after x.ctx) x ≡ false) (one_point (waiting p registration) k added) (above-not_due after p registration past)
@@ -126,23 +115,28 @@ pub on_ok : {X E : Type 0} {P : Type 0} (r : Result X E) → OnOk r P → is_ok 
 on_ok (Ok x) h is = h
 on_ok (Err e) h is = absurd (cc)
 
+-- what holds anyway holds if it failed
+pub OnErr-always : {X E : Type 0} (r : Result X E) (P : Type 0) → P → OnErr r P
+OnErr-always (Ok x) P h = tt
+OnErr-always (Err e) P h = h
+
 -- none is left that is due
-pub AreAbove-none_due : (ks : List WaitingPoint) (reach : List ℕ) → ((k : WaitingPoint) → is_due k.ctx (value_at reach k.ctx) k ≡ true → holds ks k ≡ false) → AreAbove ks reach
+pub AreAbove-none_due : (ks : List (List Standing)) (reach : List ℕ) → ((k : WaitingPoint) → is_due k.ctx (value_at reach k.ctx) k ≡ true → holds ks k ≡ false) → AreAbove ks reach
 AreAbove-none_due ks reach none = λ k there. elim (cases_Bool (is_due k.ctx (value_at reach k.ctx) k)) [
   | inl due ↦ absurd (false≢true (sym (none k due) ∙ there))
   | inr other ↦ other
 ]
 
-pub AreAbove-nothing : (ks : List WaitingPoint) (reach : List ℕ) → ks ≡ [] → AreAbove ks reach
-AreAbove-nothing ks reach is = λ k there. absurd (false≢true (sym (ap (λ xs. holds xs k) is) ∙ there))
+pub AreAbove-nothing : (ks : List (List Standing)) (reach : List ℕ) → ks ≡ [] → AreAbove ks reach
+AreAbove-nothing ks reach is = λ k there. absurd (false≢true (sym (holds-nothing ks k is) ∙ there))
 
 -- if one context alone has risen, no point of another is due
-other-not_due : (ks : List WaitingPoint) (kept reach : List ℕ) (p : Point) → reach ≡ reaching kept p → 1 ≤ p.ctx → AreWaiting ks → AreAbove ks kept → (k : WaitingPoint) → holds ks k ≡ true → k.ctx ≢ p.ctx → is_due k.ctx (value_at reach k.ctx) k ≡ false
+other-not_due : (ks : List (List Standing)) (kept reach : List ℕ) (p : Point) → reach ≡ reaching kept p → 1 ≤ p.ctx → AreWaiting ks → AreAbove ks kept → (k : WaitingPoint) → holds ks k ≡ true → k.ctx ≢ p.ctx → is_due k.ctx (value_at reach k.ctx) k ≡ false
 other-not_due ks kept reach p is low contexts h k there apart =
     ap (λ v. is_due k.ctx v k) (ap (λ f. value_at f k.ctx) is ∙ value_at-with_value_other kept p.ctx k.ctx (max (value_at kept p.ctx) p.value) low (contexts.contexts k there).0 apart)
     ∙ h k there
 
-pub due-one_context : (ks : List WaitingPoint) (kept reach : List ℕ) (p : Point) → reach ≡ reaching kept p → 1 ≤ p.ctx → AreWaiting ks → AreAbove ks kept → (k : WaitingPoint) → is_due k.ctx (value_at reach k.ctx) k ≡ true → holds ks k ≡ true → is_due p.ctx (value_at reach p.ctx) k ≡ true
+pub due-one_context : (ks : List (List Standing)) (kept reach : List ℕ) (p : Point) → reach ≡ reaching kept p → 1 ≤ p.ctx → AreWaiting ks → AreAbove ks kept → (k : WaitingPoint) → is_due k.ctx (value_at reach k.ctx) k ≡ true → holds ks k ≡ true → is_due p.ctx (value_at reach p.ctx) k ≡ true
 due-one_context ks kept reach p is low contexts h k due there = elim (cases_Bool (nat_eq k.ctx p.ctx)) [
   | inl same ↦ ap (λ c. is_due c (value_at reach c) k) (sym (eqb-true k.ctx p.ctx same)) ∙ due
   | inr other ↦ absurd (false≢true (sym (other-not_due ks kept reach p is low contexts h k there (λ e. false≢true (sym other ∙ eq-eqb k.ctx p.ctx e))) ∙ due))
@@ -156,7 +150,7 @@ not_due-at reach ctx k none = elim (cases_Bool (nat_eq k.ctx ctx)) [
 ]
 
 -- if none that is due is left in that context
-pub AreAbove-one_context : (ks fewer : List WaitingPoint) (kept reach : List ℕ) (p : Point) → reach ≡ reaching kept p → 1 ≤ p.ctx → AreWaiting ks → AreAbove ks kept → ((k : WaitingPoint) → is_due k.ctx (value_at reach k.ctx) k ≡ true → holds fewer k ≡ true → holds ks k ≡ true)
+pub AreAbove-one_context : (ks fewer : List (List Standing)) (kept reach : List ℕ) (p : Point) → reach ≡ reaching kept p → 1 ≤ p.ctx → AreWaiting ks → AreAbove ks kept → ((k : WaitingPoint) → is_due k.ctx (value_at reach k.ctx) k ≡ true → holds fewer k ≡ true → holds ks k ≡ true)
     → ((k : WaitingPoint) → is_due p.ctx (value_at reach p.ctx) k ≡ true → holds fewer k ≡ false) → AreAbove fewer reach
 AreAbove-one_context ks fewer kept reach p is low contexts h less none = λ k there. elim (cases_Bool (is_due k.ctx (value_at reach k.ctx) k)) [
   | inl due ↦ absurd (false≢true (sym (none k (due-one_context ks kept reach p is low contexts h k due (less k due there))) ∙ there))

@@ -14,6 +14,7 @@ use Rattle.std.proofs.lemmas.Map.Keys.{IsDistinct-from_sorted}
 use Rattle.std.proofs.lemmas.Map.Entries.{lookup-filter-values, option_filter}
 use Rattle.point_core.specs.Reach.{value_at}
 use Rattle.fence_core.specs.declared.watches.point_index.WaitingPoint.{WaitingPoint}
+use Rattle.fence_core.specs.declared.watches.point_index.point_queue.Standing.{Standing}
 use Rattle.fence_core.specs.PointIndex.{holds, is_due}
 use Rattle.fence_core.specs.Registered.{IsIndexed}
 use Rattle.fence_core.specs.declared.watches.places.Places.{Places}
@@ -106,14 +107,14 @@ IsReported-all reach es fired r some all = by (at fired r) refl
         ]
 
 -- what is reported of the points that are due is the cookies of the watches that fire
-pub values-fired : (reach : List ℕ) (es : List (ℕ × Watch)) (places : Places) (index : List WaitingPoint) (fired : List (ℕ × ℕ)) → IsStrictlySortedBy nat_cmp (keys_of es) → IsIndexed es places index → IsStrictlySortedBy nat_cmp (keys_of fired) → AreOnlyFiring es reach fired → ((k : WaitingPoint) → is_due k.ctx (value_at reach k.ctx) k ≡ true → holds index k ≡ true → IsReported es reach fired k.registration) → values_of fired ≡ cookies_of (filter (fires reach) (values_of es))
+pub values-fired : (reach : List ℕ) (es : List (ℕ × Watch)) (places : Places) (index : List (List Standing)) (fired : List (ℕ × ℕ)) → IsStrictlySortedBy nat_cmp (keys_of es) → IsIndexed es places index → IsStrictlySortedBy nat_cmp (keys_of fired) → AreOnlyFiring es reach fired → ((k : WaitingPoint) → is_due k.ctx (value_at reach k.ctx) k ≡ true → holds index k ≡ true → IsReported es reach fired k.registration) → values_of fired ≡ cookies_of (filter (fires reach) (values_of es))
 values-fired reach es places index fired ordered h rising some all =
     values-IsReported reach es fired ordered rising (λ r. IsReported-all reach es fired r some (λ w found fired_it.
     let k = fires-due es places index reach r w h found fired_it in
     subst (IsReported es reach fired) k.1 (all k.0 k.3 k.2)))
 
 -- if no point is due, no watch fires
-pub none-due : (reach : List ℕ) (es : List (ℕ × Watch)) (places : Places) (index : List WaitingPoint) → IsStrictlySortedBy nat_cmp (keys_of es) → IsIndexed es places index → ((k : WaitingPoint) → holds index k ≡ true → is_due k.ctx (value_at reach k.ctx) k ≡ false) → cookies_of (filter (fires reach) (values_of es)) ≡ []
+pub none-due : (reach : List ℕ) (es : List (ℕ × Watch)) (places : Places) (index : List (List Standing)) → IsStrictlySortedBy nat_cmp (keys_of es) → IsIndexed es places index → ((k : WaitingPoint) → holds index k ≡ true → is_due k.ctx (value_at reach k.ctx) k ≡ false) → cookies_of (filter (fires reach) (values_of es)) ≡ []
 unfolding IsStrictlySortedBy
 none-due reach es places index ordered h none =
     sym (values-fired reach es places index [] ordered h tt (λ r cookie is. absurd (none-some cookie is)) (λ k due there. absurd (false≢true (sym (none k there) ∙ due))))

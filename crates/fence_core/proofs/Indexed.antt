@@ -17,7 +17,8 @@ use Rattle.fence_core.specs.PointIndex.{waiting, is_same, holds, is_of, is_due}
 use Rattle.fence_core.specs.Registered.{place_at, IsIndexed}
 use Rattle.fence_core.specs.declared.watches.places.Places.{Places}
 use Rattle.fence_core.specs.declared.watches.point_index.WaitingPoint.{WaitingPoint}
-use Rattle.fence_core.proofs.PointIndex.{is_same-is, same_itself, one_point, not_same, same-one}
+use Rattle.fence_core.specs.declared.watches.point_index.point_queue.Standing.{Standing}
+use Rattle.fence_core.proofs.PointIndex.{holds-nothing, is_same-is, same_itself, one_point, not_same, same-one}
 use Rattle.fence_core.proofs.Registered.{is_at-true, is_at-false, at-All, at-none}
 
 pub or_cases : (a b : Bool) → (a || b) ≡ true → (a ≡ true) ⊎ (b ≡ true)
@@ -64,20 +65,20 @@ place-here : (places other : Places) (cookie q : ℕ) (o : Option WaitingPoint) 
 place-here places other cookie q o is same = is ∙ ap (λ b. cond b o (place_at places q)) (eq-eqb cookie q same)
 
 -- where the same stands, and the same is held
-pub IsIndexed-same : (es : List (ℕ × Watch)) (places other : Places) (index kept : List WaitingPoint) → IsIndexed es places index → ((q : ℕ) → place_at other q ≡ place_at places q) → ((k : WaitingPoint) → holds kept k ≡ holds index k) → IsIndexed es other kept
+pub IsIndexed-same : (es : List (ℕ × Watch)) (places other : Places) (index kept : List (List Standing)) → IsIndexed es places index → ((q : ℕ) → place_at other q ≡ place_at places q) → ((k : WaitingPoint) → holds kept k ≡ holds index k) → IsIndexed es other kept
 IsIndexed-same es places other index kept h place same = record {
   owned = λ k there. let old = h.owned k (sym (same k) ∙ there) in (old.0, old.1, old.2, place old.0.cookie ∙ old.3);
   some = λ r w is. let k = h.some r w is in (k.0, k.1, same k.0 ∙ k.2, place w.cookie ∙ k.3);
 }
 
-pub IsIndexed-none : (es : List (ℕ × Watch)) (places : Places) (index : List WaitingPoint) → es ≡ [] → index ≡ [] → IsIndexed es places index
+pub IsIndexed-none : (es : List (ℕ × Watch)) (places : Places) (index : List (List Standing)) → es ≡ [] → index ≡ [] → IsIndexed es places index
 IsIndexed-none es places index is also = record {
-  owned = λ k there. absurd (false≢true (sym (ap (λ ks. holds ks k) also) ∙ there));
+  owned = λ k there. absurd (false≢true (sym (holds-nothing index k also) ∙ there));
   some = λ r w found. absurd (none-some w (sym (ap (λ xs. at xs r) is) ∙ found));
 }
 
 -- a watch taken out
-pub IsIndexed-remove : (es left : List (ℕ × Watch)) (places fewer : Places) (index kept : List WaitingPoint) (cookie : ℕ) (place : WaitingPoint) (w : Watch) → IsIndexed es places index → place_at places cookie ≡ Some place → at es place.registration ≡ Some w → w.cookie ≡ cookie
+pub IsIndexed-remove : (es left : List (ℕ × Watch)) (places fewer : Places) (index kept : List (List Standing)) (cookie : ℕ) (place : WaitingPoint) (w : Watch) → IsIndexed es places index → place_at places cookie ≡ Some place → at es place.registration ≡ Some w → w.cookie ≡ cookie
     → ((q : ℕ) → at left q ≡ cond (is_at (nat_cmp place.registration) q) None (at es q)) → ((q : ℕ) → place_at fewer q ≡ cond (nat_eq cookie q) None (place_at places q)) → ((k : WaitingPoint) → holds kept k ≡ (not (is_same place k) && holds index k)) → IsIndexed left fewer kept
 IsIndexed-remove es left places fewer index kept cookie place w h stands found known out gone taken = record {
   owned = λ k there.
@@ -103,14 +104,14 @@ IsIndexed-remove es left places fewer index kept cookie place w h stands found k
 }
 
 -- no point of a registration that was not given is held
-pub not_held : (es : List (ℕ × Watch)) (places : Places) (index : List WaitingPoint) (made : ℕ) (k : WaitingPoint) → IsIndexed es places index → AllByRecursion (λ r. r < made) (keys_of es) → made ≡ k.registration → holds index k ≡ false
+pub not_held : (es : List (ℕ × Watch)) (places : Places) (index : List (List Standing)) (made : ℕ) (k : WaitingPoint) → IsIndexed es places index → AllByRecursion (λ r. r < made) (keys_of es) → made ≡ k.registration → holds index k ≡ false
 not_held es places index made k h before is = elim (cases_Bool (holds index k)) [
   | inl there ↦ let old = h.owned k there in let low = at-All (λ r. r < made) es k.registration old.0 before old.1 in absurd (omega arith)
   | inr none ↦ none
 ]
 
 -- a point of such a registration put in and taken out again
-pub holds-undo : (es : List (ℕ × Watch)) (places : Places) (index grown back : List WaitingPoint) (made : ℕ) (p : Point) (place : WaitingPoint) → IsIndexed es places index → AllByRecursion (λ r. r < made) (keys_of es) → place ≡ waiting p made → ((k : WaitingPoint) → holds grown k ≡ (is_same (waiting p made) k || holds index k)) → ((k : WaitingPoint) → holds back k ≡ (not (is_same place k) && holds grown k)) → (k : WaitingPoint) → holds back k ≡ holds index k
+pub holds-undo : (es : List (ℕ × Watch)) (places : Places) (index grown back : List (List Standing)) (made : ℕ) (p : Point) (place : WaitingPoint) → IsIndexed es places index → AllByRecursion (λ r. r < made) (keys_of es) → place ≡ waiting p made → ((k : WaitingPoint) → holds grown k ≡ (is_same (waiting p made) k || holds index k)) → ((k : WaitingPoint) → holds back k ≡ (not (is_same place k) && holds grown k)) → (k : WaitingPoint) → holds back k ≡ holds index k
 holds-undo es places index grown back made p place h before is put out k =
     out k ∙ ap (λ w. not (is_same w k) && holds grown k) is ∙ ap (λ b. not (is_same (waiting p made) k) && b) (put k)
     ∙ elim (cases_Bool (is_same (waiting p made) k)) [
@@ -125,7 +126,7 @@ new-cookie : (es : List (ℕ × Watch)) (r : ℕ) (w v : Watch) → list_any (is
 new-cookie es r w v new is e = false≢true (sym (at-none (is_for w.cookie) es r v new is) ∙ eq-eqb v.cookie w.cookie (sym e))
 
 -- one more watch
-pub IsIndexed-push : (es more : List (ℕ × Watch)) (places grown : Places) (index kept : List WaitingPoint) (made : ℕ) (w : Watch) (p : Point) → IsIndexed es places index → AllByRecursion (λ r. r < made) (keys_of es) → list_any (is_for w.cookie) (values_of es) ≡ false → is_of w.points made (waiting p made) ≡ true
+pub IsIndexed-push : (es more : List (ℕ × Watch)) (places grown : Places) (index kept : List (List Standing)) (made : ℕ) (w : Watch) (p : Point) → IsIndexed es places index → AllByRecursion (λ r. r < made) (keys_of es) → list_any (is_for w.cookie) (values_of es) ≡ false → is_of w.points made (waiting p made) ≡ true
     → ((q : ℕ) → at more q ≡ cond (is_at (nat_cmp made) q) (Some w) (at es q)) → ((q : ℕ) → place_at grown q ≡ cond (nat_eq w.cookie q) (Some (waiting p made)) (place_at places q)) → ((k : WaitingPoint) → holds kept k ≡ (is_same (waiting p made) k || holds index k)) → IsIndexed more grown kept
 IsIndexed-push es more places grown index kept made w p h before new member put stands held = record {
   owned = λ k there. elim (or_cases (is_same (waiting p made) k) (holds index k) (sym (held k) ∙ there)) [
@@ -150,7 +151,7 @@ IsIndexed-push es more places grown index kept made w p h before new member put 
 }
 
 -- a watch moved on to another of its points
-pub IsIndexed-move : (es : List (ℕ × Watch)) (places moved : Places) (index kept : List WaitingPoint) (due : WaitingPoint) (p : Point) (w : Watch) → IsIndexed es places index → holds index due ≡ true → at es due.registration ≡ Some w → is_of w.points due.registration (waiting p due.registration) ≡ true → due ≢ waiting p due.registration
+pub IsIndexed-move : (es : List (ℕ × Watch)) (places moved : Places) (index kept : List (List Standing)) (due : WaitingPoint) (p : Point) (w : Watch) → IsIndexed es places index → holds index due ≡ true → at es due.registration ≡ Some w → is_of w.points due.registration (waiting p due.registration) ≡ true → due ≢ waiting p due.registration
     → ((q : ℕ) → place_at moved q ≡ cond (nat_eq w.cookie q) (Some (waiting p due.registration)) (place_at places q)) → ((k : WaitingPoint) → holds kept k ≡ (not (is_same due k) && (is_same (waiting p due.registration) k || holds index k))) → IsIndexed es moved kept
 IsIndexed-move es places moved index kept due p w h there found member apart stands held =
     let next = waiting p due.registration in
@@ -192,7 +193,7 @@ IsIndexed-move es places moved index kept due p w h there found member apart sta
     }
 
 -- a watch that fires stands at a point that is due
-pub fires-due : (es : List (ℕ × Watch)) (places : Places) (index : List WaitingPoint) (later : List ℕ) (r : ℕ) (w : Watch) → IsIndexed es places index → at es r ≡ Some w → fires later w ≡ true → (k : WaitingPoint) × (k.registration ≡ r) × (holds index k ≡ true) × (is_due k.ctx (value_at later k.ctx) k ≡ true)
+pub fires-due : (es : List (ℕ × Watch)) (places : Places) (index : List (List Standing)) (later : List ℕ) (r : ℕ) (w : Watch) → IsIndexed es places index → at es r ≡ Some w → fires later w ≡ true → (k : WaitingPoint) × (k.registration ≡ r) × (holds index k ≡ true) × (is_due k.ctx (value_at later k.ctx) k ≡ true)
 fires-due es places index later r w h is fired =
     let k = h.some r w is in
     let its = h.owned k.0 k.2 in
@@ -200,7 +201,7 @@ fires-due es places index later r w h is fired =
     (k.0, k.1, k.2, reached-due later w.points k.0.registration k.0 fired (ap (λ (v : Watch). is_of v.points k.0.registration k.0) (sym same) ∙ its.2))
 
 -- what moving a watch on leaves of the points that are due
-pub due-moved : (reach : List ℕ) (index kept : List WaitingPoint) (due next k : WaitingPoint) → holds kept k ≡ (not (is_same due k) && (is_same next k || holds index k)) → is_due next.ctx (value_at reach next.ctx) next ≡ false → is_due k.ctx (value_at reach k.ctx) k ≡ true → holds kept k ≡ true → holds index k ≡ true
+pub due-moved : (reach : List ℕ) (index kept : List (List Standing)) (due next k : WaitingPoint) → holds kept k ≡ (not (is_same due k) && (is_same next k || holds index k)) → is_due next.ctx (value_at reach next.ctx) next ≡ false → is_due k.ctx (value_at reach k.ctx) k ≡ true → holds kept k ≡ true → holds index k ≡ true
 due-moved reach index kept due next k held past is there =
     elim (or_cases (is_same next k) (holds index k) (and_parts (not (is_same due k)) (is_same next k || holds index k) (sym held ∙ there)).1) [
       | inl here ↦ absurd (false≢true (sym past ∙ ap (λ (x : WaitingPoint). is_due x.ctx (value_at reach x.ctx) x) (one_point next k here) ∙ is))

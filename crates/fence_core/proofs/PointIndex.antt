@@ -1,28 +1,23 @@
--- The order of waiting points, and which of them are held.
-use Rattle.std.proofs.Common.{◌≡◌, ◌≢◌, ℕ, ◌+◌, ◌^◌, length, filter, All, zero, suc, get_or, ◌<◌, ◌≤◌, nat_eq, nat_le, ◌⊎◌, inl, inr, Bool, true, false, not, cond, ◌&&◌, ◌||◌, refl, sym, ap, ◌∙◌, subst, List, [], ◌∷◌, ◌++◌, arith}
+-- Queues of standing watches: their order, which watches they have, and one more or one less. The index of queues.
+use Rattle.std.proofs.Common.{◌≡◌, ◌≢◌, ℕ, ◌+◌, length, filter, zero, suc, get_or, set, ◌<◌, ◌≤◌, nat_eq, nat_le, ◌⊎◌, inl, inr, Bool, true, false, not, cond, ◌&&◌, ◌||◌, refl, sym, ap, ◌∙◌, subst, List, [], ◌∷◌, ◌++◌, Result, Ok, Err, OnOk, arith}
 use Rattle.std.specs.declared.cmp.Ordering.{Ordering}
 use Rattle.std.specs.declared.cmp.Ordering.TheVariants.{Less, Equal, Greater}
-use Rattle.std.specs.Ordering.{is_eq, is_lt, is_gt, is_le, nat_cmp, ordering_then, match_ordering}
-use Rattle.std.specs.List.{list_any}
-use Rattle.std.specs.Prelude.{IfSome, IfNone, slice_get, Option, None, Some}
-use Rattle.std.proofs.lemmas.Bool.{and_parts, and_from, leb-true, le-leb, eqb-true, eq-eqb, cases_Bool, false≢true}
-use Rattle.std.proofs.lemmas.Bool.Decides.{nat_tests}
-use Rattle.std.proofs.lemmas.Cmp.{ranked}
-use Rattle.std.proofs.lemmas.List.Elements.{All-head}
-use Rattle.point_core.specs.Reach.{is_reached}
-use Rattle.std.specs.BTreeMap.Range.{range_contains}
-use Rattle.std.specs.declared.ops.Bound.TheVariants.{Included}
-use Rattle.std.proofs.lemmas.Map.Views.{any-filter_same}
-use Rattle.point_core.specs.declared.entry.Point.{Point}
+use Rattle.std.specs.Ordering.{is_eq, nat_cmp, ordering_then, match_ordering}
+use Rattle.std.specs.List.{list_any, AllByRecursion}
+use Rattle.std.specs.List.Sorted.{IsStrictlySortedBy}
 use Rattle.std.specs.BTreeSet.{insert_key}
 use Rattle.std.specs.Set.{remove_key}
-use Rattle.fence_core.specs.Fence.{are_reached}
-use Rattle.fence_core.specs.PointIndex.{waiting, is_same, holds, is_of, is_due, number, number_due, AreWaiting}
+use Rattle.std.proofs.lemmas.Bool.{and_parts, and_from, leb-true, eqb-true, eq-eqb, cases_Bool, false≢true}
+use Rattle.std.proofs.lemmas.Bool.Decides.{nat_tests}
+use Rattle.std.proofs.lemmas.Cmp.{ranked}
+use Rattle.std.proofs.lemmas.List.{get_or-set_same, get_or-set_other}
 use Rattle.point_core.specs.declared.context.TheConstants.{CONTEXTS}
+use Rattle.point_core.specs.declared.entry.Point.{Point}
+use Rattle.point_core.specs.Reach.{is_reached}
+use Rattle.fence_core.specs.Fence.{are_reached}
+use Rattle.fence_core.specs.PointIndex.{waiting, is_same, standing_of, is_alike, has, is_low, queue_at, holds, is_of, is_due, number, number_due, AreWaiting, order, IsRising}
 use Rattle.fence_core.specs.declared.watches.point_index.WaitingPoint.{WaitingPoint}
-
-abbrev pub order : WaitingPoint → WaitingPoint → Ordering
-order a b = ordering_then (nat_cmp a.ctx b.ctx) (ordering_then (nat_cmp a.value b.value) (nat_cmp a.registration b.registration))
+use Rattle.fence_core.specs.declared.watches.point_index.point_queue.Standing.{Standing}
 
 is_eq-then : (o p : Ordering) → is_eq (ordering_then o p) ≡ (is_eq o && is_eq p)
 is_eq-then Less p = refl
@@ -32,18 +27,69 @@ is_eq-then Greater p = refl
 pub is_eq-nat_cmp : (x y : ℕ) → is_eq (nat_cmp x y) ≡ nat_eq x y
 is_eq-nat_cmp x y = grind (arith, nat_tests)
 
--- the order tells all waiting points apart
-pub is_eq-order : (a b : WaitingPoint) → is_eq (order a b) ≡ is_same a b
+pub less-nat : (x y : ℕ) → nat_cmp x y ≡ Less → x < y
+less-nat x y e = ranked x y Less (sym e)
+
+pub equal-nat : (x y : ℕ) → nat_cmp x y ≡ Equal → x ≡ y
+equal-nat x y e = ranked x y Equal (sym e)
+
+-- the order tells all watches apart
+pub is_eq-order : (a b : Standing) → is_eq (order a b) ≡ is_alike a b
 is_eq-order a b =
-    is_eq-then (nat_cmp a.ctx b.ctx) (ordering_then (nat_cmp a.value b.value) (nat_cmp a.registration b.registration))
-    ∙ ap (λ t. is_eq (nat_cmp a.ctx b.ctx) && t) (is_eq-then (nat_cmp a.value b.value) (nat_cmp a.registration b.registration))
-    ∙ ap (λ t. t && (is_eq (nat_cmp a.value b.value) && is_eq (nat_cmp a.registration b.registration))) (is_eq-nat_cmp a.ctx b.ctx)
-    ∙ ap (λ t. nat_eq a.ctx b.ctx && (t && is_eq (nat_cmp a.registration b.registration))) (is_eq-nat_cmp a.value b.value)
-    ∙ ap (λ t. nat_eq a.ctx b.ctx && (nat_eq a.value b.value && t)) (is_eq-nat_cmp a.registration b.registration)
+    is_eq-then (nat_cmp a.value b.value) (nat_cmp a.registration b.registration)
+    ∙ ap (λ t. t && is_eq (nat_cmp a.registration b.registration)) (is_eq-nat_cmp a.value b.value)
+    ∙ ap (λ t. nat_eq a.value b.value && t) (is_eq-nat_cmp a.registration b.registration)
 
-pub found-holds : (k : WaitingPoint) (ks : List WaitingPoint) → list_any (λ x. is_eq (order k x)) ks ≡ holds ks k
-found-holds k ks = λ i. list_any (λ x. is_eq-order k x i) ks
+less-value : (o p : Ordering) → ordering_then o p ≡ Less → (o ≡ Less) ⊎ (o ≡ Equal)
+less-value Less p h = inl refl
+less-value Equal p h = inr refl
+less-value Greater p h = absurd (cc)
 
+order-value : (a b : Standing) → order a b ≡ Less → a.value ≤ b.value
+order-value a b less = elim (less-value _ _ less) [
+  | inl below ↦ let low = less-nat a.value b.value below in omega arith
+  | inr equal ↦ let is = equal-nat a.value b.value equal in omega arith
+]
+
+-- two that are alike are one
+one_standing : (a b : Standing) → is_alike a b ≡ true → a ≡ b
+one_standing a b alike =
+    let parts = and_parts (nat_eq a.value b.value) (nat_eq a.registration b.registration) alike in
+    λ i. record { value = eqb-true a.value b.value parts.0 i; registration = eqb-true a.registration b.registration parts.1 i }
+
+alike_itself : (a : Standing) → is_alike a a ≡ true
+alike_itself a = and_from (nat_eq a.value a.value) (nat_eq a.registration a.registration) (eq-eqb a.value a.value refl) (eq-eqb a.registration a.registration refl)
+
+-- those after the first of a queue stand no lower
+later-least : (a s : Standing) (q : List Standing) → AllByRecursion (λ y. order a y ≡ Less) q → has q s ≡ true → a.value ≤ s.value
+later-least a s [] all there = absurd (cc)
+later-least a s (y ∷ q) all there = elim (cases_Bool (is_alike s y)) [
+  | inl alike ↦ let low = order-value a y all.0 in let is : s.value ≡ y.value = ap (λ (t : Standing). t.value) (one_standing s y alike) in omega arith
+  | inr apart ↦ later-least a s q all.1 (sym (ap (λ b. b || has q s) apart) ∙ there)
+]
+
+-- none stands lower than the first
+pub first-least : (q rest : List Standing) (first s : Standing) → IsRising q → q ≡ first ∷ rest → has q s ≡ true → first.value ≤ s.value
+unfolding IsStrictlySortedBy
+first-least q rest first s rising is there =
+    let parts = subst IsRising is rising in
+    elim (cases_Bool (is_alike s first)) [
+      | inl alike ↦ let same : s.value ≡ first.value = ap (λ (t : Standing). t.value) (one_standing s first alike) in omega arith
+      | inr apart ↦ later-least first s rest parts.0 (sym (ap (λ b. b || has rest s) apart) ∙ sym (ap (λ xs. has xs s) is) ∙ there)
+    ]
+
+-- without the first
+pub IsRising-rest : (q rest : List Standing) (first : Standing) → IsRising q → q ≡ first ∷ rest → IsRising rest
+unfolding IsStrictlySortedBy
+IsRising-rest q rest first rising is = (subst IsRising is rising).1
+
+pub has-first : (q rest : List Standing) (first : Standing) → q ≡ first ∷ rest → has q first ≡ true
+has-first q rest first is = ap (λ xs. has xs first) is ∙ ap (λ b. b || has rest first) (alike_itself first)
+
+found-has : (k : Standing) (ks : List Standing) → list_any (λ x. is_eq (order k x)) ks ≡ has ks k
+found-has k ks = λ i. list_any (λ x. is_eq-order k x i) ks
+
+-- one more, and one taken out
 cond-or : (a b : Bool) → cond a true b ≡ (a || b)
 cond-or true b = refl
 cond-or false b = refl
@@ -52,200 +98,26 @@ cond-and : (a b : Bool) → cond a false b ≡ (not a && b)
 cond-and true b = refl
 cond-and false b = refl
 
-pub holds-put : (old new : List WaitingPoint) (key k : WaitingPoint) → list_any (λ x. is_eq (order k x)) new ≡ cond (is_eq (order key k)) true (list_any (λ x. is_eq (order k x)) old) → holds new k ≡ (is_same key k || holds old k)
-holds-put old new key k is =
-    sym (found-holds k new) ∙ is
-    ∙ ap (λ b. cond b true (list_any (λ x. is_eq (order k x)) old)) (is_eq-order key k)
-    ∙ ap (λ b. cond (is_same key k) true b) (found-holds k old)
-    ∙ cond-or (is_same key k) (holds old k)
+pub has-put : (old new : List Standing) (key s : Standing) → list_any (λ x. is_eq (order s x)) new ≡ cond (is_eq (order key s)) true (list_any (λ x. is_eq (order s x)) old) → has new s ≡ (is_alike key s || has old s)
+has-put old new key s is =
+    sym (found-has s new) ∙ is
+    ∙ ap (λ b. cond b true (list_any (λ x. is_eq (order s x)) old)) (is_eq-order key s)
+    ∙ ap (λ b. cond (is_alike key s) true b) (found-has s old)
+    ∙ cond-or (is_alike key s) (has old s)
 
-pub holds-take : (old new : List WaitingPoint) (key k : WaitingPoint) → list_any (λ x. is_eq (order k x)) new ≡ cond (is_eq (order key k)) false (list_any (λ x. is_eq (order k x)) old) → holds new k ≡ (not (is_same key k) && holds old k)
-holds-take old new key k is =
-    sym (found-holds k new) ∙ is
-    ∙ ap (λ b. cond b false (list_any (λ x. is_eq (order k x)) old)) (is_eq-order key k)
-    ∙ ap (λ b. cond (is_same key k) false b) (found-holds k old)
-    ∙ cond-and (is_same key k) (holds old k)
-
--- what lies between the least and the greatest waiting point of a context up to a value is due there
-gt-then : (o p : Ordering) → is_gt (ordering_then o p) ≡ false → (o ≡ Less) ⊎ ((o ≡ Equal) × (is_gt p ≡ false))
-gt-then Less p h = inl refl
-gt-then Equal p h = inr (refl, h)
-gt-then Greater p h = absurd (cc)
-
-not_gt-then : (o p : Ordering) → is_gt o ≡ false → is_gt p ≡ false → is_gt (ordering_then o p) ≡ false
-not_gt-then Less p h g = refl
-not_gt-then Equal p h g = g
-not_gt-then Greater p h g = h
-
-not_gt-nat : (x y : ℕ) → x ≤ y → is_gt (nat_cmp x y) ≡ false
-not_gt-nat x y h = grind (arith, nat_tests)
-
-pub less-nat : (x y : ℕ) → nat_cmp x y ≡ Less → x < y
-less-nat x y e = ranked x y Less (sym e)
-
-pub equal-nat : (x y : ℕ) → nat_cmp x y ≡ Equal → x ≡ y
-equal-nat x y e = ranked x y Equal (sym e)
-
-due-from : (ctx value : ℕ) (k : WaitingPoint) → k.ctx ≡ ctx → k.value ≤ value → is_due ctx value k ≡ true
-due-from ctx value k is low = and_from (nat_eq k.ctx ctx) (nat_le k.value value) (eq-eqb k.ctx ctx is) (le-leb k.value value low)
-
-pub due-between : (ctx value most : ℕ) (k : WaitingPoint) → is_gt (order (record { ctx = ctx; value = 0; registration = 0 }) k) ≡ false → is_gt (order k (record { ctx = ctx; value = value; registration = most })) ≡ false → is_due ctx value k ≡ true
-due-between ctx value most k low high = elim (gt-then _ _ low) [
-  | inl less ↦ let above = less-nat ctx k.ctx less in elim (gt-then _ _ high) [
-    | inl past ↦ let below = less-nat k.ctx ctx past in absurd (omega arith)
-    | inr same ↦ let is = equal-nat k.ctx ctx same.0 in absurd (omega arith)
-  ]
-  | inr equal ↦ let is = equal-nat ctx k.ctx equal.0 in elim (gt-then _ _ high) [
-    | inl past ↦ let below = less-nat k.ctx ctx past in absurd (omega arith)
-    | inr same ↦ elim (gt-then _ _ same.1) [
-      | inl less ↦ let below = less-nat k.value value less in due-from ctx value k (sym is) (omega arith)
-      | inr last ↦ let at = equal-nat k.value value last.0 in due-from ctx value k (sym is) (omega arith)
-    ]
-  ]
-]
-
--- of the points of a context, the one that comes first has the least value
-pub order-value : (a b : WaitingPoint) → is_gt (order a b) ≡ false → a.ctx ≡ b.ctx → a.value ≤ b.value
-order-value a b first same = elim (gt-then _ _ first) [
-  | inl less ↦ let below = less-nat a.ctx b.ctx less in absurd (omega arith)
-  | inr equal ↦ elim (gt-then _ _ equal.1) [
-    | inl less ↦ let below = less-nat a.value b.value less in omega arith
-    | inr last ↦ let at = equal-nat a.value b.value last.0 in omega arith
-  ]
-]
-
-pub between-due : (ctx value most : ℕ) (k : WaitingPoint) → is_due ctx value k ≡ true → k.registration ≤ most → (is_gt (order (record { ctx = ctx; value = 0; registration = 0 }) k) ≡ false) × (is_gt (order k (record { ctx = ctx; value = value; registration = most })) ≡ false)
-between-due ctx value most k due low =
-    let parts = and_parts (nat_eq k.ctx ctx) (nat_le k.value value) due in
-    let is : k.ctx ≡ ctx = eqb-true k.ctx ctx parts.0 in
-    let below = leb-true k.value value parts.1 in (
-      not_gt-then _ _ (not_gt-nat ctx k.ctx (omega arith)) (not_gt-then _ _ (not_gt-nat 0 k.value (omega arith)) (not_gt-nat 0 k.registration (omega arith))),
-      not_gt-then _ _ (not_gt-nat k.ctx ctx (omega arith)) (not_gt-then _ _ (not_gt-nat k.value value below) (not_gt-nat k.registration most low)),
-    )
-
-order-ctx : (a b : WaitingPoint) → is_gt (order a b) ≡ false → a.ctx ≤ b.ctx
-order-ctx a b first = elim (gt-then _ _ first) [
-  | inl less ↦ let below = less-nat a.ctx b.ctx less in omega arith
-  | inr equal ↦ let is = equal-nat a.ctx b.ctx equal.0 in omega arith
-]
-
--- it is none of the points before those of a context
-abbrev IsFrom : WaitingPoint → WaitingPoint → Type 0
-IsFrom low k = (is_gt (order low k) ≡ false) × Unit {0}
-
-due-from_first : (ctx value : ℕ) (low k : WaitingPoint) → low ≡ record { ctx = ctx; value = 0; registration = 0 } → is_due ctx value k ≡ true → is_gt (order low k) ≡ false
-due-from_first ctx value low k low_is due = subst (λ w. is_gt (order w k) ≡ false) (sym low_is) (between-due ctx value k.registration k due (omega arith)).0
-
-pub if_some-then : {P Q : WaitingPoint → Type 0} (o : Option WaitingPoint) → IfSome o P → ((k : WaitingPoint) → P k → Q k) → IfSome o Q
-if_some-then None h f = tt
-if_some-then (Some k) h f = f k h
-
-pub if_none-then : {A B : Type 0} (o : Option WaitingPoint) → IfNone o A → (A → B) → IfNone o B
-if_none-then None h f = f h
-if_none-then (Some k) h f = tt
-
--- the first point from there on, and none
-pub first-there : (low : WaitingPoint) (r rest : List WaitingPoint) (x : WaitingPoint) (ks : List WaitingPoint) → r ≡ x ∷ rest → All (λ k. IsFrom low k × (list_any (λ y. is_eq (order k y)) ks ≡ true)) r → (is_gt (order low x) ≡ false) × (holds ks x ≡ true)
-first-there low r rest x ks is all =
-    let P : WaitingPoint → Type 0 = λ k. IsFrom low k × (list_any (λ y. is_eq (order k y)) ks ≡ true) in
-    let h = All-head P x rest (subst (All P) is all) in
-    (h.0.0, sym (found-holds x ks) ∙ h.1)
-
-first-before : (ctx value : ℕ) (low : WaitingPoint) (r rest : List WaitingPoint) (x : WaitingPoint) (ks : List WaitingPoint) → low ≡ record { ctx = ctx; value = 0; registration = 0 } → r ≡ x ∷ rest → ((q : WaitingPoint) → IsFrom low q → list_any (λ y. is_eq (order q y)) ks ≡ true → IfSome (slice_get r 0) (λ k. is_gt (order k q) ≡ false)) → (k : WaitingPoint) → is_due ctx value k ≡ true → holds ks k ≡ true → is_gt (order x k) ≡ false
-first-before ctx value low r rest x ks low_is is least k due there =
-    subst (λ xs. IfSome (slice_get xs 0) (λ y. is_gt (order y k) ≡ false)) is (least k (due-from_first ctx value low k low_is due, tt) (found-holds k ks ∙ there))
-
-pub first-least : (ctx value : ℕ) (low : WaitingPoint) (r rest : List WaitingPoint) (x : WaitingPoint) (ks : List WaitingPoint) → low ≡ record { ctx = ctx; value = 0; registration = 0 } → r ≡ x ∷ rest → is_due ctx value x ≡ true → ((q : WaitingPoint) → IsFrom low q → list_any (λ y. is_eq (order q y)) ks ≡ true → IfSome (slice_get r 0) (λ k. is_gt (order k q) ≡ false)) → (k : WaitingPoint) → is_due ctx value k ≡ true → holds ks k ≡ true → x.value ≤ k.value
-first-least ctx value low r rest x ks low_is is its least k due there =
-    let same = eqb-true x.ctx ctx (and_parts (nat_eq x.ctx ctx) (nat_le x.value value) its).0 in
-    let also = eqb-true k.ctx ctx (and_parts (nat_eq k.ctx ctx) (nat_le k.value value) due).0 in
-    order-value x k (first-before ctx value low r rest x ks low_is is least k due there) (same ∙ sym also)
-
--- if the first is not due, none is
-pub first-past : (ctx value : ℕ) (low : WaitingPoint) (r rest : List WaitingPoint) (x : WaitingPoint) (ks : List WaitingPoint) → low ≡ record { ctx = ctx; value = 0; registration = 0 } → r ≡ x ∷ rest → is_due ctx value x ≡ false → is_gt (order low x) ≡ false → ((q : WaitingPoint) → IsFrom low q → list_any (λ y. is_eq (order q y)) ks ≡ true → IfSome (slice_get r 0) (λ k. is_gt (order k q) ≡ false)) → (k : WaitingPoint) → is_due ctx value k ≡ true → holds ks k ≡ false
-first-past ctx value low r rest x ks low_is is past above least k due = elim (cases_Bool (holds ks k)) [
-  | inl there ↦
-      let parts = and_parts (nat_eq k.ctx ctx) (nat_le k.value value) due in
-      let its = eqb-true k.ctx ctx parts.0 in
-      let most = leb-true k.value value parts.1 in
-      let first = first-before ctx value low r rest x ks low_is is least k due there in
-      let up = order-ctx x k first in
-      let down = order-ctx low x above in
-      let start : low.ctx ≡ ctx = ap (λ (w : WaitingPoint). w.ctx) low_is in
-      let same : x.ctx ≡ ctx = omega arith in
-      let least_value = order-value x k first (same ∙ sym its) in
-      absurd (false≢true (sym past ∙ due-from ctx value x same (omega arith)))
-  | inr none ↦ none
-]
-
-pub first-none : (ctx value : ℕ) (low : WaitingPoint) (ks : List WaitingPoint) → low ≡ record { ctx = ctx; value = 0; registration = 0 } → ((q : WaitingPoint) → IsFrom low q → list_any (λ y. is_eq (order q y)) ks ≡ false) → (k : WaitingPoint) → is_due ctx value k ≡ true → holds ks k ≡ false
-first-none ctx value low ks low_is none k due = sym (found-holds k ks) ∙ none k (due-from_first ctx value low k low_is due, tt)
-
--- two that are the same have the same parts
-pub is_same-is : (a b : WaitingPoint) → is_same a b ≡ true → (a.ctx ≡ b.ctx) × (a.value ≡ b.value) × (a.registration ≡ b.registration)
-is_same-is a b h =
-    let first = and_parts (nat_eq a.ctx b.ctx) (nat_eq a.value b.value && nat_eq a.registration b.registration) h in
-    let rest = and_parts (nat_eq a.value b.value) (nat_eq a.registration b.registration) first.1 in
-    (eqb-true a.ctx b.ctx first.0, eqb-true a.value b.value rest.0, eqb-true a.registration b.registration rest.1)
-
-is_due-same : (ctx value : ℕ) (a b : WaitingPoint) → is_same a b ≡ true → is_due ctx value a ≡ is_due ctx value b
-is_due-same ctx value a b h = let is = is_same-is a b h in ap (λ n. nat_eq n ctx && nat_le a.value value) is.0 ∙ ap (λ n. nat_eq b.ctx ctx && nat_le n value) is.1
-
--- what is due is in the range
-not_lt-then : (o p : Ordering) → is_lt o ≡ false → is_lt p ≡ false → is_lt (ordering_then o p) ≡ false
-not_lt-then Less p h g = h
-not_lt-then Equal p h g = g
-not_lt-then Greater p h g = refl
-
-not_lt-nat : (x y : ℕ) → y ≤ x → is_lt (nat_cmp x y) ≡ false
-not_lt-nat x y h = grind (arith, nat_tests)
-
-le-from_not_gt : (o : Ordering) → is_gt o ≡ false → is_le o ≡ true
-le-from_not_gt Less h = refl
-le-from_not_gt Equal h = refl
-le-from_not_gt Greater h = absurd (cc)
-
-pub due-contains : (ctx value most : ℕ) (k : WaitingPoint) → is_due ctx value k ≡ true → k.registration ≤ most → range_contains order (Included (record { ctx = ctx; value = 0; registration = 0 })) (Included (record { ctx = ctx; value = value; registration = most })) k ≡ true
-due-contains ctx value most k due low =
-    let parts = and_parts (nat_eq k.ctx ctx) (nat_le k.value value) due in
-    let is : k.ctx ≡ ctx = eqb-true k.ctx ctx parts.0 in
-    let below = leb-true k.value value parts.1 in
-    let past = not_lt-then (nat_cmp ctx k.ctx) (ordering_then (nat_cmp value k.value) (nat_cmp most k.registration)) (not_lt-nat ctx k.ctx (omega arith)) (not_lt-then (nat_cmp value k.value) (nat_cmp most k.registration) (not_lt-nat value k.value below) (not_lt-nat most k.registration low)) in
-    and_from (is_le (order (record { ctx = ctx; value = 0; registration = 0 }) k)) (not (is_lt (order (record { ctx = ctx; value = value; registration = most }) k)))
-    (le-from_not_gt (order (record { ctx = ctx; value = 0; registration = 0 }) k) ((between-due ctx value most k due low).0)) (ap not past)
-
-pub holds-range : (ctx value most : ℕ) (low high : WaitingPoint) (r ks : List WaitingPoint) (k : WaitingPoint) → low ≡ record { ctx = ctx; value = 0; registration = 0 } → high ≡ record { ctx = ctx; value = value; registration = most } → r ≡ filter (range_contains order (Included low) (Included high)) ks → is_due ctx value k ≡ true → k.registration ≤ most → holds ks k ≡ true → holds r k ≡ true
-holds-range ctx value most low high r ks k low_is high_is is due last there =
-    let all : (x : WaitingPoint) → is_same k x ≡ true → range_contains order (Included low) (Included high) x ≡ true =
-    λ x same. ap (λ w. range_contains order (Included w) (Included high) x) low_is ∙ ap (λ w. range_contains order (Included (record { ctx = ctx; value = 0; registration = 0 })) (Included w) x) high_is
-    ∙ due-contains ctx value most x (sym (is_due-same ctx value k x same) ∙ due) (subst (λ n. n ≤ most) ((is_same-is k x same).2) last) in
-    ap (λ xs. holds xs k) is ∙ any-filter_same (is_same k) (range_contains order (Included low) (Included high)) true all ks ∙ there
-
--- each is still of a context
-pub AreWaiting-less : (old new : List WaitingPoint) → AreWaiting old → ((k : WaitingPoint) → holds new k ≡ true → holds old k ≡ true) → AreWaiting new
-AreWaiting-less old new h less = record { contexts = λ k there. h.contexts k (less k there); registrations = λ k there. h.registrations k (less k there) }
-
-pub AreWaiting-put : (old new : List WaitingPoint) (key : WaitingPoint) → AreWaiting old → (1 ≤ key.ctx) × (key.ctx ≤ CONTEXTS) → key.registration < 2 ^ 64 → ((k : WaitingPoint) → holds new k ≡ (is_same key k || holds old k)) → AreWaiting new
-AreWaiting-put old new key h within low put = record {
-  contexts = λ k there. elim (cases_Bool (is_same key k)) [
-    | inl same ↦ subst (λ n. (1 ≤ n) × (n ≤ CONTEXTS)) ((is_same-is key k same).0) within
-    | inr other ↦ h.contexts k (sym (put k ∙ ap (λ b. b || holds old k) other) ∙ there)
-  ];
-  registrations = λ k there. elim (cases_Bool (is_same key k)) [
-    | inl same ↦ subst (λ n. n < 2 ^ 64) ((is_same-is key k same).2) low
-    | inr other ↦ h.registrations k (sym (put k ∙ ap (λ b. b || holds old k) other) ∙ there)
-  ];
-}
-
-pub and-right : (a b c : Bool) → c ≡ (a && b) → c ≡ true → b ≡ true
-and-right a b c is there = (and_parts a b (sym is ∙ there)).1
+pub has-taken : (old new : List Standing) (key s : Standing) → list_any (λ x. is_eq (order s x)) new ≡ cond (is_eq (order key s)) false (list_any (λ x. is_eq (order s x)) old) → has new s ≡ (not (is_alike key s) && has old s)
+has-taken old new key s is =
+    sym (found-has s new) ∙ is
+    ∙ ap (λ b. cond b false (list_any (λ x. is_eq (order s x)) old)) (is_eq-order key s)
+    ∙ ap (λ b. cond (is_alike key s) false b) (found-has s old)
+    ∙ cond-and (is_alike key s) (has old s)
 
 -- one more that fails the test, and one less
-number-insert : (test : WaitingPoint → Bool) (key : WaitingPoint) (ks : List WaitingPoint) → test key ≡ false → number test (insert_key order ks key) ≡ number test ks
+number-insert : (test : Standing → Bool) (key : Standing) (ks : List Standing) → test key ≡ false → number test (insert_key order ks key) ≡ number test ks
 number-insert test key [] none = ap (λ b. length (cond b (key ∷ []) [])) none
 number-insert test key (x ∷ ks) none = on (order key x) (number-insert test key ks none)
   where
-    more : (b : Bool) (xs ys : List WaitingPoint) → length xs ≡ length ys → length (cond b (x ∷ xs) xs) ≡ length (cond b (x ∷ ys) ys)
+    more : (b : Bool) (xs ys : List Standing) → length xs ≡ length ys → length (cond b (x ∷ xs) xs) ≡ length (cond b (x ∷ ys) ys)
     more true xs ys is = omega arith
     more false xs ys is = is
 
@@ -254,17 +126,17 @@ number-insert test key (x ∷ ks) none = on (order key x) (number-insert test ke
     on Equal rest = refl
     on Greater rest = more (test x) (filter test (insert_key order ks key)) (filter test ks) rest
 
-number-remove : (test : WaitingPoint → Bool) (key : WaitingPoint) (ks : List WaitingPoint) → ((x : WaitingPoint) → is_eq (order key x) ≡ true → test x ≡ test key) → number test (remove_key (λ x. is_eq (order key x)) ks) + cond (list_any (λ x. is_eq (order key x)) ks) (cond (test key) 1 0) 0 ≡ number test ks
+number-remove : (test : Standing → Bool) (key : Standing) (ks : List Standing) → ((x : Standing) → is_eq (order key x) ≡ true → test x ≡ test key) → number test (remove_key (λ x. is_eq (order key x)) ks) + cond (list_any (λ x. is_eq (order key x)) ks) (cond (test key) 1 0) 0 ≡ number test ks
 number-remove test key [] same = refl
 number-remove test key (x ∷ ks) same = on (is_eq (order key x)) refl (number-remove test key ks same)
   where
-    first : (b c : Bool) (xs : List WaitingPoint) → b ≡ c → length xs + cond c 1 0 ≡ length (cond b (x ∷ xs) xs)
+    first : (b c : Bool) (xs : List Standing) → b ≡ c → length xs + cond c 1 0 ≡ length (cond b (x ∷ xs) xs)
     first true true xs e = omega arith
     first false false xs e = omega arith
     first true false xs e = absurd (cc)
     first false true xs e = absurd (cc)
 
-    more : (b : Bool) (xs ys : List WaitingPoint) (n : ℕ) → length xs + n ≡ length ys → length (cond b (x ∷ xs) xs) + n ≡ length (cond b (x ∷ ys) ys)
+    more : (b : Bool) (xs ys : List Standing) (n : ℕ) → length xs + n ≡ length ys → length (cond b (x ∷ xs) xs) + n ≡ length (cond b (x ∷ ys) ys)
     more true xs ys n is = omega arith
     more false xs ys n is = is
 
@@ -272,17 +144,187 @@ number-remove test key (x ∷ ks) same = on (is_eq (order key x)) refl (number-r
     on true is rest = first (test x) (test key) (filter test ks) (same x is)
     on false is rest = more (test x) (filter test (remove_key (λ x. is_eq (order key x)) ks)) (filter test ks) _ rest
 
--- a point put in that is not due, and one taken out that is
-pub put-due : (ctx value : ℕ) (key other : WaitingPoint) (old new : List WaitingPoint) → key ≡ other → new ≡ insert_key order old key → is_due ctx value other ≡ false → number_due ctx value new ≡ number_due ctx value old
-put-due ctx value key other old new same is none = ap (number_due ctx value) is ∙ number-insert (is_due ctx value) key old (ap (is_due ctx value) same ∙ none)
+-- a watch put in that is not low, and one taken out that is
+pub low-put : (value : ℕ) (key : Standing) (old new : List Standing) → new ≡ insert_key order old key → is_low value key ≡ false → number (is_low value) new ≡ number (is_low value) old
+low-put value key old new is high = ap (number (is_low value)) is ∙ number-insert (is_low value) key old high
 
-pub taken-due : (ctx value : ℕ) (key : WaitingPoint) (old new : List WaitingPoint) → new ≡ remove_key (λ x. is_eq (order key x)) old → is_due ctx value key ≡ true → holds old key ≡ true → number_due ctx value new < number_due ctx value old
-taken-due ctx value key old new is due held =
-    let left = number_due ctx value (remove_key (λ x. is_eq (order key x)) old) in
-    let count : left + cond (list_any (λ x. is_eq (order key x)) old) (cond (is_due ctx value key) 1 0) 0 ≡ number_due ctx value old = number-remove (is_due ctx value) key old (λ x same. sym (is_due-same ctx value key x (sym (is_eq-order key x) ∙ same))) in
-    let one : left + cond (list_any (λ x. is_eq (order key x)) old) (cond (is_due ctx value key) 1 0) 0 ≡ left + 1 = ap (λ b. left + cond b (cond (is_due ctx value key) 1 0) 0) (found-holds key old ∙ held) ∙ ap (λ b. left + cond b 1 0) due in
-    let now : number_due ctx value new ≡ left = ap (number_due ctx value) is in
+low-alike : (value : ℕ) (a b : Standing) → is_alike a b ≡ true → is_low value b ≡ is_low value a
+low-alike value a b alike = ap (is_low value) (sym (one_standing a b alike))
+
+pub low-taken : (value : ℕ) (key : Standing) (old new : List Standing) → new ≡ remove_key (λ x. is_eq (order key x)) old → is_low value key ≡ true → has old key ≡ true → number (is_low value) new < number (is_low value) old
+low-taken value key old new is low there =
+    let left = number (is_low value) (remove_key (λ x. is_eq (order key x)) old) in
+    let count : left + cond (list_any (λ x. is_eq (order key x)) old) (cond (is_low value key) 1 0) 0 ≡ number (is_low value) old = number-remove (is_low value) key old (λ x same. low-alike value key x (sym (is_eq-order key x) ∙ same)) in
+    let one : left + cond (list_any (λ x. is_eq (order key x)) old) (cond (is_low value key) 1 0) 0 ≡ left + 1 = ap (λ b. left + cond b (cond (is_low value key) 1 0) 0) (found-has key old ∙ there) ∙ ap (λ b. left + cond b 1 0) low in
+    let now : number (is_low value) new ≡ left = ap (number (is_low value)) is in
     omega arith
+
+-- the index: no queues, and queues of which one has changed
+pub holds-nothing : (queues : List (List Standing)) (k : WaitingPoint) → queues ≡ [] → holds queues k ≡ false
+holds-nothing queues k is = ap (λ qs. holds qs k) is ∙ by k.ctx
+  where
+    by : (ctx : ℕ) → has (queue_at [] ctx) (standing_of k) ≡ false
+    by zero = refl
+    by (suc place) = refl
+
+pub holds-same : (old new : List (List Standing)) (k : WaitingPoint) → queue_at new k.ctx ≡ queue_at old k.ctx → holds new k ≡ holds old k
+holds-same old new k is = ap (λ q. has q (standing_of k)) is
+
+pub queue_at-set : (queues : List (List Standing)) (place : ℕ) (q : List Standing) (ctx : ℕ) → place < length queues → suc place ≡ ctx → queue_at (set queues place q) ctx ≡ q
+queue_at-set queues place q ctx low is = ap (queue_at (set queues place q)) (sym is) ∙ get_or-set_same queues place q [] low
+
+pub queue_at-other : (queues : List (List Standing)) (place : ℕ) (q : List Standing) (ctx : ℕ) → suc place ≢ ctx → queue_at (set queues place q) ctx ≡ queue_at queues ctx
+queue_at-other queues place q zero other = refl
+queue_at-other queues place q (suc at) other = get_or-set_other queues place at q [] (λ is. other (ap suc (sym is)))
+
+past-suc : (queues : List (List Standing)) (place : ℕ) → length queues ≤ place → queue_at queues (suc place) ≡ []
+past-suc [] place high = refl
+past-suc (q ∷ queues) zero high = absurd (omega arith)
+past-suc (q ∷ queues) (suc place) high = past-suc queues place (omega arith)
+
+pub queue_at-past : (queues : List (List Standing)) (place ctx : ℕ) → length queues ≤ place → place + 1 ≡ ctx → queue_at queues ctx ≡ []
+queue_at-past queues place ctx high is =
+    let next : suc place ≡ ctx = omega (arith, is) in
+    ap (queue_at queues) (sym next) ∙ past-suc queues place high
+
+pub queue_at-push : (queues : List (List Standing)) (ctx : ℕ) → queue_at (queues ++ [] ∷ []) ctx ≡ queue_at queues ctx
+queue_at-push queues zero = refl
+queue_at-push [] (suc zero) = refl
+queue_at-push [] (suc (suc place)) = refl
+queue_at-push (q ∷ queues) (suc zero) = refl
+queue_at-push (q ∷ queues) (suc (suc place)) = queue_at-push queues (suc place)
+
+-- the queue at a place
+index-suc : (queues : List (List Standing)) (place : ℕ) (d : List Standing) → place < length queues → queue_at queues (suc place) ≡ get_or queues place d
+index-suc [] place d low = absurd (omega arith)
+index-suc (p ∷ queues) zero d low = refl
+index-suc (p ∷ queues) (suc place) d low = index-suc queues place d (omega arith)
+
+pub queue_at-index : (queues : List (List Standing)) (place ctx : ℕ) (d : List Standing) → place < length queues → place + 1 ≡ ctx → queue_at queues ctx ≡ get_or queues place d
+queue_at-index queues place ctx d low is =
+    let next : suc place ≡ ctx = omega (arith, is) in
+    ap (queue_at queues) (sym next) ∙ index-suc queues place d low
+
+-- one more watch in the queue of its context, and one less
+pub holds-put : (old new : List (List Standing)) (key k : WaitingPoint) → ((ctx : ℕ) → key.ctx ≢ ctx → queue_at new ctx ≡ queue_at old ctx) → ((s : Standing) → has (queue_at new key.ctx) s ≡ (is_alike (standing_of key) s || has (queue_at old key.ctx) s)) → holds new k ≡ (is_same key k || holds old k)
+holds-put old new key k others put = elim (cases_Bool (nat_eq key.ctx k.ctx)) [
+  | inl same ↦
+      let is = eqb-true key.ctx k.ctx same in
+      ap (λ c. has (queue_at new c) (standing_of k)) (sym is) ∙ put (standing_of k)
+      ∙ ap (λ c. is_alike (standing_of key) (standing_of k) || has (queue_at old c) (standing_of k)) is
+      ∙ sym (ap (λ b. (b && is_alike (standing_of key) (standing_of k)) || holds old k) same)
+  | inr other ↦
+      holds-same old new k (others k.ctx (λ is. false≢true (sym other ∙ eq-eqb key.ctx k.ctx is)))
+      ∙ sym (ap (λ b. (b && is_alike (standing_of key) (standing_of k)) || holds old k) other)
+]
+
+pub holds-take : (old new : List (List Standing)) (key k : WaitingPoint) → ((ctx : ℕ) → key.ctx ≢ ctx → queue_at new ctx ≡ queue_at old ctx) → ((s : Standing) → has (queue_at new key.ctx) s ≡ (not (is_alike (standing_of key) s) && has (queue_at old key.ctx) s)) → holds new k ≡ (not (is_same key k) && holds old k)
+holds-take old new key k others taken = elim (cases_Bool (nat_eq key.ctx k.ctx)) [
+  | inl same ↦
+      let is = eqb-true key.ctx k.ctx same in
+      ap (λ c. has (queue_at new c) (standing_of k)) (sym is) ∙ taken (standing_of k)
+      ∙ ap (λ c. not (is_alike (standing_of key) (standing_of k)) && has (queue_at old c) (standing_of k)) is
+      ∙ sym (ap (λ b. not (b && is_alike (standing_of key) (standing_of k)) && holds old k) same)
+  | inr other ↦
+      holds-same old new k (others k.ctx (λ is. false≢true (sym other ∙ eq-eqb key.ctx k.ctx is)))
+      ∙ sym (ap (λ b. not (b && is_alike (standing_of key) (standing_of k)) && holds old k) other)
+]
+
+-- how many are due after it
+pub due-put : (ctx value : ℕ) (old new : List (List Standing)) (key : WaitingPoint) → ((c : ℕ) → key.ctx ≢ c → queue_at new c ≡ queue_at old c) → ((v : ℕ) → is_low v (standing_of key) ≡ false → number (is_low v) (queue_at new key.ctx) ≡ number (is_low v) (queue_at old key.ctx)) → is_due ctx value key ≡ false → number_due ctx value new ≡ number_due ctx value old
+due-put ctx value old new key others high none = elim (cases_Bool (nat_eq key.ctx ctx)) [
+  | inl same ↦
+      let is = eqb-true key.ctx ctx same in
+      ap (λ c. number (is_low value) (queue_at new c)) (sym is)
+      ∙ high value (sym (ap (λ b. b && nat_le key.value value) same) ∙ none)
+      ∙ ap (λ c. number (is_low value) (queue_at old c)) is
+  | inr other ↦ ap (number (is_low value)) (others ctx (λ is. false≢true (sym other ∙ eq-eqb key.ctx ctx is)))
+]
+
+pub due-take : (ctx value : ℕ) (old new : List (List Standing)) (key : WaitingPoint) → ((v : ℕ) → is_low v (standing_of key) ≡ true → has (queue_at old key.ctx) (standing_of key) ≡ true → number (is_low v) (queue_at new key.ctx) < number (is_low v) (queue_at old key.ctx)) → is_due ctx value key ≡ true → holds old key ≡ true → number_due ctx value new < number_due ctx value old
+due-take ctx value old new key fewer due there =
+    let parts = and_parts (nat_eq key.ctx ctx) (nat_le key.value value) due in
+    subst (λ c. number (is_low value) (queue_at new c) < number (is_low value) (queue_at old c)) (eqb-true key.ctx ctx parts.0) (fewer value parts.1 there)
+
+-- two that are the same have the same parts
+pub is_same-is : (a b : WaitingPoint) → is_same a b ≡ true → (a.ctx ≡ b.ctx) × (a.value ≡ b.value) × (a.registration ≡ b.registration)
+is_same-is a b h =
+    let first = and_parts (nat_eq a.ctx b.ctx) (nat_eq a.value b.value && nat_eq a.registration b.registration) h in
+    let rest = and_parts (nat_eq a.value b.value) (nat_eq a.registration b.registration) first.1 in
+    (eqb-true a.ctx b.ctx first.0, eqb-true a.value b.value rest.0, eqb-true a.registration b.registration rest.1)
+
+-- an index of which one queue has one more watch, is as it was, or has one less
+module _ (queues : List (List Standing)) (place : ℕ) (key : WaitingPoint) (d new : List Standing) (at : place + 1 ≡ key.ctx) (enough : key.ctx ≤ length queues) where
+  below : place < length queues
+  below = omega (arith, at, enough)
+
+  next : suc place ≡ key.ctx
+  next = omega (arith, at)
+
+  was : queue_at queues key.ctx ≡ get_or queues place d
+  was = queue_at-index queues place key.ctx d below at
+
+  is_now : queue_at (set queues place new) key.ctx ≡ new
+  is_now = queue_at-set queues place new key.ctx below next
+
+  others : (ctx : ℕ) → key.ctx ≢ ctx → queue_at (set queues place new) ctx ≡ queue_at queues ctx
+  others ctx apart = queue_at-other queues place new ctx (λ is. apart (sym next ∙ is))
+
+  pub queue-put : ((s : Standing) → has new s ≡ (is_alike (standing_of key) s || has (get_or queues place d) s)) → (k : WaitingPoint) → holds (set queues place new) k ≡ (is_same key k || holds queues k)
+  queue-put put k = holds-put queues (set queues place new) key k others (λ s. ap (λ q. has q s) is_now ∙ put s ∙ ap (λ q. is_alike (standing_of key) s || has q s) (sym was))
+
+  pub queue-put_due : ((v : ℕ) → is_low v (standing_of key) ≡ false → number (is_low v) new ≡ number (is_low v) (get_or queues place d)) → (ctx value : ℕ) → is_due ctx value key ≡ false → number_due ctx value (set queues place new) ≡ number_due ctx value queues
+  queue-put_due high ctx value none = due-put ctx value queues (set queues place new) key others (λ v past. ap (number (is_low v)) is_now ∙ high v past ∙ ap (number (is_low v)) (sym was)) none
+
+  pub queue-same : new ≡ get_or queues place d → (k : WaitingPoint) → holds (set queues place new) k ≡ holds queues k
+  queue-same is k = holds-same queues (set queues place new) k (elim (cases_Bool (nat_eq key.ctx k.ctx)) [
+    | inl same ↦ ap (queue_at (set queues place new)) (sym (eqb-true key.ctx k.ctx same)) ∙ is_now ∙ is ∙ sym was ∙ ap (queue_at queues) (eqb-true key.ctx k.ctx same)
+    | inr other ↦ others k.ctx (λ e. false≢true (sym other ∙ eq-eqb key.ctx k.ctx e))
+  ])
+
+  pub queue-taken : ((s : Standing) → has new s ≡ (not (is_alike (standing_of key) s) && has (get_or queues place d) s)) → (k : WaitingPoint) → holds (set queues place new) k ≡ (not (is_same key k) && holds queues k)
+  queue-taken taken k = holds-take queues (set queues place new) key k others (λ s. ap (λ q. has q s) is_now ∙ taken s ∙ ap (λ q. not (is_alike (standing_of key) s) && has q s) (sym was))
+
+  pub queue-fewer : ((v : ℕ) → is_low v (standing_of key) ≡ true → has (get_or queues place d) (standing_of key) ≡ true → number (is_low v) new < number (is_low v) (get_or queues place d)) → (ctx value : ℕ) → is_due ctx value key ≡ true → holds queues key ≡ true → number_due ctx value (set queues place new) < number_due ctx value queues
+  queue-fewer fewer ctx value due there = due-take ctx value queues (set queues place new) key (λ v low had. subst (λ q. number (is_low v) (queue_at (set queues place new) key.ctx) < number (is_low v) q) (sym was) (subst (λ q. number (is_low v) q < number (is_low v) (get_or queues place d)) (sym is_now) (fewer v low (sym (ap (λ q. has q (standing_of key)) was) ∙ had)))) due there
+
+-- a context that has no queue
+pub holds-past : (queues : List (List Standing)) (place : ℕ) (k : WaitingPoint) → length queues ≤ place → place + 1 ≡ k.ctx → holds queues k ≡ false
+holds-past queues place k high is = ap (λ q. has q (standing_of k)) (queue_at-past queues place k.ctx high is)
+
+-- what is found in a context
+pub due-at : (ctx value : ℕ) (k : WaitingPoint) → is_due ctx value k ≡ true → (k.ctx ≡ ctx) × (k.value ≤ value)
+due-at ctx value k due =
+    let parts = and_parts (nat_eq k.ctx ctx) (nat_le k.value value) due in
+    (eqb-true k.ctx ctx parts.0, leb-true k.value value parts.1)
+
+pub has-at : (queues : List (List Standing)) (q : List Standing) (ctx : ℕ) (k : WaitingPoint) → queue_at queues ctx ≡ q → k.ctx ≡ ctx → holds queues k ≡ has q (standing_of k)
+has-at queues q ctx k own is = ap (λ c. has (queue_at queues c) (standing_of k)) is ∙ ap (λ xs. has xs (standing_of k)) own
+
+-- what holds of the low ones of a queue holds of the due points of its context
+pub OnOk-due : {X E : Type 0} (r : Result X E) (queues : List (List Standing)) (q : List Standing) (ctx value most : ℕ) (R : ℕ → Type 0) → queue_at queues ctx ≡ q → value ≡ most → OnOk r ((s : Standing) → is_low value s ≡ true → has q s ≡ true → R s.registration) → OnOk r ((k : WaitingPoint) → is_due ctx most k ≡ true → holds queues k ≡ true → R k.registration)
+OnOk-due (Ok x) queues q ctx value most R own is low = λ k due there.
+    let parts = and_parts (nat_eq k.ctx ctx) (nat_le k.value most) due in
+    low (standing_of k) (ap (nat_le k.value) is ∙ parts.1) (sym (has-at queues q ctx k own (eqb-true k.ctx ctx parts.0)) ∙ there)
+OnOk-due (Err e) queues q ctx value most R own is low = tt
+
+pub alike-registration : (a b : Standing) → is_alike a b ≡ true → a.registration ≡ b.registration
+alike-registration a b alike = ap (λ (s : Standing). s.registration) (one_standing a b alike)
+
+-- each is still of a context
+pub AreWaiting-less : (old new : List (List Standing)) → AreWaiting old → ((k : WaitingPoint) → holds new k ≡ true → holds old k ≡ true) → AreWaiting new
+AreWaiting-less old new h less = record { contexts = λ k there. h.contexts k (less k there) }
+
+pub AreWaiting-put : (old new : List (List Standing)) (key : WaitingPoint) → AreWaiting old → (1 ≤ key.ctx) × (key.ctx ≤ CONTEXTS) → ((k : WaitingPoint) → holds new k ≡ (is_same key k || holds old k)) → AreWaiting new
+AreWaiting-put old new key h within put = record {
+  contexts = λ k there. elim (cases_Bool (is_same key k)) [
+    | inl same ↦ subst (λ n. (1 ≤ n) × (n ≤ CONTEXTS)) ((is_same-is key k same).0) within
+    | inr other ↦ h.contexts k (sym (put k ∙ ap (λ b. b || holds old k) other) ∙ there)
+  ];
+}
+
+pub and-right : (a b c : Bool) → c ≡ (a && b) → c ≡ true → b ≡ true
+and-right a b c is there = (and_parts a b (sym is ∙ there)).1
 
 -- two that are the same are one, and each is the same as itself
 pub same_itself : (k : WaitingPoint) → is_same k k ≡ true
@@ -299,6 +341,13 @@ not_same a b apart = elim (cases_Bool (is_same a b)) [
 
 pub same-one : (a b : WaitingPoint) → a ≡ b → is_same a b ≡ true
 same-one a b is = sym (ap (is_same a) is) ∙ same_itself a
+
+-- a point that is not there is not missed
+pub holds-lacking : (queues : List (List Standing)) (key k : WaitingPoint) → holds queues key ≡ false → holds queues k ≡ (not (is_same key k) && holds queues k)
+holds-lacking queues key k none = elim (cases_Bool (is_same key k)) [
+  | inl same ↦ ap (holds queues) (sym (one_point key k same)) ∙ none ∙ sym (ap (λ b. not b && holds queues k) same)
+  | inr other ↦ sym (ap (λ b. not b && holds queues k) other)
+]
 
 -- the point at a place is one of the points
 pub is_of-at : (ps : List Point) (i : ℕ) (d : Point) (r : ℕ) → i < length ps → is_of ps r (waiting (get_or ps i d) r) ≡ true

@@ -9,6 +9,7 @@ use Rattle.fence_core.specs.Watch.{Watch}
 use Rattle.fence_core.specs.PointIndex.{holds, is_due}
 use Rattle.fence_core.specs.Reported.{IsReported, AreOnlyFiring}
 use Rattle.fence_core.specs.declared.watches.point_index.WaitingPoint.{WaitingPoint}
+use Rattle.fence_core.specs.declared.watches.point_index.point_queue.Standing.{Standing}
 
 -- the registration comes after the last one
 abbrev pub IsAfter : Option ℕ → ℕ → Type 0
@@ -32,7 +33,7 @@ pub record HasGathered (es : List (ℕ × Watch)) (reach : List ℕ) (registrati
   pub reported : IsReported es reach more registration
 
 -- the cookies are those of the watches that stand in the context at or below its value and fire, in order of registration
-pub record AreFiredIn (ctx : ℕ) (index : List WaitingPoint) (es : List (ℕ × Watch)) (reach : List ℕ)
+pub record AreFiredIn (ctx : ℕ) (index : List (List Standing)) (es : List (ℕ × Watch)) (reach : List ℕ)
     (cookies : List ℕ) : Type 0 where
   pub fired : List (ℕ × ℕ)
   pub last : Option ℕ

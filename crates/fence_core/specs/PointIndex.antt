@@ -1,10 +1,14 @@
 -- The points that pending watches wait for.
-use Rattle.std.specs.Prelude.{◌≡◌, ℕ, ◌<◌, ◌≤◌, ◌^◌, nat_eq, nat_le, Bool, true, false, ◌&&◌, List, filter, length}
+use Rattle.std.specs.Prelude.{◌≡◌, ℕ, ◌≤◌, zero, suc, nat_eq, nat_le, Bool, true, false, ◌&&◌, List, [], filter, length, slice_index_or}
 use Rattle.std.specs.List.{list_any}
+use Rattle.std.specs.List.Sorted.{IsStrictlySortedBy}
+use Rattle.std.specs.Ordering.{nat_cmp, ordering_then}
+use Rattle.std.specs.declared.cmp.Ordering.{Ordering}
 use Rattle.point_core.specs.declared.context.TheConstants.{CONTEXTS}
 use Rattle.point_core.specs.declared.entry.Point.{Point}
 use Rattle.point_core.specs.Reach.{is_reached, value_at}
 use Rattle.fence_core.specs.declared.watches.point_index.WaitingPoint.{WaitingPoint}
+use Rattle.fence_core.specs.declared.watches.point_index.point_queue.Standing.{Standing}
 
 -- a watch of that registration waits for the point
 abbrev pub waiting : Point → ℕ → WaitingPoint
@@ -13,9 +17,29 @@ waiting p registration = record { ctx = p.ctx; value = p.value; registration = r
 abbrev pub is_same : WaitingPoint → WaitingPoint → Bool
 is_same a b = nat_eq a.ctx b.ctx && (nat_eq a.value b.value && nat_eq a.registration b.registration)
 
--- whether it is among these
-abbrev pub holds : List WaitingPoint → WaitingPoint → Bool
-holds ks k = list_any (is_same k) ks
+-- the value and the registration of a waiting point
+abbrev pub standing_of : WaitingPoint → Standing
+standing_of k = record { value = k.value; registration = k.registration }
+
+abbrev pub is_alike : Standing → Standing → Bool
+is_alike a b = nat_eq a.value b.value && nat_eq a.registration b.registration
+
+-- whether it is among those of one context
+abbrev pub has : List Standing → Standing → Bool
+has queue s = list_any (is_alike s) queue
+
+-- whether it is at or below the value
+abbrev pub is_low : ℕ → Standing → Bool
+is_low value s = nat_le s.value value
+
+-- the watches that stand in a context
+abbrev pub queue_at : List (List Standing) → ℕ → List Standing
+queue_at queues zero = []
+queue_at queues (suc place) = slice_index_or queues place []
+
+-- whether a watch stands at the point
+abbrev pub holds : List (List Standing) → WaitingPoint → Bool
+holds queues k = has (queue_at queues k.ctx) (standing_of k)
 
 -- whether it is one of these points, at that registration
 abbrev pub is_of : List Point → ℕ → WaitingPoint → Bool
@@ -31,18 +55,25 @@ abbrev pub is_due : ℕ → ℕ → WaitingPoint → Bool
 is_due ctx value k = nat_eq k.ctx ctx && nat_le k.value value
 
 -- how many of them pass the test
-abbrev pub number : (WaitingPoint → Bool) → List WaitingPoint → ℕ
-number test ks = length (filter test ks)
+abbrev pub number : (Standing → Bool) → List Standing → ℕ
+number test queue = length (filter test queue)
 
 -- how many are due in a context
-abbrev pub number_due : ℕ → ℕ → List WaitingPoint → ℕ
-number_due ctx value ks = number (is_due ctx value) ks
+abbrev pub number_due : ℕ → ℕ → List (List Standing) → ℕ
+number_due ctx value queues = number (is_low value) (queue_at queues ctx)
 
 -- each is of a context
-pub record AreWaiting (ks : List WaitingPoint) : Type 0 where
-  pub contexts : (k : WaitingPoint) → holds ks k ≡ true → (1 ≤ k.ctx) × (k.ctx ≤ CONTEXTS)
-  pub registrations : (k : WaitingPoint) → holds ks k ≡ true → k.registration < 2 ^ 64
+pub record AreWaiting (queues : List (List Standing)) : Type 0 where
+  pub contexts : (k : WaitingPoint) → holds queues k ≡ true → (1 ≤ k.ctx) × (k.ctx ≤ CONTEXTS)
 
 -- each is above the value that the floor has for its context
-abbrev pub AreAbove : List WaitingPoint → List ℕ → Type 0
-AreAbove ks floor = (k : WaitingPoint) → holds ks k ≡ true → is_due k.ctx (value_at floor k.ctx) k ≡ false
+abbrev pub AreAbove : List (List Standing) → List ℕ → Type 0
+AreAbove queues floor = (k : WaitingPoint) → holds queues k ≡ true → is_due k.ctx (value_at floor k.ctx) k ≡ false
+
+-- by value, and by registration at one value
+abbrev pub order : Standing → Standing → Ordering
+order a b = ordering_then (nat_cmp a.value b.value) (nat_cmp a.registration b.registration)
+
+-- they stand in that order, and none twice
+abbrev pub IsRising : List Standing → Type 0
+IsRising queue = IsStrictlySortedBy order queue

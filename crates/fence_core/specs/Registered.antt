@@ -10,6 +10,7 @@ use Rattle.fence_core.specs.Reported.{at}
 use Rattle.fence_core.specs.PointIndex.{holds, is_of, AreAbove}
 use Rattle.fence_core.specs.declared.watches.places.Places.{Places}
 use Rattle.fence_core.specs.declared.watches.point_index.WaitingPoint.{WaitingPoint}
+use Rattle.fence_core.specs.declared.watches.point_index.point_queue.Standing.{Standing}
 
 -- the registration of the pending watch of that cookie
 abbrev pub registration_of : ℕ → List (ℕ × Watch) → Option ℕ
@@ -29,7 +30,7 @@ abbrev pub registered : Places → ℕ → Option ℕ
 registered places cookie = registration_at (place_at places cookie)
 
 -- the index holds one point of each pending watch, the place of its cookie, and no other points
-pub record IsIndexed (es : List (ℕ × Watch)) (places : Places) (index : List WaitingPoint) : Type 0 where
+pub record IsIndexed (es : List (ℕ × Watch)) (places : Places) (index : List (List Standing)) : Type 0 where
   pub owned : (k : WaitingPoint) → holds index k ≡ true →
       (w : Watch) × (at es k.registration ≡ Some w)
       × (is_of w.points k.registration k ≡ true) × (place_at places w.cookie ≡ Some k)
@@ -44,7 +45,7 @@ pub record AreRegistered (es : List (ℕ × Watch)) (places : Places) (made : �
   pub by_cookie : (cookie : ℕ) → registered places cookie ≡ registration_of cookie es
 
 -- if it says so, each point of the index is above the reach
-abbrev pub IsSettled : Bool → List WaitingPoint → List ℕ → Type 0
+abbrev pub IsSettled : Bool → List (List Standing) → List ℕ → Type 0
 IsSettled is_settled index reach = is_settled ≡ true → AreAbove index reach
 
 -- no pending watch fires at the reach

@@ -1,11 +1,12 @@
 // A fence, and several fences as one.
-ghost use Rattle.std.specs.Prelude.{◌≡◌, ◌<◌, true, false, length, IfOk, IfErr, IsOk, IfSome, IfNone};
+ghost use Rattle.std.specs.Prelude.{◌≡◌, ◌<◌, ◌≤◌, ◌↔◌, true, false, length, IfOk, IfErr, IsOk, IfSome, IfNone, IsTrue};
 ghost use Rattle.point_core.specs.declared.refusal.Refusal.TheVariants.{Memory};
 ghost use Rattle.point_core.specs.Agreement.{HasRisingContexts};
+ghost use Rattle.point_core.specs.Reach.{value_at, reaching};
 ghost use Rattle.fence_core.specs.Fence.{members_of, fence_of, are_reached};
 ghost use Rattle.fence_core.specs.PointIndex.{IsOneAbove};
 
-use point_core::{Point, Reach, Refusal, is_signalled};
+use point_core::{Context, Point, Reach, Refusal, is_signalled};
 use std::alloc::Global;
 use std::marker::Model;
 use std::slice;
@@ -84,6 +85,17 @@ impl Fence {
             .all(|point| is_signalled(*point, reach))
     }
 
+    /// Whether each of its points is signalled once this one is reached too.
+    ///
+    /// Takes no memory.
+    pub(crate) fn is_signalled_with(&self, reach: &Reach, point: &Point) -> bool
+        ensures { result ≡ are_reached (reaching reach.now point.now) (members_of self.now) }
+    {
+        self.members()
+            .iter()
+            .all(|member| is_reached_with(member, reach, point))
+    }
+
     /// The first of its points that is above the reach. There is none if it is signalled.
     ///
     /// Takes no memory.
@@ -108,4 +120,23 @@ pub(crate) fn first_above(points: &[Point], reach: &Reach) -> Option<Point>
         }
     }
     None
+}
+
+/// Whether the point is signalled once another is reached too.
+fn is_reached_with(member: &Point, reach: &Reach, point: &Point) -> bool
+    ensures { IsTrue result ↔ (member.now.value ≤ value_at (reaching reach.now point.now) member.now.ctx) }
+{
+    member.value <= value_with(reach, point, member.ctx)
+}
+
+/// The value of the context once the point is reached too.
+pub(crate) fn value_with(reach: &Reach, point: &Point, ctx: Context) -> u64
+    ensures value { result ≡ value_at (reaching reach.now point.now) ctx }
+{
+    let value = reach.get(ctx);
+    let own = reach.get(point.ctx);
+    if ctx.number() == point.ctx.number() {
+        return own.max(point.value);
+    }
+    value
 }

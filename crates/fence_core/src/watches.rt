@@ -199,6 +199,7 @@ impl Watches {
     /// the point in its context, nothing else is looked at.
     ///
     /// Fails with `Memory` alone, and only when a watch fires; then none has fired, and nothing has changed.
+    #[inline(always)]
     pub fn after_inc(&mut self, point: Point) -> Result<Vec<u64>, Refusal>
         ensures fired { IfOk result (λ cookies. cookies.items ≡ fired_by self.old (reaching self.old.reach point)) }
         ensures left { OnOk result (self.new ≡ after_rise_to self.old (reaching self.old.reach point)) }
@@ -215,6 +216,7 @@ impl Watches {
     }
 
     /// As `after_inc`, when a watch may stand at or below the point in its context.
+    #[inline(never)]
     fn after_rise_of(&mut self, point: &Point) -> Result<Vec<u64>, Refusal>
         ensures fired { IfOk result (λ cookies. cookies.items ≡ fired_by self.old (reaching self.old.reach point.now)) }
         ensures left { OnOk result (self.new ≡ after_rise_to self.old (reaching self.old.reach point.now)) }
@@ -223,12 +225,9 @@ impl Watches {
         ensures unchanged { OnErr result (self.new ≡ self.old) }
         ensures pending { ArePending self.old.pending }
     {
-        let Point { ctx, value } = *point;
-        let mut reach = self.reach;
-        reach.raise_to(Point { ctx, value });
-        let cookies = self.fired_by_point(point, &reach)?;
+        let cookies = self.fired_by_point(point)?;
         self.remove_all(cookies.as_slice());
-        self.rise_in_one_context(point, &reach);
+        self.rise_in_one_context(point);
         Ok(cookies)
     }
 
@@ -243,25 +242,39 @@ impl Watches {
         listed(self.alloc, &fired)
     }
 
-    /// The same, if the point's context alone has risen: the reach is the last one with the point reached.
-    fn fired_by_point(&self, point: &Point, reach: &Reach) -> Result<Vec<u64>, Refusal>
-        requires one_context { reach.now ≡ reaching self.now.reach point.now }
-        requires context { 1 ≤ point.now.ctx }
-        ensures fired { IfOk result (λ cookies. cookies.items ≡ fired_by self.now reach.now) }
+    /// The same at the last reach with the point reached too.
+    fn fired_by_point(&self, point: &Point) -> Result<Vec<u64>, Refusal>
+        ensures fired { IfOk result (λ cookies. cookies.items ≡ fired_by self.now (reaching self.now.reach point.now)) }
         ensures memory { IfErr result (λ e. e ≡ Memory) }
-        ensures none_fires { fired_by self.now reach.now ≡ [] → IsOk result }
+        ensures none_fires { fired_by self.now (reaching self.now.reach point.now) ≡ [] → IsOk result }
         ensures pending { ArePending self.now.pending }
     {
+        // For the proof: what a context keeps.
+        prove!(point.ctx.number() >= 1);
         if !self.is_settled {
-            return self.fired(reach);
+            return self.fired_anywhere(point);
         }
         let found = self
             .index
-            .fired_in_context(self.alloc, &self.pending, point.ctx, reach)?;
+            .fired_in_context(self.alloc, &self.pending, point, &self.reach)?;
         match found {
             Some(cookies) => Ok(cookies),
-            None => self.fired(reach),
+            None => self.fired_anywhere(point),
         }
+    }
+
+    /// The same, from a copy of the reach.
+    #[inline(never)]
+    fn fired_anywhere(&self, point: &Point) -> Result<Vec<u64>, Refusal>
+        ensures fired { IfOk result (λ cookies. cookies.items ≡ fired_by self.now (reaching self.now.reach point.now)) }
+        ensures memory { IfErr result (λ e. e ≡ Memory) }
+        ensures none_fires { fired_by self.now (reaching self.now.reach point.now) ≡ [] → IsOk result }
+        ensures pending { ArePending self.now.pending }
+    {
+        let Point { ctx, value } = *point;
+        let mut reach = self.reach;
+        reach.raise_to(Point { ctx, value });
+        self.fired(&reach)
     }
 
     /// Takes out the watches of these cookies.
@@ -284,23 +297,24 @@ impl Watches {
         self.reach.copy_from(reach);
     }
 
-    /// The same, if the point's context alone has risen: the reach is the last one with the point reached.
-    fn rise_in_one_context(&mut self, point: &Point, reach: &Reach)
-        requires one_context { reach.now ≡ reaching self.old.reach point.now }
-        requires context { 1 ≤ point.now.ctx }
-        requires none_fires { list_any (fires reach.now) self.old.pending ≡ false }
-        ensures { self.new ≡ registry_of self.old.pending self.old.made reach.now }
+    /// The same at the last reach with the point reached too.
+    fn rise_in_one_context(&mut self, point: &Point)
+        requires none_fires { list_any (fires (reaching self.old.reach point.now)) self.old.pending ≡ false }
+        ensures { self.new ≡ registry_of self.old.pending self.old.made (reaching self.old.reach point.now) }
     {
+        let Point { ctx, value } = *point;
+        self.reach.raise_to(Point { ctx, value });
         if !self.is_settled {
-            self.rise_to(reach);
+            let settled = self
+                .index
+                .settle(&mut self.places, &self.pending, &self.reach);
+            self.is_settled = settled.is_ok();
             return;
         }
-        let Point { ctx, value } = *point;
         let settled = self
             .index
-            .settle_context(&mut self.places, &self.pending, ctx, reach);
+            .settle_context(&mut self.places, &self.pending, ctx, &self.reach);
         self.is_settled = settled.is_ok();
-        self.reach.raise_to(Point { ctx, value });
     }
 }
 

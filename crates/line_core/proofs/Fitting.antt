@@ -1,7 +1,7 @@
 -- The words of a command fit the operands of its row.
-use Rattle.std.proofs.Common.{◌≡◌, ℕ, Bool, true, false, ◌&&◌, cond, is_some, List, [], ◌∷◌, Option, None, Some, option_map, refl, sym, ap, subst, ◌∙◌, codes, arith}
+use Rattle.std.proofs.Common.{◌≡◌, ℕ, ◌<◌, ◌≤◌, nat_le, Bool, true, false, ◌&&◌, cond, is_some, List, [], ◌∷◌, length, Option, None, Some, option_map, refl, sym, ap, subst, ◌∙◌, codes, arith}
 use Rattle.std.specs.Option.{option_and_then}
-use Rattle.std.proofs.lemmas.Bool.{false_from_ne_true}
+use Rattle.std.proofs.lemmas.Bool.{and_parts, false_from_ne_true, leb-true}
 use Rattle.std.proofs.lemmas.Bool.Decides.{nat_tests}
 use Rattle.std.proofs.lemmas.Slice.Eq.{bytes_eq-Decides}
 use Rattle.std.specs.Str.{bytes_eq}
@@ -14,6 +14,7 @@ use Rattle.line_core.specs.Following.{is_name, name_of, both, all_three, all_fou
 use Rattle.line_core.specs.Number.{is_number, number_of}
 use Rattle.line_core.specs.Usages.{usage_of, flags_of}
 use Rattle.line_core.specs.Table.{Form, forms, form_at, matches, fit, command_from}
+use Rattle.line_core.proofs.Spelled.{other_length}
 use Rattle.line_core.specs.Words.{one_of, two_of, three_of, four_of, are_none}
 
 and-false : (b : Bool) → false ≡ (b && false)
@@ -210,3 +211,18 @@ no-row word words e =
       other word (codes "shut") e refl,
       other word (codes "report") e refl,
     ) refl
+
+abbrev are_short : List Form → Bool
+are_short [] = true
+are_short (form ∷ forms) = nat_le (length form.word) 8 && are_short forms
+
+no-long_form : (fs : List Form) (word : List ℕ) → are_short fs ≡ true → 8 < length word → form_at fs word ≡ None
+no-long_form [] word short long = refl
+no-long_form (f ∷ fs) word short long =
+    let both = and_parts (nat_le (length f.word) 8) (are_short fs) short in
+    let few : length f.word ≤ 8 = leb-true (length f.word) 8 both.0 in
+    ap (λ b. cond b (Some f) (form_at fs word)) (other_length word f.word (λ e. omega (arith, e, few))) ∙ no-long_form fs word both.1 long
+
+-- no command's word has more than eight bytes
+pub no-long : (word : List ℕ) (words : List (List ℕ)) → 8 < length word → command_from word words ≡ None
+no-long word words long = no-row word words (no-long_form forms word refl long)

@@ -11,4 +11,5 @@ pub mod Lowest
 pub mod Notes
 pub mod Numbers
 pub mod Runs
+pub mod Spelled
 pub mod Taking

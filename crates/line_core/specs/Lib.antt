@@ -7,6 +7,7 @@ pub mod Number
 pub mod Reading
 pub mod Script
 pub mod ScriptLines
+pub mod Spelling
 pub mod Table
 pub mod Takes
 pub mod Usages

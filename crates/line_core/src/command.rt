@@ -9,9 +9,10 @@ ghost use Rattle.command_core.specs.declared.command.Command.{Command};
 
 use crate::line::Body;
 use crate::number::number;
+use crate::spelling::Spelling;
 use crate::takes::Takes;
 use crate::usages::{flags, usage};
-use crate::words::{Words, are_none, four, is, one, three, two};
+use crate::words::{Words, are_none, four, one, three, two};
 use command_core::Command;
 use point_core::Name;
 
@@ -22,26 +23,27 @@ pub(crate) fn take_command<V: Takes>(word: &[u8], rest: &Words<'_>, to: &mut V) 
     requires ready { V.can_take to.old }
     ensures taken { TakesCommand V.takes to.old (command_from word.now rest.now) result to.new }
 {
+    let spelling = Spelling::of(word)?;
     match word {
-        _ if is(word, "close") => take_close(rest, to),
-        _ if is(word, "merge") => take_merge(rest, to),
-        _ if is(word, "fence") => take_fence(rest, to),
-        _ if is(word, "wait") => take_wait(rest, to),
-        _ if is(word, "inc") => take_inc(rest, to),
-        _ if is(word, "watch") => take_watch(rest, to),
-        _ if is(word, "add") => take_add(rest, to),
-        _ if is(word, "import") => take_import(rest, to),
-        _ if is(word, "export") => take_export(rest, to),
-        _ if is(word, "test") => take_test(rest, to),
-        _ if is(word, "value") => take_value(rest, to),
-        _ if is(word, "timeline") => take_timeline(rest, to),
-        _ if is(word, "buffer") => take_buffer(rest, to),
-        _ if is(word, "info") => take_info(rest, to),
-        _ if is(word, "show") => take_show(rest, to),
-        _ if is(word, "trim") => take_trim(rest, to),
-        _ if is(word, "unwatch") => take_unwatch(rest, to),
-        _ if is(word, "shut") => take_shut(rest, to),
-        _ if is(word, "report") => take_report(rest, to),
+        _ if spelling.is("close") => take_close(rest, to),
+        _ if spelling.is("merge") => take_merge(rest, to),
+        _ if spelling.is("fence") => take_fence(rest, to),
+        _ if spelling.is("wait") => take_wait(rest, to),
+        _ if spelling.is("inc") => take_inc(rest, to),
+        _ if spelling.is("watch") => take_watch(rest, to),
+        _ if spelling.is("add") => take_add(rest, to),
+        _ if spelling.is("import") => take_import(rest, to),
+        _ if spelling.is("export") => take_export(rest, to),
+        _ if spelling.is("test") => take_test(rest, to),
+        _ if spelling.is("value") => take_value(rest, to),
+        _ if spelling.is("timeline") => take_timeline(rest, to),
+        _ if spelling.is("buffer") => take_buffer(rest, to),
+        _ if spelling.is("info") => take_info(rest, to),
+        _ if spelling.is("show") => take_show(rest, to),
+        _ if spelling.is("trim") => take_trim(rest, to),
+        _ if spelling.is("unwatch") => take_unwatch(rest, to),
+        _ if spelling.is("shut") => take_shut(rest, to),
+        _ if spelling.is("report") => take_report(rest, to),
         _ => None,
     }
 }

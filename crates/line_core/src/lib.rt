@@ -11,6 +11,7 @@ mod marks;
 mod number;
 mod script;
 mod script_lines;
+mod spelling;
 mod table;
 mod takes;
 mod usages;

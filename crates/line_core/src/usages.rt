@@ -2,7 +2,7 @@
 ghost use Rattle.std.specs.Prelude.{◌≡◌, is_some};
 ghost use Rattle.line_core.specs.Usages.{usage_of, flags_of};
 
-use crate::words::is;
+use crate::spelling::Spelling;
 use point_core::Usage;
 
 /// Linux's `DMA_BUF_SYNC_READ`.
@@ -16,13 +16,14 @@ const SYNC_READ_WRITE: u32 = SYNC_READ | SYNC_WRITE;
 pub(crate) fn usage(word: &[u8]) -> Option<Usage>
     ensures usage { result ≡ usage_of word.now }
 {
-    if is(word, "kernel") {
+    let spelling = Spelling::of(word)?;
+    if spelling.is("kernel") {
         Some(Usage::Kernel)
-    } else if is(word, "write") {
+    } else if spelling.is("write") {
         Some(Usage::Write)
-    } else if is(word, "read") {
+    } else if spelling.is("read") {
         Some(Usage::Read)
-    } else if is(word, "bookkeep") {
+    } else if spelling.is("bookkeep") {
         Some(Usage::Bookkeep)
     } else {
         None
@@ -33,11 +34,12 @@ pub(crate) fn usage(word: &[u8]) -> Option<Usage>
 pub(crate) fn flags(word: &[u8]) -> Option<u32>
     ensures flags { result ≡ flags_of word.now }
 {
-    if is(word, "read") {
+    let spelling = Spelling::of(word)?;
+    if spelling.is("read") {
         Some(SYNC_READ)
-    } else if is(word, "write") {
+    } else if spelling.is("write") {
         Some(SYNC_WRITE)
-    } else if is(word, "rw") {
+    } else if spelling.is("rw") {
         Some(SYNC_READ_WRITE)
     } else {
         None

@@ -6,6 +6,7 @@ ghost use Rattle.line_core.specs.Marks.{HasMarks, MayHaveMarks};
 ghost use Rattle.line_core.specs.Words.{is_space, words_of, BeginsWithWord, HasNoSpace, are_none, one_of, two_of, three_of, four_of};
 
 use crate::marks::{marked_end, marked_start, marks, marks_from};
+use memchr::memchr;
 use std::marker::Model;
 
 /// The words of some bytes, in order.
@@ -147,7 +148,7 @@ fn first_other_than_space(bytes: &[u8]) -> Option<usize>
 fn first_space(bytes: &[u8]) -> Option<usize>
     ensures place { result ≡ position is_space bytes.now }
 {
-    bytes.iter().position(|byte| *byte == b' ')
+    memchr(b' ', bytes)
 }
 
 /// Whether there is no word.

@@ -97,3 +97,11 @@ padded-zeros xs = ap (λ zeros. xs ++ zeros) (drop-replicate (length xs) LANES 0
 
 pub digits-padded : (xs : List ℕ) (n : ℕ) → n ≡ number_l 256 xs → AreBytes xs → length xs ≤ 32 → digits_l 256 32 n ≡ padded xs
 digits-padded xs n is bytes few = ap (digits_l 256 32) is ∙ digits-number 32 xs few bytes
+
+-- as many digits as there are bytes are the bytes
+pub digits-same : (xs : List ℕ) → AreBytes xs → digits_l 256 (length xs) (number_l 256 xs) ≡ xs
+digits-same [] bytes = refl
+digits-same (x ∷ xs) bytes =
+    let parts = parted x (number_l 256 xs) (bytes 0) in
+    let rest = ap (digits_l 256 (length xs)) parts.1 ∙ digits-same xs (λ k. bytes (suc k)) in
+    λ i. parts.0 i ∷ rest i

@@ -9,7 +9,10 @@ use std::simd::prelude::*;
 /// How many lanes there are: one more than a name has bytes.
 pub(crate) const LANES: usize = NAME_BYTES + 1;
 
-const WORD_BYTES: usize = 8;
+/// The most bytes that are one number: those of a `u64`.
+pub const NUMBER_BYTES: usize = 8;
+
+const _: () = prove!(NUMBER_BYTES == 8);
 
 const HALF_BYTES: usize = 4;
 
@@ -20,10 +23,10 @@ pub(crate) fn padded(bytes: &[u8]) -> u8x32
     ensures { result ≡ padded bytes.now }
 {
     let length = bytes.len();
-    if length <= WORD_BYTES {
-        two_words(word_of_few(bytes), 0)
-    } else if length <= 2 * WORD_BYTES {
-        let rest = word(bytes, length - WORD_BYTES) >> (8 * (2 * WORD_BYTES - length));
+    if length <= NUMBER_BYTES {
+        two_words(number_of_few(bytes), 0)
+    } else if length <= 2 * NUMBER_BYTES {
+        let rest = word(bytes, length - NUMBER_BYTES) >> (8 * (2 * NUMBER_BYTES - length));
         two_words(word(bytes, 0), rest)
     } else {
         padded_many(bytes)
@@ -47,10 +50,10 @@ fn two_words(first: u64, second: u64) -> u8x32
     u64x4::from_array([first, second, 0, 0]).to_le_bytes()
 }
 
-/// The bytes as one number, of which the first is the lowest.
+/// The bytes as one number, of which the first byte is the lowest.
 #[inline(always)]
-fn word_of_few(bytes: &[u8]) -> u64
-    requires { length bytes.now ≤ WORD_BYTES }
+pub fn number_of_few(bytes: &[u8]) -> u64
+    requires { length bytes.now ≤ NUMBER_BYTES }
     ensures { result ≡ number_l 256 bytes.now }
 {
     let length = bytes.len();
@@ -82,8 +85,8 @@ fn half(lanes: u8x4) -> u64
 
 #[inline(always)]
 fn word(bytes: &[u8], place: usize) -> u64
-    requires { place + WORD_BYTES ≤ length bytes.now }
-    ensures { result ≡ number_l 256 (chunk place WORD_BYTES bytes.now) }
+    requires { place + NUMBER_BYTES ≤ length bytes.now }
+    ensures { result ≡ number_l 256 (chunk place NUMBER_BYTES bytes.now) }
 {
     let [number] = u64x1::from_le_bytes(u8x8::from_slice(&bytes[place..])).to_array();
     number

@@ -28,6 +28,7 @@ pub use context::{CONTEXTS, Context};
 pub use entry::{Entry, Point, Usage, covers};
 pub use floor::Floor;
 pub use items::Items;
+pub use lanes::{NUMBER_BYTES, number_of_few};
 pub use latest_points::LatestPoints;
 pub use limits::BUFFERS;
 pub use listing::{Listing, TopRow, canon};

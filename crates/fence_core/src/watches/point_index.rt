@@ -1,22 +1,24 @@
 // The points at which pending watches stand, by context and value.
-ghost use Rattle.std.specs.Prelude.{◌≡◌, ℕ, ◌<◌, ◌^◌, ◌-◌, ◌≤◌, true, false, not, ◌&&◌, ◌||◌, [], length};
+ghost use Rattle.std.specs.Prelude.{◌≡◌, ℕ, ◌<◌, ◌≤◌, true, false, not, ◌&&◌, ◌||◌, [], length};
 ghost use Rattle.std.specs.Prelude.{OnOk, OnErr, IfOk, IfErr, IfSome, IfNone};
 ghost use Rattle.std.specs.Ordering.{nat_cmp};
 ghost use Rattle.std.specs.Map.{keys_of};
 ghost use Rattle.std.specs.List.Sorted.{IsStrictlySortedBy};
 ghost use Rattle.point_core.specs.declared.refusal.Refusal.TheVariants.{Memory};
 ghost use Rattle.fence_core.specs.declared.watches.point_index.WaitingPoint.{WaitingPoint as Waiting};
-ghost use Rattle.fence_core.specs.PointIndex.{waiting, is_same, holds, is_due, number_due, AreWaiting};
+ghost use Rattle.fence_core.specs.PointIndex.{waiting, is_same, queue_at, holds, is_due, number_due, AreWaiting};
 ghost use Rattle.fence_core.specs.Registered.{registered, IsIndexed, NoneFires};
 ghost use Rattle.fence_core.specs.Reported.{IsReported, AreOnlyFiring, Fires};
 ghost use Rattle.fence_core.specs.Gathered.{AreFiredIn};
-ghost use Rattle.point_core.specs.Reach.{value_at};
+ghost use Rattle.point_core.specs.Reach.{value_at, reaching};
 ghost use Rattle.point_core.specs.declared.context.TheConstants.{CONTEXTS};
 
 mod firing;
+mod point_queue;
 mod single_rise;
 
 use self::firing::report_reached;
+use self::point_queue::{PointQueue, Standing};
 use self::single_rise::gathered_in_order;
 use super::due_floor::DueFloor;
 use super::pending::PendingWatches;
@@ -24,7 +26,7 @@ use super::places::Places;
 use super::registration::Registration;
 use point_core::{Context, Point, Reach, Refusal};
 use std::alloc::Global;
-use std::collections::{BTreeMap, BTreeSet};
+use std::collections::BTreeMap;
 use std::marker::Model;
 
 /// A point, and the registration of a watch that waits for it.
@@ -46,71 +48,40 @@ impl WaitingPoint {
             registration,
         }
     }
-
-    /// The least waiting point of a context.
-    fn first(ctx: Context) -> WaitingPoint
-        ensures { result ≡ record { ctx = ctx; value = 0; registration = 0 } }
-    {
-        WaitingPoint {
-            ctx,
-            value: 0,
-            registration: Registration(0),
-        }
-    }
-
-    /// The greatest waiting point of a context at that value.
-    fn last(ctx: Context, value: u64) -> WaitingPoint
-        ensures { result ≡ record { ctx = ctx; value = value; registration = 2 ^ 64 - 1 } }
-    {
-        WaitingPoint {
-            ctx,
-            value,
-            registration: Registration(u64::MAX),
-        }
-    }
-
-    /// The point itself, if it is of that context, at or below the value.
-    fn if_due(&self, ctx: Context, value: u64) -> Option<WaitingPoint>
-        ensures due { IfSome result (λ k. (k ≡ self.now) × (is_due ctx value self.now ≡ true)) }
-        ensures past { IfNone result (is_due ctx value self.now ≡ false) }
-    {
-        if self.ctx.number() != ctx.number() || self.value > value {
-            return None;
-        }
-        Some(*self)
-    }
 }
 
-/// The points at which pending watches stand, one for each watch. Those of one context are in order of value.
+/// The points at which pending watches stand, one for each watch: a queue for each context up to the last one where any
+/// stood.
 #[derive(Drop)]
 pub(super) struct PointIndex {
-    points: BTreeSet<WaitingPoint>,
+    alloc: Global,
+    queues: Vec<PointQueue>,
     floor: DueFloor,
 }
 
 impl Model for PointIndex {
     ghost use Rattle.std.specs.Prelude.{List};
     ghost use Rattle.fence_core.specs.PointIndex.{AreWaiting, AreAbove};
-    ghost use Rattle.fence_core.specs.declared.watches.point_index.WaitingPoint.{WaitingPoint};
+    ghost use Rattle.fence_core.specs.declared.watches.point_index.point_queue.Standing.{Standing};
 
-    ghost Value = { List WaitingPoint };
+    ghost Value = { List (List Standing) };
 
-    ghost view = { λ p. p.points.keys };
+    ghost view = { λ p. p.queues.items };
 
-    ghost invariant = { λ p. AreWaiting p.points.keys × AreAbove p.points.keys p.floor };
+    ghost invariant = { λ p. AreWaiting p.queues.items × AreAbove p.queues.items p.floor };
 }
 
 impl PointIndex {
     ghost use Rattle.std.specs.Prelude.{List};
     ghost use Rattle.fence_core.specs.PointIndex.{AreAbove};
-    ghost use Rattle.point_core.specs.Reach.{reaching};
 
     /// No points. It takes no memory.
     pub(super) fn new(alloc: Global) -> PointIndex
         ensures { result ≡ [] }
     {
         PointIndex {
-            points: BTreeSet::new(alloc),
+            alloc,
+            queues: Vec::new(alloc),
             floor: DueFloor::highest(),
         }
     }
@@ -134,7 +105,7 @@ impl PointIndex {
 
     /// Puts a point in.
     ///
-    /// Fails with `Memory` alone, and then leaves all as it was.
+    /// Fails with `Memory` alone, and then no point has gone and none has come.
     pub(super) fn put(&mut self, point: &Point, registration: Registration) -> Result<(), Refusal>
         requires above { 1 ≤ point.now.value }
         ensures put { OnOk result ((k : Waiting) →
@@ -142,10 +113,10 @@ impl PointIndex {
         ensures due { (ctx value : ℕ) → is_due ctx value (waiting point.now registration) ≡ false →
             number_due ctx value self.new ≡ number_due ctx value self.old }
         ensures memory { IfErr result (λ e. e ≡ Memory) }
-        ensures unchanged { OnErr result (self.new ≡ self.old) }
+        ensures unchanged { OnErr result ((k : Waiting) → holds self.new k ≡ holds self.old k) }
     {
         self.floor.lower(point);
-        insert(&mut self.points, point, registration)
+        insert(&mut self.queues, self.alloc, point, registration)
     }
 
     /// Takes a point out.
@@ -154,7 +125,7 @@ impl PointIndex {
         ensures fewer { (ctx value : ℕ) → is_due ctx value point.now ≡ true → holds self.old point.now ≡ true →
             number_due ctx value self.new < number_due ctx value self.old }
     {
-        self.points.remove(point);
+        remove(self.queues.as_mut_slice(), point);
     }
 
     /// Moves each watch that stands at or below the reach to a point above it. Only the contexts where the reach is
@@ -175,7 +146,7 @@ impl PointIndex {
             holds self.new k ≡ false) }
     {
         // Opens the invariant.
-        let _points = &self.points;
+        let _queues = &self.queues;
         for index in 0..reach.used() {
             if self.floor.is_below(reach, index) {
                 self.settle_context(places, pending, Context::at(index), reach)?;
@@ -204,7 +175,7 @@ impl PointIndex {
             holds self.new k ≡ false) }
     {
         // Opens the invariant.
-        let _points = &self.points;
+        let _queues = &self.queues;
         while self.move_first(places, pending, ctx, reach)? {}
         Ok(())
     }
@@ -270,7 +241,7 @@ impl PointIndex {
         ensures some { IfSome result (λ k. (is_due ctx value k ≡ true) × (holds self.new k ≡ true)) }
         ensures none { IfNone result ((k : Waiting) → is_due ctx value k ≡ true → holds self.new k ≡ false) }
     {
-        let Some(first) = self.first_due(ctx, u64::MAX) else {
+        let Some(first) = first_in(self.queues.as_slice(), ctx) else {
             self.floor.set(ctx, u64::MAX);
             return None;
         };
@@ -279,19 +250,6 @@ impl PointIndex {
             return None;
         }
         Some(first)
-    }
-
-    /// The first point of the context at or below the value.
-    fn first_due(&self, ctx: Context, value: u64) -> Option<WaitingPoint>
-        ensures some { IfSome result (λ k. (is_due ctx value k ≡ true) × (holds self.now k ≡ true)) }
-        ensures first { IfSome result (λ first. (k : Waiting) → is_due ctx value k ≡ true → holds self.now k ≡ true →
-            first.value ≤ k.value) }
-        ensures none { IfNone result ((k : Waiting) → is_due ctx value k ≡ true → holds self.now k ≡ false) }
-    {
-        match self.points.range(WaitingPoint::first(ctx)..).next() {
-            Some(first) => first.if_due(ctx, value),
-            None => None,
-        }
     }
 
     /// The cookies of the watches all of whose points are signalled at the reach, by registration. Only the contexts
@@ -310,51 +268,139 @@ impl PointIndex {
         ensures some_fires { OnErr result (Fires pending.now.entries reach.now) }
     {
         let mut fired = BTreeMap::new(alloc);
-        report_reached(&self.points, pending, &self.floor, reach, &mut fired)?;
+        report_reached(
+            self.queues.as_slice(),
+            pending,
+            &self.floor,
+            reach,
+            &mut fired,
+        )?;
         // Opens the map's invariant.
         let _count = fired.len();
         Ok(fired)
     }
 
-    /// The cookies of the watches that stand in the context at or below its value and fire, by registration; `None` if
-    /// these watches don't stand there in order of registration.
+    /// The cookies of the watches that stand in the point's context and fire once it is reached too, by registration;
+    /// `None` if these watches don't stand there in order of registration.
     pub(super) fn fired_in_context(
         &self,
         alloc: Global,
         pending: &PendingWatches,
-        ctx: Context,
+        point: &Point,
         reach: &Reach,
     ) -> Result<Option<Vec<u64>>, Refusal>
         ensures waiting { AreWaiting self.now }
         ensures fired { IfOk result (λ found. IfSome found (λ cookies.
-            AreFiredIn ctx self.now pending.now.entries reach.now cookies.items)) }
+            AreFiredIn point.now.ctx self.now pending.now.entries (reaching reach.now point.now) cookies.items)) }
         ensures memory { IfErr result (λ e. e ≡ Memory) }
-        ensures some_fires { OnErr result (Fires pending.now.entries reach.now) }
+        ensures some_fires { OnErr result (Fires pending.now.entries (reaching reach.now point.now)) }
     {
-        gathered_in_order(alloc, &self.points, pending, ctx, reach)
+        gathered_in_order(alloc, self.queues.as_slice(), pending, point, reach)
     }
 }
 
+/// Puts a point in, in the queue of its context.
+///
+/// Fails with `Memory` alone, and then no point has gone and none has come.
 fn insert(
-    points: &mut BTreeSet<WaitingPoint>,
+    queues: &mut Vec<PointQueue>,
+    alloc: Global,
     point: &Point,
     registration: Registration,
 ) -> Result<(), Refusal>
-    requires waiting { AreWaiting points.old.keys }
-    ensures waiting { AreWaiting points.new.keys }
+    requires waiting { AreWaiting queues.old.items }
+    ensures waiting { AreWaiting queues.new.items }
     ensures put { OnOk result ((k : Waiting) →
-        holds points.new.keys k ≡ (is_same (waiting point.now registration) k || holds points.old.keys k)) }
+        holds queues.new.items k ≡ (is_same (waiting point.now registration) k || holds queues.old.items k)) }
     ensures due { (ctx value : ℕ) → is_due ctx value (waiting point.now registration) ≡ false →
-        number_due ctx value points.new.keys ≡ number_due ctx value points.old.keys }
+        number_due ctx value queues.new.items ≡ number_due ctx value queues.old.items }
     ensures memory { IfErr result (λ e. e ≡ Memory) }
-    ensures unchanged { OnErr result (points.new.keys ≡ points.old.keys) }
+    ensures unchanged { OnErr result ((k : Waiting) → holds queues.new.items k ≡ holds queues.old.items k) }
+{
+    make_queues(queues, alloc, point.ctx)?;
+    insert_in_queue(queues.as_mut_slice(), point, registration)
+}
+
+/// Makes a queue for each context up to this one that has none yet.
+///
+/// Fails with `Memory` alone. No watch stands in a queue that is made.
+fn make_queues(queues: &mut Vec<PointQueue>, alloc: Global, ctx: Context) -> Result<(), Refusal>
+    ensures same { (c : ℕ) → queue_at queues.new.items c ≡ queue_at queues.old.items c }
+    ensures enough { OnOk result (ctx ≤ length queues.new.items) }
+    ensures memory { IfErr result (λ e. e ≡ Memory) }
+{
+    while queues.len() <= ctx.index() {
+        let Ok(()) = queues.push(PointQueue::new(alloc)) else {
+            return Err(Refusal::Memory);
+        };
+    }
+    Ok(())
+}
+
+/// Puts a point in, in the queue of its context, which there is.
+fn insert_in_queue(
+    queues: &mut [PointQueue],
+    point: &Point,
+    registration: Registration,
+) -> Result<(), Refusal>
+    requires enough { point.now.ctx ≤ length queues.old }
+    requires waiting { AreWaiting queues.old }
+    ensures waiting { AreWaiting queues.new }
+    ensures put { OnOk result ((k : Waiting) →
+        holds queues.new k ≡ (is_same (waiting point.now registration) k || holds queues.old k)) }
+    ensures due { (ctx value : ℕ) → is_due ctx value (waiting point.now registration) ≡ false →
+        number_due ctx value queues.new ≡ number_due ctx value queues.old }
+    ensures memory { IfErr result (λ e. e ≡ Memory) }
+    ensures unchanged { OnErr result ((k : Waiting) → holds queues.new k ≡ holds queues.old k) }
 {
     let number = point.ctx.number();
-    // For the proof: what a context and a registration keep.
+    // For the proof: what a context keeps.
     prove!(number >= 1);
-    prove!(registration.0 <= u64::MAX);
-    let Ok(_added) = points.insert(WaitingPoint::of(point, registration)) else {
+    let index = point.ctx.index();
+    let watch = Standing {
+        value: point.value,
+        registration,
+    };
+    let Ok(()) = queues[index].put(&watch) else {
         return Err(Refusal::Memory);
     };
     Ok(())
+}
+
+/// Takes a point out.
+fn remove(queues: &mut [PointQueue], point: &WaitingPoint)
+    ensures taken { (k : Waiting) → holds queues.new k ≡ (not (is_same point.now k) && holds queues.old k) }
+    ensures fewer { (ctx value : ℕ) → is_due ctx value point.now ≡ true → holds queues.old point.now ≡ true →
+        number_due ctx value queues.new < number_due ctx value queues.old }
+{
+    let index = point.ctx.index();
+    if index >= queues.len() {
+        return;
+    }
+    let watch = Standing {
+        value: point.value,
+        registration: point.registration,
+    };
+    queues[index].take(&watch);
+}
+
+/// The first point of the context.
+fn first_in(queues: &[PointQueue], ctx: Context) -> Option<WaitingPoint>
+    ensures some { IfSome result (λ first. (first.ctx ≡ ctx) × (holds queues.now first ≡ true)) }
+    ensures first { IfSome result (λ first. (k : Waiting) → k.ctx ≡ ctx → holds queues.now k ≡ true →
+        first.value ≤ k.value) }
+    ensures none { IfNone result ((k : Waiting) → k.ctx ≡ ctx → holds queues.now k ≡ false) }
+{
+    let index = ctx.index();
+    if index >= queues.len() {
+        return None;
+    }
+    let Some(first) = queues[index].first() else {
+        return None;
+    };
+    Some(WaitingPoint {
+        ctx,
+        value: first.value,
+        registration: first.registration,
+    })
 }

@@ -4,65 +4,90 @@ ghost use Rattle.std.specs.Prelude.{OnOk, OnErr, IfErr};
 ghost use Rattle.point_core.specs.declared.refusal.Refusal.TheVariants.{Memory};
 ghost use Rattle.point_core.specs.Reach.{value_at};
 ghost use Rattle.fence_core.specs.declared.watches.point_index.WaitingPoint.{WaitingPoint as Waiting};
-ghost use Rattle.fence_core.specs.PointIndex.{holds, is_due, AreWaiting};
+ghost use Rattle.fence_core.specs.declared.watches.point_index.point_queue.Standing.{Standing as Stands};
+ghost use Rattle.fence_core.specs.PointIndex.{has, is_low, holds, is_due, AreWaiting};
 ghost use Rattle.fence_core.specs.Reported.{IsReported, AreOnlyFiring, Fires};
 
-use super::WaitingPoint;
+use super::point_queue::PointQueue;
 use crate::watches::due_floor::DueFloor;
 use crate::watches::pending::PendingWatches;
 use crate::watches::registration::Registration;
 use point_core::{Context, Reach, Refusal};
-use std::collections::{BTreeMap, BTreeSet};
+use std::collections::BTreeMap;
 
 /// Adds the watches that stand at or below the reach, and all of whose points are, to the fired ones.
 pub(super) fn report_reached(
-    points: &BTreeSet<WaitingPoint>,
+    queues: &[PointQueue],
     pending: &PendingWatches,
     floor: &DueFloor,
     reach: &Reach,
     fired: &mut BTreeMap<Registration, u64>,
 ) -> Result<(), Refusal>
-    requires waiting { AreWaiting points.now.keys }
-    requires above { (k : Waiting) → holds points.now.keys k ≡ true →
+    requires waiting { AreWaiting queues.now }
+    requires above { (k : Waiting) → holds queues.now k ≡ true →
         is_due k.ctx (value_at floor.now k.ctx) k ≡ false }
     requires none_fired { fired.old.entries ≡ [] }
     ensures only_firing { AreOnlyFiring pending.now.entries reach.now fired.new.entries }
     ensures all { OnOk result ((k : Waiting) → is_due k.ctx (value_at reach.now k.ctx) k ≡ true →
-        holds points.now.keys k ≡ true → IsReported pending.now.entries reach.now fired.new.entries k.registration) }
+        holds queues.now k ≡ true → IsReported pending.now.entries reach.now fired.new.entries k.registration) }
     ensures memory { IfErr result (λ e. e ≡ Memory) }
     ensures some_fires { OnErr result (Fires pending.now.entries reach.now) }
 {
     for index in 0..reach.used() {
         if floor.is_below(reach, index) {
-            report_due(points, pending, Context::at(index), reach, fired)?;
+            report_due(queues, pending, Context::at(index), reach, fired)?;
         }
     }
     Ok(())
 }
 
 /// The same for the watches that stand in the context.
-#[inline(never)]
 fn report_due(
-    points: &BTreeSet<WaitingPoint>,
+    queues: &[PointQueue],
     pending: &PendingWatches,
     ctx: Context,
     reach: &Reach,
     fired: &mut BTreeMap<Registration, u64>,
 ) -> Result<(), Refusal>
-    requires waiting { AreWaiting points.now.keys }
     requires only_firing { AreOnlyFiring pending.now.entries reach.now fired.old.entries }
     ensures only_firing { AreOnlyFiring pending.now.entries reach.now fired.new.entries }
     ensures still { (r : ℕ) → IsReported pending.now.entries reach.now fired.old.entries r →
         IsReported pending.now.entries reach.now fired.new.entries r }
     ensures all { OnOk result ((k : Waiting) → is_due ctx (value_at reach.now ctx) k ≡ true →
-        holds points.now.keys k ≡ true → IsReported pending.now.entries reach.now fired.new.entries k.registration) }
+        holds queues.now k ≡ true → IsReported pending.now.entries reach.now fired.new.entries k.registration) }
     ensures memory { IfErr result (λ e. e ≡ Memory) }
     ensures some_fires { OnErr result (Fires pending.now.entries reach.now) }
 {
-    let value = reach.get(ctx);
-    let (first, last) = (WaitingPoint::first(ctx), WaitingPoint::last(ctx, value));
-    for due in points.range(first..=last) {
-        report(due.registration, pending, reach, fired)?;
+    let index = ctx.index();
+    if index >= queues.len() {
+        return Ok(());
+    }
+    report_low(&queues[index], pending, reach.get(ctx), reach, fired)
+}
+
+/// The same for the watches that stand at or below the value.
+#[inline(never)]
+fn report_low(
+    queue: &PointQueue,
+    pending: &PendingWatches,
+    value: u64,
+    reach: &Reach,
+    fired: &mut BTreeMap<Registration, u64>,
+) -> Result<(), Refusal>
+    requires only_firing { AreOnlyFiring pending.now.entries reach.now fired.old.entries }
+    ensures only_firing { AreOnlyFiring pending.now.entries reach.now fired.new.entries }
+    ensures still { (r : ℕ) → IsReported pending.now.entries reach.now fired.old.entries r →
+        IsReported pending.now.entries reach.now fired.new.entries r }
+    ensures all { OnOk result ((s : Stands) → is_low value s ≡ true → has queue.now s ≡ true →
+        IsReported pending.now.entries reach.now fired.new.entries s.registration) }
+    ensures memory { IfErr result (λ e. e ≡ Memory) }
+    ensures some_fires { OnErr result (Fires pending.now.entries reach.now) }
+{
+    for watch in queue.iter() {
+        if watch.value > value {
+            return Ok(());
+        }
+        report(watch.registration, pending, reach, fired)?;
     }
     Ok(())
 }

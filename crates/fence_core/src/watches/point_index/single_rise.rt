@@ -1,41 +1,46 @@
 // Which watches fire when one context rises.
 ghost use Rattle.std.specs.Prelude.{◌≡◌, ◌↔◌, ℕ, List, true, IsTrue, IfOk, IfErr, IfSome, OnErr};
 ghost use Rattle.point_core.specs.declared.refusal.Refusal.TheVariants.{Memory};
-ghost use Rattle.fence_core.specs.PointIndex.{AreWaiting};
+ghost use Rattle.point_core.specs.Reach.{reaching};
 ghost use Rattle.fence_core.specs.Gathered.{IsAfter, AreGathered, HasGathered, AreFiredIn};
 ghost use Rattle.fence_core.specs.Reported.{Fires};
 
-use super::WaitingPoint;
+use super::point_queue::PointQueue;
+use crate::fence::value_with;
 use crate::watches::pending::PendingWatches;
 use crate::watches::registration::Registration;
-use point_core::{Context, Reach, Refusal};
+use point_core::{Point, Reach, Refusal};
 use std::alloc::Global;
-use std::collections::BTreeSet;
 
-/// The cookies of the watches that stand in the context at or below its value and fire, in order of registration; `None`
-/// if they are found in another order.
+/// The cookies of the watches that stand in the point's context and fire once it is reached too, in order of
+/// registration; `None` if they are found in another order.
 #[inline(never)]
 pub(super) fn gathered_in_order(
     alloc: Global,
-    points: &BTreeSet<WaitingPoint>,
+    queues: &[PointQueue],
     pending: &PendingWatches,
-    ctx: Context,
+    point: &Point,
     reach: &Reach,
 ) -> Result<Option<Vec<u64>>, Refusal>
-    requires waiting { AreWaiting points.now.keys }
     ensures fired { IfOk result (λ found. IfSome found (λ cookies.
-        AreFiredIn ctx points.now.keys pending.now.entries reach.now cookies.items)) }
+        AreFiredIn point.now.ctx queues.now pending.now.entries (reaching reach.now point.now) cookies.items)) }
     ensures memory { IfErr result (λ e. e ≡ Memory) }
-    ensures some_fires { OnErr result (Fires pending.now.entries reach.now) }
+    ensures some_fires { OnErr result (Fires pending.now.entries (reaching reach.now point.now)) }
 {
-    let value = reach.get(ctx);
-    let (first, last) = (WaitingPoint::first(ctx), WaitingPoint::last(ctx, value));
     let mut fired = Gathered {
         cookies: Vec::new(alloc),
         last: None,
     };
-    for due in points.range(first..=last) {
-        let in_order = fired.put(due.registration, pending, reach)?;
+    let index = point.ctx.index();
+    if index >= queues.len() {
+        return Ok(Some(fired.cookies));
+    }
+    let value = value_with(reach, point, point.ctx);
+    for watch in queues[index].iter() {
+        if watch.value > value {
+            return Ok(Some(fired.cookies));
+        }
+        let in_order = fired.put(watch.registration, pending, point, reach)?;
         if !in_order {
             return Ok(None);
         }
@@ -51,23 +56,26 @@ struct Gathered {
 }
 
 impl Gathered {
-    /// Adds the watch of the registration if it fires. Reports whether those so far are in order of registration.
+    /// Adds the watch of the registration if it fires once the point is reached too. Reports whether those so far are in
+    /// order of registration.
     fn put(
         &mut self,
         registration: Registration,
         pending: &PendingWatches,
+        point: &Point,
         reach: &Reach,
     ) -> Result<bool, Refusal>
         ensures put { IfOk result (λ in_order. in_order ≡ true → (fired : List (ℕ × ℕ)) →
-            AreGathered pending.now.entries reach.now fired self.old.cookies.items self.old.last →
-            HasGathered pending.now.entries reach.now registration fired self.new.cookies.items self.new.last) }
+            AreGathered pending.now.entries (reaching reach.now point.now) fired self.old.cookies.items self.old.last →
+            HasGathered pending.now.entries (reaching reach.now point.now) registration fired
+            self.new.cookies.items self.new.last) }
         ensures memory { IfErr result (λ e. e ≡ Memory) }
-        ensures some_fires { OnErr result (Fires pending.now.entries reach.now) }
+        ensures some_fires { OnErr result (Fires pending.now.entries (reaching reach.now point.now)) }
     {
         let Some(watch) = pending.get(&registration) else {
             return Ok(true);
         };
-        if !watch.fence.is_signalled(reach) {
+        if !watch.fence.is_signalled_with(reach, point) {
             return Ok(true);
         }
         if !self.precedes(registration) {

@@ -8,5 +8,5 @@ use Rattle.fence_core.proofs.watches.point_index.firing.report_reached.Given as 
 abbrev pub invariant-loop-index : goal.invariant-loop-index
 invariant-loop-index l =
     AreOnlyFiring l.pending.entries l.reach l.fired.entries ×
-    ((k : Waiting) → k.ctx ≤ l.index → is_due k.ctx (value_at l.reach k.ctx) k ≡ true → holds l.points.keys k ≡ true →
+    ((k : Waiting) → k.ctx ≤ l.index → is_due k.ctx (value_at l.reach k.ctx) k ≡ true → holds l.queues k ≡ true →
     IsReported l.pending.entries l.reach l.fired.entries k.registration)

@@ -1,8 +1,9 @@
+use Rattle.point_core.specs.Reach.{reaching}
 use Rattle.fence_core.proofs.Gathered.{HasPassed}
 use Rattle.fence_core.proofs.watches.point_index.single_rise.gathered_in_order.Given as goal
 
-abbrev pub invariant-loop-due : goal.invariant-loop-due
-invariant-loop-due l =
-    (goal.iterator-loop-due).can_next l.due-iterator ×
-    (goal.iterator-loop-due).is_finite l.due-iterator ×
-    HasPassed l.fn.ctx l.points.keys l.due-iterator l.pending.entries l.reach l.fired.cookies.items l.fired.last
+abbrev pub invariant-loop-watch : goal.invariant-loop-watch
+invariant-loop-watch l =
+    (goal.iterator-loop-watch).can_next l.watch-iterator ×
+    (goal.iterator-loop-watch).is_finite l.watch-iterator ×
+    HasPassed l.point.ctx l.queues l.watch-iterator l.pending.entries (reaching l.reach l.point) l.fired.cookies.items l.fired.last

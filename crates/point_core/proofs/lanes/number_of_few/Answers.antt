@@ -2,7 +2,7 @@ use Rattle.std.proofs.Common.{◌+◌, ◌-◌, ◌*◌, ◌/◌, ◌^◌, [], �
 use Rattle.std.proofs.lemmas.Nat.{shr_le}
 use Rattle.std.specs.Simd.Lanes.{number_l}
 use Rattle.point_core.proofs.Padded.{AreBytes, number-of_three, number-joined, or-joined}
-use Rattle.point_core.proofs.lanes.word_of_few.Goals as goal
+use Rattle.point_core.proofs.lanes.number_of_few.Goals as goal
 
 pub returns-then-length-lt-HALF_BYTES : goal.returns-then-length-lt-HALF_BYTES
 returns-then-length-lt-HALF_BYTES c =

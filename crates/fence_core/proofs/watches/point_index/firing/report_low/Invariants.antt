@@ -1,0 +1,15 @@
+use Rattle.std.proofs.Common.{◌≡◌, ℕ, true, ◌⊎◌}
+use Rattle.fence_core.specs.declared.watches.point_index.point_queue.Standing.{Standing as Stands}
+use Rattle.fence_core.specs.PointIndex.{has, is_low, IsRising}
+use Rattle.fence_core.specs.Reported.{IsReported, AreOnlyFiring}
+use Rattle.fence_core.proofs.watches.point_index.firing.report_low.Given as goal
+
+abbrev pub invariant-loop-watch : goal.invariant-loop-watch
+invariant-loop-watch l =
+    (goal.iterator-loop-watch).can_next l.watch-iterator ×
+    (goal.iterator-loop-watch).is_finite l.watch-iterator ×
+    AreOnlyFiring l.pending.entries l.reach l.fired.entries ×
+    ((r : ℕ) → IsReported l.pending.entries l.reach l.fn.fired.entries r → IsReported l.pending.entries l.reach l.fired.entries r) ×
+    IsRising l.watch-iterator ×
+    ((s : Stands) → is_low l.fn.value s ≡ true → has l.queue s ≡ true →
+    (has l.watch-iterator s ≡ true) ⊎ IsReported l.pending.entries l.reach l.fired.entries s.registration)

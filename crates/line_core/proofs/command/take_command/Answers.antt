@@ -1,0 +1,7 @@
+use Rattle.std.proofs.Common.{refl}
+use Rattle.line_core.proofs.Fitting.{no-long}
+use Rattle.line_core.proofs.command.take_command.Goals as goal
+
+pub returns-in_err-spelling : goal.returns-in_err-spelling
+returns-in_err-spelling g c =
+    rw (no-long c.args.word.now c.args.rest.now c.in_err-spelling.ensures.word, c.from_residual.ensures) (record { taken = refl })
