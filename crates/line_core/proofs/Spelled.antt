@@ -1,9 +1,9 @@
 -- A word as its length and one number.
-use Rattle.std.proofs.Common.{◌≡◌, ℕ, zero, suc, ◌<◌, ◌≤◌, ◌/◌, Bool, true, false, ◌&&◌, nat_eq, nat_le, List, [], ◌∷◌, length, refl, sym, ap, ◌∙◌, arith}
+use Rattle.std.proofs.Common.{◌≡◌, ℕ, zero, suc, ◌<◌, ◌≤◌, ◌/◌, Bool, true, false, ◌&&◌, nat_eq, nat_le, List, length, refl, sym, ap, ◌∙◌, arith}
 use Rattle.std.proofs.lemmas.Bool.{and_parts, and_from, eqb-true, false_from_ne_true}
 use Rattle.std.proofs.lemmas.Bool.Decides.{nat_tests}
 use Rattle.std.proofs.lemmas.Slice.Eq.{bytes_eq-Decides}
-use Rattle.std.specs.Simd.Lanes.{digits_l, number_l}
+use Rattle.std.specs.Simd.Lanes.{number_l}
 use Rattle.std.specs.Str.{bytes_eq}
 use Rattle.point_core.proofs.Padded.{AreBytes, digits-same}
 use Rattle.line_core.specs.Spelling.{bytes_of}

@@ -47,6 +47,7 @@ impl Spelling {
         ensures same { result ≡ bytes_eq self.now text.now }
     {
         let bytes = text.as_bytes();
-        bytes.len() <= NUMBER_BYTES && (self.number == number_of_few(bytes)) & (self.length == bytes.len())
+        bytes.len() <= NUMBER_BYTES
+            && (self.number == number_of_few(bytes)) & (self.length == bytes.len())
     }
 }
