@@ -1,13 +1,16 @@
 -- Lines in a block of bytes.
-use Rattle.std.proofs.Common.{◌≡◌, ℕ, ◌+◌, ◌-◌, ◌<◌, ◌≤◌, ◌==◌, min, Bool, true, false, cond, inl, inr, List, [], ◌∷◌, ◌++◌, length, take, drop, Option, refl, sym, ap, ◌∙◌, subst, append-nil, length-append, length-take, arith}
+use Rattle.std.proofs.Common.{◌≡◌, ℕ, ◌+◌, ◌-◌, ◌<◌, ◌≤◌, ◌==◌, min, Bool, true, false, cond, inl, inr, List, [], ◌∷◌, ◌++◌, length, take, drop, Option, Some, refl, sym, ap, ◌∙◌, subst, append-nil, length-append, length-take, arith}
 use Rattle.std.specs.Io.KnownBytes.{Consumes}
 use Rattle.std.proofs.KnownBytes.{Consumes-trans}
-use Rattle.std.proofs.lemmas.Bool.{cases_lt}
+use Rattle.std.proofs.lemmas.Bool.{cases_lt, false≢true}
 use Rattle.std.proofs.lemmas.Bool.Decides.{nat_tests}
 use Rattle.std.proofs.lemmas.List.{take_all, take-take, take-append-le, drop-drop, drop-take}
 use Rattle.line_core.specs.declared.cutter.TheConstants.{HELD_BYTES}
+use Rattle.line_core.specs.declared.scan.Scan.{Scan}
 use Rattle.line_core.specs.Cutting.{cut}
-use Rattle.line_core.specs.ScriptLines.{line_bytes}
+use Rattle.line_core.specs.Marks.{HasMarks}
+use Rattle.line_core.specs.Scan.{IsScanOf}
+use Rattle.line_core.specs.ScriptLines.{LinesState, line_bytes, gone_on, ended_at, IsLaidOut, IsScanned}
 
 -- of two bounds the smaller counts
 pub take-both : (m n : ℕ) (xs : List ℕ) → take m (take n xs) ≡ take (min n m) xs
@@ -80,3 +83,53 @@ some_from n e = grind (arith, nat_tests)
 -- what was held stays so
 pub held-some : (held piece : List ℕ) → 0 < length held → 0 < length (cut (held ++ piece))
 held-some held piece some = omega (arith, length-take HELD_BYTES (held ++ piece), length-append held piece)
+
+-- ---- a line whose end was known
+
+line-known : (block : List ℕ) (next filled end : ℕ) → end ≤ HELD_BYTES → end ≤ filled - next → line_bytes [] block next end ≡ take end (take (filled - next) (drop next block))
+line-known block next filled end few within =
+    let least : min end HELD_BYTES ≡ end = omega arith in
+    ap (λ n. take n (drop next block)) least ∙ sym (take-take end (filled - next) (drop next block) within)
+
+-- the places after it
+pub laid-known : (next filled start len read num end : ℕ) (ended : Bool) (held held' : List ℕ) → IsLaidOut next filled start len read num ended held → ended ≡ true → end < filled - next
+    → IsLaidOut (next + (end + 1)) filled next end read (num + 1) ended held'
+laid-known next filled start len read num end ended held held' kept is within = record {
+  within = omega (arith, kept.within, within);
+  block = kept.block;
+  few = kept.few;
+  start_in = omega (arith, kept.within, kept.block);
+  line = λ _. omega (arith, kept.within, kept.block, within);
+  begun = λ e. absurd (false≢true (sym e ∙ is));
+  long = omega (arith, kept.long, within);
+  numbers = omega (arith, kept.numbers, within);
+}
+
+pub scanned-known : (block : List ℕ) (next filled end m : ℕ) (ended : Bool) (s : Scan) → end < 63 → end < filled - next → ended ≡ true
+    → HasMarks (take end (take (filled - next) (drop next block))) m → IsScanOf (drop (end + 1) (take (filled - next) (drop next block))) s
+    → IsScanned (line_bytes [] block next end) (take (filled - (next + (end + 1))) (drop (next + (end + 1)) block)) ended (Some m) s
+scanned-known block next filled end m ended s few within is marks rest = record {
+  of_line = subst (λ xs. HasMarks xs m) (sym (line-known block next filled end (omega (arith, few)) (omega (arith, within)))) marks;
+  of_ready = subst (λ xs. IsScanOf xs s) (sym (ready-behind block next filled end (omega (arith, within)))) rest;
+  whole = λ _. is;
+}
+
+abbrev state_of : ℕ → ℕ → Bool → List ℕ → ℕ → List ℕ → LinesState
+state_of read num ended line len ready = record { read = read; number = num; ended = ended; line = line; length = len; ready = ready }
+
+-- the state with it
+pub state-known : (block line : List ℕ) (next filled len read num end : ℕ) (ended : Bool) → end ≤ filled - next → next + (end + 1) ≤ filled → ended ≡ true
+    → state_of read (num + 1) ended (line_bytes [] block next end) end (take (filled - (next + (end + 1))) (drop (next + (end + 1)) block))
+    ≡ ended_at (gone_on (state_of read num ended line len (take (filled - next) (drop next block)))) end
+state-known block line next filled len read num end ended within inside is =
+    let ready = take (filled - next) (drop next block) in
+    let whole : end ≡ 0 + end = omega arith in
+    let bytes : line_bytes [] block next end ≡ cut ([] ++ take end ready) = sym (take-both HELD_BYTES end (drop next block)) ∙ ap cut (sym (take-take end (filled - next) (drop next block) within)) in
+    λ i. record {
+      read = read;
+      number = sym (ap (λ b. cond b (num + 1) num) is) i;
+      ended = is i;
+      line = (bytes ∙ sym (ap (λ b. cut (cond b [] line ++ take end ready)) is)) i;
+      length = (whole ∙ sym (ap (λ b. cond b 0 len + end) is)) i;
+      ready = ready-behind block next filled end inside i;
+    }

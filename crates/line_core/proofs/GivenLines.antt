@@ -1,14 +1,16 @@
 -- Lines that a reader gives, one after another.
-use Rattle.std.proofs.Common.{◌≡◌, ℕ, ◌+◌, ◌-◌, ◌<◌, ◌≤◌, false, cond, List, [], ◌∷◌, ◌++◌, length, take, drop, Option, refl, sym, ap, ◌∙◌, append_assoc, append-nil, length-append, length-take, arith}
+use Rattle.std.proofs.Common.{◌≡◌, ℕ, ◌+◌, ◌-◌, ◌<◌, ◌≤◌, Bool, true, false, cond, List, [], ◌∷◌, ◌++◌, length, take, drop, Option, refl, sym, ap, subst, ◌∙◌, append_assoc, append-nil, length-append, length-take, length-drop, arith}
 use Rattle.std.specs.Io.KnownBytes.{Consumes}
 use Rattle.std.proofs.KnownBytes.{Consumes-nil, Consumes-trans}
+use Rattle.std.proofs.lemmas.Bool.{false≢true}
 use Rattle.line_core.specs.declared.script.Ending.{Ending}
 use Rattle.line_core.specs.declared.script.TheConstants.{SCRIPT_BYTES}
 use Rattle.line_core.specs.Reading.{EndsSo}
 use Rattle.line_core.specs.Cutting.{cut}
-use Rattle.line_core.specs.Script.{lines_of}
-use Rattle.line_core.specs.ScriptLines.{LinesState, HasGiven, GivesLine, IsDrained, HasEnded, open_number, gone_on, ended_at, all_held, filled_with}
+use Rattle.line_core.specs.Script.{is_line_feed, lines_of}
+use Rattle.line_core.specs.ScriptLines.{LinesState, HasGiven, GivesLine, IsDrained, HasEnded, GoesOn, Advances, open_number, gone_on, ended_at, all_held, filled_with, turns_to_come}
 use Rattle.line_core.proofs.Cutting.{cut-more, cut-none, take-nothing, take-append}
+use Rattle.line_core.proofs.Runs.{slice_split-some, slice_split-none, position-below}
 use Rattle.line_core.proofs.Fronts.{glue, glue-cons, some_lines, lines_of-append}
 
 -- a front without a line feed, and what goes on with it
@@ -123,3 +125,21 @@ Ended-same before now s s' end given e number line len = record {
   number = number ∙ e.number;
   split = e.split;
 }
+
+-- ---- one line more, or all of what is ready
+
+pub Advances-next : (before now : Option (List ℕ)) (s s' : LinesState) (given : List (List ℕ)) → HasGiven before now s given → (more : Bool) → Advances s more s' → GoesOn before now given more s'
+Advances-next before now s s' given p true w =
+    subst (GivesLine before now given) (sym w.is) (Given-line before now s given p w.place (position-below is_line_feed s.ready w.place w.found) (slice_split-some is_line_feed s.ready w.place w.found))
+Advances-next before now s s' given p false w =
+    subst (λ t. HasGiven before now t given × IsDrained t) (sym w.1) (Given-all before now s given p (slice_split-none is_line_feed s.ready w.0))
+
+pub Advances-drained : (s s' : LinesState) (more : Bool) → more ≡ false → Advances s more s' → IsDrained s'
+Advances-drained s s' true e w = absurd (false≢true (sym e))
+Advances-drained s s' false e w = subst IsDrained (sym w.1) (refl, refl)
+
+pub Advances-turns : (s s' : LinesState) (more : Bool) → Advances s more s' → turns_to_come s' + cond more 1 0 ≤ turns_to_come s
+Advances-turns s s' true w =
+    let within = position-below is_line_feed s.ready w.place w.found in
+    subst (λ t. turns_to_come t + 1 ≤ turns_to_come s) (sym w.is) (omega (arith, within, length-drop (w.place + 1) s.ready))
+Advances-turns s s' false w = subst (λ t. turns_to_come t + 0 ≤ turns_to_come s) (sym w.1) (omega arith)

@@ -8,8 +8,10 @@ pub mod GivenLines
 pub mod Inputs
 pub mod LineLemmas
 pub mod Lowest
+pub mod Masks
 pub mod Notes
 pub mod Numbers
 pub mod Runs
+pub mod Scans
 pub mod Spelled
 pub mod Taking

@@ -1,22 +1,23 @@
 -- What the lowest bits of marks say of the bytes, and how marks are put together.
-use Rattle.std.proofs.Common.{◌≡◌, ℕ, zero, suc, ◌+◌, ◌-◌, ◌*◌, ◌/◌, ◌%◌, ◌^◌, ◌<◌, ◌≤◌, Bool, true, false, not, cond, nat_lt, List, [], ◌∷◌, length, get_or, take, drop, map, None, Some, unwrap_or, inl, inr, refl, sym, ap, subst, ◌∙◌, arith, w64, pow_mono, length-take, length-drop, take_all, drop-drop}
+use Rattle.std.proofs.Common.{◌≡◌, ℕ, ◌+◌, ◌-◌, ◌*◌, ◌/◌, ◌%◌, ◌^◌, ◌<◌, ◌≤◌, Bool, true, false, not, cond, nat_lt, List, length, get_or, take, drop, map, None, Some, unwrap_or, inl, inr, refl, sym, ap, ◌∙◌, arith, w64, pow_mono, length-take, length-drop, take_all, drop-drop}
 use Rattle.std.specs.Int.{bit_at, trailing_zeros, trailing_ones}
 use Rattle.std.specs.List.{position, position_or_len}
 use Rattle.std.proofs.lemmas.Bool.{cases_lt, lt-ltb, le-ltb}
-use Rattle.std.proofs.lemmas.List.{length-map, get_or-map}
+use Rattle.std.proofs.lemmas.List.{get_or-map}
 use Rattle.std.proofs.lemmas.List.Sums.{position_or_len_is}
-use Rattle.std.proofs.lemmas.Nat.{shr-shr, shr_le, shr_split, mod-pow-add, or_shifted, shl_whole}
-use Rattle.std.proofs.lemmas.Nat.Bits.{bit_at-trailing_zeros, bit_at-trailing_ones, bit_at_above}
-use Rattle.std.proofs.lemmas.Simd.{bit_mask_l, mask_l-lt, leading_from_mask_l, trailing_mask_l}
+use Rattle.std.proofs.lemmas.Nat.{or_shifted, shl_whole}
+use Rattle.std.proofs.lemmas.Nat.Bits.{bit_at-trailing_ones, bit_at_above}
+use Rattle.std.proofs.lemmas.Simd.{bit_mask_l, leading_from_mask_l}
 use lib.Bits.{bit_or}
 use Rattle.line_core.specs.Marks.{marks_of}
 use Rattle.line_core.specs.Words.{is_space}
+use Rattle.line_core.proofs.Masks.{mask-below, mask-below_lanes, mask-drop, mask-split, first_set, first_set-within}
 
-abbrev is_of_word : ℕ → Bool
+abbrev pub is_of_word : ℕ → Bool
 is_of_word b = not (is_space b)
 
 marks_below : (xs : List ℕ) → marks_of xs < 2 ^ length xs
-marks_below xs = subst (λ n. marks_of xs < 2 ^ n) (length-map xs is_of_word) (mask_l-lt (map is_of_word xs))
+marks_below xs = mask-below is_of_word xs
 
 marks_fit : (xs : List ℕ) → length xs ≤ 63 → marks_of xs < 2 ^ 63
 marks_fit xs few = omega (arith, marks_below xs, pow_mono {i = length xs} {j = 63} few)
@@ -26,13 +27,6 @@ bit_within xs k h = bit_mask_l (map is_of_word xs) k ∙ ap (λ b. cond b 1 0) (
 
 bit_past : (xs : List ℕ) (k : ℕ) → length xs ≤ k → bit_at (marks_of xs) k ≡ 0
 bit_past xs k h = bit_at_above (marks_of xs) (length xs) k (marks_below xs) h
-
-set_within : (xs : List ℕ) (k : ℕ) → bit_at (marks_of xs) k ≡ 1 → k < length xs
-set_within xs k e =
-    elim (cases_lt k (length xs)) [
-      | inl within ↦ within
-      | inr past ↦ absurd (omega (arith, e, bit_past xs k past))
-    ]
 
 of_word : (b : Bool) → cond {A = ℕ} (not b) 1 0 ≡ 1 → b ≡ false
 of_word true e = absurd (omega arith)
@@ -49,15 +43,10 @@ marked-none xs e =
     ∙ ap (λ b. cond b (Some (length xs)) None) (le-ltb (length xs) (length xs) (omega arith))
 
 pub marked-start_within : (xs : List ℕ) → length xs ≤ 63 → 0 < marks_of xs → trailing_zeros w64 (marks_of xs) < length xs
-marked-start_within xs few some =
-    set_within xs (trailing_zeros w64 (marks_of xs)) (bit_at-trailing_zeros w64 (marks_of xs) some (omega (arith, marks_fit xs few))).1
+marked-start_within xs few some = first_set-within is_of_word xs few some
 
 pub marked-start : (xs : List ℕ) → length xs ≤ 63 → 0 < marks_of xs → position is_of_word xs ≡ Some (trailing_zeros w64 (marks_of xs))
-marked-start xs few some =
-    let n = trailing_zeros w64 (marks_of xs) in
-    let at : position_or_len is_of_word xs ≡ n = sym (trailing_mask_l is_of_word 64 xs (omega arith) some) in
-    ap (λ k. cond (nat_lt k (length xs)) (Some k) None) at
-    ∙ ap (λ b. cond b (Some n) None) (lt-ltb n (length xs) (marked-start_within xs few some))
+marked-start xs few some = first_set is_of_word xs few some
 
 ended : (n len : ℕ) → n ≤ len → unwrap_or (cond (nat_lt n len) (Some n) None) len ≡ n
 ended n len h =
@@ -87,39 +76,8 @@ module _ (xs : List ℕ) (few : length xs ≤ 63) where
       (λ within. of_none _ (sym (bit_within xs n within) ∙ lowest_unset.1)) in
       ap (λ k. unwrap_or (cond (nat_lt k (length xs)) (Some k) None) (length xs)) at ∙ ended n (length xs) marked-end_within
 
--- one byte less
-halved : (b : Bool) (m : ℕ) → (cond {A = ℕ} b 1 0 + 2 * m) / 2 ≡ m
-halved true m = omega arith
-halved false m = omega arith
-
-lowest_bit : (b : Bool) (m : ℕ) → (cond {A = ℕ} b 1 0 + 2 * m) % 2 ≡ cond b 1 0
-lowest_bit true m = omega arith
-lowest_bit false m = omega arith
-
 pub marks-drop : (n : ℕ) (xs : List ℕ) → marks_of (drop n xs) ≡ marks_of xs / 2 ^ n
-marks-drop zero xs = omega arith
-marks-drop (suc n) [] = omega (arith, shr_le 0 (suc n))
-marks-drop (suc n) (x ∷ xs) =
-    let next : 1 + n ≡ suc n = omega arith in
-    marks-drop n xs ∙ ap (λ m. m / 2 ^ n) (sym (halved (is_of_word x) (marks_of xs)))
-    ∙ shr-shr (marks_of (x ∷ xs)) 1 n ∙ ap (λ k. marks_of (x ∷ xs) / 2 ^ k) next
-
-marks-take : (n : ℕ) (xs : List ℕ) → marks_of (take n xs) ≡ marks_of xs % 2 ^ n
-marks-take zero xs = omega arith
-marks-take (suc n) [] = omega (arith, shr_split 0 (suc n))
-marks-take (suc n) (x ∷ xs) =
-    let all = marks_of (x ∷ xs) in
-    let next : n + 1 ≡ suc n = omega arith in
-    let parts : all % 2 ^ suc n ≡ (all / 2 % 2 ^ n) * 2 + all % 2 = ap (λ k. all % 2 ^ k) (sym next) ∙ mod-pow-add all n 1 in
-    let rest : all / 2 % 2 ^ n ≡ marks_of (take n xs) = ap (λ m. m % 2 ^ n) (halved (is_of_word x) (marks_of xs)) ∙ sym (marks-take n xs) in
-    let first : all % 2 ≡ cond (is_of_word x) 1 0 = lowest_bit (is_of_word x) (marks_of xs) in
-    omega (arith, parts, rest, first)
-
-marks-split : (n : ℕ) (xs : List ℕ) → marks_of (drop n xs) * 2 ^ n + marks_of (take n xs) ≡ marks_of xs
-marks-split n xs = rw (marks-drop n xs, marks-take n xs) (shr_split (marks_of xs) n)
-
-below_lanes : (n : ℕ) (xs : List ℕ) → length xs ≤ n → marks_of xs < 2 ^ n
-below_lanes n xs h = omega (arith, marks_below xs, pow_mono {i = length xs} {j = n} h)
+marks-drop n xs = mask-drop is_of_word n xs
 
 -- from the marks of the first n bytes and of the last n
 pub marks-joined : (n : ℕ) (xs : List ℕ) → n ≤ length xs → length xs ≤ n + n → n + n ≤ 64
@@ -131,9 +89,9 @@ marks-joined n xs least most fits =
     let more : marks_of (take n (drop last xs)) / 2 ^ (n - last) ≡ marks_of (drop n xs) =
     ap (λ bytes. marks_of bytes / 2 ^ (n - last)) (sym back) ∙ sym (marks-drop (n - last) (drop last xs))
     ∙ ap marks_of (drop-drop (n - last) last xs ∙ ap (λ k. drop k xs) past) in
-    let high : marks_of (drop n xs) < 2 ^ n = below_lanes n (drop n xs) (omega (arith, length-drop n xs)) in
-    let low : marks_of (take n xs) < 2 ^ n = below_lanes n (take n xs) (omega (arith, length-take n xs)) in
+    let high : marks_of (drop n xs) < 2 ^ n = mask-below_lanes is_of_word n (drop n xs) (omega (arith, length-drop n xs)) in
+    let low : marks_of (take n xs) < 2 ^ n = mask-below_lanes is_of_word n (take n xs) (omega (arith, length-take n xs)) in
     ap (λ m. bit_or (m * 2 ^ n % 2 ^ 64) (marks_of (take n xs))) more
     ∙ ap (λ m. bit_or m (marks_of (take n xs))) (shl_whole (marks_of (drop n xs)) n n 64 high fits)
     ∙ or_shifted (marks_of (drop n xs)) n (marks_of (take n xs)) low
-    ∙ marks-split n xs
+    ∙ mask-split is_of_word n xs

@@ -5,6 +5,7 @@ pub mod Lines
 pub mod Marks
 pub mod Number
 pub mod Reading
+pub mod Scan
 pub mod Script
 pub mod ScriptLines
 pub mod Spelling

@@ -1,6 +1,7 @@
 -- Marks of bytes: a number with a bit for each byte, from the lowest on, that is set if the byte is of a word.
 use Rattle.std.specs.Prelude.{◌≡◌, ℕ, ◌≤◌, not, List, length, map, Option, IfSome}
 use Rattle.std.specs.Simd.Lanes.{mask_l}
+use Rattle.std.proofs.Props.{props}
 use Rattle.line_core.specs.declared.marks.TheConstants.{MARKED_BYTES}
 use Rattle.line_core.specs.Words.{is_space}
 
@@ -11,6 +12,13 @@ marks_of bytes = mask_l (map (λ b. not (is_space b)) bytes)
 pub record HasMarks (bytes : List ℕ) (marks : ℕ) : Type 0 where
   pub few : length bytes ≤ MARKED_BYTES
   pub marked : marks ≡ marks_of bytes
+
+-- a line's marks and those of its bytes are the same, in one way
+pub HasMarks-prop : (bytes : List ℕ) (marks : ℕ) → IsProp (HasMarks bytes marks)
+HasMarks-prop bytes marks p q =
+    let few : IsProp (length bytes ≤ MARKED_BYTES) = Prim.hlevel props in
+    let marked : IsProp (marks ≡ marks_of bytes) = Prim.hlevel props in
+    λ i. record { few = few p.few q.few i; marked = marked p.marked q.marked i }
 
 -- the same, if there are marks
 abbrev pub MayHaveMarks : List ℕ → Option ℕ → Type 0

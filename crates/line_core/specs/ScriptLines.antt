@@ -1,13 +1,16 @@
 -- The lines of a script that a reader gives.
-use Rattle.std.specs.Prelude.{◌≡◌, ℕ, ◌+◌, ◌-◌, ◌*◌, ◌==◌, ◌≤◌, min, Bool, true, false, if◌then◌else◌, List, [], ◌∷◌, ◌++◌, length, take, drop, Option}
+use Rattle.std.specs.Prelude.{◌≡◌, ℕ, ◌+◌, ◌-◌, ◌*◌, ◌==◌, ◌<◌, ◌≤◌, min, Bool, true, false, if◌then◌else◌, List, [], ◌∷◌, ◌++◌, length, take, drop, position, Option, None, Some}
 use Rattle.std.specs.Io.KnownBytes.{Consumes}
 use Rattle.line_core.specs.declared.cutter.TheConstants.{HELD_BYTES}
+use Rattle.line_core.specs.declared.scan.Scan.{Scan}
 use Rattle.line_core.specs.declared.script_lines.TheConstants.{BLOCK_BYTES}
 use Rattle.line_core.specs.declared.script.Ending.{Ending}
 use Rattle.line_core.specs.declared.script.TheConstants.{SCRIPT_BYTES}
 use Rattle.line_core.specs.Reading.{WasRead}
 use Rattle.line_core.specs.Cutting.{cut}
-use Rattle.line_core.specs.Script.{lines_of}
+use Rattle.line_core.specs.Marks.{MayHaveMarks}
+use Rattle.line_core.specs.Scan.{IsScanOf}
+use Rattle.line_core.specs.Script.{is_line_feed, lines_of}
 
 -- how far a script was read, and its lines were given
 pub record LinesState : Type 0 where
@@ -124,6 +127,17 @@ filled_with s bytes = record {
   ready = take (SCRIPT_BYTES - s.read) bytes;
 }
 
+-- the next line ends at its line feed, the first in what is ready
+pub record EndsLine (old new : LinesState) : Type 0 where
+  pub place : ℕ
+  pub found : position is_line_feed old.ready ≡ Some place
+  pub is : new ≡ ended_at (gone_on old) place
+
+-- the next line ends, or all that is ready is of it
+abbrev pub Advances : LinesState → Bool → LinesState → Type 0
+Advances old true new = EndsLine old new
+Advances old false new = (position is_line_feed old.ready ≡ None) × (new ≡ all_held (gone_on old))
+
 -- ---- how they are kept
 
 -- The bytes of the line: if no front of it is held they stand in the block.
@@ -140,3 +154,9 @@ pub record IsLaidOut (next filled start len read num : ℕ) (ended : Bool) (held
   pub begun : ended ≡ false → length held ≡ 0 → len ≡ 0
   pub long : len + (filled - next) ≤ read
   pub numbers : num + (if ended then 1 else 0) + (filled - next) ≤ read + 1
+
+-- The marks are those of the line, if they are known, and the scan is of what stands after it, once the line has ended.
+pub record IsScanned (line ready : List ℕ) (ended : Bool) (marks : Option ℕ) (s : Scan) : Type 0 where
+  pub of_line : MayHaveMarks line marks
+  pub of_ready : IsScanOf ready s
+  pub whole : 0 < s.feeds → ended ≡ true

@@ -11,7 +11,7 @@ const HALF_LANES: usize = 8;
 
 pub(crate) const LANES: usize = 16;
 
-const WIDE_LANES: usize = 32;
+pub(crate) const WIDE_LANES: usize = 32;
 
 /// The most bytes that have marks: one bit of 64 stays clear, and ends the last word.
 pub(crate) const MARKED_BYTES: usize = 63;
@@ -74,7 +74,7 @@ fn marks_of_halves(bytes: &[u8]) -> u64
     (more << HALF_LANES) | half_lane_marks(bytes, 0)
 }
 
-fn wide_lane_marks(bytes: &[u8], start: usize) -> u64
+pub(crate) fn wide_lane_marks(bytes: &[u8], start: usize) -> u64
     requires within { start + WIDE_LANES ≤ length bytes.now }
     ensures marks { result ≡ marks_of (take WIDE_LANES (drop start bytes.now)) }
 {

@@ -1,26 +1,18 @@
 // The lines of a script from a reader, one after another.
-ghost use Rattle.std.specs.Prelude.{◌≡◌, ◌+◌, ◌<◌, ◌≤◌, false, List, ℕ, [], length, take, drop, Option, None, IfSome, if◌then◌else◌};
+ghost use Rattle.std.specs.Prelude.{◌≡◌, ◌+◌, ◌<◌, ◌≤◌, true, false, List, ℕ, [], length, take, drop, Option, None, IfSome, if◌then◌else◌};
 ghost use Rattle.line_core.specs.Cutting.{with_bytes};
 ghost use Rattle.line_core.specs.declared.script.TheConstants.{SCRIPT_BYTES};
 
 use crate::cutter::{HELD_BYTES, LineCutter};
+use crate::marks::MARKED_BYTES;
+use crate::raw_line::RawLine;
+use crate::scan::{SCAN_BYTES, Scan, first_scanned, no_scan, scan_at};
 use crate::script::{Ending, SCRIPT_BYTES, first_line_feed};
 use std::io::Read;
 use std::marker::Model;
 
 /// The most bytes of one read.
 pub(crate) const BLOCK_BYTES: usize = 16384;
-
-/// A line of a script as it stands there.
-#[derive(Clone, Copy, Debug)]
-pub struct RawLine<'a> {
-    /// Lines are numbered from 1.
-    pub number: u32,
-    /// An over-long line keeps its first 257 bytes.
-    pub bytes: &'a [u8],
-    /// How many bytes the line has, without its line feed.
-    pub length: usize,
-}
 
 /// The lines of a script from a reader, one after another. It keeps one block of the script, and of a line that began
 /// before that block no more than its first bytes.
@@ -40,11 +32,14 @@ pub struct ScriptLines {
     length: usize,
     // whether the line's line feed was read
     ended: bool,
+    // the marks of the line's bytes, if they are known, and what is known of the bytes after it
+    marks: Option<u64>,
+    scan: Scan,
 }
 
 impl Model for ScriptLines {
     ghost use Rattle.std.specs.Prelude.{◌-◌, take, drop};
-    ghost use Rattle.line_core.specs.ScriptLines.{LinesState, line_bytes, IsLaidOut};
+    ghost use Rattle.line_core.specs.ScriptLines.{LinesState, line_bytes, IsLaidOut, IsScanned};
 
     ghost Value = { LinesState };
 
@@ -58,12 +53,14 @@ impl Model for ScriptLines {
     } };
 
     ghost invariant = { λ s.
-        IsLaidOut s.next s.filled s.start s.length s.read s.cutter.number s.ended s.cutter.bytes };
+        IsLaidOut s.next s.filled s.start s.length s.read s.cutter.number s.ended s.cutter.bytes
+        × IsScanned (line_bytes s.cutter.bytes s.block s.start s.length)
+        (take (s.filled - s.next) (drop s.next s.block)) s.ended s.marks s.scan };
 }
 
 impl ScriptLines {
     ghost use Rattle.line_core.specs.ScriptLines.{HasGiven, GoesOn, HasEnded, IsDrained, turns_to_come};
-    ghost use Rattle.line_core.specs.ScriptLines.{gone_on, ended_at, all_held, filled_with};
+    ghost use Rattle.line_core.specs.ScriptLines.{gone_on, ended_at, all_held, filled_with, Advances, EndsLine};
 
     /// Nothing was read, and no line was given.
     pub fn new() -> ScriptLines
@@ -79,6 +76,8 @@ impl ScriptLines {
             start: 0,
             length: 0,
             ended: false,
+            marks: None,
+            scan: no_scan(),
         }
     }
 
@@ -92,6 +91,7 @@ impl ScriptLines {
             number: self.cutter.number(),
             bytes: self.line_bytes(),
             length: self.length,
+            marks: self.marks,
         }
     }
 
@@ -113,6 +113,47 @@ impl ScriptLines {
         ensures drained { result ≡ false → IsDrained self.new }
         ensures turns { turns_to_come self.new + (if result then 1 else 0) ≤ turns_to_come self.old }
     {
+        self.advance_by_cases()
+    }
+
+    #[inline(always)]
+    fn advance_by_cases(&mut self) -> bool
+        ensures advanced { Advances self.old result self.new }
+    {
+        if self.end_scanned() {
+            return true;
+        }
+        self.advance_unscanned()
+    }
+
+    /// Goes on to the next line, if its line feed is known.
+    #[inline(always)]
+    fn end_scanned(&mut self) -> bool
+        ensures ended { result ≡ true → EndsLine self.old self.new }
+        ensures same { result ≡ false → self.new ≡ self.old }
+    {
+        let scan = self.scan;
+        let Some(line) = first_scanned(&self.block[self.next..self.filled], &scan) else {
+            return false;
+        };
+        self.cutter.next_line();
+        self.start = self.next;
+        self.length = line.end;
+        self.next += line.end + 1;
+        self.marks = Some(line.marks);
+        self.scan = line.rest;
+        true
+    }
+
+    /// The same of any line: by another scan, or by a search in what is ready.
+    #[inline(never)]
+    fn advance_unscanned(&mut self) -> bool
+        ensures advanced { Advances self.old result self.new }
+    {
+        self.scan_on();
+        if self.end_scanned() {
+            return true;
+        }
         self.go_on();
         match first_line_feed(self.ready()) {
             Some(place) => {
@@ -123,6 +164,15 @@ impl ScriptLines {
                 self.hold_all();
                 false
             }
+        }
+    }
+
+    /// Scans what is ready, if the line before it has ended and was short, as the next is then likely to be.
+    fn scan_on(&mut self)
+        ensures same { self.new ≡ self.old }
+    {
+        if self.ended && self.length < MARKED_BYTES && self.next + SCAN_BYTES <= BLOCK_BYTES {
+            self.scan = scan_at(&self.block, self.next, self.filled - self.next);
         }
     }
 
@@ -142,6 +192,8 @@ impl ScriptLines {
         if room == 0 {
             return Some(Ending::TooLong);
         }
+        self.marks = None;
+        self.scan = no_scan();
         match reader.read(&mut self.block[..room]) {
             Ok(0) => Some(Ending::Whole),
             Ok(count) => {
@@ -168,6 +220,8 @@ impl ScriptLines {
             self.cutter.next_line();
             self.length = 0;
             self.ended = false;
+            self.marks = None;
+            self.scan = no_scan();
         }
     }
 
@@ -184,6 +238,8 @@ impl ScriptLines {
         self.length += place;
         self.next += place + 1;
         self.ended = true;
+        self.marks = None;
+        self.scan = no_scan();
     }
 
     fn hold_all(&mut self)
@@ -194,6 +250,8 @@ impl ScriptLines {
         add_part(&mut self.cutter, &self.block, self.next, count);
         self.length += count;
         self.next = self.filled;
+        self.marks = None;
+        self.scan = no_scan();
     }
 }
 

@@ -1,10 +1,12 @@
 // Lines on their way to who takes them.
 ghost use Rattle.std.specs.Prelude.{◌≡◌};
-ghost use Rattle.line_core.specs.Line.{body_of};
+ghost use Rattle.line_core.specs.Line.{body_of, body_from};
+ghost use Rattle.line_core.specs.Marks.{MayHaveMarks};
 ghost use Rattle.line_core.specs.Takes.{HasTaken, TakesIfSome};
 
 use crate::command::take_command;
 use crate::line::{Body, LINE_BYTES, begins_as_note};
+use crate::raw_line::RawLine;
 use crate::words::Words;
 use point_core::Refusal;
 
@@ -26,25 +28,41 @@ pub trait Takes {
 
 /// Passes on what the line says, if it has an answer: in the order of `body_of`.
 #[inline(always)]
-pub fn take_line<V: Takes>(line: &[u8], to: &mut V) -> Option<V::Given>
+pub fn take_raw_line<V: Takes>(line: &RawLine<'_>, to: &mut V) -> Option<V::Given>
     requires ready { V.can_take to.old }
-    ensures taken { HasTaken V.takes to.old (body_of line.now) result to.new }
+    ensures taken { HasTaken V.takes to.old (body_of line.now.bytes.now) result to.new }
 {
-    take_by_cases(line, to)
+    take_by_cases(line.bytes, line.marks, to)
+}
+
+/// The same of a line's bytes, with their marks if these are known.
+#[inline(always)]
+fn take_by_cases<V: Takes>(line: &[u8], marks: Option<u64>, to: &mut V) -> Option<V::Given>
+    requires ready { V.can_take to.old }
+    requires marks { MayHaveMarks line.now marks }
+    ensures taken { TakesIfSome V.takes to.old (body_of line.now) result to.new }
+{
+    let words = match marks {
+        Some(marks) => Words::marked(line, marks),
+        None => {
+            if line.len() > LINE_BYTES {
+                return Some(to.take(Body::Bad(Refusal::LongLine)));
+            }
+            if begins_as_note(line) {
+                return None;
+            }
+            Words::of(line)
+        }
+    };
+    take_words(&words, to)
 }
 
 #[inline(always)]
-fn take_by_cases<V: Takes>(line: &[u8], to: &mut V) -> Option<V::Given>
+fn take_words<V: Takes>(words: &Words<'_>, to: &mut V) -> Option<V::Given>
     requires ready { V.can_take to.old }
-    ensures taken { TakesIfSome V.takes to.old (body_of line.now) result to.new }
+    ensures taken { TakesIfSome V.takes to.old (body_from words.now) result to.new }
 {
-    if line.len() > LINE_BYTES {
-        return Some(to.take(Body::Bad(Refusal::LongLine)));
-    }
-    if begins_as_note(line) {
-        return None;
-    }
-    let (word, rest) = Words::of(line).first()?;
+    let (word, rest) = words.first()?;
     if word.starts_with(b"#") {
         return None;
     }
@@ -78,5 +96,5 @@ impl Takes for Kept {
 pub fn body_of(line: &[u8]) -> Option<Body>
     ensures body { result ≡ body_of line.now }
 {
-    take_by_cases(line, &mut Kept)
+    take_by_cases(line, None, &mut Kept)
 }

@@ -38,6 +38,18 @@ impl<'a> Words<'a> {
         Words { bytes, marks }
     }
 
+    /// The same of bytes whose marks are known.
+    #[inline(always)]
+    pub(crate) fn marked(bytes: &'a [u8], marks: u64) -> Words<'a>
+        requires marks { HasMarks bytes.now marks }
+        ensures words { result ≡ words_of bytes.now }
+    {
+        Words {
+            bytes,
+            marks: Some(marks),
+        }
+    }
+
     /// The first word, and the words after it.
     #[inline(always)]
     pub(crate) fn first(&self) -> Option<(&'a [u8], Words<'a>)>

@@ -1,7 +1,7 @@
 // How a line is answered.
 
 use crate::answers::Answers;
-use crate::next_line::answer_bytes;
+use crate::next_line::answer_raw;
 use line_core::{Ending, RawLine, last_body};
 use point_core::Refusal;
 use std::io::Write;
@@ -56,7 +56,7 @@ impl Answerer<()> for NoNotes {
         _notes: &mut (),
     ) -> Result<(), Refusal> {
         match ending {
-            Ending::Whole => answer_bytes(answers, line.number, line.bytes, writer)?,
+            Ending::Whole => answer_raw(answers, line, writer)?,
             _ => answers.answer(line.number, last_body(ending, line.bytes), writer)?,
         };
         Ok(())

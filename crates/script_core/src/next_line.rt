@@ -8,53 +8,53 @@ ghost use Rattle.script_core.specs.Answering.{HasAnswered, AnswersLine, IsAnswer
 ghost use Rattle.script_core.specs.Output.{WritesPrefix};
 
 use crate::answers::Answers;
-use line_core::{Body, Takes, take_line};
+use line_core::{Body, RawLine, Takes, take_raw_line};
 use point_core::Refusal;
 use std::io::Write;
 
-/// Answers the line of that number and of these bytes, if it has an answer, and gives the refusal if the answer is one.
+/// Answers the line, if it has an answer, and gives the refusal if the answer is one.
 ///
 /// Fails as `Answers::answer`.
 #[inline(always)]
-pub(crate) fn answer_bytes<W: Write>(
+pub(crate) fn answer_raw<W: Write>(
     answers: &mut Answers,
-    number: u32,
-    bytes: &[u8],
+    line: &RawLine<'_>,
     writer: &mut W,
 ) -> Result<Option<Refusal>, Refusal>
-    requires few { answers.old.totals.lines < number }
+    requires few { answers.old.totals.lines < line.now.number }
     ensures ok { OnOk result ((done : List Line) → (start : Option (List ℕ)) →
         HasAnswered done answers.old start (W.contents writer.old)
-        → HasAnswered (done ++ answered number (body_of bytes.now) []) answers.new start (W.contents writer.new)) }
-    ensures refused { IfOk result (λ refused. MatchOption (body_of bytes.now) (refused ≡ None) (λ said.
-        AnswersLine (record { number = number; body = said }) refused answers.old answers.new
+        → HasAnswered (done ++ answered line.now.number (body_of line.now.bytes.now) [])
+        answers.new start (W.contents writer.new)) }
+    ensures refused { IfOk result (λ refused. MatchOption (body_of line.now.bytes.now) (refused ≡ None) (λ said.
+        AnswersLine (record { number = line.now.number; body = said }) refused answers.old answers.new
         (W.contents writer.old) (W.contents writer.new))) }
     ensures err { OnErr result ((done : List Line) → (start : Option (List ℕ)) →
         HasAnswered done answers.old start (W.contents writer.old)
-        → WritesPrefix (done ++ answered number (body_of bytes.now) []) start (W.contents writer.new)) }
+        → WritesPrefix (done ++ answered line.now.number (body_of line.now.bytes.now) [])
+        start (W.contents writer.new)) }
     ensures lines { answers.new.totals.lines ≤ answers.old.totals.lines + 1 }
     ensures refusals { IfErr result (λ refusal. (refusal ≡ WriteFault) ⊎ (refusal ≡ Memory)) }
 {
-    take_bytes(answers, number, bytes, writer)
+    take_raw(answers, line, writer)
 }
 
 #[inline(always)]
-fn take_bytes<W: Write>(
+fn take_raw<W: Write>(
     answers: &mut Answers,
-    number: u32,
-    bytes: &[u8],
+    line: &RawLine<'_>,
     writer: &mut W,
 ) -> Result<Option<Refusal>, Refusal>
-    requires few { answers.old.totals.lines < number }
-    ensures answered { IsAnsweredIf number (body_of bytes.now) result answers.old answers.new
+    requires few { answers.old.totals.lines < line.now.number }
+    ensures answered { IsAnsweredIf line.now.number (body_of line.now.bytes.now) result answers.old answers.new
         (W.contents writer.old) (W.contents writer.new) }
 {
     let mut next = NextLine {
         answers,
-        number,
+        number: line.number,
         writer,
     };
-    match take_line(bytes, &mut next) {
+    match take_raw_line(line, &mut next) {
         Some(given) => given,
         None => Ok(None),
     }

@@ -76,6 +76,29 @@ const LONG_LINES: &[u8] = b"\
 
 const LONG_LINES_ANSWERS: &[u8] = b"ok 1\nok 0\nerr 12 LongLine line 3\nerr 12 LongLine line 4\n";
 
+// Lines of 61 to 66 bytes, short ones, and the last at once after an empty one.
+const SCANNED_LINES: &[u8] = b"\
+    timeline a\n\
+    \n\
+    inc                                                       a 1\n\
+    inc                                                        a 1\n\
+    inc                                                         a 1\n\
+    inc                                                          a 1\n\
+    inc                                                           a 1\n\
+    inc                                                            a 1\n\
+    inc a 1\n\
+    \n\
+    inc a 1\r\n\
+    # note\n\
+    \x20 value  a \n\
+    zzzzzzzzzzzzzzzzzzzzzzzzzzzzzzzzzzzzzzzzzzzzzzzzzzzzzzzzzzzzzzz\n\
+    \n\
+    value a\
+    ";
+
+const SCANNED_LINES_ANSWERS: &[u8] =
+    b"ok 1\nok 1\nok 2\nok 3\nok 4\nok 5\nok 6\nok 7\nerr 1 Syntax line 11\nok 7\nerr 1 Syntax line 14\nok 7\n";
+
 // A timeline that is closed below a pending point.
 const CLOSED: &[u8] = b"\
     timeline a\n\
@@ -162,7 +185,7 @@ fn assert_answers(
 
 #[test]
 fn answers_in_pieces(rt: HostRuntime) {
-    let cases: [(&[u8], &[u8], (u64, u64, u64)); 10] = [
+    let cases: [(&[u8], &[u8], (u64, u64, u64)); 11] = [
         (b"", b"", (0, 0, 0)),
         (b"\n# note", b"", (0, 0, 0)),
         (BOTH_ORDERS, BOTH_ORDERS_ANSWERS, (7, 7, 0)),
@@ -189,6 +212,7 @@ fn answers_in_pieces(rt: HostRuntime) {
             (7, 3, 4),
         ),
         (LONG_LINES, LONG_LINES_ANSWERS, (4, 2, 2)),
+        (SCANNED_LINES, SCANNED_LINES_ANSWERS, (12, 10, 2)),
         (CLOSED, CLOSED_ANSWERS, (16, 13, 3)),
     ];
     for (script, wanted, totals) in cases {
@@ -211,17 +235,18 @@ pub(crate) fn repeated(
     copies
 }
 
-// More answers than are written at once.
+// More lines than one block, one of which ends it, and more answers than are written at once.
 #[test]
 fn many_answers(rt: HostRuntime) {
-    let script = repeated(&rt, rt.alloc(), b"timeline a\n", b"value b\n", 2000);
-    let wanted = repeated(&rt, rt.alloc(), b"ok 1\n", b"err 2 NoEntry\n", 2000);
+    let first = b"timeline a\n\n\n\n\n\n";
+    let script = repeated(&rt, rt.alloc(), first, b"value b\n", 2100);
+    let wanted = repeated(&rt, rt.alloc(), b"ok 1\n", b"err 2 NoEntry\n", 2100);
     assert_answers(
         &rt,
         rt.alloc(),
         script.as_slice(),
         wanted.as_slice(),
-        (2001, 1, 2000),
+        (2101, 1, 2100),
     );
 }
 

@@ -5,7 +5,7 @@ use std::io::{Read, Write};
 use std::process::Abort;
 
 /// The bytes that a read or a write is given at most, by turns.
-pub(crate) const PIECES: [usize; 4] = [1, 2, 7, 4096];
+pub(crate) const PIECES: [usize; 4] = [1, 2, 7, 16384];
 
 /// Gives a script, at most `piece` bytes a read. Fails at its end if it is to fail.
 #[derive(Drop)]

@@ -1,21 +1,22 @@
-use Rattle.std.proofs.Common.{rules, ◌≡◌, sym, subst, Some}
-use Rattle.line_core.specs.Line.{body_of, command_or_syntax}
-use Rattle.line_core.specs.Table.{command_from}
-use Rattle.line_core.proofs.Taking.{TakesCommand-none, TakesCommand-some}
+use Rattle.std.proofs.Common.{◌≡◌, ◌≤◌, length, sym, ap, subst, ◌∙◌, arith}
+use Rattle.line_core.specs.declared.line.TheConstants.{LINE_BYTES}
+use Rattle.line_core.specs.Line.{body_of, body_from}
+use Rattle.line_core.specs.Marks.{MayHaveMarks, HasMarks}
+use Rattle.line_core.proofs.LineLemmas.{body_of-short}
+use Rattle.line_core.proofs.takes.take_by_cases.Goals.{in-Some, in-None+else-line-gt-LINE_BYTES+else-begins_as_note}
 use Rattle.line_core.proofs.takes.take_by_cases.Goals as goal
 
-pub take-requires-in-None : goal.take-requires-in-None
-take-requires-in-None g c =
-    let none = TakesCommand-none g.V.Takes.takes c.args.to.now c.take_command.new.to (command_from c.in_ok-word.word.now c.in_ok-word.rest) c.in-None.ensures.taken in
-    subst g.V.Takes.can_take (sym none.1) c.requires.ready
+pub marked-words-requires : goal.marked-words-requires
+marked-words-requires g c = record { marks = subst (λ m. MayHaveMarks c.args.line.now m) c.in-Some.is c.requires.marks }
 
-pub returns-in-Some : goal.returns-in-Some
-returns-in-Some g c =
-    let said : body_of c.args.line.now ≡ Some (command_or_syntax (command_from c.in_ok-word.word.now c.in_ok-word.rest)) = search rules in
-    rw said (record { taken = TakesCommand-some g.V.Takes.takes c.args.to.now c.take_command.new.to (command_from c.in_ok-word.word.now c.in_ok-word.rest) c.in-Some.given c.in-Some.ensures.taken })
-
-pub returns-in-None : goal.returns-in-None
-returns-in-None g c =
-    let none = TakesCommand-none g.V.Takes.takes c.args.to.now c.take_command.new.to (command_from c.in_ok-word.word.now c.in_ok-word.rest) c.in-None.ensures.taken in
-    let said : body_of c.args.line.now ≡ Some (command_or_syntax (command_from c.in_ok-word.word.now c.in_ok-word.rest)) = search rules in
-    rw said (rw none.0 (record { taken = subst (λ s. g.V.Takes.takes s _ c.take-in-None.result c.take-in-None.new.self) none.1 c.take-in-None.ensures }))
+pub returns : goal.returns
+returns g c =
+    let line = c.args.line.now in
+    elim c.match-marks.branch [
+      | in-Some w ↦ (let has : HasMarks line w.in-Some.marks = subst (λ m. MayHaveMarks line m) w.in-Some.is c.requires.marks in
+          let said : body_of line ≡ body_from c.match-marks.words = body_of-short line (omega (arith, has.few)) ∙ ap body_from (sym (w.words-is ∙ w.marked-words.ensures.words)) in
+          rw said (record { taken = c.take_words.ensures.taken }))
+      | in-None+else-line-gt-LINE_BYTES+else-begins_as_note w ↦ (let few : length line ≤ LINE_BYTES = omega (arith, w.if-line-gt-LINE_BYTES.false) in
+          let said : body_of line ≡ body_from c.match-marks.words = body_of-short line few ∙ ap body_from (sym (w.words-is ∙ w.of-words.ensures.words)) in
+          rw said (record { taken = c.take_words.ensures.taken }))
+    ]

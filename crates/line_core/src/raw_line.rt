@@ -1,0 +1,34 @@
+// A line of a script before it is read.
+ghost use Rattle.std.specs.Prelude.{◌≡◌};
+ghost use Rattle.std.proofs.Props.{props};
+ghost use Rattle.line_core.specs.Marks.{MayHaveMarks, HasMarks-prop};
+
+/// A line of a script as it stands there.
+#[derive(Clone, Copy, Debug)]
+pub struct RawLine<'a> {
+    /// Lines are numbered from 1.
+    pub number: u32,
+    /// An over-long line keeps its first 257 bytes.
+    pub bytes: &'a [u8],
+    /// How many bytes the line has, without its line feed.
+    pub length: usize,
+    // a bit for each byte that is set if the byte is of a word, if they are known
+    pub(crate) marks: Option<u64>,
+    ghost marked: { MayHaveMarks bytes.now marks } by { Prim.hlevel (props, HasMarks-prop) },
+}
+
+impl<'a> RawLine<'a> {
+    /// A line of that number and length, with those of its bytes that are kept.
+    pub fn new(number: u32, bytes: &'a [u8], length: usize) -> RawLine<'a>
+        ensures number { result.number ≡ number }
+        ensures bytes { result.bytes.now ≡ bytes.now }
+        ensures length { result.length ≡ length }
+    {
+        RawLine {
+            number,
+            bytes,
+            length,
+            marks: None,
+        }
+    }
+}

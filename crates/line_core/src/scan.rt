@@ -1,0 +1,120 @@
+// The next bytes of a script, all compared at once: where lines end among them, and which of them are of words.
+ghost use Rattle.std.specs.Prelude.{◌≡◌, ◌+◌, ◌/◌, ◌%◌, ◌^◌, ◌<◌, ◌≤◌, List, ℕ, Some, drop, take, length, position, IfSome};
+ghost use Rattle.line_core.specs.Marks.{HasMarks, marks_of};
+ghost use Rattle.line_core.specs.Scan.{IsScanOf, feeds_of};
+ghost use Rattle.line_core.specs.Script.{is_line_feed};
+
+use crate::marks::{MARKED_BYTES, WIDE_LANES, wide_lane_marks};
+use std::simd::prelude::*;
+
+/// How many bytes are compared at once. All but the last have marks.
+pub(crate) const SCAN_BYTES: usize = 2 * WIDE_LANES;
+
+/// A bit for each of some bytes that is set at a line feed, and one that is set at a byte of a word.
+#[derive(Clone, Copy, Debug)]
+pub(crate) struct Scan {
+    feeds: u64,
+    marks: u64,
+}
+
+/// A line whose line feed was seen: how many bytes it has, their marks, and what is known of the bytes after it.
+#[derive(Clone, Copy, Debug)]
+pub(crate) struct ScannedLine {
+    pub(crate) end: usize,
+    pub(crate) marks: u64,
+    pub(crate) rest: Scan,
+}
+
+/// Nothing is known of the bytes.
+pub(crate) fn no_scan() -> Scan
+    ensures none { (bytes : List ℕ) → IsScanOf bytes result }
+    ensures feeds { result.feeds ≡ 0 }
+{
+    Scan { feeds: 0, marks: 0 }
+}
+
+/// What the first of `count` bytes are, from a place on.
+pub(crate) fn scan_at(block: &[u8], start: usize, count: usize) -> Scan
+    requires within { start + SCAN_BYTES ≤ length block.now }
+    ensures scanned { IsScanOf (take count (drop start block.now)) result }
+{
+    let known = count.min(MARKED_BYTES);
+    let feeds = low_bits(feeds_at(block, start), known);
+    let marks = low_bits(marks_at(block, start), known);
+    Scan { feeds, marks }
+}
+
+fn feeds_at(block: &[u8], start: usize) -> u64
+    requires within { start + SCAN_BYTES ≤ length block.now }
+    ensures feeds { result ≡ feeds_of (take SCAN_BYTES (drop start block.now)) }
+{
+    (wide_lane_feeds(block, start + WIDE_LANES) << WIDE_LANES) | wide_lane_feeds(block, start)
+}
+
+fn marks_at(block: &[u8], start: usize) -> u64
+    requires within { start + SCAN_BYTES ≤ length block.now }
+    ensures marks { result ≡ marks_of (take SCAN_BYTES (drop start block.now)) }
+{
+    (wide_lane_marks(block, start + WIDE_LANES) << WIDE_LANES) | wide_lane_marks(block, start)
+}
+
+fn wide_lane_feeds(bytes: &[u8], start: usize) -> u64
+    requires within { start + WIDE_LANES ≤ length bytes.now }
+    ensures feeds { result ≡ feeds_of (take WIDE_LANES (drop start bytes.now)) }
+{
+    u8x32::from_slice(&bytes[start..])
+        .simd_eq(u8x32::splat(b'\n'))
+        .to_bitmask()
+}
+
+/// The first line, if its line feed was seen. The bytes are for the contract alone, here and below.
+#[inline(always)]
+pub(crate) fn first_scanned(bytes: &[u8], scan: &Scan) -> Option<ScannedLine>
+    requires scanned { IsScanOf bytes.now scan.now }
+    ensures place { IfSome result (λ line. position is_line_feed bytes.now ≡ Some line.end) }
+    ensures few { IfSome result (λ line. line.end < MARKED_BYTES) }
+    ensures marks { IfSome result (λ line. HasMarks (take line.end bytes.now) line.marks) }
+    ensures rest { IfSome result (λ line. IsScanOf (drop (line.end + 1) bytes.now) line.rest) }
+    ensures some { IfSome result (λ _. 0 < scan.now.feeds) }
+{
+    let end = scanned_end(bytes, scan)?;
+    let marks = low_bits(scan.marks, end);
+    let rest = scan_after(scan, end + 1);
+    Some(ScannedLine { end, marks, rest })
+}
+
+#[inline(always)]
+fn scanned_end(bytes: &[u8], scan: &Scan) -> Option<usize>
+    requires scanned { IsScanOf bytes.now scan.now }
+    ensures place { IfSome result (λ end. position is_line_feed bytes.now ≡ Some end) }
+    ensures few { IfSome result (λ end. end < MARKED_BYTES) }
+    ensures within { (is : IsScanOf bytes.now scan.now) → IfSome result (λ end. end < is.known) }
+    ensures some { IfSome result (λ _. 0 < scan.now.feeds) }
+{
+    let feeds = scan.feeds;
+    if feeds == 0 {
+        None
+    } else {
+        Some(feeds.trailing_zeros() as usize)
+    }
+}
+
+/// Without the first `count` bytes.
+fn scan_after(scan: &Scan, count: usize) -> Scan
+    requires few { count ≤ MARKED_BYTES }
+    ensures feeds { result.feeds ≡ scan.now.feeds / 2 ^ count }
+    ensures marks { result.marks ≡ scan.now.marks / 2 ^ count }
+{
+    Scan {
+        feeds: scan.feeds >> count,
+        marks: scan.marks >> count,
+    }
+}
+
+fn low_bits(bits: u64, count: usize) -> u64
+    requires few { count ≤ MARKED_BYTES }
+    ensures low { result ≡ bits % 2 ^ count }
+{
+    let mask = (1u64 << count) - 1;
+    bits & mask
+}
