@@ -5,6 +5,7 @@
 
 mod columns;
 mod line;
+mod number_line;
 mod report;
 mod row_kind;
 mod rows;
@@ -13,6 +14,7 @@ mod status;
 mod writing;
 
 pub use line::{TEXT_LINE_BYTES, TextLine};
+pub use number_line::push_numbered;
 pub use report::{buffer_text, report_text, show_text, timelines_text};
 pub use row_kind::RowKind;
 pub use rows::{

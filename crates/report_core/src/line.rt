@@ -1,5 +1,5 @@
 // A line of output, which is written from its end to its start.
-ghost use Rattle.std.specs.Prelude.{◌≡◌, ◌++◌, ◌+◌, ◌≤◌, ◌∷◌, [], OnOk, OnErr, Err, decimal, length};
+ghost use Rattle.std.specs.Prelude.{◌≡◌, ◌++◌, ◌+◌, ◌≤◌, ◌∷◌, [], OnOk, OnErr, Err, decimal, length, take};
 ghost use Rattle.point_core.specs.declared.refusal.Refusal.TheVariants.{Memory};
 ghost use Rattle.report_core.specs.Columns.{spaces};
 
@@ -16,21 +16,32 @@ pub const TEXT_LINE_BYTES: usize = 2 * (KIND_WIDTH + 1)
 
 const _: () = prove!(TEXT_LINE_BYTES == 92);
 
+/// A line of at most so many bytes is appended by a copy of that many.
+const SHORT_BYTES: usize = 32;
+
+/// The same of a longer line.
+const MIDDLE_BYTES: usize = 2 * SHORT_BYTES;
+
+/// The bytes of the array: after the line there is room for the rest of a copy.
+const ARRAY_BYTES: usize = TEXT_LINE_BYTES + SHORT_BYTES;
+
+const _: () = prove!(ARRAY_BYTES == 124);
+
 /// A line of output, held without memory. What is put into it goes before what is there.
 #[derive(Drop)]
 pub struct TextLine {
-    bytes: [u8; TEXT_LINE_BYTES],
+    bytes: [u8; ARRAY_BYTES],
     start: usize,
 }
 
 impl Model for TextLine {
-    ghost use Rattle.std.specs.Prelude.{◌≡◌, ◌≤◌, List, ℕ, drop, take};
+    ghost use Rattle.std.specs.Prelude.{◌≡◌, ◌≤◌, ◌-◌, List, ℕ, drop, take};
     ghost use Rattle.report_core.specs.declared.line.TheConstants.{TEXT_LINE_BYTES};
     ghost use Rattle.report_core.specs.Columns.{spaces};
 
     ghost Value = { List ℕ };
 
-    ghost view = { λ l. drop l.start l.bytes };
+    ghost view = { λ l. take (TEXT_LINE_BYTES - l.start) (drop l.start l.bytes) };
 
     // Where nothing was put yet there are spaces.
     ghost invariant = { λ l. (l.start ≤ TEXT_LINE_BYTES) × (take l.start l.bytes ≡ spaces l.start) };
@@ -42,7 +53,7 @@ impl TextLine {
     pub fn new() -> Self
         ensures { result ≡ 10 ∷ [] }
     {
-        let mut bytes = [b' '; TEXT_LINE_BYTES];
+        let mut bytes = [b' '; ARRAY_BYTES];
         bytes[TEXT_LINE_BYTES - 1] = b'\n';
         TextLine {
             bytes,
@@ -96,7 +107,7 @@ impl TextLine {
         ensures value { result.now ≡ self.now }
         ensures few { length self.now ≤ TEXT_LINE_BYTES }
     {
-        &self.bytes[self.start..]
+        &self.bytes[self.start..TEXT_LINE_BYTES]
     }
 
     /// Appends the line to `out`.
@@ -107,7 +118,29 @@ impl TextLine {
         ensures ok { OnOk result (out.new.items ≡ out.old.items ++ self.now) }
         ensures err { OnErr result ((result ≡ Err Memory) × (out.new.items ≡ out.old.items)) }
     {
-        out.extend_from_slice(&self.bytes[self.start..])?;
-        Ok(())
+        let start = self.start;
+        let length = self.len();
+        if length <= SHORT_BYTES {
+            push_first(&self.bytes[start..start + SHORT_BYTES], length, out)
+        } else if length <= MIDDLE_BYTES {
+            push_first(&self.bytes[start..start + MIDDLE_BYTES], length, out)
+        } else {
+            push_first(self.as_bytes(), length, out)
+        }
     }
+}
+
+/// Appends that many of the bytes to `out`, by a copy of all. Where the compiler knows how many there are, the copy is
+/// a few moves and no call.
+///
+/// Fails only with Memory, and then leaves `out` as it was.
+#[inline(always)]
+fn push_first(bytes: &[u8], count: usize, out: &mut Vec<u8>) -> Result<(), Refusal>
+    requires { count ≤ length bytes.now }
+    ensures ok { OnOk result (out.new.items ≡ out.old.items ++ take count bytes.now) }
+    ensures err { OnErr result ((result ≡ Err Memory) × (out.new.items ≡ out.old.items)) }
+{
+    out.extend_from_slice(bytes)?;
+    out.truncate(out.len() - (bytes.len() - count));
+    Ok(())
 }

@@ -49,6 +49,7 @@ const _: () = prove!(FILE_ROW_BYTES == 66);
 /// space, the number in decimal on the right of its column, and a line feed.
 ///
 /// Fails only with Memory. `out` then begins with what it was.
+#[inline(always)]
 pub fn row(kind: RowKind, name: &Name, number: u64, out: &mut Vec<u8>) -> Result<(), Refusal>
     ensures ok { OnOk result (out.new.items ≡ out.old.items ++ row_text kind name.now number) }
     ensures width { OnOk result (length out.new.items ≡ length out.old.items + ROW_BYTES) }

@@ -15,7 +15,8 @@ use command_core::{Answer, FenceRow, Info, Maker, Report, ShowRow};
 use itoa::Buffer;
 use point_core::{Refusal, Status};
 use report_core::{
-    NUMBER_WIDTH, STATUS_BYTES, TEXT_LINE_BYTES, TextLine, status_text, timelines_text,
+    NUMBER_WIDTH, STATUS_BYTES, TEXT_LINE_BYTES, TextLine, push_numbered, status_text,
+    timelines_text,
 };
 
 /// The most bytes of a driver's name, those of `sw_sync`.
@@ -125,9 +126,7 @@ fn push_value(value: u64, out: &mut Vec<u8>) -> Result<(), Refusal>
     ensures ok { OnOk result (out.new.items ≡ out.old.items ++ value_line value) }
     ensures err { OnErr result ((result ≡ Err Memory) × StartsWith out.new.items out.old.items) }
 {
-    let mut line = TextLine::new();
-    put_value(&mut line, value);
-    line.push_to(out)
+    push_numbered(b"ok", value, out)
 }
 
 #[inline(always)]
@@ -156,10 +155,7 @@ fn push_fired(cookie: u64, out: &mut Vec<u8>) -> Result<(), Refusal>
     ensures ok { OnOk result (out.new.items ≡ out.old.items ++ fired_text cookie) }
     ensures err { OnErr result ((result ≡ Err Memory) × StartsWith out.new.items out.old.items) }
 {
-    let mut line = TextLine::new();
-    put_number(&mut line, cookie);
-    line.put_text(b"fired");
-    line.push_to(out)
+    push_numbered(b"fired", cookie, out)
 }
 
 #[inline(never)]

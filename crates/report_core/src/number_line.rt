@@ -1,0 +1,56 @@
+// A line of a word and a number.
+ghost use Rattle.std.specs.Prelude.{◌≡◌, ◌++◌, ◌+◌, ◌≤◌, ◌∷◌, [], OnOk, OnErr, Err, decimal, length, vec_len, vec_capacity};
+ghost use Rattle.point_core.specs.declared.refusal.Refusal.TheVariants.{Memory};
+
+use crate::rows::{KIND_WIDTH, NUMBER_WIDTH};
+use itoa::write_digits;
+use point_core::Refusal;
+
+/// The most bytes of such a line: a short word, a space, a number and a line feed.
+const LINE_BYTES: usize = KIND_WIDTH + 1 + NUMBER_WIDTH + 1;
+
+/// Appends to `out` a line of the short word, a space and the number.
+///
+/// Fails only with Memory, and then leaves `out` as it was. It is pushed byte by byte, in room for the longest line:
+/// a copy would wait for the digits, which are stored in smaller pieces.
+#[inline(always)]
+pub fn push_numbered(word: &[u8], number: u64, out: &mut Vec<u8>) -> Result<(), Refusal>
+    requires { length word.now ≤ KIND_WIDTH }
+    ensures ok { OnOk result (out.new.items ≡ out.old.items ++ (word.now ++ 32 ∷ decimal number ++ 10 ∷ [])) }
+    ensures err { OnErr result ((result ≡ Err Memory) × (out.new.items ≡ out.old.items)) }
+{
+    if out.capacity() - out.len() < LINE_BYTES {
+        out.reserve(LINE_BYTES)?;
+    }
+    push_bytes(word, out);
+    out.push_reserved(b' ');
+    push_digits(number, out);
+    out.push_reserved(b'\n');
+    Ok(())
+}
+
+/// Appends the number, in decimal, to `out`, which has room for it.
+#[inline(always)]
+fn push_digits(number: u64, out: &mut Vec<u8>)
+    requires { vec_len out.old + NUMBER_WIDTH ≤ vec_capacity out.old }
+    ensures items { out.new.items ≡ out.old.items ++ decimal number }
+    ensures len { vec_len out.new ≤ vec_len out.old + NUMBER_WIDTH }
+    ensures capacity { vec_capacity out.new ≡ vec_capacity out.old }
+{
+    let mut digits = [0; NUMBER_WIDTH];
+    let start = write_digits(number, &mut digits, NUMBER_WIDTH);
+    push_bytes(&digits[start..], out);
+}
+
+/// Appends the bytes to `out`, which has room for them.
+#[inline(always)]
+fn push_bytes(bytes: &[u8], out: &mut Vec<u8>)
+    requires { vec_len out.old + length bytes.now ≤ vec_capacity out.old }
+    ensures items { out.new.items ≡ out.old.items ++ bytes.now }
+    ensures len { vec_len out.new ≡ vec_len out.old + length bytes.now }
+    ensures capacity { vec_capacity out.new ≡ vec_capacity out.old }
+{
+    for byte in bytes {
+        out.push_reserved(*byte);
+    }
+}
