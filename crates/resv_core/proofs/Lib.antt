@@ -4,6 +4,7 @@ pub mod Counting
 pub mod Dropping
 pub mod Kept
 pub mod Placing
+pub mod Raising
 pub mod Reservations
 pub mod Replacing
 pub mod RoundActs

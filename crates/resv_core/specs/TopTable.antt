@@ -1,5 +1,6 @@
 -- The latest points that a buffer keeps, as the entries that they stand for.
-use Rattle.std.specs.Prelude.{ℕ, ◌≡◌, ◌≤◌, nat_lt, if◌then◌else◌, List, [], Option, None, Some}
+use Rattle.std.specs.Prelude.{ℕ, ◌≡◌, ◌≤◌, ◌<◌, nat_lt, if◌then◌else◌, List, [], ◌∷◌, ◌++◌, All, Option, None, Some}
+use Rattle.point_core.specs.declared.entry.Point.{Point}
 use Rattle.std.specs.List.{flat_map}
 use Rattle.point_core.specs.declared.context.TheConstants.{CONTEXTS}
 use Rattle.point_core.specs.declared.entry.Entry.{Entry}
@@ -36,3 +37,14 @@ pub record AreDropped (reach : List ℕ) (before after : Tops) : Type 0 where
   pub write : HasDropped reach before.write after.write
   pub read : HasDropped reach before.read after.read
   pub bookkeep : HasDropped reach before.bookkeep after.bookkeep
+
+-- each point is of a context that there can be, and not later than what the table has
+abbrev pub AreNotLater : List ℕ → List Point → Type 0
+AreNotLater latest points = All (λ p. ((1 ≤ p.ctx) × (p.ctx ≤ CONTEXTS)) × (p.value ≤ value_at latest p.ctx)) points
+
+-- the first of the points that is later than what the table has, and those after it
+pub record IsFirstLater (latest : List ℕ) (points : List Point) (first : Point) (others : List Point) : Type 0 where
+  pub before : List Point
+  pub parts : points ≡ before ++ first ∷ others
+  pub passed : AreNotLater latest before
+  pub later : value_at latest first.ctx < first.value

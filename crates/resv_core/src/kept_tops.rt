@@ -1,5 +1,5 @@
 // Tables of latest points that are kept: points are put into them, and those that are reached are dropped.
-ghost use Rattle.std.specs.Prelude.{◌≡◌, ℕ, ◌≤◌, ◌↔◌, ◌++◌, ◌∷◌, [], IsTrue, List, replicate};
+ghost use Rattle.std.specs.Prelude.{◌≡◌, ℕ, ◌≤◌, ◌↔◌, ◌++◌, ◌∷◌, [], IsTrue, List, MatchOption, replicate};
 ghost use Rattle.point_core.specs.declared.context.TheConstants.{CONTEXTS};
 ghost use Rattle.point_core.specs.declared.entry.Entry.{Entry};
 ghost use Rattle.point_core.specs.Agreement.{HasContexts};
@@ -7,7 +7,7 @@ ghost use Rattle.point_core.specs.Latest.{IsLatest};
 ghost use Rattle.point_core.specs.Reach.{value_at, IsAtLeast};
 ghost use Rattle.point_core.specs.Usage.{usage_number};
 ghost use Rattle.resv_core.specs.Resv.{entries_as, entry_of};
-ghost use Rattle.resv_core.specs.TopTable.{AreDropped, HasDropped};
+ghost use Rattle.resv_core.specs.TopTable.{AreDropped, AreNotLater, HasDropped, IsFirstLater};
 ghost use Rattle.resv_core.specs.Tops.{AreTops};
 
 use crate::tops::Tops;
@@ -19,12 +19,19 @@ impl Tops {
         ensures latest { (reach : List ℕ) (es : List Entry) →
             AreTops self.now reach es → IsLatest result.now reach es (usage_number usage) }
     {
-        match usage {
-            Usage::Kernel => &self.kernel,
-            Usage::Write => &self.write,
-            Usage::Read => &self.read,
-            Usage::Bookkeep => &self.bookkeep,
-        }
+        // No `match`, which becomes a jump through a table.
+        let number = usage.number();
+        let strong = if number == 0 {
+            &self.kernel
+        } else {
+            &self.write
+        };
+        let weak = if number == 2 {
+            &self.read
+        } else {
+            &self.bookkeep
+        };
+        if number < 2 { strong } else { weak }
     }
 
     /// Puts points of one usage, as `put` does.
@@ -34,8 +41,10 @@ impl Tops {
         ensures contexts { HasContexts (entries_as usage points.now) }
         ensures nothing { points.now ≡ [] → self.new ≡ self.old }
     {
-        for point in points {
-            self.raise(*point, usage);
+        let mut rest = points;
+        while let Some((point, others)) = first_later(self.at(usage), rest) {
+            self.raise_later(point, usage);
+            rest = others;
         }
     }
 
@@ -69,6 +78,21 @@ impl Tops {
         drop_reached(&mut self.read, reach, &none);
         drop_reached(&mut self.bookkeep, reach, &none);
     }
+}
+
+/// The first of the points that is later than what the table has, and those after it.
+fn first_later<'a>(latest: &LatestPoints, points: &'a [Point]) -> Option<(Point, &'a [Point])>
+    ensures first { MatchOption result
+        (AreNotLater latest.now points.now)
+        (λ (point, others). IsFirstLater latest.now points.now point others.now) }
+{
+    for index in 0..points.len() {
+        let point = points[index];
+        if latest.get(point.ctx) < point.value {
+            return Some((point, &points[index + 1..]));
+        }
+    }
+    None
 }
 
 /// Whether the reach has every point of the table.
