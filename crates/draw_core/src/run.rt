@@ -376,11 +376,7 @@ fn word_of_line(body: &Body) -> &'static str {
 fn raw_line(number: u32, text: &[u8]) -> RawLine<'_>
     ensures { result.number ≡ number }
 {
-    RawLine::new(
-        number,
-        &text[..text.len().min(LINE_BYTES + 1)],
-        text.len(),
-    )
+    RawLine::new(number, &text[..text.len().min(LINE_BYTES + 1)], text.len())
 }
 
 fn push_waits(

@@ -1,5 +1,5 @@
 // A name of a timeline, a file or a buffer.
-ghost use Rattle.std.specs.Prelude.{◌≡◌, ◌≤◌, ◌↔◌, IsSome, IfSome, length, map, slice_set};
+ghost use Rattle.std.specs.Prelude.{◌≡◌, ◌≤◌, ◌-◌, ◌++◌, ◌↔◌, IsSome, IfSome, length, map, replicate, slice_set};
 ghost use Rattle.std.specs.List.{list_all};
 ghost use Rattle.std.specs.Simd.Lanes.{mask_l};
 ghost use Rattle.point_core.specs.Name.{IsName, is_name_byte, padded};
@@ -54,6 +54,18 @@ impl Name {
         Some(Name {
             lanes: with_length(lanes, bytes.len()),
         })
+    }
+
+    /// Its bytes, and spaces after them.
+    #[inline(always)]
+    pub fn in_column(&self) -> [u8; NAME_BYTES]
+        ensures { result ≡ self.now ++ replicate (NAME_BYTES - length self.now) 32 }
+    {
+        let none = self.lanes.simd_eq(u8x32::splat(0));
+        let lanes = none.select(u8x32::splat(b' '), self.lanes).to_array();
+        let mut column = [b' '; NAME_BYTES];
+        column.copy_from_slice(&lanes[..NAME_BYTES]);
+        column
     }
 
     /// Its bytes.

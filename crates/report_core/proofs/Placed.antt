@@ -1,9 +1,10 @@
 -- A row whose parts are put at their places.
-use Rattle.std.proofs.Common.{◌≡◌, ℕ, ◌+◌, ◌-◌, ◌≤◌, List, [], ◌∷◌, ◌++◌, length, take, drop, sym, ap, ◌∙◌, arith, append_assoc, length-append}
+use Rattle.std.proofs.Common.{◌≡◌, ℕ, ◌+◌, ◌-◌, ◌≤◌, List, [], ◌∷◌, ◌++◌, length, take, drop, sym, ap, ◌∙◌, arith, append_assoc, ◌<◌, length-append}
 use Rattle.std.proofs.Math.Seq.{take-append_seam, drop-append_seam}
-use Rattle.std.proofs.lemmas.List.{take-append-drop, take-append-le, take-replicate, drop-append-le, drop-drop, drop-replicate, length-replicate, length-take-le, replicate-append-replicate}
+use Rattle.std.proofs.lemmas.List.{take-append-drop, take-append-le, take-replicate, drop-append-le, drop-drop, drop-replicate, length-replicate, length-take-le, replicate-append-replicate, append-nil}
+use Rattle.report_core.proofs.Widths.{length-left}
 use Rattle.report_core.specs.declared.rows.TheConstants.{KIND_BYTES, SUBJECT_WIDTH, NUMBER_WIDTH, ROW_BYTES}
-use Rattle.report_core.specs.Columns.{spaces, column, right}
+use Rattle.report_core.specs.Columns.{spaces, left, column, right}
 
 take-front : (front rest : List ℕ) (n : ℕ) → length front ≡ n → take n (front ++ rest) ≡ front
 take-front front rest n size = ap (λ k. take k (front ++ rest)) (sym size) ∙ take-append_seam front rest
@@ -46,9 +47,8 @@ regroup k s a o b d l =
     append_assoc front (b ++ d) l ∙ ap (λ x. front ++ x) (append_assoc b d l) ∙ append_assoc k ((s ++ a) ++ o) (b ++ rest) in
     ap (λ x. k ++ (s ++ x)) gap ∙ sym (whole ∙ ap (λ x. k ++ x) middle)
 
--- the number is put first, then the subject, then the kind
-pub row-columns : (kind subject digits blank numbered named row : List ℕ) (start last : ℕ) → length kind ≡ KIND_BYTES → length subject ≤ SUBJECT_WIDTH → length digits ≤ NUMBER_WIDTH → length numbered ≡ ROW_BYTES → start + length digits ≡ 61 → blank ≡ spaces 61 ++ last ∷ [] → drop start numbered ≡ digits ++ drop 61 blank → take start numbered ≡ take start blank → named ≡ take KIND_BYTES numbered ++ subject ++ drop (KIND_BYTES + length subject) numbered → row ≡ take 0 named ++ kind ++ drop (0 + length kind) named → row ≡ kind ++ column SUBJECT_WIDTH subject ++ right NUMBER_WIDTH digits ++ last ∷ []
-row-columns kind subject digits blank numbered named row start last word fits few size end none written before put is =
+row-parts : (kind subject digits blank numbered named row : List ℕ) (start last : ℕ) → length kind ≡ KIND_BYTES → length subject ≤ SUBJECT_WIDTH → length digits ≤ NUMBER_WIDTH → length numbered ≡ ROW_BYTES → start + length digits ≡ 61 → blank ≡ spaces 61 ++ last ∷ [] → drop start numbered ≡ digits ++ drop 61 blank → take start numbered ≡ take start blank → named ≡ take KIND_BYTES numbered ++ subject ++ drop (KIND_BYTES + length subject) numbered → row ≡ take 0 named ++ kind ++ drop (0 + length kind) named → row ≡ kind ++ column SUBJECT_WIDTH subject ++ right NUMBER_WIDTH digits ++ last ∷ []
+row-parts kind subject digits blank numbered named row start last word fits few size end none written before put is =
     let from = KIND_BYTES + length subject in
     let gap = SUBJECT_WIDTH - length subject in
     let room = NUMBER_WIDTH - length digits in
@@ -77,3 +77,32 @@ row-columns kind subject digits blank numbered named row start last word fits fe
     ∙ ap (λ k. kind ++ drop k named) at
     ∙ ap (λ x. kind ++ x) (rest ∙ ap (λ x. subject ++ x) behind)
     ∙ regroup kind subject (spaces gap) (32 ∷ []) (spaces room) digits (last ∷ [])
+
+-- a text that fills its column is not moved by it
+column-left : (subject : List ℕ) → length subject ≤ SUBJECT_WIDTH → column SUBJECT_WIDTH (left SUBJECT_WIDTH subject) ≡ column SUBJECT_WIDTH subject
+column-left subject fits =
+    let full = left SUBJECT_WIDTH subject in
+    ap (λ n. (full ++ spaces (SUBJECT_WIDTH - n)) ++ 32 ∷ []) (length-left SUBJECT_WIDTH subject fits)
+    ∙ ap (λ text. text ++ 32 ∷ []) (append-nil full)
+
+-- the number is put first, then the subject with its spaces, then the kind
+pub row-columns : (kind subject digits blank numbered named row : List ℕ) (start last : ℕ) → length kind ≡ KIND_BYTES → length subject ≤ SUBJECT_WIDTH → length digits ≤ NUMBER_WIDTH → length numbered ≡ ROW_BYTES → start + length digits ≡ 61 → blank ≡ spaces 61 ++ last ∷ [] → drop start numbered ≡ digits ++ drop 61 blank → take start numbered ≡ take start blank → named ≡ take KIND_BYTES numbered ++ left SUBJECT_WIDTH subject ++ drop (KIND_BYTES + SUBJECT_WIDTH) numbered → row ≡ take 0 named ++ kind ++ drop (0 + length kind) named → row ≡ kind ++ column SUBJECT_WIDTH subject ++ right NUMBER_WIDTH digits ++ last ∷ []
+row-columns kind subject digits blank numbered named row start last word fits few size end none written before put is =
+    let full = left SUBJECT_WIDTH subject in
+    let wide : length full ≡ SUBJECT_WIDTH = length-left SUBJECT_WIDTH subject fits in
+    let placed : named ≡ take KIND_BYTES numbered ++ full ++ drop (KIND_BYTES + length full) numbered =
+    put ∙ ap (λ n. take KIND_BYTES numbered ++ full ++ drop (KIND_BYTES + n) numbered) (sym wide) in
+    row-parts kind full digits blank numbered named row start last word (omega (arith, wide)) few size end none written before placed is
+    ∙ ap (λ text. kind ++ text ++ right NUMBER_WIDTH digits ++ last ∷ []) (column-left subject fits)
+
+-- a text with its spaces is put in the second column
+pub put-column : (row subject text put : List ℕ) → length text ≡ SUBJECT_WIDTH → text ≡ left SUBJECT_WIDTH subject → put ≡ take KIND_BYTES row ++ text ++ drop (KIND_BYTES + length text) row → put ≡ take KIND_BYTES row ++ left SUBJECT_WIDTH subject ++ drop (KIND_BYTES + SUBJECT_WIDTH) row
+put-column row subject text put wide is placed =
+    placed ∙ ap (λ n. take KIND_BYTES row ++ text ++ drop (KIND_BYTES + n) row) wide
+    ∙ ap (λ x. take KIND_BYTES row ++ x ++ drop (KIND_BYTES + SUBJECT_WIDTH) row) is
+
+-- a letter and digits that are put at the start of spaces
+pub numbered-left : (letter : ℕ) (digits text : List ℕ) → length digits < SUBJECT_WIDTH → text ≡ letter ∷ digits ++ drop (length digits) (spaces 30) → text ≡ left SUBJECT_WIDTH (letter ∷ digits)
+numbered-left letter digits text few is =
+    let less : 30 - length digits ≡ SUBJECT_WIDTH - length (letter ∷ digits) = omega arith in
+    is ∙ ap (λ rest. letter ∷ digits ++ rest) (drop-replicate (length digits) 30 32 ∙ ap spaces less)

@@ -15,7 +15,7 @@ use Rattle.report_core.specs.RowKind.{kind_word}
 use Rattle.command_core.specs.declared.answer.FileRow.{FileRow}
 use Rattle.report_core.specs.Row.{columns, row_text, file_row_text}
 
-length-left : (width : ℕ) (text : List ℕ) → length text ≤ width → length (left width text) ≡ width
+pub length-left : (width : ℕ) (text : List ℕ) → length text ≤ width → length (left width text) ≡ width
 length-left width text h = omega (arith, length-append text (replicate {A = ℕ} (width - length text) 32), length-replicate {A = ℕ} (width - length text) 32)
 
 length-column : (width : ℕ) (text : List ℕ) → length text ≤ width → length (column width text) ≡ width + 1

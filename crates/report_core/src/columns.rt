@@ -1,7 +1,7 @@
 // The columns of a row.
-ghost use Rattle.std.specs.Prelude.{◌≡◌, ◌++◌, ◌∷◌, [], ◌+◌, ◌≤◌, OnOk, OnErr, Err, decimal, length, take, drop};
+ghost use Rattle.std.specs.Prelude.{◌≡◌, ◌++◌, ◌∷◌, [], ◌+◌, ◌<◌, ◌≤◌, OnOk, OnErr, Err, decimal, length, take, drop};
 ghost use Rattle.point_core.specs.declared.refusal.Refusal.TheVariants.{Memory};
-ghost use Rattle.report_core.specs.Columns.{right};
+ghost use Rattle.report_core.specs.Columns.{left, right};
 ghost use Rattle.report_core.specs.Subject.{subject_text};
 ghost use Rattle.report_core.specs.Row.{columns};
 
@@ -67,20 +67,32 @@ pub(crate) fn push_text_columns(
     Ok(())
 }
 
-/// Puts the subject at the start of the second column.
+/// Puts the subject on the left of the second column, and spaces after it.
 #[inline(always)]
 fn put_subject(row: &mut [u8; ROW_BYTES], subject: Subject<'_>)
-    ensures text { row.new ≡ take KIND_BYTES row.old ++ subject_text subject.entry
-        ++ drop (KIND_BYTES + length (subject_text subject.entry)) row.old }
+    ensures text { row.new ≡ take KIND_BYTES row.old ++ left SUBJECT_WIDTH (subject_text subject.entry)
+        ++ drop (KIND_BYTES + SUBJECT_WIDTH) row.old }
     ensures len { length (subject_text subject.entry) ≤ SUBJECT_WIDTH }
 {
     match subject {
-        Subject::Named(name) => put_at(row, KIND_BYTES, name.as_bytes()),
+        Subject::Named(name) => put_at(row, KIND_BYTES, &name.in_column()),
         Subject::Numbered(letter, number) => {
-            put_at(row, KIND_BYTES, &[letter]);
-            put_at(row, KIND_BYTES + 1, Buffer::new().format(number).as_bytes());
+            put_at(row, KIND_BYTES, &numbered_column(letter, number));
         }
     }
+}
+
+/// The letter and the number on the left of a column.
+fn numbered_column(letter: u8, number: u64) -> [u8; SUBJECT_WIDTH]
+    ensures text { result ≡ left SUBJECT_WIDTH (letter ∷ decimal number) }
+    ensures len { length (decimal number) < SUBJECT_WIDTH }
+{
+    let mut buffer = Buffer::new();
+    let digits = buffer.format(number).as_bytes();
+    let mut column = [b' '; SUBJECT_WIDTH];
+    column[0] = letter;
+    column[1..1 + digits.len()].copy_from_slice(digits);
+    column
 }
 
 /// Puts the text at a place of the row.
