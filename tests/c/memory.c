@@ -158,6 +158,10 @@ static size_t allocations_before, refusals_met;
 /* What a call answers without memory. */
 static int no_memory = BIM_MEMORY;
 
+/* Whether the call may go on without memory: an increment does if that was for a watch to move on to its next point. The
+ * watch then stays where it is, and the next increment asks it. */
+static bool may_go_on;
+
 static void begin_call(void)
 {
     write_service(&before);
@@ -175,7 +179,7 @@ static void begin_call(void)
 static bool is_to_call_again(int came, int wanted, const char *call, int line)
 {
     bool was_refused = allocations_before < refused && refused <= allocations;
-    bool went_on = was_refused && came == wanted && (refused < allocations || wanted != BIM_OK);
+    bool went_on = was_refused && came == wanted && (refused < allocations || wanted != BIM_OK || may_go_on);
 
     counting = false;
     refusals_met += was_refused;
@@ -227,7 +231,9 @@ static void run_desk(void)
         CALL(bim_watch(&it.desk, cookie % 2 ? "f" : "m", cookie), BIM_OK);
     CALL(bim_unwatch(&it.desk, 4, &it.flag), BIM_OK);
     CALL(bim_wait(&it.desk, "m"), BIM_TIMED_OUT);
+    may_go_on = true;
     CALL(bim_inc(&it.desk, "a", 3, &it.number), BIM_OK);
+    may_go_on = false;
     CALL(bim_shut(&it.desk, "b", &it.number), BIM_OK);
     CALL(bim_merge(&it.desk, "n", "m", "x"), BIM_OK);
     CALL(bim_close(&it.desk, "m"), BIM_OK);
