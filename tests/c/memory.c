@@ -161,6 +161,7 @@ static int no_memory = BIM_MEMORY;
 /* Whether the call may go on without memory: an increment does if that was for a watch to move on to its next point. The
  * watch then stays where it is, and the next increment asks it. */
 static bool may_go_on;
+static size_t stays; /* how often that was so */
 
 static void begin_call(void)
 {
@@ -179,10 +180,12 @@ static void begin_call(void)
 static bool is_to_call_again(int came, int wanted, const char *call, int line)
 {
     bool was_refused = allocations_before < refused && refused <= allocations;
-    bool went_on = was_refused && came == wanted && (refused < allocations || wanted != BIM_OK || may_go_on);
+    bool stayed = was_refused && came == wanted && refused == allocations && may_go_on;
+    bool went_on = was_refused && came == wanted && (refused < allocations || wanted != BIM_OK || stayed);
 
     counting = false;
     refusals_met += was_refused;
+    stays += stayed;
     expect(__FILE__, line, call, came, was_refused && !went_on && wanted == BIM_OK ? no_memory : wanted);
     if (!was_refused || went_on)
         return false;
@@ -431,6 +434,7 @@ int main(void)
         HOLDS(strcmp(text.bytes, undisturbed.bytes) == 0);
     }
     HOLDS(count > 0);
+    EXPECT(stays, 1);
     watch_without_memory();
     device_without_memory();
     printf("%zu allocations were refused in turn\n", count);
