@@ -7,6 +7,7 @@ pub mod Placed
 pub mod Polling
 pub mod Reached
 pub mod Renumbering
+pub mod Rising
 pub mod Standing
 pub mod Statuses
 pub mod Unions

@@ -1,11 +1,11 @@
 // A file that is being made.
-ghost use Rattle.std.specs.Prelude.{◌≡◌, ℕ, List, OnOk, IfErr};
+ghost use Rattle.std.specs.Prelude.{◌≡◌, ℕ, List, OnOk, IfErr, option_copied};
 ghost use Rattle.point_core.specs.declared.refusal.Refusal.TheVariants.{Memory};
 ghost use Rattle.point_core.specs.Agreement.{HasRisingContexts};
 ghost use Rattle.syncfile_core.specs.SyncFile.{plain_file, file_of};
-ghost use Rattle.syncfile_core.specs.Drafts.{drafted};
+ghost use Rattle.syncfile_core.specs.Drafts.{drafted, pending_of};
 
-use point_core::{Floor, Listing, Point, Refusal};
+use point_core::{Floor, LatestPoints, Listing, Point, Reach, Refusal};
 use std::alloc::Global;
 
 /// The points and the floor of a file that is being made, in the memory of one that was closed.
@@ -52,5 +52,42 @@ impl Draft {
         let Listing { points, floor } = listing;
         self.points = points.into_vec();
         self.floor.copy_from(&floor)
+    }
+
+    /// The latest points that are above the reach, with the reach as the floor; no points if there is no table.
+    ///
+    /// Fails with `Memory` alone.
+    pub(crate) fn draw_latest(
+        &mut self,
+        latest: Option<&LatestPoints>,
+        reach: &Reach,
+    ) -> Result<(), Refusal>
+        ensures file { OnOk result ((name : List ℕ) →
+            drafted name self.new ≡ file_of name (pending_of (option_copied latest.entry) reach.now) reach.now) }
+        ensures rising { OnOk result (HasRisingContexts self.new.points.items) }
+        ensures memory { IfErr result (λ e. e ≡ Memory) }
+    {
+        list_latest(&mut self.points, latest, reach)?;
+        self.floor.copy_from(reach)
+    }
+}
+
+/// The latest points that are above the reach, into a list that is kept; none if there is no table.
+///
+/// Fails with `Memory` alone.
+fn list_latest(
+    points: &mut Vec<Point>,
+    latest: Option<&LatestPoints>,
+    reach: &Reach,
+) -> Result<(), Refusal>
+    ensures points { OnOk result (points.new.items ≡ pending_of (option_copied latest.entry) reach.now) }
+    ensures memory { IfErr result (λ e. e ≡ Memory) }
+{
+    match latest {
+        Some(latest) => latest.list(reach, points),
+        None => {
+            points.clear();
+            Ok(())
+        }
     }
 }

@@ -3,6 +3,7 @@ ghost use Rattle.std.specs.Prelude.{◌≡◌, ◌++◌, [], ◌∷◌, length, 
 ghost use Rattle.point_core.specs.declared.refusal.Refusal.TheVariants.{Memory, NoEntry};
 ghost use Rattle.syncfile_core.specs.declared.files.TheConstants.{FILES};
 ghost use Rattle.syncfile_core.specs.SyncFile.{file_of, plain_file};
+ghost use Rattle.syncfile_core.specs.Drafts.{pending_of};
 ghost use Rattle.syncfile_core.specs.Merge.{files_at, merge_of, cause_to_refuse_merge, StandsForUnion};
 ghost use Rattle.point_core.specs.Agreement.{as_entry, HasRisingContexts};
 ghost use Rattle.point_core.specs.Clocks.{common_status};
@@ -15,7 +16,7 @@ use crate::draft::Draft;
 use crate::merge::Gathered;
 use crate::status::{self, FileInfo};
 use crate::sync_file::SyncFile;
-use point_core::{Clocks, Items, Listing, Name, Point, Reach, Refusal, Status};
+use point_core::{Clocks, Items, LatestPoints, Listing, Name, Point, Reach, Refusal, Status};
 use std::alloc::Global;
 use std::marker::Model;
 
@@ -176,6 +177,25 @@ impl Files {
         ensures unchanged { OnErr result (self.new ≡ self.old) }
     {
         let drawn = self.draft.draw_listing(listing);
+        self.made.make(self.alloc, name, &mut self.draft, drawn)
+    }
+
+    /// Makes a file of the latest points that are above the reach, whose floor is the reach; without a table, a file
+    /// without points. It is drawn in memory that is kept: `adopt` of a listing makes the same file.
+    ///
+    /// Fails as `free` does, then with `Memory`; nothing is made then.
+    pub fn adopt_latest(
+        &mut self,
+        name: Name,
+        latest: Option<&LatestPoints>,
+        reach: &Reach,
+    ) -> Result<(), Refusal>
+        ensures refused { IsRefusedFor (cause_to_refuse self.old name) result }
+        ensures last { OnOk result
+            (self.new ≡ self.old ++ file_of name (pending_of (option_copied latest.entry) reach.now) reach.now ∷ []) }
+        ensures unchanged { OnErr result (self.new ≡ self.old) }
+    {
+        let drawn = self.draft.draw_latest(latest, reach);
         self.made.make(self.alloc, name, &mut self.draft, drawn)
     }
 
