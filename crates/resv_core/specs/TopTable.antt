@@ -29,7 +29,8 @@ pending_value reached value = if nat_lt reached value then value else 0
 
 -- each value that is reached is dropped, and the others are kept
 pub record HasDropped (reach before after : List ℕ) : Type 0 where
-  pub values : (ctx : ℕ) → 1 ≤ ctx → ctx ≤ CONTEXTS → value_at after ctx ≡ pending_value (value_at reach ctx) (value_at before ctx)
+  pub values : (ctx : ℕ) → 1 ≤ ctx → ctx ≤ CONTEXTS →
+      value_at after ctx ≡ pending_value (value_at reach ctx) (value_at before ctx)
 
 -- at every usage
 pub record AreDropped (reach : List ℕ) (before after : Tops) : Type 0 where

@@ -21,17 +21,21 @@ impl Tops {
     {
         // No `match`, which becomes a jump through a table.
         let number = usage.number();
-        let strong = if number == 0 {
+        let strong = if number == Usage::Kernel.number() {
             &self.kernel
         } else {
             &self.write
         };
-        let weak = if number == 2 {
+        let weak = if number == Usage::Read.number() {
             &self.read
         } else {
             &self.bookkeep
         };
-        if number < 2 { strong } else { weak }
+        if number < Usage::Read.number() {
+            strong
+        } else {
+            weak
+        }
     }
 
     /// Puts points of one usage, as `put` does.

@@ -1,14 +1,15 @@
 // The latest points that a buffer keeps.
-ghost use Rattle.std.specs.Prelude.{◌≡◌, ℕ, ◌↔◌, ◌++◌, ◌∷◌, [], List, IfErr, IfOk, IsTrue, OnErr, OnOk};
+ghost use Rattle.std.specs.Prelude.{◌≡◌, ℕ, ◌↔◌, ◌++◌, ◌∷◌, [], List, IfErr, IfNone, IfOk, IfSome, IsTrue, OnErr, OnOk};
 ghost use Rattle.point_core.specs.declared.entry.Entry.{Entry};
 ghost use Rattle.point_core.specs.Agreement.{AgreesAbove, HasContexts, IsReached, listing};
+ghost use Rattle.point_core.specs.Latest.{points_above};
 ghost use Rattle.point_core.specs.Usage.{usage_number};
 ghost use Rattle.resv_core.specs.Resv.{IsTable, IsTrimmed, empty, entries_as, entry_of, rows_of};
 ghost use Rattle.resv_core.specs.Tops.{AreTops};
 
 use crate::kept_tops::is_reached;
 use crate::tops::Tops;
-use point_core::{Point, Reach, Refusal, TopRow, Usage};
+use point_core::{LatestPoints, Point, Reach, Refusal, TopRow, Usage};
 use std::alloc::Global;
 use std::marker::Model;
 
@@ -109,9 +110,22 @@ impl TopTable {
         ensures points { IfOk result (λ ps. ps.items ≡ listing self.now.entries (usage_number usage) reach.now) }
         ensures memory { IfErr result (λ e. e ≡ Refusal.Memory) }
     {
-        match &self.tops {
-            Some(tops) => tops.at(usage).points(self.alloc, reach),
+        match self.latest(usage) {
+            Some(latest) => latest.points(self.alloc, reach),
             None => Ok(Vec::new(self.alloc)),
+        }
+    }
+
+    /// The latest point of each context at the usage or a stronger one; none before the first fence. Those that are above a
+    /// reach are the points that `collect` lists at it. Takes no memory.
+    pub fn latest(&self, usage: Usage) -> Option<&LatestPoints>
+        ensures none { IfNone result ((reach : List ℕ) → listing self.now.entries (usage_number usage) reach ≡ []) }
+        ensures some { IfSome result (λ latest. (reach : List ℕ) →
+            points_above latest.now reach ≡ listing self.now.entries (usage_number usage) reach) }
+    {
+        match &self.tops {
+            Some(tops) => Some(tops.at(usage)),
+            None => None,
         }
     }
 
