@@ -1,7 +1,8 @@
 // The buffers by name.
-ghost use Rattle.std.specs.Prelude.{◌≡◌, false, ◌↔◌, ◌++◌, [], ◌∷◌, List, map, IfErr, IfOk, IsOk, IsOkAnd, IsTrue, MatchBool, MatchOption, MatchResult, Ok, Err, OnErr, OnOk, Some};
+ghost use Rattle.std.specs.Prelude.{◌≡◌, ℕ, false, ◌↔◌, ◌++◌, [], ◌∷◌, List, map, IfErr, IfNone, IfOk, IfSome, IsOk, IsOkAnd, IsTrue, MatchBool, MatchOption, MatchResult, Ok, Err, OnErr, OnOk, Some};
 ghost use Rattle.point_core.specs.declared.refusal.Refusal.TheVariants.{Memory, NoEntry};
 ghost use Rattle.point_core.specs.Agreement.{AgreesAbove, as_entries, HasRisingContexts, IsReached, listing};
+ghost use Rattle.point_core.specs.Latest.{points_above};
 ghost use Rattle.point_core.specs.Usage.{usage_number};
 ghost use Rattle.point_core.specs.Refusal.{IsRefusedFor};
 ghost use Rattle.resv_core.specs.Resv.{IsTable, IsTrimmed, empty, entry_of, rows_of};
@@ -10,7 +11,9 @@ ghost use Rattle.dmabuf_core.specs.Buffers.{AreBuffers, OnlyChanges, cause_by_fl
 
 use crate::flags::SyncFlags;
 use indexmap::IndexMap;
-use point_core::{BUFFERS, Items, LimitKind, Listing, Name, Point, Reach, Refusal, TopRow, Usage};
+use point_core::{
+    BUFFERS, Items, LatestPoints, LimitKind, Listing, Name, Point, Reach, Refusal, TopRow, Usage,
+};
 use resv_core::TopTable;
 use std::alloc::Global;
 use std::marker::Model;
@@ -147,6 +150,24 @@ impl Buffers {
             points: Items::of(table.collect(usage, reach)?),
             floor: *reach,
         })
+    }
+
+    /// What `export` lists, as the buffer's table has it: the latest point of each context at the usages that an access
+    /// with those flags has to wait for; none before the buffer's first fence. Those that are above a reach are pending at
+    /// it. As Linux's `DMA_BUF_IOCTL_EXPORT_SYNC_FILE`, before a file is made.
+    ///
+    /// Fails with `NoEntry`, then with `Flags` for any number but 1, 2 and 3. Takes no memory.
+    pub fn latest(&self, name: &Name, flags: u32) -> Result<Option<&LatestPoints>, Refusal>
+        ensures refused { IsRefusedFor (cause_by_flags self.now name.now flags) result }
+        ensures caused { IfErr result (λ e. cause_by_flags self.now name.now flags ≡ Some e) }
+        ensures none { IfOk result (λ latest. IfNone latest ((reach : List ℕ) →
+            listing (entries_of self.now name.now) (usage_number (export_usage flags)) reach ≡ [])) }
+        ensures some { IfOk result (λ latest. IfSome latest (λ l. (reach : List ℕ) → points_above l.now reach
+            ≡ listing (entries_of self.now name.now) (usage_number (export_usage flags)) reach)) }
+    {
+        let table = self.known(name)?;
+        let usage = SyncFlags::of(flags)?.export_usage();
+        Ok(table.latest(usage))
     }
 
     /// Whether every fence of the usage or a stronger one is signalled, as Linux's `dma_resv_test_signaled`.
