@@ -4,7 +4,7 @@ ghost use Rattle.command_core.specs.declared.command.Command.{Command};
 
 use crate::{info, report};
 use command_core::{Answer, Command, Info, Report, ShowRow};
-use dmabuf_core::{Buffers, SyncFlags};
+use dmabuf_core::Buffers;
 use fence_core::Watches;
 use point_core::{Context, Items, Name, Point, Refusal, Status, Usage};
 use std::alloc::Global;
@@ -371,14 +371,9 @@ impl Desk {
         ensures done { OnOk result (IsDone self.old (Command.Export name buffer.now flags) Answer.Done self.new) }
         ensures unchanged { OnErr result (self.new ≡ self.old) }
     {
-        if !self.buffers.has(buffer) {
-            return Err(Refusal::NoEntry);
-        }
-        SyncFlags::of(flags)?;
-        self.files.free(&name)?;
+        let latest = self.buffers.latest(buffer, flags)?;
         let reach = self.timelines.as_reach();
-        let listing = self.buffers.export(buffer, flags, reach)?;
-        self.files.adopt(name, listing)?;
+        self.files.adopt_latest(name, latest, reach)?;
         Ok(())
     }
 
