@@ -1,5 +1,5 @@
 -- A row whose parts are put at their places.
-use Rattle.std.proofs.Common.{◌≡◌, ℕ, ◌+◌, ◌-◌, ◌≤◌, List, [], ◌∷◌, ◌++◌, length, take, drop, sym, ap, ◌∙◌, arith, append_assoc, ◌<◌, length-append}
+use Rattle.std.proofs.Common.{◌≡◌, ℕ, ◌+◌, ◌-◌, ◌≤◌, List, [], ◌∷◌, ◌++◌, length, take, drop, sym, ap, ◌∙◌, slice_set, arith, append_assoc, ◌<◌, length-append}
 use Rattle.std.proofs.Math.Seq.{take-append_seam, drop-append_seam}
 use Rattle.std.proofs.lemmas.List.{take-append-drop, take-append-le, take-replicate, drop-append-le, drop-drop, drop-replicate, length-replicate, length-take-le, replicate-append-replicate, append-nil}
 use Rattle.report_core.proofs.Widths.{length-left}
@@ -36,6 +36,10 @@ put-next row one two place room first is =
     ap (λ x. x ++ two ++ drop (next + length two) first) ahead
     ∙ ap (λ x. front ++ two ++ x) (far ∙ ap (λ k. drop k row) same)
     ∙ ap (λ x. x ++ drop (place + length (one ++ two)) row) (append_assoc (take place row) one two)
+
+-- a row of spaces whose last byte is set
+pub set-last : (row : List ℕ) (last : ℕ) → row ≡ spaces ROW_BYTES → slice_set row 61 last ≡ spaces 61 ++ last ∷ []
+set-last row last blank = ap (λ bytes. slice_set bytes 61 last) blank
 
 regroup : (k s a o b d l : List ℕ) → k ++ (s ++ ((a ++ (o ++ b)) ++ (d ++ l))) ≡ ((k ++ ((s ++ a) ++ o)) ++ (b ++ d)) ++ l
 regroup k s a o b d l =

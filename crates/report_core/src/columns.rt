@@ -1,7 +1,7 @@
 // The columns of a row.
 ghost use Rattle.std.specs.Prelude.{◌≡◌, ◌++◌, ◌∷◌, [], ◌+◌, ◌<◌, ◌≤◌, OnOk, OnErr, Err, decimal, length, take, drop};
 ghost use Rattle.point_core.specs.declared.refusal.Refusal.TheVariants.{Memory};
-ghost use Rattle.report_core.specs.Columns.{left, right};
+ghost use Rattle.report_core.specs.Columns.{spaces, left, right};
 ghost use Rattle.report_core.specs.Subject.{subject_text};
 ghost use Rattle.report_core.specs.Row.{columns};
 
@@ -20,7 +20,8 @@ pub(crate) enum Subject<'a> {
 
 /// Appends to `out` the three columns that each row begins with, and one more byte.
 ///
-/// Fails only with Memory, and then leaves `out` as it was.
+/// Fails only with Memory, and then leaves `out` as it was. They are written where they stay: a copy would wait for the
+/// columns, which are stored in smaller pieces.
 #[inline(always)]
 pub(crate) fn push_columns(
     out: &mut Vec<u8>,
@@ -33,16 +34,14 @@ pub(crate) fn push_columns(
         out.old.items ++ (columns kind (subject_text subject.entry) (decimal number) ++ last ∷ [])) }
     ensures err { OnErr result ((result ≡ Err Memory) × (out.new.items ≡ out.old.items)) }
 {
-    let mut row = [b' '; ROW_BYTES];
-    row[ROW_BYTES - 1] = last;
-    write_digits(number, &mut row, ROW_BYTES - 1);
-    put_subject(&mut row, subject);
-    put_at(&mut row, 0, kind.column());
-    out.extend_from_slice(&row)?;
+    let start = out.len();
+    out.extend_from_slice(&[b' '; ROW_BYTES])?;
+    let row = &mut out.as_mut_slice()[start..];
+    write_columns(row, kind, subject, number, last);
     Ok(())
 }
 
-/// Writes the same columns, with a text on the right of the third.
+/// Appends the same columns to `out`, with a text on the right of the third.
 ///
 /// Fails only with Memory, and then leaves `out` as it was.
 pub(crate) fn push_text_columns(
@@ -57,19 +56,43 @@ pub(crate) fn push_text_columns(
         out.old.items ++ (columns kind (subject_text subject.entry) text.now ++ last ∷ [])) }
     ensures err { OnErr result ((result ≡ Err Memory) × (out.new.items ≡ out.old.items)) }
 {
-    let mut row = [b' '; ROW_BYTES];
+    let start = out.len();
+    out.extend_from_slice(&[b' '; ROW_BYTES])?;
+    let row = &mut out.as_mut_slice()[start..];
+    write_text_columns(row, kind, subject, text, last);
+    Ok(())
+}
+
+/// Writes the columns of a number, and one more byte, into a row of spaces.
+#[inline(always)]
+fn write_columns(row: &mut [u8], kind: RowKind, subject: Subject<'_>, number: u64, last: u8)
+    requires blank { row.old ≡ spaces ROW_BYTES }
+    ensures { row.new ≡ columns kind (subject_text subject.entry) (decimal number) ++ last ∷ [] }
+{
+    row[ROW_BYTES - 1] = last;
+    write_digits(number, row, ROW_BYTES - 1);
+    put_subject(row, subject);
+    put_at(row, 0, kind.column());
+}
+
+/// Writes the columns of a text, and one more byte, into a row of spaces.
+#[inline(always)]
+fn write_text_columns(row: &mut [u8], kind: RowKind, subject: Subject<'_>, text: &[u8], last: u8)
+    requires blank { row.old ≡ spaces ROW_BYTES }
+    requires narrow { length text.now ≤ NUMBER_WIDTH }
+    ensures { row.new ≡ columns kind (subject_text subject.entry) text.now ++ last ∷ [] }
+{
     row[ROW_BYTES - 1] = last;
     let word = kind.column();
-    put_at(&mut row, ROW_BYTES - 1 - text.len(), text);
-    put_subject(&mut row, subject);
-    put_at(&mut row, 0, word);
-    out.extend_from_slice(&row)?;
-    Ok(())
+    put_at(row, ROW_BYTES - 1 - text.len(), text);
+    put_subject(row, subject);
+    put_at(row, 0, word);
 }
 
 /// Puts the subject on the left of the second column, and spaces after it.
 #[inline(always)]
-fn put_subject(row: &mut [u8; ROW_BYTES], subject: Subject<'_>)
+fn put_subject(row: &mut [u8], subject: Subject<'_>)
+    requires width { length row.old ≡ ROW_BYTES }
     ensures text { row.new ≡ take KIND_BYTES row.old ++ left SUBJECT_WIDTH (subject_text subject.entry)
         ++ drop (KIND_BYTES + SUBJECT_WIDTH) row.old }
     ensures len { length (subject_text subject.entry) ≤ SUBJECT_WIDTH }
@@ -97,8 +120,8 @@ fn numbered_column(letter: u8, number: u64) -> [u8; SUBJECT_WIDTH]
 
 /// Puts the text at a place of the row.
 #[inline(always)]
-fn put_at(row: &mut [u8; ROW_BYTES], place: usize, text: &[u8])
-    requires { place + length text.now ≤ ROW_BYTES }
+fn put_at(row: &mut [u8], place: usize, text: &[u8])
+    requires { place + length text.now ≤ length row.old }
     ensures { row.new ≡ take place row.old ++ text.now ++ drop (place + length text.now) row.old }
 {
     row[place..place + text.len()].copy_from_slice(text);
