@@ -1,9 +1,10 @@
 -- A row whose parts are put at their places.
-use Rattle.std.proofs.Common.{◌≡◌, ℕ, ◌+◌, ◌-◌, ◌≤◌, List, [], ◌∷◌, ◌++◌, length, take, drop, sym, ap, ◌∙◌, slice_set, arith, append_assoc, ◌<◌, length-append}
+use Rattle.std.proofs.Common.{◌≡◌, ℕ, ◌+◌, ◌-◌, ◌≤◌, List, [], ◌∷◌, ◌++◌, length, take, drop, sym, ap, ◌∙◌, slice_set, min, arith, append_assoc, ◌<◌, length-append}
+use Rattle.std.proofs.Math.Nat.{min-le_left}
 use Rattle.std.proofs.Math.Seq.{take-append_seam, drop-append_seam}
 use Rattle.std.proofs.lemmas.List.{take-append-drop, take-append-le, take-replicate, drop-append-le, drop-drop, drop-replicate, length-replicate, length-take-le, replicate-append-replicate, append-nil}
 use Rattle.report_core.proofs.Widths.{length-left}
-use Rattle.report_core.specs.declared.rows.TheConstants.{KIND_BYTES, SUBJECT_WIDTH, NUMBER_WIDTH, ROW_BYTES}
+use Rattle.report_core.specs.declared.rows.TheConstants.{KIND_BYTES, SUBJECT_WIDTH, NUMBER_WIDTH, COUNT_WIDTH, ROW_BYTES}
 use Rattle.report_core.specs.Columns.{spaces, left, column, right}
 
 take-front : (front rest : List ℕ) (n : ℕ) → length front ≡ n → take n (front ++ rest) ≡ front
@@ -110,3 +111,20 @@ pub numbered-left : (letter : ℕ) (digits text : List ℕ) → length digits < 
 numbered-left letter digits text few is =
     let less : 30 - length digits ≡ SUBJECT_WIDTH - length (letter ∷ digits) = omega arith in
     is ∙ ap (λ rest. letter ∷ digits ++ rest) (drop-replicate (length digits) 30 32 ∙ ap spaces less)
+
+-- a number that is written before the last byte of spaces, from at most a column's width on
+pub drop-count : (digits blank text : List ℕ) (first start : ℕ) → first + length digits ≡ NUMBER_WIDTH → start ≡ min first (NUMBER_WIDTH - COUNT_WIDTH) → blank ≡ spaces 20 ++ 10 ∷ [] → drop first text ≡ digits ++ drop 20 blank → take first text ≡ take first blank → drop start text ≡ right COUNT_WIDTH digits ++ 10 ∷ []
+drop-count digits blank text first start size is none written before =
+    let tail : drop 20 blank ≡ 10 ∷ [] = ap (drop 20) none in
+    let front : take first blank ≡ spaces first = ap (take first) none ∙ take-append-le first (spaces 20) (10 ∷ []) (omega arith) ∙ take-replicate first 20 32 (omega arith) in
+    let whole : text ≡ spaces first ++ (digits ++ 10 ∷ []) =
+    sym (take-append-drop first text)
+    ∙ ap (λ x. x ++ drop first text) (before ∙ front)
+    ∙ ap (λ x. spaces first ++ x) (written ∙ ap (λ x. digits ++ x) tail) in
+    let less : start ≤ first = omega (arith, is, min-le_left first 17) in
+    let within : start ≤ length (spaces first) = omega (arith, less, length-replicate {A = ℕ} first 32) in
+    let room : first - start ≡ COUNT_WIDTH - length digits = omega (arith, is) in
+    ap (drop start) whole
+    ∙ drop-append-le start (spaces first) (digits ++ 10 ∷ []) within
+    ∙ ap (λ x. x ++ (digits ++ 10 ∷ [])) (drop-replicate start first 32 ∙ ap spaces room)
+    ∙ sym (append_assoc (spaces (COUNT_WIDTH - length digits)) digits (10 ∷ []))

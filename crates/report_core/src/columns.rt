@@ -1,15 +1,19 @@
 // The columns of a row.
 ghost use Rattle.std.specs.Prelude.{◌≡◌, ◌++◌, ◌∷◌, [], ◌+◌, ◌<◌, ◌≤◌, OnOk, OnErr, Err, decimal, length, take, drop};
+ghost use Rattle.std.specs.Prelude.{vec_len, vec_capacity};
 ghost use Rattle.point_core.specs.declared.refusal.Refusal.TheVariants.{Memory};
 ghost use Rattle.report_core.specs.Columns.{spaces, left, right};
 ghost use Rattle.report_core.specs.Subject.{subject_text};
 ghost use Rattle.report_core.specs.Row.{columns};
 
-use crate::line::{TEXT_LINE_BYTES, TextLine};
+use crate::number_line::push_bytes;
 use crate::row_kind::RowKind;
 use crate::rows::{COUNT_WIDTH, KIND_BYTES, NUMBER_WIDTH, ROW_BYTES, SUBJECT_WIDTH};
 use itoa::{Buffer, write_digits};
 use point_core::{Name, Refusal};
+
+/// The most bytes of a file row's last column with its line feed.
+const COUNT_BYTES: usize = NUMBER_WIDTH + 1;
 
 /// What a row is about: a thing with a name, or one of a numbered kind, as the client `c1`.
 #[derive(Clone, Copy)]
@@ -127,16 +131,29 @@ fn put_at(row: &mut [u8], place: usize, text: &[u8])
     row[place..place + text.len()].copy_from_slice(text);
 }
 
-/// Puts the number on the right of a column before the line.
-#[inline(always)]
-pub(crate) fn put_number(line: &mut TextLine, number: u64, width: usize)
-    requires narrow { width ≤ NUMBER_WIDTH }
-    requires room { length line.old + NUMBER_WIDTH ≤ TEXT_LINE_BYTES }
-    ensures text { line.new ≡ right width (decimal number) ++ line.old }
-    ensures len { length line.new ≤ length line.old + NUMBER_WIDTH }
+/// Appends the count on the right of a file row's last column, and a line feed, to `out`.
+///
+/// Fails only with Memory, and then leaves `out` as it was. It is pushed byte by byte, as `push_numbered` does.
+pub(crate) fn push_count(out: &mut Vec<u8>, count: u64) -> Result<(), Refusal>
+    ensures ok { OnOk result (out.new.items ≡ out.old.items ++ (right COUNT_WIDTH (decimal count) ++ 10 ∷ [])) }
+    ensures err { OnErr result ((result ≡ Err Memory) × (out.new.items ≡ out.old.items)) }
 {
-    let before = line.len();
-    line.put_number(number);
-    let digits = line.len() - before;
-    line.put_spaces(width.saturating_sub(digits));
+    if out.capacity() - out.len() < COUNT_BYTES {
+        out.reserve(COUNT_BYTES)?;
+    }
+    push_count_in_room(out, count);
+    Ok(())
+}
+
+/// Appends the same to `out`, which has room for it.
+#[inline(always)]
+fn push_count_in_room(out: &mut Vec<u8>, count: u64)
+    requires room { vec_len out.old + COUNT_BYTES ≤ vec_capacity out.old }
+    ensures items { out.new.items ≡ out.old.items ++ (right COUNT_WIDTH (decimal count) ++ 10 ∷ []) }
+{
+    let mut text = [b' '; COUNT_BYTES];
+    text[NUMBER_WIDTH] = b'\n';
+    let digits = write_digits(count, &mut text, NUMBER_WIDTH);
+    let start = digits.min(NUMBER_WIDTH - COUNT_WIDTH);
+    push_bytes(&text[start..], out);
 }

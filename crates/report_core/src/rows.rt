@@ -5,8 +5,7 @@ ghost use Rattle.point_core.specs.declared.refusal.Refusal.TheVariants.{Memory};
 ghost use Rattle.report_core.specs.Subject.{subject_text};
 ghost use Rattle.report_core.specs.Row.{row_text, file_row_text};
 
-use crate::columns::{Subject, push_columns, push_text_columns, put_number};
-use crate::line::TextLine;
+use crate::columns::{Subject, push_columns, push_count, push_text_columns};
 use crate::row_kind::RowKind;
 use crate::status::status_text;
 use command_core::FileRow;
@@ -82,10 +81,8 @@ fn push_file_row(out: &mut Vec<u8>, file: &FileRow) -> Result<(), Refusal>
     ensures err { OnErr result ((result ≡ Err Memory) × StartsWith out.new.items out.old.items) }
 {
     let status = status_text(file.status);
-    let mut count = TextLine::new();
-    put_number(&mut count, file.count, COUNT_WIDTH);
     push_text_columns(out, RowKind::File, Subject::Named(&file.name), status, b' ')?;
-    count.push_to(out)
+    push_count(out, file.count)
 }
 
 #[inline(always)]
