@@ -42,7 +42,7 @@ impl Spelling {
 
     /// Whether the word is that text. Both compares are made, since LLVM turns a chain of these into a table of jumps
     /// if the second follows the first.
-    #[inline(always)]
+    #[inline]
     pub(crate) fn is(&self, text: &str) -> bool
         ensures same { result ≡ bytes_eq self.now text.now }
     {

@@ -193,6 +193,7 @@ pub(crate) fn two<'a>(words: &Words<'a>) -> Option<(&'a [u8], &'a [u8])>
 }
 
 /// The words, if there are exactly three.
+#[inline(always)]
 pub(crate) fn three<'a>(words: &Words<'a>) -> Option<(&'a [u8], &'a [u8], &'a [u8])>
     ensures words { option_map (λ w. (w.0.now, w.1.now, w.2.now)) result ≡ three_of words.now }
 {
@@ -202,6 +203,7 @@ pub(crate) fn three<'a>(words: &Words<'a>) -> Option<(&'a [u8], &'a [u8], &'a [u
 }
 
 /// The words, if there are exactly four.
+#[inline(always)]
 pub(crate) fn four<'a>(words: &Words<'a>) -> Option<(&'a [u8], &'a [u8], &'a [u8], &'a [u8])>
     ensures words { option_map (λ w. (w.0.now, w.1.now, w.2.now, w.3.now)) result ≡ four_of words.now }
 {
