@@ -1,5 +1,5 @@
 -- Numbers of a line, from their digits.
-use Rattle.std.proofs.Common.{◌≡◌, ℕ, ◌+◌, ◌-◌, ◌*◌, ◌<◌, ◌≤◌, ◌^◌, Bool, true, false, ◌&&◌, nat_le, nat_lt, cond, List, length, get_or, take, None, Some, refl, sym, ap, ◌∙◌, arith}
+use Rattle.std.proofs.Common.{◌≡◌, ℕ, ◌+◌, ◌-◌, ◌*◌, ◌<◌, ◌≤◌, ◌^◌, Bool, true, false, ◌&&◌, nat_le, nat_lt, cond, List, length, get_or, take, None, Some, refl, sym, ap, ◌∙◌, arith, length-take}
 use Rattle.std.specs.Char.{is_ascii_digit, digit_value}
 use Rattle.std.specs.Int.{IsInRange}
 use Rattle.std.specs.Str.{all_ascii_digits}
@@ -8,7 +8,7 @@ use Rattle.std.proofs.lemmas.Bool.{and_from, and_left, and_right, le-leb, lt-ltb
 use Rattle.std.proofs.lemmas.Bool.Decides.{nat_tests}
 use Rattle.std.proofs.lemmas.Int.Digits.{digits_more, digits_value_more}
 use Rattle.std.proofs.lemmas.List.Recursion.{and_fails_at}
-use Rattle.std.proofs.lemmas.Str.Parse.{numerals_by_value, tells_all_ascii_digits, digits_value-take-le}
+use Rattle.std.proofs.lemmas.Str.Parse.{numerals_by_value, tells_all_ascii_digits, tells_digits, digits_value-take-le, digits_value_short}
 use Rattle.line_core.specs.declared.number.TheConstants.{DIGITS}
 use Rattle.line_core.specs.Number.{is_number, number_of}
 
@@ -50,3 +50,9 @@ digits_value-more word i value h e digit = digits_value_more 10 word i h ∙ ap 
 
 pub AllDigits-more : (word : List ℕ) (i : ℕ) → i < length word → AllDigits 10 (take i word) → IsInRange 48 57 (get_or word i 0) → AllDigits 10 (take (i + 1) word)
 AllDigits-more word i h all digit = digits_more 10 word i h all (omega (arith, value-digit (get_or word i 0) digit, digit.0, digit.1))
+
+-- in a word of fewer than DIGITS bytes, one digit more makes no number past 64 bits
+pub digit-fits : (word : List ℕ) (i value : ℕ) → i < length word → length word < DIGITS → AllDigits 10 (take i word) → value ≡ digits_value 10 (take i word) → IsInRange 48 57 (get_or word i 0) → value * 10 + (get_or word i 0 - 48) < 2 ^ 64
+digit-fits word i value h few all e digit =
+    let short = digits_value_short (numerals_by_value (AllDigits 10) tells_digits) (take (i + 1) word) 19 (AllDigits-more word i h all digit) (omega (arith, length-take (i + 1) word)) in
+    omega (arith, short, digits_value-more word i value h e digit)

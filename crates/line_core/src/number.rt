@@ -1,5 +1,6 @@
 // Numbers of a line.
-ghost use Rattle.std.specs.Prelude.{◌≡◌, is_some};
+ghost use Rattle.std.specs.Prelude.{◌≡◌, is_some, length};
+ghost use Rattle.line_core.specs.declared.number.TheConstants.{DIGITS};
 ghost use Rattle.line_core.specs.Number.{number_of};
 
 /// The most digits of a number.
@@ -14,6 +15,25 @@ pub(crate) fn number(word: &[u8]) -> Option<u64>
     if word.is_empty() || word.len() > DIGITS {
         return None;
     }
+    if word.len() == DIGITS {
+        return great_number(word);
+    }
+    let mut value: u64 = 0;
+    for byte in word {
+        if !byte.is_ascii_digit() {
+            return None;
+        }
+        value = value * 10 + u64::from(*byte - b'0');
+    }
+    Some(value)
+}
+
+/// The same of a word of `DIGITS` bytes, whose number may have more than 64 bits.
+#[inline(never)]
+fn great_number(word: &[u8]) -> Option<u64>
+    requires length { length word.now ≡ DIGITS }
+    ensures value { result ≡ number_of word.now }
+{
     let mut value: u64 = 0;
     for byte in word {
         if !byte.is_ascii_digit() {
