@@ -1,7 +1,7 @@
 -- The words of a command fit the operands of its row.
-use Rattle.std.proofs.Common.{◌≡◌, ℕ, ◌<◌, ◌≤◌, nat_le, Bool, true, false, ◌&&◌, cond, is_some, List, [], ◌∷◌, length, Option, None, Some, option_map, refl, sym, ap, subst, ◌∙◌, codes, arith}
+use Rattle.std.proofs.Common.{◌≡◌, ℕ, ◌<◌, ◌≤◌, nat_le, Bool, true, false, ◌&&◌, cond, is_some, List, [], ◌∷◌, length, Option, None, Some, option_map, refl, sym, ap, subst, ◌∙◌, arith}
 use Rattle.std.specs.Option.{option_and_then}
-use Rattle.std.proofs.lemmas.Bool.{and_parts, false_from_ne_true, leb-true}
+use Rattle.std.proofs.lemmas.Bool.{and_parts, leb-true}
 use Rattle.std.proofs.lemmas.Bool.Decides.{nat_tests}
 use Rattle.std.proofs.lemmas.Slice.Eq.{bytes_eq-Decides}
 use Rattle.std.specs.Str.{bytes_eq}
@@ -10,10 +10,12 @@ use Rattle.line_core.specs.declared.table.Operand.{Operand}
 use Rattle.line_core.specs.declared.table.Operand.TheVariants.{Name, Number, Usage, Flags}
 use Rattle.command_core.specs.declared.command.Command.{Command}
 use Rattle.command_core.specs.declared.command.Command.TheVariants as command
+use Rattle.command_core.specs.Names.{word_of}
 use Rattle.line_core.specs.Following.{is_name, name_of, both, all_three, all_four, one_name, one_number, name_and_number, two_names_and_number, three_names, two_names_number_and_usage, two_names_and_flags, name_and_usage}
 use Rattle.line_core.specs.Number.{is_number, number_of}
 use Rattle.line_core.specs.Usages.{usage_of, flags_of}
 use Rattle.line_core.specs.Table.{Form, forms, form_at, matches, fit, command_from}
+use Rattle.line_core.proofs.Named.{HasWord, has_word}
 use Rattle.line_core.proofs.Spelled.{other_length}
 use Rattle.line_core.specs.Words.{one_of, two_of, three_of, four_of, are_none}
 
@@ -179,38 +181,21 @@ all_fit =
 pub fit-row : (word : List ℕ) (form : Form) → form_at forms word ≡ Some form → FitsAt word form
 fit-row word form e = fit-at forms word form all_fit e
 
--- a word without a row is none that has one
-other : (word known : List ℕ) → form_at forms word ≡ None → is_some (form_at forms known) ≡ true → bytes_eq word known ≡ false
-other word known e has =
-    false_from_ne_true _ (λ h. none (form_at forms known) (ap (form_at forms) (sym ((bytes_eq-Decides word known).0 h)) ∙ e) has)
-  where
-    none : (o : Option Form) → o ≡ None → is_some o ≡ true → ⊥
-    none None e has = absurd (cc)
-    none (Some form) e has = absurd (cc)
+has_row : (made : Command) → is_some (form_at forms (word_of made)) ≡ true
+has_row command.Report = refl
+has_row _ = refl
 
+-- a word without a row is no command's
 pub no-row : (word : List ℕ) (words : List (List ℕ)) → form_at forms word ≡ None → command_from word words ≡ None
-no-row word words e =
-    rw (
-      other word (codes "close") e refl,
-      other word (codes "merge") e refl,
-      other word (codes "fence") e refl,
-      other word (codes "wait") e refl,
-      other word (codes "inc") e refl,
-      other word (codes "watch") e refl,
-      other word (codes "add") e refl,
-      other word (codes "import") e refl,
-      other word (codes "export") e refl,
-      other word (codes "test") e refl,
-      other word (codes "value") e refl,
-      other word (codes "timeline") e refl,
-      other word (codes "buffer") e refl,
-      other word (codes "info") e refl,
-      other word (codes "show") e refl,
-      other word (codes "trim") e refl,
-      other word (codes "unwatch") e refl,
-      other word (codes "shut") e refl,
-      other word (codes "report") e refl,
-    ) refl
+no-row word words e = nothing (command_from word words) (has_word word words)
+  where
+    no_row : (found : Option Form) → found ≡ None → is_some found ≡ true → ⊥
+    no_row None e has = absurd (cc)
+    no_row (Some form) e has = absurd (cc)
+
+    nothing : (found : Option Command) → HasWord word found → found ≡ None
+    nothing None own = refl
+    nothing (Some made) own = absurd (no_row (form_at forms word) e (subst (λ w. is_some (form_at forms w) ≡ true) (own made refl) (has_row made)))
 
 abbrev are_short : List Form → Bool
 are_short [] = true

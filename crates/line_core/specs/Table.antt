@@ -65,7 +65,7 @@ fit [] (word ∷ words) = false
 fit (operand ∷ operands) [] = false
 fit (operand ∷ operands) (word ∷ words) = matches operand word && fit operands words
 
--- the command of a line whose first word is `word` (no word stands twice, so the order says nothing)
+-- the command of a line whose first word is `word`, which is the command's own, so the order says nothing (`src/laws.rt`)
 abbrev pub command_from : List ℕ → List (List ℕ) → Option Command
 command_from word words =
     if bytes_eq word (codes "close") then option_map command.Close (one_name words)
