@@ -1,11 +1,10 @@
 -- The runs of elements between those that pass a test, from the front of a list.
-use Rattle.std.proofs.Common.{◌≡◌, ℕ, ◌+◌, ◌<◌, ◌≤◌, zero, suc, Bool, true, false, not, cond, nat_lt, List, [], ◌∷◌, length, get_or, take, drop, filter, None, Some, unwrap_or, refl, sym, ap, subst, ◌∙◌, arith, rules, drop-cons, add-one, one-add, add-zero, get_or-drop, get_or-take, length-take, length-drop}
+use Rattle.std.proofs.Common.{◌≡◌, ℕ, ◌+◌, ◌<◌, ◌≤◌, zero, suc, Bool, true, false, not, cond, nat_lt, List, [], ◌∷◌, length, get_or, take, drop, filter, None, Some, unwrap_or, refl, sym, ap, subst, ◌∙◌, arith, rules, drop-cons, add-one, one-add, add-zero, get_or-drop, length-take, length-drop}
 use Rattle.std.proofs.Math.Seq.{drop-length, take-length}
 use Rattle.std.specs.List.{slice_split, position_or_len, position, after_first}
 use Rattle.std.proofs.lemmas.List.Splits.{slice_split_first, slice_split_none}
 use Rattle.std.proofs.lemmas.List.Sums.{passes_at_first, fails_before_first}
 use Rattle.std.proofs.lemmas.Option.{cond_some}
-use Rattle.std.proofs.lemmas.Bool.{ltb-false}
 use Rattle.std.proofs.lemmas.Bool.Decides.{nat_tests}
 use Rattle.std.proofs.Math.ListN.{drop_of_length-le}
 use Rattle.line_core.specs.Words.{is_word}
@@ -95,17 +94,6 @@ module _ (p : ℕ → Bool) where
   -- the first run begins as the elements do
   pub runs-front_first : (xs : List ℕ) (n : ℕ) → 0 < length xs → p (get_or xs 0 0) ≡ false → unwrap_or (position p xs) (length xs) ≡ n → take 1 (take n xs) ≡ take 1 xs
   runs-front_first xs n l f e = first_of_front xs n l (front_case xs n (nat_lt (position_or_len p xs) (length xs)) (begins xs l f) l e)
-
-  front_below : (xs : List ℕ) (n : ℕ) (b : Bool) → nat_lt (position_or_len p xs) (length xs) ≡ b → unwrap_or (cond b (Some (position_or_len p xs)) None) (length xs) ≡ n → n ≤ position_or_len p xs
-  front_below xs n true is e = omega (arith, e)
-  front_below xs n false is e = omega (arith, e, ltb-false _ _ is)
-
-  -- no element of the first run passes
-  pub runs-front_clear : (xs : List ℕ) (n : ℕ) → unwrap_or (position p xs) (length xs) ≡ n → (k : ℕ) → k < length (take n xs) → p (get_or (take n xs) k 0) ≡ false
-  runs-front_clear xs n e k h =
-      let below = front_below xs n _ refl e in
-      let within : k < n = omega (arith, h, length-take n xs) in
-      ap p (get_or-take n xs k 0 within) ∙ fails_before_first p xs k 0 (omega (arith, within, below))
 
   -- what stands before the first element that passes, and what stands after it
   pub slice_split-some : (xs : List ℕ) (i : ℕ) → position p xs ≡ Some i → slice_split p xs ≡ take i xs ∷ slice_split p (drop (i + 1) xs)

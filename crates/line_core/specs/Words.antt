@@ -17,10 +17,6 @@ words_of line = filter is_word (slice_split is_space line)
 abbrev pub BeginsWithWord : List ℕ → Type 0
 BeginsWithWord bytes = (0 < length bytes) × (is_space (get_or bytes 0 0) ≡ false)
 
--- no byte is a space
-abbrev pub HasNoSpace : List ℕ → Type 0
-HasNoSpace bytes = (k : ℕ) → k < length bytes → is_space (get_or bytes k 0) ≡ false
-
 abbrev pub are_none : {A : Type 0} → List A → Bool
 are_none words = length words == 0
 

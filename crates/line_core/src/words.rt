@@ -3,7 +3,7 @@ ghost use Rattle.std.specs.Prelude.{◌≡◌, ◌∷◌, [], option_map, MatchO
 ghost use Rattle.std.specs.List.{prefix_len, position_or_len};
 ghost use Rattle.std.specs.Str.{bytes_eq};
 ghost use Rattle.line_core.specs.Marks.{HasMarks, MayHaveMarks};
-ghost use Rattle.line_core.specs.Words.{is_space, words_of, BeginsWithWord, HasNoSpace, are_none, one_of, two_of, three_of, four_of};
+ghost use Rattle.line_core.specs.Words.{is_space, words_of, BeginsWithWord, are_none, one_of, two_of, three_of, four_of};
 
 use crate::marks::{marked_end, marked_start, marks, marks_from};
 use memchr::memchr;
@@ -54,7 +54,6 @@ impl<'a> Words<'a> {
     #[inline(always)]
     pub(crate) fn first(&self) -> Option<(&'a [u8], Words<'a>)>
         ensures words { MatchOption result (self.now ≡ []) (λ w. self.now ≡ w.0.now ∷ w.1) }
-        ensures whole { IfSome result (λ w. HasNoSpace w.0.now) }
     {
         let (word, bytes, marks) = first_word(self.bytes, self.marks)?;
         Some((word, Words { bytes, marks }))
@@ -68,7 +67,6 @@ fn first_word(bytes: &[u8], marks: Option<u64>) -> Option<(&[u8], &[u8], Option<
     ensures words { MatchOption result
         (words_of bytes.now ≡ [])
         (λ w. words_of bytes.now ≡ w.0.now ∷ words_of w.1.now) }
-    ensures whole { IfSome result (λ w. HasNoSpace w.0.now) }
     ensures marks { IfSome result (λ w. MayHaveMarks w.1.now w.2) }
 {
     match marks {
@@ -82,7 +80,6 @@ fn first_by_bytes(bytes: &[u8]) -> Option<(&[u8], &[u8], Option<u64>)>
     ensures words { MatchOption result
         (words_of bytes.now ≡ [])
         (λ w. words_of bytes.now ≡ w.0.now ∷ words_of w.1.now) }
-    ensures whole { IfSome result (λ w. HasNoSpace w.0.now) }
     ensures marks { IfSome result (λ w. MayHaveMarks w.1.now w.2) }
 {
     let bytes = from_word(bytes)?;
@@ -96,7 +93,6 @@ fn first_by_marks(bytes: &[u8], marks: u64) -> Option<(&[u8], &[u8], Option<u64>
     ensures words { MatchOption result
         (words_of bytes.now ≡ [])
         (λ w. words_of bytes.now ≡ w.0.now ∷ words_of w.1.now) }
-    ensures whole { IfSome result (λ w. HasNoSpace w.0.now) }
     ensures marks { IfSome result (λ w. MayHaveMarks w.1.now w.2) }
 {
     let (bytes, marks) = from_marked_word(bytes, marks)?;
@@ -132,7 +128,6 @@ fn from_marked_word(bytes: &[u8], marks: u64) -> Option<(&[u8], u64)>
 fn part_word(bytes: &[u8]) -> (&[u8], &[u8])
     requires begins { BeginsWithWord bytes.now }
     ensures words { words_of bytes.now ≡ result.0.now ∷ words_of result.1.now }
-    ensures whole { HasNoSpace result.0.now }
 {
     let end = first_space(bytes).unwrap_or(bytes.len());
     bytes.split_at(end)
@@ -143,7 +138,6 @@ fn part_marked_word(bytes: &[u8], marks: u64) -> (&[u8], &[u8], u64)
     requires begins { BeginsWithWord bytes.now }
     requires marks { HasMarks bytes.now marks }
     ensures words { words_of bytes.now ≡ result.0.now ∷ words_of result.1.now }
-    ensures whole { HasNoSpace result.0.now }
     ensures marks { HasMarks result.1.now result.2 }
 {
     let end = marked_end(bytes, marks);

@@ -1,5 +1,5 @@
 use Rattle.line_core.specs.Words.{is_space}
-use Rattle.line_core.proofs.Runs.{runs-front, runs-front_clear}
+use Rattle.line_core.proofs.Runs.{runs-front}
 use Rattle.line_core.proofs.words.part_marked_word.Goals as goal
 
 pub returns : goal.returns
@@ -9,6 +9,5 @@ returns c =
     let end = c.marked_end-end.ensures.place in
     record {
       words = rw (c.split_at.ensures.front, c.split_at.ensures.back) (runs-front is_space bytes n c.requires.begins.0 c.requires.begins.1 end);
-      whole = rw c.split_at.ensures.front (runs-front_clear is_space bytes n end);
       marks = rw c.split_at.ensures.back c.marks_from.ensures.marks;
     }
