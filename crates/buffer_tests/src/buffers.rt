@@ -79,10 +79,23 @@ fn exports(
     holds(rt, listing.floor == *reach);
 }
 
+/// The latest point of the first context, at the usages that an access with those flags waits for, has this value.
+fn has_latest(rt: &impl Abort, buffers: &Buffers, from: &Name, flags: u32, value: u64) {
+    let latest = buffers.latest(from, flags).expect(rt, "a buffer");
+    let points = latest.expect(rt, "points");
+    holds(rt, points.get(Context::at(0)) == value);
+}
+
+fn has_no_latest(rt: &impl Abort, buffers: &Buffers, from: &Name) {
+    let latest = buffers.latest(from, READ_WRITE).expect(rt, "a buffer");
+    holds(rt, latest.is_none());
+}
+
 /// An export lists that value of the first context alone, if nothing is signalled.
 fn exports_value(rt: &impl Abort, buffers: &Buffers, from: &Name, flags: u32, value: u64) {
     let points = [point(rt, 1, value)];
     exports(rt, buffers, (from, flags), &Reach::zero(), &points);
+    has_latest(rt, buffers, from, flags, value);
 }
 
 /// An export lists nothing, if that value of the first context is reached.
@@ -174,8 +187,10 @@ fn trim(rt: &impl Abort, buffers: &mut Buffers, name: &Name, value: u64) {
 fn exports_nothing(rt: &impl Abort, buffers: &mut Buffers) {
     let b = create(rt, buffers, b"idle");
     exports_none(rt, buffers, &b, READ_WRITE, 0);
+    has_no_latest(rt, buffers, &b);
     add_value(rt, buffers, &b, 2, Usage::Write);
     exports_none(rt, buffers, &b, READ_WRITE, 2);
+    has_latest(rt, buffers, &b, READ_WRITE, 2);
     is_signalled(rt, buffers, &b, Usage::Bookkeep, 2);
     trim(rt, buffers, &b, 2);
     has_rows(rt, buffers, &b, &[]);
@@ -229,6 +244,7 @@ fn refuses_export(
 ) {
     let refused = buffers.export(from, flags, &Reach::zero()).err();
     holds(rt, refused == Some(refusal));
+    holds(rt, buffers.latest(from, flags).err() == Some(refusal));
 }
 
 // A name that is not there is reported before flags that are none.

@@ -8,4 +8,6 @@ mod plans;
 #[cfg(test)]
 mod reservations;
 #[cfg(test)]
+mod tables;
+#[cfg(test)]
 mod values;
