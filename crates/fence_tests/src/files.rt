@@ -1,6 +1,6 @@
 // Sync files that are made, merged, adopted and reported. What their commands show is in the scripts of tests/.
 use crate::values::{context, holds, name, point, reach_at};
-use point_core::{Clocks, Items, Listing, Name, Point, Reach, Refusal, Status};
+use point_core::{Clocks, Items, LatestPoints, Listing, Name, Point, Reach, Refusal, Status};
 use std::alloc::Global;
 use std::process::Abort;
 use syncfile_core::{FenceInfo, Files, SyncFile};
@@ -213,4 +213,35 @@ fn files_are_created_and_adopted(rt: HostRuntime) {
     has_one_point(&rt, &mut files);
     adopt(&rt, rt.alloc(), &mut files);
     has_the_listing(&rt, &files);
+}
+
+/// Makes the file t of a table of two points, of which the first is reached.
+fn adopt_a_table(rt: &impl Abort, files: &mut Files, reach: &Reach) {
+    let mut latest = LatestPoints::above(&Reach::zero());
+    latest.put(point(rt, 1, 4));
+    latest.put(point(rt, 2, 3));
+    files
+        .adopt_latest(name(rt, b"t"), Some(&latest), reach)
+        .expect(rt, "a new file");
+}
+
+/// Makes the file n of no table, in the memory of t, which is closed.
+fn adopt_no_table(rt: &impl Abort, files: &mut Files, reach: &Reach) {
+    files.close(&name(rt, b"t")).expect(rt, "a file");
+    files
+        .adopt_latest(name(rt, b"n"), None, reach)
+        .expect(rt, "a new file");
+}
+
+#[test]
+fn tables_are_adopted(rt: HostRuntime) {
+    let mut files = Files::new(rt.alloc()).expect(&rt, "files");
+    let reach = reach_at(&rt, 4);
+    adopt_a_table(&rt, &mut files, &reach);
+    has_points(&rt, &files, b"t", &[point(&rt, 2, 3)]);
+    has_floor(&rt, &files, b"t", &reach);
+    adopt_no_table(&rt, &mut files, &reach);
+    has_points(&rt, &files, b"n", &[]);
+    has_floor(&rt, &files, b"n", &reach);
+    has_names(&rt, &files, b"n");
 }
