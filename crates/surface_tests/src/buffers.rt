@@ -1,6 +1,6 @@
 // Buffers by name.
 use dmabuf_core::Buffers;
-use point_core::{Listing, Name, Point, Reach, Refusal, TopRow, Usage};
+use point_core::{LatestPoints, Listing, Name, Point, Reach, Refusal, TopRow, Usage};
 use std::alloc::Global;
 use syncfile_core::SyncFile;
 
@@ -43,6 +43,14 @@ pub fn export(
     reach: &Reach,
 ) -> Result<Listing, Refusal> {
     buffers.export(name, flags, reach)
+}
+
+pub fn latest<'a>(
+    buffers: &'a Buffers,
+    name: &Name,
+    flags: u32,
+) -> Result<Option<&'a LatestPoints>, Refusal> {
+    buffers.latest(name, flags)
 }
 
 pub fn test(buffers: &Buffers, name: &Name, usage: Usage, reach: &Reach) -> Result<bool, Refusal> {

@@ -2,7 +2,9 @@
 ghost use Rattle.std.specs.Prelude.{◌≡◌};
 ghost use Rattle.point_core.specs.Agreement.{HasRisingContexts};
 
-use point_core::{Clocks, Context, Floor, Items, Listing, Name, Point, Reach, Refusal};
+use point_core::{
+    Clocks, Context, Floor, Items, LatestPoints, Listing, Name, Point, Reach, Refusal,
+};
 use std::alloc::Global;
 use syncfile_core::{FenceInfo, FileInfo, Files, Status, SyncFile};
 use words_core::{Seat, Words};
@@ -38,6 +40,15 @@ pub fn adopt(files: &mut Files, name: Name, listing: Listing) -> Result<(), Refu
     requires rising { HasRisingContexts listing.points }
 {
     files.adopt(name, listing)
+}
+
+pub fn adopt_latest(
+    files: &mut Files,
+    name: Name,
+    latest: Option<&LatestPoints>,
+    reach: &Reach,
+) -> Result<(), Refusal> {
+    files.adopt_latest(name, latest, reach)
 }
 
 pub fn names(files: &Files) -> Result<Vec<Name>, Refusal> {

@@ -11,5 +11,6 @@ mod points;
 mod programs;
 mod reservations;
 mod scripts;
+mod tables;
 mod timelines;
 mod words;
