@@ -10,7 +10,7 @@ use crate::book::Book;
 use crate::look::{Look, Place};
 use crate::refused::explain_command;
 use crate::syntax::explain_bad_line;
-use line_core::{Body, Ending, RawLine, last_body};
+use line_core::{Body, Ending, RawLine, body_of, last_body};
 use point_core::Refusal;
 use script_core::{Answerer, Answers};
 use std::alloc::Global;
@@ -105,6 +105,19 @@ impl Explainer {
 impl<N: Write> Answerer<N> for Explainer {
     /// If the line is refused, its answer is written, and after that why.
     fn answer<W: Write>(
+        &mut self,
+        answers: &mut Answers,
+        line: &RawLine<'_>,
+        writer: &mut W,
+        notes: &mut N,
+    ) -> Result<(), Refusal> {
+        match body_of(line.bytes) {
+            Some(body) => self.explain_body(answers, line, body, writer, notes),
+            None => Ok(()),
+        }
+    }
+
+    fn answer_last<W: Write>(
         &mut self,
         answers: &mut Answers,
         line: &RawLine<'_>,

@@ -10,17 +10,39 @@ use std::io::Write;
 pub trait Answerer<N> {
     ghost use Rattle.std.specs.Prelude.{◌≡◌, ◌+◌, ◌<◌, ◌≤◌, ◌⊎◌, ◌++◌, [], List, ℕ, Option, OnOk, OnErr, IfErr};
     ghost use Rattle.point_core.specs.declared.refusal.Refusal.TheVariants.{Write as WriteFault, Memory};
+    ghost use Rattle.line_core.specs.Line.{body_of};
     ghost use Rattle.line_core.specs.Script.{answered, last_body};
     ghost use Rattle.line_core.specs.declared.line.Line.{Line};
     ghost use Rattle.script_core.specs.Answering.{HasAnswered};
     ghost use Rattle.script_core.specs.Output.{WritesPrefix};
 
-    /// Answers a line, if it has an answer. It is whole if it ended with a line feed or with the script. Texts are written
-    /// once they are many.
+    /// Answers a line that ended with a line feed, if it has an answer. Texts are written once they are many.
     ///
     /// Fails with `Write` if a write failed or took no byte, and with `Memory` if a growth was refused: then a prefix of the
     /// answers is written.
     fn answer<W: Write>(
+        &mut self,
+        answers: &mut Answers,
+        line: &RawLine<'_>,
+        writer: &mut W,
+        notes: &mut N,
+    ) -> Result<(), Refusal>
+        requires few { answers.old.totals.lines < line.now.number }
+        ensures ok { OnOk result ((done : List Line) → (start : Option (List ℕ)) →
+            HasAnswered done answers.old start (W.contents writer.old) →
+            HasAnswered (done ++ answered line.now.number (body_of line.now.bytes.now) [])
+            answers.new start (W.contents writer.new)) }
+        ensures err { OnErr result ((done : List Line) → (start : Option (List ℕ)) →
+            HasAnswered done answers.old start (W.contents writer.old) →
+            WritesPrefix (done ++ answered line.now.number (body_of line.now.bytes.now) [])
+            start (W.contents writer.new)) }
+        ensures lines { answers.new.totals.lines ≤ answers.old.totals.lines + 1 }
+        ensures refusals { IfErr result (λ refusal. (refusal ≡ WriteFault) ⊎ (refusal ≡ Memory)) };
+
+    /// Answers what follows the last line feed, which is a whole line if the script ended there.
+    ///
+    /// Fails as `answer`.
+    fn answer_last<W: Write>(
         &mut self,
         answers: &mut Answers,
         line: &RawLine<'_>,
@@ -46,8 +68,20 @@ pub trait Answerer<N> {
 pub struct NoNotes;
 
 impl Answerer<()> for NoNotes {
+    // Inlined into its one caller, so that neither a command nor its answer is in memory as a whole.
     #[inline(always)]
     fn answer<W: Write>(
+        &mut self,
+        answers: &mut Answers,
+        line: &RawLine<'_>,
+        writer: &mut W,
+        _notes: &mut (),
+    ) -> Result<(), Refusal> {
+        answer_raw(answers, line, writer)?;
+        Ok(())
+    }
+
+    fn answer_last<W: Write>(
         &mut self,
         answers: &mut Answers,
         line: &RawLine<'_>,
@@ -55,10 +89,7 @@ impl Answerer<()> for NoNotes {
         writer: &mut W,
         _notes: &mut (),
     ) -> Result<(), Refusal> {
-        match ending {
-            Ending::Whole => answer_raw(answers, line, writer)?,
-            _ => answers.answer(line.number, last_body(ending, line.bytes), writer)?,
-        };
+        answers.answer(line.number, last_body(ending, line.bytes), writer)?;
         Ok(())
     }
 }

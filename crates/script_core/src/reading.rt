@@ -129,12 +129,12 @@ fn answer_lines<R: Read, W: Write, N, A: Answerer<N>>(
     loop {
         if lines.advance() {
             let line = lines.line();
-            answerer.answer(answers, &line, Ending::Whole, writer, notes)?;
+            answerer.answer(answers, &line, writer, notes)?;
         } else {
             answers.write(writer)?;
             if let Some(ending) = lines.read(reader) {
                 let line = lines.line();
-                answerer.answer(answers, &line, ending, writer, notes)?;
+                answerer.answer_last(answers, &line, ending, writer, notes)?;
                 return Ok(ending);
             }
         }

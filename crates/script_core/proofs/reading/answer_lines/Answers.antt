@@ -60,16 +60,16 @@ read-requires g c =
     let none = c.if-advance.ensures.next (g.R.Read.remaining c.args.reader.now) (g.R.Read.remaining c.loop-lines.reader) at.0 at.1 in
     record { drained = none.1 }
 
-pub answer-requires-in-Some : goal.answer-requires-in-Some
-answer-requires-in-Some g c =
+pub answer_last-requires : goal.answer_last-requires
+answer_last-requires g c =
     let at = c.loop-lines.invariant in
     let before = g.R.Read.remaining c.args.reader.now in
     let none = c.if-advance.ensures.next before (g.R.Read.remaining c.loop-lines.reader) at.0 at.1 in
     let ended = c.in-Some.ensures.ended before at.0 none.0 in
     record { few = omega (arith, at.3, ended.number, c.line-line-in-Some.ensures.number, ap (λ t. t.lines) c.in_ok-write.ensures.lines) }
 
-pub returns-in_err-answer-2-clause-within : goal.returns-in_err-answer-2-clause-within
-returns-in_err-answer-2-clause-within g c =
+pub returns-in_err-answer_last-clause-within : goal.returns-in_err-answer_last-clause-within
+returns-in_err-answer_last-clause-within g c =
     let at = c.loop-lines.invariant in
     let before = g.R.Read.remaining c.args.reader.now in
     let none = c.if-advance.ensures.next before (g.R.Read.remaining c.loop-lines.reader) at.0 at.1 in
@@ -82,20 +82,20 @@ returns-in-Some-clause-within g c =
     let none = c.if-advance.ensures.next before (g.R.Read.remaining c.loop-lines.reader) at.0 at.1 in
     ended-within before (g.R.Read.remaining c.read.new.reader) c.read.new.self c.in-Some.ending at.0 (c.in-Some.ensures.ended before at.0 none.0)
 
-pub returns-in_err-answer-2-clause-err : goal.returns-in_err-answer-2-clause-err
-returns-in_err-answer-2-clause-err g c =
-    let q = err_from_is_err_and c.from_residual-in_err-answer-2.result c.from_residual-in_err-answer-2.ensures.1 in
+pub returns-in_err-answer_last-clause-err : goal.returns-in_err-answer_last-clause-err
+returns-in_err-answer_last-clause-err g c =
+    let q = err_from_is_err_and c.from_residual-in_err-answer_last.result c.from_residual-in_err-answer_last.ensures.1 in
     let at = c.loop-lines.invariant in
     let before = g.R.Read.remaining c.args.reader.now in
     let left = g.R.Read.remaining c.read.new.reader in
     let start = g.W.Write.contents c.args.writer.now in
-    let end = g.W.Write.contents c.answer-in-Some.new.writer in
+    let end = g.W.Write.contents c.answer_last.new.writer in
     let none = c.if-advance.ensures.next before (g.R.Read.remaining c.loop-lines.reader) at.0 at.1 in
     let ended = c.in-Some.ensures.ended before at.0 none.0 in
     let line = c.line-line-in-Some.result in
     let e = last-answered before left c.read.new.self c.in-Some.ending at.0 ended line.bytes.now line.number (last_body c.in-Some.ending line.bytes.now) c.line-line-in-Some.ensures.number c.line-line-in-Some.ensures.bytes refl in
     let answered = c.in_ok-write.ensures.ok (ended_lines 1 at.0) start at.2 in
-    let front = subst (λ ls. WritesPrefix ls start end) e (c.in_err-answer-2.ensures.err (ended_lines 1 at.0) start answered) in
+    let front = subst (λ ls. WritesPrefix ls start end) e (c.in_err-answer_last.ensures.err (ended_lines 1 at.0) start answered) in
     rw q.1 (prefix_written before left ended.bytes ended.bytes c.in-Some.ending (lines_until c.in-Some.ending (take SCRIPT_BYTES ended.bytes)) ended.read refl refl start end front)
 
 pub returns-in-Some-clause-ok : goal.returns-in-Some-clause-ok
@@ -104,7 +104,7 @@ returns-in-Some-clause-ok g c =
     let before = g.R.Read.remaining c.args.reader.now in
     let left = g.R.Read.remaining c.read.new.reader in
     let start = g.W.Write.contents c.args.writer.now in
-    let end = g.W.Write.contents c.answer-in-Some.new.writer in
+    let end = g.W.Write.contents c.answer_last.new.writer in
     let none = c.if-advance.ensures.next before (g.R.Read.remaining c.loop-lines.reader) at.0 at.1 in
     let ended = c.in-Some.ensures.ended before at.0 none.0 in
     let line = c.line-line-in-Some.result in
@@ -113,5 +113,5 @@ returns-in-Some-clause-ok g c =
     record {
       bytes = ended.bytes;
       read = ended.read;
-      answered = subst (λ ls. HasAnswered ls c.answer-in-Some.new.answers start end) e (c.in_ok-answer-2.ensures.ok (ended_lines 1 at.0) start answered);
+      answered = subst (λ ls. HasAnswered ls c.answer_last.new.answers start end) e (c.in_ok-answer_last.ensures.ok (ended_lines 1 at.0) start answered);
     }
