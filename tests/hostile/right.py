@@ -6,6 +6,7 @@ refused. Such a command has left nothing behind: all other answers are those of 
 import re
 from dataclasses import replace
 
+from runs import FOREVER
 from scripts import answers_of
 
 MEMORY = b"err 16 Memory"
@@ -16,6 +17,8 @@ NEVER = {b"value", b"close", b"wait", b"test", b"trim", b"unwatch"}
 # Memory is refused to these only if they fire a watch.
 RISING = {b"inc", b"shut"}
 # end
+# A file is drawn before its name is looked up, so these ask for memory even if they are refused.
+DRAWING = {b"fence", b"merge", b"export"}
 
 
 def text_of(lines):
@@ -115,7 +118,8 @@ class Answers(Words):
 
     def wrong_refusals(self, run, lasts, refused):
         """Memory is refused to a command that would be accepted otherwise, and where it is refused to the end, that is said."""
-        if lasts and self.reading and run.refused > 0 and not refused and not run.errors.endswith(FAULT):
+        silent = not refused and not run.errors.endswith(FAULT)
+        if lasts and self.reading and silent and run.refused > 0 and run.refused > self.needless_growths():
             return "no answer and no fault says that memory was refused"
         if not lasts and len(refused) > 1:
             return f"one refusal is answered on the lines {refused}"
@@ -124,6 +128,19 @@ class Answers(Words):
             if word in NEVER:
                 return f"line {number} is answered Memory"
         return self.wrong_first(refused[0]) if refused else ""
+
+    def needless_growths(self):
+        """Returns how many growths are asked for by commands that are refused whatever memory there is."""
+        needless = [
+            number
+            for number, answer in self.answers.items()
+            if answer[0].startswith(b"err ") and self.script.line(number).split()[0] in DRAWING
+        ]
+        return self.growths_without([]) - self.growths_without(needless)
+
+    def growths_without(self, numbers):
+        path = self.program.file("counted", self.script.without(numbers))
+        return self.program.refused((FOREVER, FOREVER), self.reading, Answers.WORD, path).growths
 
     def wrong_first(self, number):
         answer = self.answers[number]

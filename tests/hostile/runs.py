@@ -27,6 +27,10 @@ class Run:
     # What refuse.c counts.
 
     @property
+    def growths(self):
+        return self.counts[0]
+
+    @property
     def refused(self):
         return self.counts[1]
 
