@@ -117,7 +117,8 @@ class Answers(Words):
         return replace(run, output=output, status=1 if refused else run.status)
 
     def wrong_refusals(self, run, lasts, refused):
-        """Memory is refused to a command that would be accepted otherwise, and where it is refused to the end, that is said."""
+        """Memory is refused to a command that would be accepted otherwise, and where it is refused to the end, that is said,
+        unless only commands have asked for it that are refused anyway."""
         silent = not refused and not run.errors.endswith(FAULT)
         if lasts and self.reading and silent and run.refused > 0 and run.refused > self.needless_growths():
             return "no answer and no fault says that memory was refused"
