@@ -3,11 +3,9 @@
  * Sends so many messages to the service that no client sends: random bytes, and good requests that are cut, made longer or
  * altered, with all kinds of descriptors, by clients that don't read their answers or go away. Meanwhile another process is
  * served as ever. */
+#include "client.h"
 #include "service.h"
-#include "../../run/wire.h"
 #include <sched.h>
-#include <sys/syscall.h>
-#include <sys/un.h>
 
 enum { MOST_BYTES = 3 * sizeof(struct bim_request), MOST_SENT = 3, LAZY = 40, LANES = 10 };
 
@@ -17,29 +15,6 @@ static unsigned pick(unsigned below)
 {
     state = state * 6364136223846793005u + 1442695040888963407u;
     return (unsigned)(state >> 33) % below;
-}
-
-static int connected(void)
-{
-    struct sockaddr_un to = { .sun_family = AF_UNIX };
-    const char *path = getenv(BIM_SERVICE);
-    int client = socket(AF_UNIX, SOCK_SEQPACKET | SOCK_CLOEXEC, 0);
-
-    if (!path || strlen(path) >= sizeof to.sun_path)
-        return -1;
-    strcpy(to.sun_path, path);
-    if (connect(client, (struct sockaddr *)&to, sizeof to) == 0)
-        return client;
-    close(client);
-    return -1;
-}
-
-/* What the service knows a descriptor by. */
-static __u64 inode_of(int fd)
-{
-    struct stat status;
-
-    return syscall(SYS_fstat, fd, &status) ? 0 : status.st_ino;
 }
 
 /* What messages are about, and the descriptors that go with them. */
