@@ -36,33 +36,85 @@ static int make_memory(struct keeper *keeper, uint64_t size)
     return -1;
 }
 
-int buffer_make(struct keeper *keeper, const struct bim_request *request, int *gives)
+/* A descriptor of the keeper's for memory that a program has. */
+static int keep_memory(struct keeper *keeper, int passed)
 {
-    struct object *object;
-    int error = keeper_begin(keeper, BUFFER, request, &object, gives), memory;
+    int memory;
+
+    keeper->host->begin_files();
+    memory = call_dup_from(passed, 0);
+    if (memory >= 0)
+        memory = keeper->host->place(memory);
+    keeper->host->end_files();
+    return memory;
+}
+
+/* Adds a part to a buffer: of the memory that was passed, or else of new memory. */
+static int add_part(struct keeper *keeper, const struct bim_request *request, struct buffer *buffer, int passed)
+{
+    int error = passed < 0 ? 0 : parts_check(passed, request->from, request->size), memory;
 
     if (error)
         return error;
-    memory = make_memory(keeper, request->size);
-    object->buffer = (struct buffer){ .memory = memory, .flags = request->flags, .size = request->size };
+    memory = passed < 0 ? make_memory(keeper, request->size) : keep_memory(keeper, passed);
+    if (memory < 0)
+        return errno;
+    error = parts_add(&buffer->memory, memory, request->from, request->size);
+    if (error)
+        call_close(memory);
+    else
+        buffer->size += request->size;
+    return error;
+}
+
+int buffer_make(struct keeper *keeper, const struct bim_request *request, int passed, int *gives)
+{
+    struct parts memory;
+    struct object *object;
+    int error = keeper_begin(keeper, BUFFER, request, &object, gives);
+
+    if (error)
+        return error;
+    object->buffer = (struct buffer){ .flags = request->flags, .is_lent = passed >= 0 };
     object->buffer.is_ready[READING] = object->buffer.is_ready[WRITING] = true;
-    error = memory < 0 ? errno : bim_device_buffer(&keeper->device, keeper->now, &object->number);
+    error = add_part(keeper, request, &object->buffer, passed);
+    if (!error)
+        error = bim_device_buffer(&keeper->device, keeper->now, &object->number);
+    memory = object->buffer.memory;
     end_set_readable(object->end);
     error = keeper_finish(keeper, object, error, gives);
-    if (error && memory >= 0)
-        call_close(memory);
+    if (error)
+        parts_close(&memory);
     keeper->page->buffers = 1;
     return error;
 }
 
-int buffer_memory(const struct object *buffer, struct bim_answer *answer, int *gives)
+int buffer_extend(struct keeper *keeper, const struct bim_request *request, struct object *buffer, int passed)
 {
     if (buffer->kind != BUFFER)
         return ENOTTY;
+    if (buffer->buffer.memory.count == PARTS_MOST)
+        return EINVAL;
+    return passed < 0 ? EBADF : add_part(keeper, request, &buffer->buffer, passed);
+}
+
+int buffer_memory(const struct bim_request *request, const struct object *buffer, struct bim_answer *answer, int *gives)
+{
+    const struct part *part;
+
+    if (buffer->kind != BUFFER)
+        return ENOTTY;
+    if (request->value >= buffer->buffer.memory.count)
+        return EINVAL;
+    part = &buffer->buffer.memory.at[request->value];
     answer->size = buffer->buffer.size;
     answer->flags = buffer->buffer.flags;
+    answer->parts = buffer->buffer.memory.count;
+    answer->is_lent = buffer->buffer.is_lent;
+    answer->from = part->from;
+    answer->length = part->size;
     memcpy(answer->name, buffer->buffer.name, sizeof answer->name);
-    *gives = call_dup_from(buffer->buffer.memory, 0);
+    *gives = call_dup_from(part->memory, 0);
     return *gives < 0 ? errno : 0;
 }
 
@@ -194,5 +246,5 @@ void buffer_drop(struct keeper *keeper, struct object *object)
         stop_awaiting(keeper, &object->buffer, access);
         record_drop(&object->buffer.fences[access], !object->is_told, keeper->trace);
     }
-    call_close(object->buffer.memory);
+    parts_close(&object->buffer.memory);
 }

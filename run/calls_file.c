@@ -101,7 +101,9 @@ static int memory_of(int file, struct bim_answer *answer)
 
 static bool may_map(const struct bim_answer *buffer, size_t length, int protection, int flags, off_t from)
 {
-    if (protection & PROT_WRITE && (flags & MAP_TYPE) != MAP_PRIVATE && buffer->flags == O_RDONLY)
+    if (buffer->is_lent && (flags & MAP_TYPE) == MAP_PRIVATE)
+        errno = EINVAL;
+    else if (protection & PROT_WRITE && (flags & MAP_TYPE) != MAP_PRIVATE && buffer->flags == O_RDONLY)
         errno = EACCES;
     else if (from < 0 || length > buffer->size || (uint64_t)from > buffer->size - length)
         errno = EINVAL;
@@ -113,6 +115,9 @@ static bool may_map(const struct bim_answer *buffer, size_t length, int protecti
 /* The kernel can't map what stands for a buffer; its memory is another file. */
 static void *map(void *at, size_t length, int protection, int flags, int file, off_t from)
 {
+    struct shim_map map = {
+        .from = from, .at = at, .length = length, .protection = protection, .flags = flags
+    };
     struct bim_answer buffer;
     void *mapped = MAP_FAILED;
     int memory = memory_of(file, &buffer);
@@ -122,7 +127,7 @@ static void *map(void *at, size_t length, int protection, int flags, int file, o
         return MAP_FAILED;
     }
     if (may_map(&buffer, length, protection, flags, from))
-        mapped = (void *)syscall(SYS_mmap, at, length, protection, flags, memory, from);
+        mapped = shim_mark(file, &map.buffer) ? shim_map(&map, &buffer, memory) : MAP_FAILED;
     call_close(memory);
     return mapped;
 }
@@ -203,6 +208,7 @@ static int name_of(int file, char *name, size_t room)
     case BIM_TIMELINE_MARK: return snprintf(name, room, "/sys/kernel/debug/sync/sw_sync");
     case BIM_FILE_MARK: return snprintf(name, room, "anon_inode:sync_file");
     case BIM_HEAP_MARK: return snprintf(name, room, "/dev/dma_heap/system");
+    case BIM_UDMABUF_MARK: return snprintf(name, room, "/dev/udmabuf");
     case BIM_BUFFER_MARK:
         memory = memory_of(file, &buffer);
         if (memory >= 0)

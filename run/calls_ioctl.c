@@ -292,6 +292,7 @@ static bool is_ours(unsigned long call)
     case 'W':
     case '>':
     case 'b':
+    case 'u':
     case 'H': return true;
     default: return false;
     }
@@ -313,6 +314,7 @@ EXPORT int ioctl(int file, unsigned long call, ...)
     case BIM_FILE_MARK: return shim_result(on_file(inode, call, arg));
     case BIM_BUFFER_MARK: return shim_result(on_buffer(file, inode, call, arg));
     case BIM_HEAP_MARK: return shim_result(call == DMA_HEAP_IOCTL_ALLOC ? allocate(arg) : EINVAL);
+    case BIM_UDMABUF_MARK: return shim_udmabuf(call, arg);
     default: return next(file, call, arg);
     }
 }

@@ -13,7 +13,7 @@
 #include <sys/sysmacros.h>
 
 enum { PATH_ROOM = 64 };
-enum path { NOT_OURS, SW_SYNC, SYNC_INFO, DMA_HEAP };
+enum path { NOT_OURS, SW_SYNC, SYNC_INFO, DMA_HEAP, UDMABUF };
 
 /* The path is readable: the kernel has read it, or copy_of has. */
 static enum path path_of(const char *path)
@@ -24,6 +24,8 @@ static enum path path_of(const char *path)
         return SW_SYNC;
     if (strcmp(path, "/sys/kernel/debug/sync/info") == 0)
         return SYNC_INFO;
+    if (strcmp(path, "/dev/udmabuf") == 0)
+        return UDMABUF;
     return strcmp(path, "/dev/dma_heap/system") == 0 ? DMA_HEAP : NOT_OURS;
 }
 
@@ -41,27 +43,37 @@ static enum path path_before(const char *path)
     return shim_is_on() && user_get_text(copy, path, sizeof copy) == 0 ? path_of(copy) : NOT_OURS;
 }
 
-/* A heap is a mark: what is allocated from it is the service's. */
-static int open_heap(void)
+/* A device is a mark: what it makes is the service's. */
+static int open_device(enum bim_mark mark)
 {
-    int file = memfd_create("heap", MFD_CLOEXEC);
+    int file = memfd_create("device", MFD_CLOEXEC);
 
     if (file >= 0)
-        fchmod(file, BIM_HEAP_MARK & ~S_IFMT);
+        fchmod(file, mark & ~S_IFMT);
     return file;
+}
+
+static int open_by_service(enum path path)
+{
+    struct bim_request request = { .op = path == SW_SYNC ? BIM_OP_TIMELINE : BIM_OP_TEXT };
+
+    prctl(PR_GET_NAME, request.name);
+    return shim_ask_for_file(&request);
 }
 
 static int open_path(enum path path, int flags)
 {
-    struct bim_request request = { .op = path == SW_SYNC ? BIM_OP_TIMELINE : BIM_OP_TEXT };
     int file;
 
     if (path == SYNC_INFO && (flags & O_ACCMODE) != O_RDONLY) {
         errno = EACCES;
         return -1;
     }
-    prctl(PR_GET_NAME, request.name);
-    file = path == DMA_HEAP ? open_heap() : shim_ask_for_file(&request);
+    switch (path) {
+    case DMA_HEAP: file = open_device(BIM_HEAP_MARK); break;
+    case UDMABUF: file = open_device(BIM_UDMABUF_MARK); break;
+    default: file = open_by_service(path); break;
+    }
     if (file >= 0 && !(flags & O_CLOEXEC))
         syscall(SYS_fcntl, file, F_SETFD, 0);
     return file;
@@ -189,7 +201,7 @@ FOPEN(fopen64)
 /* A file of debugfs, or a device. */
 static mode_t mode_of(enum path path)
 {
-    return path == DMA_HEAP ? S_IFCHR | 0600 : path == SYNC_INFO ? S_IFREG | 0444 : S_IFREG | 0644;
+    return path == DMA_HEAP || path == UDMABUF ? S_IFCHR | 0600 : path == SYNC_INFO ? S_IFREG | 0444 : S_IFREG | 0644;
 }
 
 static int fill_stat(struct stat *found, enum path path)

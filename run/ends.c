@@ -82,7 +82,8 @@ enum bim_mark end_mark(int file, uint64_t *inode)
     case BIM_BUFFER_MARK:
     case BIM_BUFFER_END_MARK:
     case BIM_MEMORY_MARK:
-    case BIM_HEAP_MARK: return found.st_mode;
+    case BIM_HEAP_MARK:
+    case BIM_UDMABUF_MARK: return found.st_mode;
     default: return 0;
     }
 }

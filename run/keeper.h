@@ -6,6 +6,7 @@
 #include "ends.h"
 #include "map.h"
 #include "page.h"
+#include "parts.h"
 #include "record.h"
 #include "trace.h"
 #include "wire.h"
@@ -20,7 +21,8 @@ enum kind { TIMELINE, SYNC_FILE, BUFFER, READINESS };
 enum access { READING, WRITING, ACCESSES };
 
 struct buffer {
-    int memory;
+    struct parts memory;
+    bool is_lent;
     uint32_t flags;
     uint64_t size;
     char name[BIM_TEXT_ROOM];
@@ -108,8 +110,10 @@ void keeper_forget(struct keeper *keeper, struct object *object);
 /* What an access to a buffer waits for, as its export shows it. Returns 0 or ENOMEM. */
 int buffer_fences(const struct object *buffer, uint32_t flags, struct fences *fences);
 int buffer_name(struct object *buffer, const char *name);
-int buffer_make(struct keeper *keeper, const struct bim_request *request, int *gives);
-int buffer_memory(const struct object *buffer, struct bim_answer *answer, int *gives);
+/* `passed` is the memory of another's, or -1 for new memory. */
+int buffer_make(struct keeper *keeper, const struct bim_request *request, int passed, int *gives);
+int buffer_extend(struct keeper *keeper, const struct bim_request *request, struct object *buffer, int passed);
+int buffer_memory(const struct bim_request *request, const struct object *buffer, struct bim_answer *answer, int *gives);
 int buffer_export(struct keeper *keeper, const struct bim_request *request, struct object *buffer, int *gives);
 int buffer_import(struct keeper *keeper, const struct bim_request *request, struct object *buffer, int passed);
 void buffer_is_ready(struct object *buffer, enum access access);

@@ -44,7 +44,7 @@ static bool is_own(int file)
 
     if (file < lowest || !is_open())
         return false;
-    return is_trace(file) || end_is_ours(file) || end_mark(file, &inode) == BIM_MEMORY_MARK;
+    return is_trace(file) || parts_hold(file) || end_is_ours(file) || end_mark(file, &inode) == BIM_MEMORY_MARK;
 }
 
 /* What the keeper holds has high numbers. Once these are used up, it has numbers past the program's limit, which is

@@ -135,7 +135,8 @@ static int serve_object(struct keeper *keeper, const struct bim_request *request
     case BIM_OP_MERGE: return serve_merge(keeper, request, object, gives);
     case BIM_OP_INFO: return info_of_file(keeper, request, object, answer, gives);
     case BIM_OP_WAIT: return serve_wait(keeper, request, object, answer);
-    case BIM_OP_MEMORY: return buffer_memory(object, answer, gives);
+    case BIM_OP_EXTEND: return buffer_extend(keeper, request, object, passed);
+    case BIM_OP_MEMORY: return buffer_memory(request, object, answer, gives);
     case BIM_OP_NAME: return buffer_name(object, request->name);
     case BIM_OP_EXPORT: return serve_export(keeper, request, object, gives);
     case BIM_OP_IMPORT: return buffer_import(keeper, request, object, passed);
@@ -182,7 +183,7 @@ void keeper_serve(struct keeper *keeper, const struct bim_request *request, int 
     switch (request->op) {
     case BIM_OP_HELLO: answer->error = serve_page(keeper, gives); break;
     case BIM_OP_TIMELINE: answer->error = serve_timeline(keeper, request, gives); break;
-    case BIM_OP_BUFFER: answer->error = buffer_make(keeper, request, gives); break;
+    case BIM_OP_BUFFER: answer->error = buffer_make(keeper, request, passed, gives); break;
     case BIM_OP_TEXT: answer->error = info_text(keeper, gives); break;
     case BIM_OP_GONE: answer->error = serve_gone(keeper, request); break;
     default: answer->error = serve_object(keeper, request, passed, answer, gives); break;

@@ -138,7 +138,7 @@ void keeper_place_all(struct keeper *keeper)
         if (object && object->end >= 0)
             object->end = keeper->host->place(object->end);
         if (object && object->kind == BUFFER)
-            object->buffer.memory = keeper->host->place(object->buffer.memory);
+            parts_place(&object->buffer.memory, keeper->host->place);
     }
     if (keeper->trace)
         keeper->trace->file = keeper->host->place(keeper->trace->file);

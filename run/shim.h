@@ -71,6 +71,17 @@ extern const struct way LINK, LOCAL;
 /* What the environment says of the service. */
 const char *shim_service(void);
 
+/* A call of mmap(2) on a buffer, whose first part was answered. */
+struct shim_map {
+    uint64_t buffer, from;
+    void *at;
+    size_t length;
+    int protection, flags;
+};
+void *shim_map(const struct shim_map *map, const struct bim_answer *first, int memory);
+/* A call of ioctl(2) on /dev/udmabuf. */
+int shim_udmabuf(unsigned long call, const void *arg);
+
 /* The mark of a descriptor, or 0 if there is no service. */
 enum bim_mark shim_mark(int file, uint64_t *inode);
 /* Sets errno, and returns -1, or 0 if there is no error. */

@@ -22,7 +22,8 @@ enum bim_mark {
     BIM_BUFFER_MARK = S_IFSOCK | S_ISVTX | 0600,
     BIM_BUFFER_END_MARK = S_IFSOCK | S_ISVTX | 0200, /* of the service's end */
     BIM_MEMORY_MARK = S_IFREG | S_ISVTX | 0200,      /* of the memory of a buffer */
-    BIM_HEAP_MARK = S_IFREG | S_ISVTX | 0600
+    BIM_HEAP_MARK = S_IFREG | S_ISVTX | 0600,
+    BIM_UDMABUF_MARK = S_IFREG | S_ISVTX | 0700 /* of /dev/udmabuf */
 };
 
 enum bim_op {
@@ -35,8 +36,9 @@ enum bim_op {
     BIM_OP_MERGE,  /* a, b: the files; name */
     BIM_OP_INFO,   /* a: the file; value: how many rows there is room for */
     BIM_OP_GONE,   /* a: what was just closed, or BIM_ANY. Answered once all closings so far are done */
-    BIM_OP_BUFFER, /* size, flags: O_ACCMODE of it */
-    BIM_OP_MEMORY, /* a: the buffer; gives its memory */
+    BIM_OP_BUFFER, /* size, flags: O_ACCMODE of it. With a descriptor of memory: of its bytes from `from` on */
+    BIM_OP_EXTEND, /* a: the buffer; size, from: a part that is added, of the memory whose descriptor is passed */
+    BIM_OP_MEMORY, /* a: the buffer; value: which part, from 0 on; gives the part's memory */
     BIM_OP_NAME,   /* a: the buffer; name */
     BIM_OP_EXPORT, /* a: the buffer; flags */
     BIM_OP_IMPORT, /* a: the buffer, which is passed as a descriptor too; b: the file; flags */
@@ -62,6 +64,7 @@ struct bim_request {
         uint64_t b;
         uint64_t size;
     };
+    uint64_t from;
     char name[BIM_TEXT_ROOM];
     char task[BIM_TASK_ROOM];
 };
@@ -75,6 +78,10 @@ struct bim_answer {
     uint32_t fences; /* how many a file has */
     uint32_t flags;  /* O_ACCMODE of a buffer */
     uint64_t size;   /* of a buffer */
+    uint32_t parts;  /* how many a buffer's memory has */
+    int32_t is_lent; /* 1 if that memory is of memory files of a program */
+    uint64_t from;   /* where a part begins in its memory */
+    uint64_t length; /* of the part */
     char name[BIM_TEXT_ROOM];
     struct sync_fence_info row[BIM_ROWS];
 };

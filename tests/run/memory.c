@@ -3,13 +3,16 @@
  * The keeper of run/, with each of its allocations refused in turn. A request that was refused memory leaves nothing behind, no
  * object, descriptor or block, and after a run all that was made can be let go. To be linked with run/'s keeper and
  *     -Wl,--wrap=malloc -Wl,--wrap=calloc -Wl,--wrap=realloc */
+#define _GNU_SOURCE
 #include "../../run/keeper.h"
 #include <errno.h>
+#include <fcntl.h>
 #include <signal.h>
 #include <stdio.h>
 #include <stdlib.h>
 #include <string.h>
 #include <sys/epoll.h>
+#include <sys/mman.h>
 #include <unistd.h>
 
 enum { MOST = 200, POINTS = 40, NONE = -1 };
@@ -118,6 +121,19 @@ static void close_one(int object)
     ask((struct bim_request){ .op = BIM_OP_GONE, .a = inodes[object] }, -1);
 }
 
+/* A buffer of two parts of a memory file. */
+static void lend(void)
+{
+    int file = memfd_create("memory", MFD_CLOEXEC | MFD_ALLOW_SEALING), buffer;
+
+    if (ftruncate(file, 8192) || fcntl(file, F_ADD_SEALS, F_SEAL_SHRINK))
+        exit(2);
+    buffer = ask((struct bim_request){ .op = BIM_OP_BUFFER, .size = 4096, .flags = 2 }, file);
+    if (buffer != NONE)
+        ask((struct bim_request){ .op = BIM_OP_EXTEND, .a = inodes[buffer], .size = 4096, .from = 4096 }, file);
+    close(file);
+}
+
 /* One request of each kind. */
 static void play(void)
 {
@@ -130,6 +146,7 @@ static void play(void)
     ask_of(BIM_OP_IMPORT, buffer, both, 0, BIM_SYNC_WRITE);
     ask_of(BIM_OP_EXPORT, buffer, NONE, 0, BIM_SYNC_READ);
     ask_of(BIM_OP_INFO, both, NONE, 8, 0);
+    lend();
     close_one(ask((struct bim_request){ .op = BIM_OP_TEXT }, -1));
     for (int i = 0; i < POINTS; i++)
         ask_of(BIM_OP_FENCE, line, NONE, 5 + i, 0);
