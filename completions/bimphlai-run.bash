@@ -5,7 +5,7 @@ _bimphlai_run() {
     # After the options comes a program, whose own words follow.
     while [ "$at" -lt "$COMP_CWORD" ]; do
         case "${COMP_WORDS[at]}" in
-        --trace) at=$((at + 2)) ;;
+        --trace | --shuffle) at=$((at + 2)) ;;
         --) at=$((at + 1)) && break ;;
         -*) at=$((at + 1)) ;;
         *) break ;;
@@ -13,10 +13,12 @@ _bimphlai_run() {
     done
     if [ "${COMP_WORDS[COMP_CWORD - 1]}" = --trace ]; then
         mapfile -t COMPREPLY < <(compgen -f -- "$word")
+    elif [ "${COMP_WORDS[COMP_CWORD - 1]}" = --shuffle ]; then
+        COMPREPLY=()
     elif [ "$at" -lt "$COMP_CWORD" ]; then
         mapfile -t COMPREPLY < <(compgen -f -- "$word")
     elif [[ $word == -* ]]; then
-        mapfile -t COMPREPLY < <(compgen -W "--local --trace --report --require --verbose --help --version" -- "$word")
+        mapfile -t COMPREPLY < <(compgen -W "--local --trace --report --require --shuffle --verbose --help --version" -- "$word")
     else
         mapfile -t COMPREPLY < <(compgen -c -- "$word")
         mapfile -t -O "${#COMPREPLY[@]}" COMPREPLY < <(compgen -f -- "$word")

@@ -2,6 +2,7 @@
 #define _GNU_SOURCE
 #include "calls.h"
 #include "shim.h"
+#include "shuffle.h"
 
 #include <errno.h>
 #include <poll.h>
@@ -28,6 +29,7 @@ static void end_waits(const struct pollfd *files, uint64_t noted)
 {
     int before = errno;
 
+    shuffle_pause();
     if (!noted)
         return;
     for (int i = 0; i < NOTED; i++)
@@ -135,17 +137,23 @@ EXPORT int epoll_ctl(int set, int how, int file, struct epoll_event *event)
 EXPORT int epoll_wait(int set, struct epoll_event *events, int room, int milliseconds)
 {
     NEXT(epoll_wait);
+    int result;
 
     if (milliseconds != 0)
         shim_before_wait();
-    return next(set, events, room, milliseconds);
+    result = next(set, events, room, milliseconds);
+    shuffle_pause();
+    return result;
 }
 
 EXPORT int epoll_pwait(int set, struct epoll_event *events, int room, int milliseconds, const sigset_t *mask)
 {
     NEXT(epoll_pwait);
+    int result;
 
     if (milliseconds != 0)
         shim_before_wait();
-    return next(set, events, room, milliseconds, mask);
+    result = next(set, events, room, milliseconds, mask);
+    shuffle_pause();
+    return result;
 }

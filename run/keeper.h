@@ -113,7 +113,8 @@ int buffer_name(struct object *buffer, const char *name);
 /* `passed` is the memory of another's, or -1 for new memory. */
 int buffer_make(struct keeper *keeper, const struct bim_request *request, int passed, int *gives);
 int buffer_extend(struct keeper *keeper, const struct bim_request *request, struct object *buffer, int passed);
-int buffer_memory(const struct bim_request *request, const struct object *buffer, struct bim_answer *answer, int *gives);
+int buffer_memory(const struct bim_request *request, const struct object *buffer, struct bim_answer *answer,
+                  int *gives);
 int buffer_export(struct keeper *keeper, const struct bim_request *request, struct object *buffer, int *gives);
 int buffer_import(struct keeper *keeper, const struct bim_request *request, struct object *buffer, int passed);
 void buffer_is_ready(struct object *buffer, enum access access);

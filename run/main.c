@@ -32,6 +32,12 @@ static int begin_trace(const struct options *options, char *path)
     return error ? fault("a file for the trace", error) : 0;
 }
 
+/* Has the program be held up as the seed says, and by no seed of a run in which this one is. Returns 0 or a status. */
+static int set_seed(const char *seed)
+{
+    return (seed ? setenv(BIM_SHUFFLE, seed, 1) : unsetenv(BIM_SHUFFLE)) ? fault("the environment", errno) : 0;
+}
+
 static int run(const struct options *options, const char *trace)
 {
     if (options->is_local && !options->reports && !options->requires) {
@@ -51,6 +57,8 @@ int main(int count, char **words)
     if (status >= 0)
         return status;
     status = program_check(options.program[0]);
+    if (!status)
+        status = set_seed(options.seed);
     if (!status)
         status = begin_trace(&options, path);
     if (status)

@@ -3,6 +3,7 @@
 #include <bimphlai.h>
 #include <getopt.h>
 #include <stdio.h>
+#include <string.h>
 
 static const char USAGE[] = "usage: bimphlai-run [OPTION ...] PROGRAM [ARGUMENT ...]\n";
 
@@ -15,19 +16,23 @@ static const char HELP[] =
     "  --trace FILE  writes what happens to fences to FILE, for `fencectl trace`\n"
     "  --report      reports at the end what hangs and who waits, on standard error\n"
     "  --require     ends with 1 if a fence hangs or a rule was broken\n"
+    "  --shuffle SEED\n"
+    "                holds threads up at moments that the number SEED decides, to find what relies on luck\n"
     "  --verbose     says where the service is, and what was left at the end\n"
     "  --help, --version\n"
     "\n"
     "The status is that of the program; 2 for options that don't fit, 123 if the service was lost, 125 if it can't\n"
     "start, 126 if the program can't be run with it, and 127 if there is no such program.\n";
 
-enum word { LOCAL = 256, TRACE, REPORT, REQUIRE, VERBOSE, HELP_, VERSION };
+enum word { LOCAL = 256, TRACE, REPORT, REQUIRE, SHUFFLE, VERBOSE, HELP_, VERSION };
+enum { SEED_DIGITS = 19 }; /* which fit into 64 bits */
 
 static const struct option WORDS[] = {
     { "local", no_argument, NULL, LOCAL },     { "trace", required_argument, NULL, TRACE },
     { "report", no_argument, NULL, REPORT },   { "require", no_argument, NULL, REQUIRE },
-    { "verbose", no_argument, NULL, VERBOSE }, { "help", no_argument, NULL, HELP_ },
-    { "version", no_argument, NULL, VERSION }, { NULL, 0, NULL, 0 },
+    { "shuffle", required_argument, NULL, SHUFFLE }, { "verbose", no_argument, NULL, VERBOSE },
+    { "help", no_argument, NULL, HELP_ },      { "version", no_argument, NULL, VERSION },
+    { NULL, 0, NULL, 0 },
 };
 
 static int tell_usage(void)
@@ -42,6 +47,13 @@ static int print(const char *text, const char *more)
     return fputs(text, stdout) < 0 || fputs(more, stdout) < 0 || fflush(stdout) ? 125 : 0;
 }
 
+static bool is_seed(const char *text)
+{
+    size_t length = strlen(text);
+
+    return length > 0 && length <= SEED_DIGITS && strspn(text, "0123456789") == length;
+}
+
 static int take(struct options *options, int word)
 {
     switch (word) {
@@ -52,6 +64,7 @@ static int take(struct options *options, int word)
         options->requires
         = true;
         return -1;
+    case SHUFFLE: options->seed = optarg; return is_seed(optarg) ? -1 : tell_usage();
     case VERBOSE: options->is_verbose = true; return -1;
     case HELP_: return print(USAGE, HELP);
     case VERSION: return print("bimphlai-run " BIM_VERSION, "\n");

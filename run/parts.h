@@ -20,8 +20,8 @@ struct parts {
     size_t count;
 };
 
-/* Whether a buffer may be made of these bytes of a file: 0, EBADFD for what is no memory file, or EINVAL for one that may
- * become smaller or can't be written. */
+/* Whether a buffer may be made of these bytes of a file: 0, EBADFD for what is no memory file, or EINVAL for one that
+ * may become smaller or can't be written. */
 int parts_check(int memory, uint64_t from, uint64_t size);
 
 /* Adds a part, whose descriptor is kept. Returns 0 or ENOMEM. */

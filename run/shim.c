@@ -2,6 +2,7 @@
 #include "shim.h"
 
 #include "calls.h"
+#include "shuffle.h"
 
 #include <errno.h>
 #include <limits.h>
@@ -58,6 +59,7 @@ static void in_child(void)
 {
     memset(own, 0, sizeof *own);
     way->leave();
+    shuffle_fork();
     if (!is_inside)
         pthread_sigmask(SIG_SETMASK, &mask, NULL);
     is_inside = false;
@@ -84,6 +86,7 @@ __attribute__((constructor)) static void begin(void)
         is_traced = getenv(BIM_TRACE) != NULL;
         way = strcmp(service, BIM_LOCAL) == 0 ? &LOCAL : &LINK;
         make_own();
+        shuffle_begin();
     }
     is_begun = 1;
 }
@@ -172,6 +175,7 @@ int shim_ask(struct bim_request *request, int passed, struct bim_answer *answer,
     /* A signal handler can't wait for the thread that it interrupted. */
     if (is_inside)
         return way->ask_apart(request, passed, answer, given);
+    shuffle_pause();
     enter(&entry);
     error = prepare();
     if (!error) {
@@ -179,6 +183,7 @@ int shim_ask(struct bim_request *request, int passed, struct bim_answer *answer,
         error = way->ask(request, passed, answer, given);
     }
     leave(&entry);
+    shuffle_pause();
     /* A process in another root, say, may well close what it has. */
     if (error == ENOTCONN && request->op != BIM_OP_GONE)
         shim_lost("the service can't be reached, since it has ended or its socket is out of reach");

@@ -7,9 +7,11 @@
 #include <stdint.h>
 #include <sys/stat.h>
 
-/* The environment of a program: where its service is, and the file of the trace if there is one. */
+/* The environment of a program: where its service is, and the file of the trace and the seed of --shuffle if there are
+ * any. */
 #define BIM_SERVICE "BIMPHLAI_RUN"
 #define BIM_TRACE   "BIMPHLAI_RUN_TRACE"
+#define BIM_SHUFFLE "BIMPHLAI_RUN_SHUFFLE"
 #define BIM_LOCAL   "local"
 
 /* How a process ends that can't have what it was promised: its service is gone, or is another process's. */

@@ -1,0 +1,25 @@
+/* A race that luck hides: nobody waits for the producer, since a short pause has always been long enough. */
+#include "kernel.h"
+#include <pthread.h>
+
+enum { ENOUGH = 10 };
+
+static void *produce(void *timeline)
+{
+    inc(*(int *)timeline, 1);
+    return NULL;
+}
+
+int main(void)
+{
+    pthread_t producer;
+    int t = timeline(), f = fence(t, 1);
+
+    EXPECT(pthread_create(&producer, NULL, produce, &t), 0);
+    pause_for(ENOUGH);
+    EXPECT(status(f), 1);
+    pthread_join(producer, NULL);
+    close(f);
+    close(t);
+    return report("lucky");
+}
