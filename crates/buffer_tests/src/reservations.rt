@@ -1,7 +1,7 @@
 // Reservations: what is put in, what replaces what, and what is listed.
 use crate::values::{EVERY_USAGE, are_full_rows, holds, point, reach_at, row, value_of};
 use point_core::{CONTEXTS, Context, LatestPoints, Point, Reach, TopRow, Usage};
-use resv_core::{GROWTH, PLACES, Resv, SCANNED};
+use resv_core::{PLACES, Resv};
 use std::process::Abort;
 
 fn add(rt: &impl Abort, resv: &mut Resv, point: Point, usage: Usage, reach: &Reach) {
@@ -9,20 +9,9 @@ fn add(rt: &impl Abort, resv: &mut Resv, point: Point, usage: Usage, reach: &Rea
     resv.add(point, usage, reach);
 }
 
-fn put(rt: &impl Abort, resv: &mut Resv, point: Point, usage: Usage, reach: &Reach) {
-    resv.reserve(1, reach).expect(rt, "memory");
-    resv.put(point, usage, reach);
-}
-
 /// Adds that value of the first context, if nothing is signalled.
 fn add_value(rt: &impl Abort, resv: &mut Resv, value: u64, usage: Usage) {
     add(rt, resv, point(rt, 1, value), usage, &Reach::zero());
-}
-
-/// Puts that value of the first context at the weakest usage, if nothing is signalled.
-fn put_value(rt: &impl Abort, resv: &mut Resv, value: u64) {
-    let point = point(rt, 1, value);
-    put(rt, resv, point, Usage::Bookkeep, &Reach::zero());
 }
 
 fn collects(rt: &impl Abort, resv: &Resv, usage: Usage, reach: &Reach, points: &[Point]) {
@@ -135,96 +124,6 @@ fn every_place_is_taken(rt: HostRuntime) {
     takes_the_last_place(&rt, &mut resv);
 }
 
-fn make_room_for_one(rt: &impl Abort, resv: &mut Resv) {
-    let made = resv.make_room(1, &Reach::zero());
-    made.expect(rt, "memory");
-}
-
-fn make_room_for_none(rt: &impl Abort, resv: &mut Resv) {
-    let made = resv.make_room(0, &Reach::zero());
-    made.expect(rt, "memory");
-}
-
-// A table that has grown is trimmed for a new entry, though there is room, and isn't for none.
-fn is_trimmed_early(rt: &impl Abort, resv: &mut Resv) {
-    let entries = GROWTH * SCANNED;
-    add_falling(rt, resv, entries as u64);
-    make_room_for_none(rt, resv);
-    has_room(rt, resv, PLACES - entries);
-    make_room_for_one(rt, resv);
-    has_room(rt, resv, PLACES - 1);
-    has_the_row(rt, resv, entries as u64);
-}
-
-#[test]
-fn table_that_has_grown(rt: HostRuntime) {
-    let mut resv = Resv::new(rt.alloc()).expect(&rt, "a reservation");
-    make_room_for_one(&rt, &mut resv);
-    has_room(&rt, &resv, PLACES);
-    is_trimmed_early(&rt, &mut resv);
-}
-
-// A small table takes no place for what an entry of it covers, and a later point replaces that entry.
-fn takes_one_place(rt: &impl Abort, resv: &mut Resv) {
-    for value in (1..=100).rev() {
-        put_value(rt, resv, value);
-    }
-    has_room(rt, resv, PLACES - 1);
-    put_value(rt, resv, 200);
-    has_room(rt, resv, PLACES - 1);
-    has_the_row(rt, resv, 200);
-}
-
-#[test]
-fn hundred_falling_puts_and_a_later_one(rt: HostRuntime) {
-    let mut resv = Resv::new(rt.alloc()).expect(&rt, "a reservation");
-    takes_one_place(&rt, &mut resv);
-}
-
-/// Whether the rows are those of every context at the weakest usage, each at that value.
-fn are_weakest_rows(rows: &[TopRow], point: u64) -> bool {
-    let usage = Usage::Bookkeep;
-    for index in 0..CONTEXTS {
-        let ctx = Context::at(index);
-        if rows.get(index) != Some(&TopRow { usage, ctx, point }) {
-            return false;
-        }
-    }
-    rows.len() == CONTEXTS
-}
-
-fn has_weakest_rows(rt: &impl Abort, resv: &Resv, point: u64) {
-    let table = resv.table(&Reach::zero()).expect(rt, "memory");
-    holds(rt, are_weakest_rows(table.as_slice(), point));
-}
-
-/// Puts that value of every context at the weakest usage.
-fn put_every_context(rt: &impl Abort, resv: &mut Resv, value: u64) {
-    for index in 0..CONTEXTS {
-        let ctx = Context::at(index);
-        let point = Point { ctx, value };
-        put(rt, resv, point, Usage::Bookkeep, &Reach::zero());
-    }
-}
-
-// A large table takes a place for each put, whatever covers what, until it is trimmed.
-fn takes_a_place_for_each_put(rt: &impl Abort, resv: &mut Resv) {
-    let zero = Reach::zero();
-    put_every_context(rt, resv, 9);
-    put(rt, resv, point(rt, 1, 8), Usage::Bookkeep, &zero);
-    put(rt, resv, point(rt, 2, 9), Usage::Bookkeep, &zero);
-    has_room(rt, resv, PLACES - CONTEXTS - 2);
-    resv.trim(&zero);
-    has_room(rt, resv, PLACES - CONTEXTS);
-    has_weakest_rows(rt, resv, 9);
-}
-
-#[test]
-fn puts_into_a_large_table(rt: HostRuntime) {
-    let mut resv = Resv::new(rt.alloc()).expect(&rt, "a reservation");
-    takes_a_place_for_each_put(&rt, &mut resv);
-}
-
 /// Adds every context at every usage, each at the value of its usage.
 fn fill(rt: &impl Abort, resv: &mut Resv) {
     for index in 0..CONTEXTS {
@@ -257,60 +156,4 @@ fn imports_into_a_full_table(rt: HostRuntime) {
     import_every_context(&rt, &mut resv);
     import_every_context(&rt, &mut resv);
     has_full_rows(&rt, &resv);
-}
-
-// Points that are added together put out what they cover and what is signalled; without any, nothing changes.
-fn adds_together(rt: &impl Abort, resv: &mut Resv) {
-    let one = reach_at(rt, 1);
-    add(rt, resv, point(rt, 1, 1), Usage::Read, &Reach::zero());
-    add(rt, resv, point(rt, 2, 5), Usage::Write, &Reach::zero());
-    add(rt, resv, point(rt, 3, 5), Usage::Bookkeep, &Reach::zero());
-    let room = resv.room();
-    resv.add_all(&[], Usage::Read, &one);
-    has_room(rt, resv, room);
-    resv.reserve(2, &one).expect(rt, "memory");
-    resv.add_all(&[point(rt, 2, 9), point(rt, 3, 9)], Usage::Read, &one);
-    has_room(rt, resv, room);
-    let rows = [
-        row(rt, Usage::Write, 2, 5),
-        row(rt, Usage::Read, 2, 9),
-        row(rt, Usage::Read, 3, 9),
-        row(rt, Usage::Bookkeep, 2, 9),
-        row(rt, Usage::Bookkeep, 3, 9),
-    ];
-    has_rows(rt, resv, &one, &rows);
-}
-
-#[test]
-fn points_added_together(rt: HostRuntime) {
-    let mut resv = Resv::new(rt.alloc()).expect(&rt, "a reservation");
-    adds_together(&rt, &mut resv);
-}
-
-// Of points that are put together, one that is covered stays out, and one that covers an entry takes its place.
-fn puts_together(rt: &impl Abort, resv: &mut Resv) {
-    let zero = Reach::zero();
-    put(rt, resv, point(rt, 1, 9), Usage::Write, &zero);
-    put(rt, resv, point(rt, 2, 5), Usage::Read, &zero);
-    resv.put_all(&[], Usage::Read, &zero);
-    resv.reserve(3, &zero).expect(rt, "memory");
-    let points = [point(rt, 1, 8), point(rt, 2, 7), point(rt, 3, 4)];
-    resv.put_all(&points, Usage::Read, &zero);
-    has_room(rt, resv, PLACES - 3);
-    let rows = [
-        row(rt, Usage::Write, 1, 9),
-        row(rt, Usage::Read, 1, 9),
-        row(rt, Usage::Read, 2, 7),
-        row(rt, Usage::Read, 3, 4),
-        row(rt, Usage::Bookkeep, 1, 9),
-        row(rt, Usage::Bookkeep, 2, 7),
-        row(rt, Usage::Bookkeep, 3, 4),
-    ];
-    has_rows(rt, resv, &zero, &rows);
-}
-
-#[test]
-fn points_put_together(rt: HostRuntime) {
-    let mut resv = Resv::new(rt.alloc()).expect(&rt, "a reservation");
-    puts_together(&rt, &mut resv);
 }

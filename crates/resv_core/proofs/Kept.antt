@@ -1,5 +1,5 @@
 -- Tables that are kept: points that change nothing, and what the tables stand for.
-use Rattle.std.proofs.Common.{◌≡◌, ℕ, ◌+◌, ◌-◌, ◌*◌, ◌<◌, ◌≤◌, zero, suc, max, refl, sym, ap, ◌∙◌, subst, List, [], ◌∷◌, ◌++◌, length, replicate, append_assoc, append-nil, Option, None, Some, arith, nat_lt, if◌then◌else◌, inl, inr, All}
+use Rattle.std.proofs.Common.{◌≡◌, ℕ, ◌+◌, ◌-◌, ◌*◌, ◌<◌, ◌≤◌, zero, suc, max, refl, sym, ap, ◌∙◌, subst, List, [], ◌∷◌, ◌++◌, length, replicate, append_assoc, append-nil, Option, None, Some, arith, Bool, true, false, nat_lt, if◌then◌else◌, inl, inr, All}
 use Rattle.std.specs.Prelude.{option_map}
 use Rattle.std.specs.List.{flat_map, range_with_len}
 use Rattle.std.proofs.lemmas.Bool.{cases_lt, lt-ltb, le-ltb}
@@ -15,7 +15,7 @@ use Rattle.point_core.specs.Usage.{usage_number}
 use Rattle.point_core.specs.Reach.{value_at, IsAtLeast}
 use Rattle.point_core.specs.Agreement.{applies, top, pending, pending_top, point_of, contexts, listing, AgreesAbove, HasContexts, IsReached}
 use Rattle.point_core.specs.Latest.{raised_to, IsLatest, point_above, points_above}
-use Rattle.point_core.proofs.Latest.{raised_to-top-last}
+use Rattle.point_core.proofs.Latest.{put_if, raised_to-top-last}
 use Rattle.point_core.proofs.Listings.{filter_map-range_same}
 use Rattle.point_core.proofs.Values.{value_at-replicate}
 use Rattle.point_core.proofs.Agreement.{AppliesAt-from_true, AgreesAbove-from_raised, AgreesAbove-later, AgreesAbove-sym, raised_to-higher, raised_to-top-above, top-Some, top-outside}
@@ -24,7 +24,6 @@ use Rattle.resv_core.specs.Resv.{IsTable, IsTrimmed, entry_of}
 use Rattle.resv_core.specs.Tops.{AreTops, entry_above, entries_at}
 use Rattle.resv_core.specs.TopTable.{AreDropped, AreRising, entries_of, pending_value}
 use Rattle.resv_core.proofs.Compaction.{IsCompacted, IsCompacted-none, IsCompacted-more, AgreesAbove-IsCompacted, AreTops-IsRising, AreTops-at, HasContexts-IsCompacted, cases_context, raised_to-top-stronger, table_at}
-use Rattle.resv_core.proofs.Dropping.{put_if-needless}
 
 pub value_at-none : (ctx : ℕ) → value_at [] ctx ≡ 0
 value_at-none ctx = get_or_past [] (ctx - 1) 0 (omega arith)
@@ -34,6 +33,10 @@ pub IsAtLeast-none : (reach : List ℕ) → IsAtLeast reach []
 IsAtLeast-none reach = record { values = λ ctx. let none = value_at-none ctx in omega arith }
 
 -- ---- a point that is not later than what its usage has
+
+put_if-needless : (b : Bool) (p value : ℕ) → (b ≡ true → p ≤ value) → put_if b p value ≡ value
+put_if-needless true p value low = let is = low refl in omega arith
+put_if-needless false p value low = refl
 
 IsLatest-needless : {latest reach : List ℕ} {es : List Entry} {level : ℕ} (e : Entry) → IsLatest latest reach es level → e.point.value ≤ raised_to (value_at reach e.point.ctx) (top es (usage_number e.usage) e.point.ctx) → IsLatest latest reach (es ++ e ∷ []) level
 IsLatest-needless {latest} {reach} {es} {level} e h low = record {

@@ -1,9 +1,7 @@
 pub mod Comparing
 pub mod Compaction
 pub mod Counting
-pub mod Dropping
 pub mod Kept
-pub mod Placing
 pub mod Raising
 pub mod Reservations
 pub mod Replacing

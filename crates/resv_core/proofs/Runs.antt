@@ -7,13 +7,12 @@ use Rattle.point_core.specs.Usage.{usage_number}
 use Rattle.point_core.specs.Agreement.{AgreesAbove}
 use Rattle.point_core.proofs.Agreement.{AgreesAbove-same, AgreesAbove-sym, AgreesAbove-trans, AgreesAbove-append, AgreesAbove-refl, AgreesAbove-later, AgreesAbove-same_entries, listing-AgreesAbove}
 use Rattle.resv_core.specs.Resv.{row_of, rows_at, rows_of}
-use Rattle.resv_core.specs.Run.{Call, Reserve, Add, AddAll, Trim, Leaves, Step, IsRun, last_reach, last_entries, added_by, all_added}
+use Rattle.resv_core.specs.Run.{Call, Reserve, Add, Trim, Leaves, Step, IsRun, last_reach, last_entries, added_by, all_added}
 
 -- each call agrees with what was there and what it adds
 AgreesAbove-Leaves : (call : Call) (reach : List ℕ) (before after : List Entry) → Leaves call reach before after → AgreesAbove reach after (before ++ added_by call)
 AgreesAbove-Leaves Reserve reach before after h = AgreesAbove-trans (AgreesAbove-sym h) (AgreesAbove-same reach (sym (append-nil before)))
 AgreesAbove-Leaves (Add e) reach before after h = h
-AgreesAbove-Leaves (AddAll es) reach before after h = h
 AgreesAbove-Leaves Trim reach before after h = AgreesAbove-trans (AgreesAbove-sym h) (AgreesAbove-same reach (sym (append-nil before)))
 
 pub AgreesAbove-run : (reach : List ℕ) (es put : List Entry) (steps : List Step) → AgreesAbove reach es put → IsRun reach es steps → AgreesAbove (last_reach reach steps) (last_entries es steps) (put ++ all_added steps)

@@ -1,12 +1,11 @@
 -- A reservation as its callers see it.
-use Rattle.std.specs.Prelude.{◌≡◌, ℕ, ◌+◌, ◌≤◌, ◌<◌, ◌==◌, Bool, false, ◌&&◌, ◌||◌, nat_le, nat_lt, if◌then◌else◌, List, [], ◌∷◌, length, map, count_by, All, AllPairs}
-use Rattle.std.specs.List.{flat_map, list_any}
+use Rattle.std.specs.Prelude.{◌≡◌, ℕ, ◌+◌, ◌≤◌, ◌<◌, ◌==◌, Bool, false, ◌&&◌, ◌||◌, nat_le, List, [], ◌∷◌, length, map, All, AllPairs}
+use Rattle.std.specs.List.{flat_map}
 use Rattle.point_core.specs.declared.entry.Point.{Point}
 use Rattle.point_core.specs.declared.entry.Entry.{Entry}
 use Rattle.point_core.specs.declared.entry.Usage.{Usage}
 use Rattle.point_core.specs.declared.entry.Usage.TheVariants.{Kernel, Write, Read, Bookkeep}
 use Rattle.point_core.specs.declared.listing.TopRow.{TopRow}
-use Rattle.resv_core.specs.declared.adding.TheConstants.{SCANNED}
 use Rattle.resv_core.specs.declared.resv.TheConstants.{PLACES}
 use Rattle.point_core.specs.Usage.{usage_number}
 use Rattle.point_core.specs.Reach.{value_at}
@@ -36,29 +35,6 @@ gives_way reach new old = nat_le old.point.value (value_at reach old.point.ctx) 
 -- points that are put with one usage
 abbrev pub entries_as : Usage → List Point → List Entry
 entries_as usage points = map (λ point. entry_of point usage) points
-
--- the old entry may be dropped for points of a usage, by a table of their latest: it is signalled, or one of them covers it
-abbrev pub gives_way_to_any : List ℕ → List ℕ → Usage → Entry → Bool
-gives_way_to_any reach latest usage old =
-    nat_le old.point.value (value_at reach old.point.ctx)
-    || (nat_le (usage_number usage) (usage_number old.usage) && nat_le old.point.value (value_at latest old.point.ctx))
-
--- the new entry needs no place beside the old one: the old one covers it, or may be replaced by it
-abbrev pub is_met : List ℕ → Entry → Entry → Bool
-is_met reach new old = covers old new || gives_way reach new old
-
--- the old entry may be replaced by one of the points, put with that usage
-abbrev pub gives_way_to_one : List ℕ → List Point → Usage → Entry → Bool
-gives_way_to_one reach points usage old = list_any (λ point. gives_way reach (entry_of point usage) old) points
-
--- so few entries are looked through for each fence that is put
-abbrev pub are_few : List Entry → Bool
-are_few es = nat_lt (length es) SCANNED
-
--- how many entries go out for points that are put together: all that give way, if the entries are few or the points are not
-abbrev pub dropped_for : List ℕ → List Point → Usage → List Entry → ℕ
-dropped_for reach points usage es =
-    if are_few es || nat_le SCANNED (length points) then count_by (gives_way_to_one reach points usage) es else 0
 
 -- every entry is pending, and none covers another
 pub record IsTrimmed (reach : List ℕ) (es : List Entry) : Type 0 where

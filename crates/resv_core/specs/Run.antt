@@ -8,14 +8,12 @@ use Rattle.point_core.specs.Agreement.{AgreesAbove}
 pub data Call : Type 0 where
   Reserve : Call
   Add : Entry → Call
-  AddAll : List Entry → Call
   Trim : Call
 
 -- what its contract says of the entries before and after it, at the reach that it was given
 abbrev pub Leaves : Call → List ℕ → List Entry → List Entry → Type 0
 Leaves Reserve reach before after = AgreesAbove reach before after
 Leaves (Add e) reach before after = AgreesAbove reach after (before ++ e ∷ [])
-Leaves (AddAll es) reach before after = AgreesAbove reach after (before ++ es)
 Leaves Trim reach before after = AgreesAbove reach before after
 
 -- a call that was made, the reach that it was given, and the entries that it left
@@ -41,7 +39,6 @@ last_entries before (step ∷ steps) = last_entries step.after steps
 abbrev pub added_by : Call → List Entry
 added_by Reserve = []
 added_by (Add e) = e ∷ []
-added_by (AddAll es) = es
 added_by Trim = []
 
 -- everything that was ever added

@@ -3,24 +3,21 @@
 //! A table drops and replaces entries as it likes, as long as it says the same above the reach as all that was added.
 #![tactic(auto)]
 
-mod adding;
 mod kept_tops;
 mod laws;
 mod plan;
-mod putting;
 mod resv;
 mod shared_table;
 mod table_rows;
 mod top_table;
 mod tops;
 
-pub use adding::SCANNED;
 pub use laws::{
     a_table_agrees_with_all_that_was_added, a_trimmed_table_has_one_entry_of_each_usage,
     tables_that_agree_show_the_same,
 };
 pub use plan::{Act, Plan, Round, Settled};
-pub use resv::{GROWTH, PLACES, PLACES_PER_CONTEXT, Resv};
+pub use resv::{PLACES, PLACES_PER_CONTEXT, Resv};
 pub use shared_table::SharedTable;
 pub use top_table::TopTable;
 pub use tops::Tops;

@@ -1,16 +1,13 @@
 // The reservation of a buffer.
-ghost use Rattle.std.specs.Prelude.{◌≡◌, ◌+◌, ◌-◌, ◌<◌, ◌≤◌, ◌↔◌, ◌⊎◌, ◌++◌, ◌&&◌, [], Ok, if◌then◌else◌, length, vec_len, IfErr, IfOk, IsOk, IsTrue, OnErr, OnOk};
+ghost use Rattle.std.specs.Prelude.{◌≡◌, ◌+◌, ◌-◌, ◌<◌, ◌≤◌, ◌↔◌, Ok, if◌then◌else◌, length, IfErr, IfOk, IsTrue, OnErr, OnOk};
 ghost use Rattle.std.specs.List.{list_any};
-ghost use Rattle.std.specs.Vec.{vec_capacity};
 ghost use Rattle.point_core.specs.declared.context.TheConstants.{CONTEXTS};
 ghost use Rattle.point_core.specs.Agreement.{AgreesAbove, IsReached, listing};
 ghost use Rattle.point_core.specs.Usage.{usage_number};
 ghost use Rattle.resv_core.specs.declared.resv.TheConstants.{PLACES};
-ghost use Rattle.resv_core.specs.Resv.{IsTable, IsTrimmed, are_few, dropped_for, empty, entries_as, entry_of, gives_way, is_met, rows_of};
-ghost use Rattle.resv_core.specs.Run.{Leaves, Reserve, Add, AddAll, Trim};
+ghost use Rattle.resv_core.specs.Resv.{IsTable, IsTrimmed, empty, entry_of, gives_way, rows_of};
+ghost use Rattle.resv_core.specs.Run.{Leaves, Reserve, Add, Trim};
 
-use crate::adding::{SCANNED, add_all};
-use crate::putting::put_all;
 use crate::table_rows::rows_of;
 use crate::tops::{Tops, USAGES, compact, put_each};
 use point_core::{
@@ -29,12 +26,6 @@ const _: () = prove!(PLACES_PER_CONTEXT == 5);
 
 const _: () = prove!(PLACES == 1_280);
 
-/// `make_room` trims a table that has so many times the entries that its last trim left, and at least so many times
-/// `SCANNED`.
-pub const GROWTH: usize = 2;
-
-const _: () = prove!(GROWTH == 2);
-
 /// The fences of a buffer, each with the usage that it was added for, as Linux's `struct dma_resv`.
 ///
 /// What matters of a table is its latest pending point of each context at each usage or a stronger one. If an
@@ -42,8 +33,6 @@ const _: () = prove!(GROWTH == 2);
 #[derive(Debug, Drop)]
 pub struct Resv {
     entries: Vec<Entry>,
-    // how many entries the last trim left
-    left: usize,
     alloc: Global,
 }
 
@@ -68,7 +57,6 @@ impl Resv {
     {
         Ok(Resv {
             entries: Vec::new(alloc),
-            left: 0,
             alloc,
         })
     }
@@ -103,36 +91,6 @@ impl Resv {
             self.trim(reach);
         }
         Ok(())
-    }
-
-    /// Makes room for `n` entries as `reserve` does, and keeps the table small: by `GROWTH` it is also trimmed if there is
-    /// room. So a trim looks at no more than two entries for each that was added. For no entries nothing changes.
-    ///
-    /// Fails as `reserve` does.
-    pub fn make_room(&mut self, n: usize, reach: &Reach) -> Result<(), Refusal>
-        requires few { n ≤ CONTEXTS }
-        ensures table { IsTable self.new }
-        ensures room { OnOk result (n ≤ self.new.room) }
-        ensures agrees { Leaves Reserve reach.now self.old.entries self.new.entries }
-        ensures enough { n ≤ self.old.room → IsOk result }
-        ensures trimmed { (self.new ≡ self.old) ⊎ IsTrimmed reach.now self.new.entries }
-        ensures nothing { n ≡ 0 → self.new ≡ self.old }
-        ensures memory { IfErr result (λ e. e ≡ Refusal.Memory) }
-        ensures first { OnErr result (self.old ≡ empty) }
-        ensures refused { OnErr result (self.new ≡ self.old) }
-    {
-        if n == 0 || !self.has_outgrown() {
-            return self.reserve(n, reach);
-        }
-        self.trim(reach);
-        Ok(())
-    }
-
-    /// Whether the table has grown by so much since the last trim that it is time for another.
-    fn has_outgrown(&self) -> bool
-        ensures places { IsTrue result → length self.now.entries + self.now.room ≡ PLACES }
-    {
-        self.entries.len() / GROWTH >= self.left.max(SCANNED)
     }
 
     /// How many entries can be added before there has to be another `reserve`.
@@ -172,72 +130,6 @@ impl Resv {
         }
     }
 
-    /// Adds fences of one usage together, once there is room for all of them. If the table has less than `SCANNED` entries,
-    /// or there are at least so many fences, the entries that are signalled or covered by one of them go out in one pass; else
-    /// they stay until the table is trimmed. Without fences nothing changes. Takes no memory.
-    ///
-    /// The kernel adds the fences of an imported sync file one after another.
-    pub fn add_all(&mut self, points: &[Point], usage: Usage, reach: &Reach)
-        requires room { length points.now ≤ self.old.room }
-        ensures table { IsTable self.new }
-        ensures agrees { Leaves (AddAll (entries_as usage points.now)) reach.now self.old.entries self.new.entries }
-        ensures room { self.new.room + length points.now ≡
-            self.old.room + dropped_for reach.now points.now usage self.old.entries }
-        ensures falls { self.old.room ≤ self.new.room + length points.now }
-        ensures places { length self.new.entries + self.new.room ≡ length self.old.entries + self.old.room }
-        ensures nothing { points.now ≡ [] → self.new ≡ self.old }
-    {
-        if !points.is_empty() {
-            add_all(&mut self.entries, points, usage, reach);
-        }
-    }
-
-    /// Puts fences of one usage together, once there is room for all of them. Each fence is compared with one entry: it stays
-    /// out if that covers it, takes its place if that gives way to it, and else takes a free place. So what it covers may stay
-    /// until the table is trimmed. If the table has fewer than `SCANNED` entries, or there are at least so many fences, that
-    /// entry is the last of the context at the usage or a stronger one, else the first of the table. Without fences nothing
-    /// changes. Takes no memory.
-    ///
-    /// The kernel adds the fences of an imported sync file one after another.
-    pub fn put_all(&mut self, points: &[Point], usage: Usage, reach: &Reach)
-        requires room { length points.now ≤ self.old.room }
-        ensures table { IsTable self.new }
-        ensures agrees { Leaves (AddAll (entries_as usage points.now)) reach.now self.old.entries self.new.entries }
-        ensures falls { self.old.room ≤ self.new.room + length points.now }
-        ensures places { length self.new.entries + self.new.room ≡ length self.old.entries + self.old.room }
-        ensures nothing { points.now ≡ [] → self.new ≡ self.old }
-    {
-        if !points.is_empty() {
-            put_all(&mut self.entries, points, usage, reach);
-        }
-    }
-
-    /// Adds a fence, so `reserve` first. In a table of less than `SCANNED` entries it takes no place if one of them covers
-    /// the fence, and else replaces as `add` does. In a larger one it takes a free place without a look at the others, and
-    /// what it covers stays until the table is trimmed. Takes no memory.
-    pub fn put(&mut self, point: Point, usage: Usage, reach: &Reach)
-        requires room { 1 ≤ self.old.room }
-        ensures table { IsTable self.new }
-        ensures agrees { Leaves (Add (entry_of point usage)) reach.now self.old.entries self.new.entries }
-        ensures room { self.new.room ≡
-            (if are_few self.old.entries && list_any (is_met reach.now (entry_of point usage)) self.old.entries
-            then self.old.room
-            else self.old.room - 1) }
-        ensures falls { self.old.room ≤ self.new.room + 1 }
-        ensures places { length self.new.entries + self.new.room ≡ length self.old.entries + self.old.room }
-    {
-        let new = Entry { point, usage };
-        if self.entries.len() >= SCANNED {
-            self.entries.push_reserved(new);
-            return;
-        }
-        match self.entries.iter().position(|old| is_met(&new, old, reach)) {
-            Some(index) if covers(self.entries[index], new) => {}
-            Some(index) => self.entries[index] = new,
-            None => self.entries.push_reserved(new),
-        }
-    }
-
     /// Drops the entries that are signalled, and those that another one covers; of equal ones one stays. So there is
     /// a place for a new entry of each context. The kernel has no such call: it drops signalled fences when it makes
     /// a table larger. Takes no memory.
@@ -250,7 +142,6 @@ impl Resv {
     {
         if self.entries.capacity() != 0 {
             compact(&mut self.entries, reach);
-            self.left = self.entries.len();
         }
     }
 
@@ -314,15 +205,8 @@ impl Resv {
     }
 }
 
-/// Whether the new entry needs no place beside the old one: the old one covers it, or may be replaced by it.
-fn is_met(new: &Entry, old: &Entry, reach: &Reach) -> bool
-    ensures { result ≡ is_met reach.now new.now old.now }
-{
-    covers(*old, *new) || gives_way(new, old, reach)
-}
-
 /// Whether the old entry may be replaced by the new one: it is signalled, or the new one covers it.
-pub(crate) fn gives_way(new: &Entry, old: &Entry, reach: &Reach) -> bool
+fn gives_way(new: &Entry, old: &Entry, reach: &Reach) -> bool
     ensures { result ≡ gives_way reach.now new.now old.now }
 {
     is_signalled(old.point, reach) || covers(*new, *old)
