@@ -81,6 +81,8 @@ static void part_with(struct server *server, struct client *client)
         map_remove(&server->clients, (uint64_t)client->bell + 1);
         call_close(client->bell);
     }
+    if (server->incremented == client->lane)
+        server->incremented = NULL;
     if (client->lane)
         lane_close(client->lane);
     free(client);
@@ -239,6 +241,16 @@ static void serve_lane(struct server *server, struct client *client)
     if (gives >= 0)
         call_close(gives);
     lane_answer(client->lane, &answer);
+    if (request.op == BIM_OP_INC)
+        server->incremented = client->lane;
+}
+
+/* The keeper is the server's first member. */
+bool client_owes_answer(struct keeper *keeper)
+{
+    const struct lane *lane = ((struct server *)keeper)->incremented;
+
+    return lane && lane_is_answered(lane);
 }
 
 void client_serve(struct server *server, int file)

@@ -17,6 +17,7 @@ struct server {
     struct keeper keeper;
     const struct server_setup *setup;
     int events, signals;
+    struct lane *incremented; /* the lane of the last increment, or NULL */
     int spare;          /* a descriptor to close when no other is left */
     struct map clients; /* by the numbers of their sockets and bells, with 1 added */
     size_t client_count;
@@ -32,6 +33,8 @@ int server_watch(struct server *server, int file, uint32_t how);
 void server_see_closings(struct server *server);
 void server_settle(struct server *server);
 
+/* Whether the client that incremented last hasn't taken the answer yet. */
+bool client_owes_answer(struct keeper *keeper);
 /* Takes one that connects. */
 void client_take(struct server *server);
 /* Takes and answers a request of the client whose socket or bell this is. */

@@ -60,6 +60,7 @@ struct host {
     bool (*make_room)(struct keeper *keeper);          /* whether there may be numbers now after there were none */
     bool (*may_give)(int file);                        /* whether the program may have one of this number */
     void (*begin_signals)(void), (*end_signals)(void); /* around writes that may meet no reader */
+    bool (*owes_answer)(struct keeper *keeper);        /* whether the last increment's is still on its way */
 };
 
 struct keeper {
@@ -76,7 +77,8 @@ struct keeper {
     size_t rows_room;
     size_t counts[READINESS];
     uint64_t requests;
-    uint64_t now; /* of the request that is served, or of the closings that are done */
+    uint64_t now;          /* of the request that is served, or of the closings that are done */
+    uint64_t signalled_at; /* when an increment has last signalled anything, or 0 */
 };
 
 /* Opens a keeper, with no trace unless there is a path. Returns 0 or an errno. */

@@ -53,6 +53,11 @@ void lane_answer(struct lane *lane, const struct bim_answer *answer)
     syscall(SYS_futex, &lane->turn, FUTEX_WAKE, 1, NULL, NULL, 0);
 }
 
+bool lane_is_answered(const struct lane *lane)
+{
+    return atomic_load_explicit(&lane->turn, memory_order_acquire) == LANE_IS_ANSWERED;
+}
+
 struct lane *lane_open(int memory)
 {
     struct lane *lane = map_lane(memory);

@@ -22,6 +22,8 @@ void lane_close(struct lane *lane);
 /* Takes a request, and returns whether there was one. */
 bool lane_take(struct lane *lane, struct bim_request *request);
 void lane_answer(struct lane *lane, const struct bim_answer *answer);
+/* Whether the process hasn't taken the answer yet. */
+bool lane_is_answered(const struct lane *lane);
 
 /* The process's side, which children don't get. */
 struct lane *lane_open(int memory);

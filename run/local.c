@@ -118,7 +118,14 @@ static void drop_sigpipe(void)
     pthread_sigmask(SIG_SETMASK, &mask, NULL);
 }
 
-static const struct host HOST = { begin_files, end_files, place, make_room, may_give, hold_sigpipe, drop_sigpipe };
+/* Whoever asks has the answer before the next is served. */
+static bool owes_none(struct keeper *all)
+{
+    (void)all;
+    return false;
+}
+
+static const struct host HOST = { begin_files, end_files, place, make_room, may_give, hold_sigpipe, drop_sigpipe, owes_none };
 
 static int prepare(struct own *own)
 {

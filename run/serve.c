@@ -58,10 +58,11 @@ static int serve_fence(struct keeper *keeper, const struct bim_request *request,
 
 static int serve_inc(struct keeper *keeper, const struct bim_request *request, struct object *timeline)
 {
+    bool signals = timeline->kind == TIMELINE && record_signals(timeline->line, request->value);
     int error;
 
-    if (timeline->kind == TIMELINE && record_signals(timeline->line, request->value))
-        keeper->now = keeper_now();
+    if (signals)
+        keeper->signalled_at = keeper->now = keeper_now();
     error = bim_device_inc(&keeper->device, timeline->number, request->value, keeper->now);
     if (error)
         return error;

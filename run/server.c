@@ -39,7 +39,7 @@ static bool no_room(struct keeper *keeper)
 }
 
 /* The server has its descriptors for itself, and blocks all signals. */
-static const struct host HOST = { nothing, nothing, same, no_room, any, nothing, nothing };
+static const struct host HOST = { nothing, nothing, same, no_room, any, nothing, nothing, client_owes_answer };
 
 int server_watch(struct server *server, int file, uint32_t how)
 {

@@ -7,10 +7,15 @@
 #include <stdio.h>
 #include <stdlib.h>
 #include <string.h>
+#include <time.h>
 
 /* How many ends are polled at once; how often processes that end are looked at, a millisecond apart; and their flag in
  * /proc/N/stat, PF_EXITING. */
 enum { AT_ONCE = 64, LOOKS = 200, IS_ENDING = 4 };
+
+/* How long a closing waits for a thread that has incremented just before: to take the answer, and then to look at what
+ * it has to look at. */
+enum { NANOSECONDS_TO_TAKE = 1000000, NANOSECONDS_TO_GO_ON = 100000 };
 
 static void note_teller(struct object *object, bool is_told)
 {
@@ -113,6 +118,42 @@ static void await_ends(struct keeper *keeper)
     look_at_all(keeper, true);
 }
 
+/* Whether what is closed cancels any point. */
+static bool cancels(const struct keeper *keeper)
+{
+    for (const struct object *object = keeper->closing; object; object = object->next_closing)
+        if (object->kind == TIMELINE && object->line->first)
+            return true;
+    return false;
+}
+
+/* Sleeps, while other threads run. */
+static void sleep_for(uint64_t nanoseconds)
+{
+    struct timespec time = { .tv_nsec = nanoseconds };
+
+    syscall(SYS_nanosleep, &time, NULL);
+}
+
+/* On a kernel whoever increments goes on at once, and looks at other points long before a thread that it woke can close
+ * the timeline. Here its answer is on the way meanwhile. */
+static void let_go_on(struct keeper *keeper)
+{
+    uint64_t now = keeper_now(), last = now + NANOSECONDS_TO_TAKE, until = keeper->signalled_at + NANOSECONDS_TO_GO_ON;
+
+    if (keeper->signalled_at == 0)
+        return;
+    for (;; now = keeper_now()) {
+        if (now < last && keeper->host->owes_answer(keeper))
+            until = now + NANOSECONDS_TO_GO_ON;
+        if (now >= until)
+            break;
+        sleep_for(until - now);
+    }
+    keeper->signalled_at = 0;
+    keeper->now = now;
+}
+
 /* Files go first: a timeline that is closed with them cancels nothing that only they held. */
 void keeper_settle(struct keeper *keeper)
 {
@@ -126,6 +167,8 @@ void keeper_settle(struct keeper *keeper)
     }
     keeper->now = keeper_now();
     settle(keeper, false, &teller);
+    if (cancels(keeper))
+        let_go_on(keeper);
     settle(keeper, true, &teller);
     trace_flush(keeper->trace);
 }
