@@ -14,7 +14,7 @@ mod writing;
 
 pub use answerer::{Answerer, NoNotes};
 pub use answers::{Answers, answer_line};
-pub use line_core::{Line, read_script};
+pub use line_core::{Body, Line, LineCutter, read_script};
 pub use reading::{answer_script, engine};
 pub use text::{done_line, print, refusal_line, value_line};
 pub use totals::Totals;

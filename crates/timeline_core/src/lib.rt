@@ -7,4 +7,5 @@
 pub mod laws;
 mod timelines;
 
+pub use point_core::TimelineRow;
 pub use timelines::Timelines;
