@@ -16,7 +16,13 @@
 #error "only for machines with 64 bits"
 #endif
 
-/* Headers that are older than Linux 5.9 lack this one; it has the same number on all machines. */
+/* Headers that are older than Linux 5.1, 5.3 and 5.9 lack these; they have the same numbers on all machines. */
+#ifndef SYS_pidfd_send_signal
+#define SYS_pidfd_send_signal 424
+#endif
+#ifndef SYS_pidfd_open
+#define SYS_pidfd_open 434
+#endif
 #ifndef SYS_close_range
 #define SYS_close_range 436
 #endif

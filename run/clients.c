@@ -10,24 +10,36 @@
 #include <sys/epoll.h>
 #include <sys/eventfd.h>
 
-static void note_client(struct server *server, pid_t from, pid_t to)
+/* Headers that are older than Linux 6.5 lack this one. */
+#ifndef SO_PEERPIDFD
+#define SO_PEERPIDFD 77
+#endif
+
+/* Whether the process at the other end is this user's. */
+static bool is_users(int client, struct ucred *peer)
 {
-    for (size_t i = 0; i < BOARD_CLIENTS; i++)
-        if (server->setup->board->clients[i] == from) {
-            server->setup->board->clients[i] = to;
-            return;
-        }
+    socklen_t size = sizeof *peer;
+
+    return getsockopt(client, SOL_SOCKET, SO_PEERCRED, peer, &size) == 0 && peer->uid == geteuid();
 }
 
-/* The process at the other end, or 0 if it isn't this user's. */
-static pid_t peer_of(int client)
+/* Notes for the guard whether a descriptor is a client's handle. */
+static void note_handle(const struct server *server, int handle, bool is_client)
 {
-    struct ucred peer;
-    socklen_t size = sizeof peer;
+    if (handle >= 0 && handle < BOARD_FILES)
+        server->setup->board->is_client[handle] = is_client;
+}
 
-    if (getsockopt(client, SOL_SOCKET, SO_PEERCRED, &peer, &size) || peer.uid != geteuid())
-        return 0;
-    return peer.pid;
+/* A handle on the process at the other end, or -1. Kernels before Linux 6.5 have it by the number. */
+static int open_handle(const struct server *server, int client, const struct ucred *peer)
+{
+    int handle;
+    socklen_t size = sizeof handle;
+
+    if (getsockopt(client, SOL_SOCKET, SO_PEERPIDFD, &handle, &size))
+        handle = process_open(peer->pid).handle;
+    note_handle(server, server_note(handle), true);
+    return handle;
 }
 
 static struct client *client_of(const struct server *server, int file)
@@ -38,19 +50,19 @@ static struct client *client_of(const struct server *server, int file)
 /* Returns whether the process at the other end is now a client. */
 static bool add_client(struct server *server, int socket)
 {
-    pid_t process = peer_of(socket);
-    struct client *client = process ? malloc(sizeof *client) : NULL;
+    struct ucred peer;
+    struct client *client = is_users(socket, &peer) ? malloc(sizeof *client) : NULL;
 
     if (!client)
         return false;
-    *client = (struct client){ socket, -1, NULL, process };
+    *client = (struct client){ socket, -1, NULL, -1 };
     if (map_add(&server->clients, (uint64_t)socket + 1, client) || server_watch(server, socket, 0)) {
         map_remove(&server->clients, (uint64_t)socket + 1);
         free(client);
         return false;
     }
     server->client_count++;
-    note_client(server, 0, process);
+    client->process = open_handle(server, socket, &peer);
     return true;
 }
 
@@ -64,7 +76,7 @@ static void turn_away(struct server *server)
 
 void client_take(struct server *server)
 {
-    int socket = accept4(server->setup->listener, NULL, NULL, SOCK_CLOEXEC | SOCK_NONBLOCK);
+    int socket = server_note(accept4(server->setup->listener, NULL, NULL, SOCK_CLOEXEC | SOCK_NONBLOCK));
 
     if (socket < 0 && (errno == EMFILE || errno == ENFILE))
         turn_away(server);
@@ -74,7 +86,6 @@ void client_take(struct server *server)
 
 static void part_with(struct server *server, struct client *client)
 {
-    note_client(server, client->process, 0);
     map_remove(&server->clients, (uint64_t)client->socket + 1);
     call_close(client->socket);
     if (client->bell >= 0) {
@@ -85,6 +96,9 @@ static void part_with(struct server *server, struct client *client)
         server->incremented = NULL;
     if (client->lane)
         lane_close(client->lane);
+    note_handle(server, client->process, false);
+    if (client->process >= 0)
+        call_close(client->process);
     free(client);
     server->client_count--;
     server->is_parted = true;

@@ -10,18 +10,19 @@
 struct client {
     int socket, bell; /* bell: -1 without a lane */
     struct lane *lane;
-    pid_t process;
+    int process; /* a handle by which the guard can kill it, or -1 */
 };
 
 struct server {
     struct keeper keeper;
     const struct server_setup *setup;
-    int events, signals;
+    int events;
     struct lane *incremented; /* the lane of the last increment, or NULL */
     int spare;          /* a descriptor to close when no other is left */
     struct map clients; /* by the numbers of their sockets and bells, with 1 added */
     size_t client_count;
-    bool program_has_ended, is_parted; /* a client has gone since the last closings */
+    bool program_has_ended, tool_has_ended, lacks_guard;
+    bool is_parted; /* a client has gone since the last closings */
     uint64_t postponed;                /* since when closings wait */
     bool is_hurried;                   /* no event reports what it waits for */
     uint64_t parting;                  /* since when the program has ended */
@@ -29,6 +30,8 @@ struct server {
 
 /* Has the loop see what a descriptor has to read. Returns 0, or -1 with errno. */
 int server_watch(struct server *server, int file, uint32_t how);
+/* Has the guard look at this number too. Returns it. */
+int server_note(int file);
 /* Notes all closings so far; and lets go of what was closed. */
 void server_see_closings(struct server *server);
 void server_settle(struct server *server);

@@ -2,6 +2,7 @@
 #include "launch.h"
 
 #include "program.h"
+#include "say.h"
 #include "wire.h"
 
 #include <errno.h>
@@ -16,7 +17,7 @@ enum { SIGNALLED_STATUS = 128 };
 
 int fault(const char *what, int error)
 {
-    fprintf(stderr, "bimphlai-run: %s: %s\n", what, strerror(error));
+    say("%s: %s", what, strerror(error));
     return STATUS_FAULT;
 }
 
@@ -72,9 +73,12 @@ int launch_prepare(const char *service, const char *trace)
 
 int launch_become(char **program)
 {
+    int error;
+
     execvp(program[0], program);
-    fprintf(stderr, "bimphlai-run: %s: %s\n", program[0], strerror(errno));
-    return errno == ENOENT ? PROGRAM_NOT_FOUND : PROGRAM_CANT_RUN;
+    error = errno;
+    say("%s: %s", program[0], strerror(error));
+    return error == ENOENT ? PROGRAM_NOT_FOUND : PROGRAM_CANT_RUN;
 }
 
 int launch_status(int waited)

@@ -1,5 +1,6 @@
 /* bimphlai-run: runs a program with a service of fences for it and for all that it starts. */
 #define _GNU_SOURCE
+#include "guard.h"
 #include "launch.h"
 #include "options.h"
 #include "program.h"
@@ -9,6 +10,7 @@
 #include "wire.h"
 
 #include <errno.h>
+#include <fcntl.h>
 #include <limits.h>
 #include <stdio.h>
 #include <stdlib.h>
@@ -48,12 +50,23 @@ static int run(const struct options *options, const char *trace)
     return supervise(options, trace);
 }
 
+/* Streams that are closed would be taken for descriptors of the service. The program has them closed again. */
+static void open_streams(void)
+{
+    for (int file = STDIN_FILENO; file <= STDERR_FILENO; file++)
+        if (fcntl(file, F_GETFD) < 0)
+            open("/dev/null", O_RDWR | O_CLOEXEC);
+}
+
 int main(int count, char **words)
 {
     struct options options;
     char path[PATH_MAX];
-    int status = options_read(&options, count, words);
+    int status;
 
+    open_streams();
+    guard_note_words(count, words);
+    status = options_read(&options, count, words);
     if (status >= 0)
         return status;
     status = program_check(options.program[0]);
@@ -66,6 +79,5 @@ int main(int count, char **words)
     status = run(&options, path[0] ? path : NULL);
     if (path[0] && !options.trace)
         unlink(path);
-    supervise_leave();
     return status;
 }

@@ -2,38 +2,87 @@
 
 #include "calls.h"
 
+#include <errno.h>
 #include <stdio.h>
 #include <string.h>
+#include <sys/resource.h>
 
-/* Reads the state and the parent of a process. Returns whether it is there. */
-static bool read_process(pid_t process, char *state, pid_t *parent)
+enum { STATUS_BYTES = 512 };
+
+struct process process_open(pid_t number)
 {
-    char path[32], text[512] = { 0 };
-    const char *after_name = NULL;
+#ifdef BIM_PLAIN_FORK
+    return (struct process){ number, -1 };
+#else
+    return (struct process){ number, syscall(SYS_pidfd_open, number, 0) };
+#endif
+}
+
+void process_close(struct process *process)
+{
+    if (process->number > 0 && process->handle >= 0)
+        call_close(process->handle);
+    *process = (struct process){ 0, -1 };
+}
+
+ssize_t process_read(pid_t number, const char *name, char *text, size_t room)
+{
+    char path[64];
+    size_t all = 0;
+    ssize_t length = -1;
     int file;
 
-    snprintf(path, sizeof path, "/proc/%d/stat", process);
+    snprintf(path, sizeof path, "/proc/%d/%s", (int)number, name);
     file = open(path, O_RDONLY | O_CLOEXEC);
     if (file < 0)
-        return false;
-    if (call_read(file, text, sizeof text - 1) > 0)
-        after_name = strrchr(text, ')');
+        return -1;
+    while (all < room && (length = call_read(file, text + all, room - all)) > 0)
+        all += length;
     call_close(file);
-    return after_name && sscanf(after_name, ") %c %d", state, parent) == 2;
+    return length < 0 ? -1 : (ssize_t)all;
 }
 
-bool process_goes_on(pid_t process)
+/* Without /proc, a process that nobody has waited for goes on. */
+static bool number_goes_on(pid_t number)
 {
-    char state;
-    pid_t parent;
+    char text[STATUS_BYTES + 1] = { 0 };
+    const char *after_name;
 
-    return read_process(process, &state, &parent) && state != 'Z' && state != 'X';
+    if (process_read(number, "stat", text, STATUS_BYTES) < 0)
+        return kill(number, 0) == 0 || errno == EPERM;
+    after_name = strrchr(text, ')');
+    return after_name && !strchr("ZX", after_name[2]);
 }
 
-pid_t process_parent(pid_t process)
+struct pollfd process_end(const struct process *process)
 {
-    char state;
-    pid_t parent;
+    return (struct pollfd){ process->number > 0 ? process->handle : -1, POLLIN, 0 };
+}
 
-    return read_process(process, &state, &parent) ? parent : 0;
+bool process_goes_on(const struct process *process)
+{
+    struct pollfd end = process_end(process);
+
+    if (process->number <= 0)
+        return false;
+    return end.fd >= 0 ? call_poll(&end, 1, 0) <= 0 : number_goes_on(process->number);
+}
+
+bool process_kill(const struct process *process)
+{
+    if (!process_goes_on(process))
+        return false;
+    if (process->handle >= 0)
+        return syscall(SYS_pidfd_send_signal, process->handle, SIGKILL, NULL, 0) == 0;
+    return kill(process->number, SIGKILL) == 0;
+}
+
+void process_raise_limit(void)
+{
+    struct rlimit files;
+
+    if (getrlimit(RLIMIT_NOFILE, &files))
+        return;
+    files.rlim_cur = files.rlim_max;
+    setrlimit(RLIMIT_NOFILE, &files);
 }

@@ -2,6 +2,7 @@
 #include "report.h"
 
 #include "launch.h"
+#include "say.h"
 #include "trace.h"
 
 #include <errno.h>
@@ -83,8 +84,7 @@ int report(const struct options *options, const char *trace, int status)
     if (!options->reports && !options->requires)
         return status;
     if (!has_events(trace)) {
-        if (options->reports)
-            fputs("bimphlai-run: the program made no fence\n", stderr);
+        say("the program made no fence");
         return status;
     }
     found = status_of_fencectl(trace, options->reports);

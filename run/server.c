@@ -5,25 +5,26 @@
 
 #include "calls.h"
 #include "clients.h"
-#include "process.h"
 
 #include <errno.h>
 #include <stdio.h>
 #include <string.h>
 #include <sys/epoll.h>
-#include <sys/prctl.h>
-#include <sys/resource.h>
-#include <sys/signalfd.h>
 #include <unistd.h>
 
-enum { EVENTS = 64, MILLISECONDS_TO_POSTPONE = 5, MILLISECONDS_TO_PART = 100, NANOSECONDS = 1000000 };
+enum { EVENTS = 64, NANOSECONDS = 1000000 };
+enum { MILLISECONDS_TO_POSTPONE = 5, MILLISECONDS_TO_PART = 100, MILLISECONDS_BETWEEN_LOOKS = 100 };
 
 static void nothing(void)
 {
 }
 
-static int same(int file)
+static struct board *board; /* the one of the setup */
+
+int server_note(int file)
 {
+    if (file >= board->above)
+        board->above = file + 1;
     return file;
 }
 
@@ -39,7 +40,7 @@ static bool no_room(struct keeper *keeper)
 }
 
 /* The server has its descriptors for itself, and blocks all signals. */
-static const struct host HOST = { nothing, nothing, same, no_room, any, nothing, nothing, client_owes_answer };
+static const struct host HOST = { nothing, nothing, server_note, no_room, any, nothing, nothing, client_owes_answer };
 
 int server_watch(struct server *server, int file, uint32_t how)
 {
@@ -85,21 +86,48 @@ static void settle_in_time(struct server *server)
         server_settle(server);
 }
 
-static void take_signal(struct server *server)
+static void take_order(struct server *server)
 {
-    struct signalfd_siginfo signal;
+    char order;
 
-    if (call_read(server->signals, &signal, sizeof signal) == sizeof signal &&
-        (pid_t)signal.ssi_pid == server->setup->starter)
+    if (call_read(server->setup->obeys, &order, 1) == 1)
         server->program_has_ended = true;
+}
+
+/* Once bimphlai-run has ended, nobody else starts another guard for one that was killed. */
+static void keep_guard(struct server *server)
+{
+    server->lacks_guard = !process_goes_on(&board->guard) && server->setup->start_guard() != 0;
+    server_watch(server, board->guard.handle, EPOLLONESHOT);
+}
+
+/* bimphlai-run was killed, or it has ended and leaves the service to those who still use it. */
+static void take_end_of_tool(struct server *server)
+{
+    epoll_ctl(server->events, EPOLL_CTL_DEL, board->tool.handle, NULL);
+    server->program_has_ended = server->tool_has_ended = true;
+    keep_guard(server);
+}
+
+/* What no event reports: processes without handles, and a guard that couldn't be started. */
+static void look_at_processes(struct server *server)
+{
+    if (server->lacks_guard)
+        keep_guard(server);
+    if (board->tool.handle < 0 && !server->tool_has_ended && !process_goes_on(&board->tool))
+        take_end_of_tool(server);
 }
 
 static void handle(struct server *server, int file)
 {
     if (file == server->setup->listener)
         client_take(server);
-    else if (file == server->signals)
-        take_signal(server);
+    else if (file == server->setup->obeys)
+        take_order(server);
+    else if (file == board->tool.handle)
+        take_end_of_tool(server);
+    else if (file == board->guard.handle)
+        keep_guard(server);
     else if (file == server->keeper.ends)
         server_see_closings(server);
     else
@@ -108,15 +136,14 @@ static void handle(struct server *server, int file)
 
 static int wait_for_events(struct server *server, struct epoll_event *events)
 {
-    bool hurries = server->keeper.closing || server->is_hurried;
+    bool hurries = server->keeper.closing || server->is_hurried, looks = server->lacks_guard || board->tool.handle < 0;
 
-    return epoll_wait(server->events, events, EVENTS, hurries ? MILLISECONDS_TO_POSTPONE : -1);
+    return epoll_wait(server->events, events, EVENTS,
+                      hurries ? MILLISECONDS_TO_POSTPONE : looks ? MILLISECONDS_BETWEEN_LOOKS : -1);
 }
 
 static void fill_board(struct server *server)
 {
-    struct board *board = server->setup->board;
-
     board->requests = server->keeper.requests;
     board->timelines = server->keeper.counts[TIMELINE];
     board->files = server->keeper.counts[SYNC_FILE];
@@ -144,6 +171,7 @@ static void serve_until(struct server *server, bool (*goes_on)(const struct serv
 
         for (int i = 0; i < count; i++)
             handle(server, events[i].data.fd);
+        look_at_processes(server);
         settle_in_time(server);
     }
 }
@@ -171,43 +199,30 @@ static void let_others_part(struct server *server)
 
 static int open_server(struct server *server, const struct server_setup *setup)
 {
-    struct rlimit files;
     sigset_t signals;
 
-    prctl(PR_SET_PDEATHSIG, SIGTERM);
-    if (getrlimit(RLIMIT_NOFILE, &files) == 0) {
-        files.rlim_cur = files.rlim_max;
-        setrlimit(RLIMIT_NOFILE, &files);
-    }
+    process_raise_limit();
     sigfillset(&signals);
     sigprocmask(SIG_BLOCK, &signals, NULL);
-    sigemptyset(&signals);
-    sigaddset(&signals, SIGTERM);
     server->setup = setup;
-    server->signals = signalfd(-1, &signals, SFD_CLOEXEC);
+    board = setup->board;
     server->events = epoll_create1(EPOLL_CLOEXEC);
     server->spare = open("/dev/null", O_RDONLY | O_CLOEXEC);
     errno = keeper_open(&server->keeper, &HOST, setup->trace);
     if (errno)
         return errno;
     server->keeper.ends = epoll_create1(EPOLL_CLOEXEC);
-    if (server_watch(server, setup->listener, 0) || server_watch(server, server->signals, 0) ||
+    if (server_watch(server, setup->listener, 0) || server_watch(server, setup->obeys, 0) ||
         server_watch(server, server->keeper.ends, 0))
+        return errno;
+    if (board->tool.handle >= 0 && server_watch(server, board->tool.handle, 0))
         return errno;
     return 0;
 }
 
-/* Whether bimphlai-run was killed, and has left the program to itself. */
-static bool is_left(const struct server *server)
-{
-    return getppid() != server->setup->starter;
-}
-
 static bool program_is_left(const struct server *server)
 {
-    pid_t program = server->setup->board->program;
-
-    return is_left(server) && program > 0 && process_goes_on(program);
+    return server->tool_has_ended && process_goes_on(&board->program);
 }
 
 static void remove_folder(const struct server_setup *setup)
@@ -218,8 +233,7 @@ static void remove_folder(const struct server_setup *setup)
 
 static void close_server(struct server *server)
 {
-    const int opened[] = { server->events, server->signals, server->spare, server->keeper.ends,
-                           server->keeper.page_memory };
+    const int opened[] = { server->events, server->spare, server->keeper.ends, server->keeper.page_memory };
 
     keeper_close(&server->keeper);
     map_free(&server->clients);
@@ -247,7 +261,7 @@ int server_run(const struct server_setup *setup)
     say(&server, stays ? SERVER_STAYS : SERVER_ENDS);
     if (stays)
         serve_until(&server, is_used);
-    if (stays || is_left(&server))
+    if (stays || server.tool_has_ended)
         remove_folder(setup);
     close_server(&server);
     setup->board->has_ended = 1;

@@ -3,17 +3,22 @@
 #define BIM_RUN_SERVER_H
 
 #include "keeper.h"
+#include "process.h"
 
 #include <stdbool.h>
 #include <sys/types.h>
 
-enum { BOARD_CLIENTS = 4096 };
+/* Of clients whose handles have higher numbers, the guard knows by /proc. */
+enum { BOARD_FILES = 65536 };
 
-/* What the server leaves for bimphlai-run to see, in memory that both have. */
+/* What bimphlai-run, its server and its guard leave for each other to see, in memory that all three have. The handles
+ * are in the table of descriptors that they share. */
 struct board {
-    _Atomic pid_t clients[BOARD_CLIENTS]; /* 0 if there is none */
+    struct process tool, server, guard;
+    struct process program; /* once it runs */
+    _Atomic int above;      /* the numbers of all descriptors that the server keeps */
+    _Atomic bool is_client[BOARD_FILES]; /* whether the descriptor of this number is a client's handle */
     _Atomic uint64_t requests, timelines, files, buffers;
-    _Atomic pid_t program; /* the process of the program, once it runs */
     _Atomic int has_ended; /* the server has, in order, with nothing left */
 };
 
@@ -21,17 +26,18 @@ struct board {
 enum { SERVER_IS_READY = 'R', SERVER_ENDS = 'E', SERVER_STAYS = 'S' };
 
 struct server_setup {
-    pid_t starter; /* bimphlai-run, whose SIGTERM says that the program has ended */
     int listener;
-    int said;           /* to which it writes one of these */
+    int obeys;          /* a byte in it says that the program has ended */
+    int said;           /* to which the server writes one of the words above */
     const char *folder; /* which it removes with the socket, if bimphlai-run doesn't */
     const char *socket;
     const char *trace; /* or NULL */
     struct board *board;
+    int (*start_guard)(void); /* for the time after bimphlai-run. Returns 0 or an errno */
 };
 
-/* To be called with SIGTERM blocked. Serves until SIGTERM says that the program has ended, and then until nobody uses
- * the service. Returns the status of the process. */
+/* Serves until the program or bimphlai-run has ended, and then until nobody uses the service. Returns the status of the
+ * process. */
 int server_run(const struct server_setup *setup);
 
 #endif

@@ -3,9 +3,8 @@
 
 #include "calls.h"
 #include "ends.h"
-#include "process.h"
+#include "guard.h"
 
-#include <dirent.h>
 #include <errno.h>
 #include <stdio.h>
 #include <sched.h>
@@ -14,9 +13,18 @@
 #include <sys/mman.h>
 #include <sys/socket.h>
 #include <sys/un.h>
-#include <sys/wait.h>
 
-enum { WAITING = 128 };
+/* How many may wait to connect; and how many descriptors a server that was killed may have had that it hadn't noted. */
+enum { WAITING = 128, NOT_NOTED = 64 };
+
+/* Another user's folder may come with the environment, by su or sudo, and he may put a service of his own there. */
+static bool is_own_folder(const char *path)
+{
+    struct stat found;
+
+    return path && path[0] == '/' && stat(path, &found) == 0 && S_ISDIR(found.st_mode) && found.st_uid == geteuid() &&
+           !(found.st_mode & (S_IWGRP | S_IWOTH));
+}
 
 static int make_folder(struct service *service, const char *in)
 {
@@ -42,21 +50,38 @@ static int make_socket(struct service *service)
     return error;
 }
 
-static int make_shared(struct service *service)
+static int make_pipe(int *reads, int *writes)
 {
     int pair[2];
 
-    if (pipe2(pair, O_CLOEXEC))
+    if (pipe2(pair, O_CLOEXEC | O_NONBLOCK))
         return errno;
-    service->hears = pair[0];
-    service->said = pair[1];
+    *reads = pair[0];
+    *writes = pair[1];
+    return 0;
+}
+
+static int make_board(struct service *service)
+{
     service->board = mmap(NULL, sizeof *service->board, PROT_READ | PROT_WRITE, MAP_SHARED | MAP_ANONYMOUS, -1, 0);
-    return service->board == MAP_FAILED ? errno : 0;
+    if (service->board == MAP_FAILED)
+        return errno;
+    service->board->tool = process_open(getpid());
+    return 0;
+}
+
+static int open_spares(struct service *service)
+{
+    service->nowhere = open("/dev/null", O_RDWR | O_CLOEXEC);
+    for (int i = 0; i < SPARES; i++)
+        service->spares[i] = call_dup_from(service->nowhere, 0);
+    return service->spares[SPARES - 1] < 0 ? errno : 0;
 }
 
 int service_open(struct service *service)
 {
-    int error = make_folder(service, getenv("XDG_RUNTIME_DIR"));
+    const char *runtime = getenv("XDG_RUNTIME_DIR");
+    int error = make_folder(service, is_own_folder(runtime) ? runtime : NULL);
 
     if (error)
         error = make_folder(service, "/tmp");
@@ -65,22 +90,42 @@ int service_open(struct service *service)
     snprintf(service->socket, sizeof service->socket, "%s/socket", service->folder);
     error = make_socket(service);
     if (!error)
-        error = make_shared(service);
+        error = make_pipe(&service->hears, &service->said);
+    if (!error)
+        error = make_pipe(&service->obeys, &service->orders);
+    if (!error)
+        error = open_spares(service);
+    if (!error)
+        error = make_board(service);
     if (error)
         service_remove(service);
     return error;
 }
 
-void service_remove(struct service *service)
+void service_free_spares(struct service *service)
 {
-    const int opened[] = { service->listener, service->said, service->hears };
+    for (int i = 0; i < SPARES; i++)
+        if (service->spares[i] >= 0)
+            call_close(service->spares[i]);
+    memcpy(service->spares, (int[SPARES])NO_SPARES, sizeof service->spares);
+}
 
+void service_remove_folder(const struct service *service)
+{
     unlink(service->socket);
     rmdir(service->folder);
+}
+
+void service_remove(struct service *service)
+{
+    const int opened[] = { service->listener, service->said,  service->hears,
+                           service->orders,   service->obeys, service->nowhere };
+
+    service_remove_folder(service);
+    service_free_spares(service);
     for (size_t i = 0; i < sizeof opened / sizeof opened[0]; i++)
         if (opened[i] >= 0)
             call_close(opened[i]);
-    service->listener = service->said = service->hears = -1;
 }
 
 pid_t service_share(void)
@@ -92,66 +137,45 @@ pid_t service_share(void)
 #endif
 }
 
+/* Where the server finds it, which starts a guard once nobody else does. */
+static struct service *guarded;
+
+static int start_guard(void)
+{
+    return guard_start(guarded);
+}
+
 int service_start(struct service *service, const char *trace)
 {
-    struct server_setup setup = { getpid(), service->listener, service->said, service->folder, service->socket,
-                                  trace,    service->board };
+    struct server_setup setup = { service->listener, service->obeys, service->said,  service->folder,
+                                  service->socket,   trace,          service->board, start_guard };
+    pid_t server;
 
     fflush(NULL);
-    service->server = service_share();
-    if (service->server < 0)
+    guarded = service;
+    server = service_share();
+    if (server < 0)
         return errno;
-    if (service->server == 0) {
+    if (server == 0) {
         setpgid(0, 0);
         _exit(server_run(&setup));
     }
-    return 0;
+    service->board->server = process_open(server);
+    return guard_start(service);
 }
 
-bool service_is_there(const struct service *service)
+void service_end(const struct service *service)
 {
-    return !service->board->has_ended && process_goes_on(service->server);
+    while (call_write(service->orders, "", 1) < 0 && errno == EINTR) {}
 }
 
-/* Kills each child of this process. Their own children become its children then, since it is their reaper. */
-static void kill_children(void)
-{
-    DIR *processes = opendir("/proc");
-    struct dirent *entry;
-
-    while (processes && (entry = readdir(processes)))
-        if (atoi(entry->d_name) > 0 && process_parent(atoi(entry->d_name)) == getpid())
-            kill(atoi(entry->d_name), SIGKILL);
-    if (processes)
-        closedir(processes);
-}
-
-void service_kill_clients(const struct service *service)
-{
-    for (size_t i = 0; i < BOARD_CLIENTS; i++)
-        if (service->board->clients[i] > 0)
-            kill(service->board->clients[i], SIGKILL);
-}
-
-void service_kill_users(const struct service *service)
-{
-    service_kill_clients(service);
-    do
-        kill_children();
-    while (waitpid(-1, NULL, 0) > 0);
-}
-
-/* Calls for each descriptor of this process, and adds what that returns. */
+/* Calls for each descriptor of the server's, and adds what that returns. This takes neither /proc nor a descriptor. */
 static size_t for_each_file(size_t (*call)(const struct service *, int), const struct service *service)
 {
-    struct dirent *entry;
-    DIR *files = opendir("/proc/self/fd");
     size_t sum = 0;
 
-    while (files && (entry = readdir(files)))
-        sum += call(service, atoi(entry->d_name));
-    if (files)
-        closedir(files);
+    for (int file = 0; file < service->board->above + NOT_NOTED; file++)
+        sum += call(service, file);
     return sum;
 }
 

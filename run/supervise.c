@@ -2,49 +2,54 @@
 #include "supervise.h"
 
 #include "calls.h"
+#include "guard.h"
 #include "launch.h"
 #include "report.h"
+#include "say.h"
 #include "service.h"
 #include "wire.h"
 
 #include <errno.h>
-#include <stdio.h>
-#include <string.h>
 #include <sys/prctl.h>
-#include <sys/resource.h>
 #include <sys/signalfd.h>
 #include <sys/wait.h>
-#include <time.h>
 
-enum { MILLISECONDS_BETWEEN_LOOKS = 100 };
+enum { MILLISECONDS_BETWEEN_STARTS = 100 };
 
 static struct service service = SERVICE_CLOSED;
-static bool others_use_it;
 
-/* The run: which of both processes have ended, and how. */
+/* The run: which of its processes have ended, and how. */
 struct run {
     int signals;
-    sigset_t mask; /* of the program */
+    sigset_t mask;           /* of the program, as bimphlai-run was started */
+    struct sigaction childs; /* what the program does about SIGCHLD */
     pid_t program;
     int waited, server_waited;
-    bool program_has_ended, server_has_ended;
+    bool program_has_ended, server_has_ended, lacks_guard;
+    char said;             /* the last word of the server, or 0 */
+    bool users_are_killed; /* by the guard, since the server is lost */
 };
 
+/* All signals but those of faults, and of a terminal that stops and continues a job. */
 static void handled_signals(sigset_t *signals)
 {
-    static const int HANDLED[] = { SIGCHLD, SIGTERM, SIGHUP, SIGINT, SIGQUIT, SIGUSR1, SIGUSR2 };
+    static const int OTHERS[] = { SIGSEGV, SIGBUS,  SIGFPE,  SIGILL,  SIGTRAP, SIGSYS,
+                                  SIGABRT, SIGTSTP, SIGTTIN, SIGTTOU, SIGCONT };
 
-    sigemptyset(signals);
-    for (size_t i = 0; i < sizeof HANDLED / sizeof HANDLED[0]; i++)
-        sigaddset(signals, HANDLED[i]);
+    sigfillset(signals);
+    for (size_t i = 0; i < sizeof OTHERS / sizeof OTHERS[0]; i++)
+        sigdelset(signals, OTHERS[i]);
 }
 
-/* Has the handled signals wait to be read. Returns 0 or an errno. */
+/* Has the handled signals wait to be read. If bimphlai-run was started to ignore SIGCHLD, it would never see an end.
+ * Returns 0 or an errno. */
 static int block_signals(struct run *run)
 {
+    const struct sigaction usual = { .sa_handler = SIG_DFL };
     sigset_t signals;
 
     handled_signals(&signals);
+    sigaction(SIGCHLD, &usual, &run->childs);
     sigprocmask(SIG_BLOCK, &signals, &run->mask);
     run->signals = signalfd(-1, &signals, SFD_CLOEXEC | SFD_NONBLOCK);
     return run->signals < 0 ? errno : 0;
@@ -55,13 +60,14 @@ static int start_program(struct run *run, char **program)
 {
     run->program = fork();
     if (run->program == 0) {
+        sigaction(SIGCHLD, &run->childs, NULL);
         sigprocmask(SIG_SETMASK, &run->mask, NULL);
         _exit(launch_become(program));
     }
     if (run->program < 0)
         return errno;
     if (service.board)
-        service.board->program = run->program;
+        service.board->program = process_open(run->program);
     return 0;
 }
 
@@ -75,69 +81,80 @@ static void reap(struct run *run)
         if (ended == run->program) {
             run->program_has_ended = true;
             run->waited = waited;
-        } else if (ended == service.server) {
+        } else if (service.board && ended == service.board->server.number) {
             run->server_has_ended = true;
             run->server_waited = waited;
+        } else if (service.board && ended == service.board->guard.number) {
+            run->lacks_guard = true;
         }
     }
 }
 
-/* What another process sends goes to the program. What the terminal sends, the program has got itself. */
+/* What another process sends goes to the program. What the terminal sends, the program has got itself; and a write that
+ * meets no reader sends SIGPIPE in our own name. */
 static void take_signals(struct run *run)
 {
     struct signalfd_siginfo signal;
 
     while (call_read(run->signals, &signal, sizeof signal) == sizeof signal)
-        if (signal.ssi_signo != SIGCHLD && signal.ssi_code <= 0 && run->program > 0 && !run->program_has_ended)
+        if (signal.ssi_signo != SIGCHLD && signal.ssi_code <= 0 && (pid_t)signal.ssi_pid != getpid() &&
+            run->program > 0 && !run->program_has_ended)
             kill(run->program, signal.ssi_signo);
     reap(run);
 }
 
-static void wait_for_signals(struct run *run)
+static void take_words(struct run *run)
 {
-    struct pollfd signals = { run->signals, POLLIN, 0 };
+    char said;
 
-    call_poll(&signals, 1, -1);
+    while (call_read(service.hears, &said, 1) == 1)
+        if (said == GUARD_HAS_KILLED)
+            run->users_are_killed = true;
+        else
+            run->said = said;
+}
+
+/* Waits for signals and words. After a guard that was killed comes another, unless all is over. */
+static void wait_for_events(struct run *run)
+{
+    struct pollfd files[] = { { run->signals, POLLIN, 0 }, { service.hears, POLLIN, 0 } };
+
+    call_poll(files, 2, run->lacks_guard ? MILLISECONDS_BETWEEN_STARTS : -1);
     take_signals(run);
+    take_words(run);
+    if (run->lacks_guard && !run->users_are_killed && !service.board->has_ended)
+        run->lacks_guard = guard_start(&service) != 0;
 }
 
 static void wait_for_an_end(struct run *run)
 {
     while (!run->program_has_ended && !run->server_has_ended)
-        wait_for_signals(run);
+        wait_for_events(run);
 }
 
 /* Waits for a word of the server, and returns it, or 0 if the server is lost. */
 static char hear(struct run *run)
 {
-    char said = 0;
+    char said;
 
-    while (!run->server_has_ended) {
-        struct pollfd files[] = { { run->signals, POLLIN, 0 }, { service.hears, POLLIN, 0 } };
-
-        call_poll(files, 2, -1);
-        if (files[1].revents & POLLIN && call_read(service.hears, &said, 1) == 1)
-            return said;
-        take_signals(run);
-    }
-    return 0;
+    while (!run->said && !run->server_has_ended)
+        wait_for_events(run);
+    said = run->said;
+    run->said = 0;
+    return said;
 }
 
-/* Fails closed: the other ends of all descriptors are still open here, so nobody saw them signal. */
-static int lose(const struct run *run)
+/* The guard has killed those who wait before anything is said: whoever reads that may not read on. */
+static int lose(struct run *run)
 {
+    while (!run->users_are_killed)
+        wait_for_events(run);
     if (WIFSIGNALED(run->server_waited))
-        fprintf(stderr,
-                "bimphlai-run: the service ended, by signal %d; no fence was signalled, and the program was killed\n",
-                WTERMSIG(run->server_waited));
+        say("the service ended, by signal %d; no fence was signalled, and the program was killed",
+            WTERMSIG(run->server_waited));
     else
-        fprintf(stderr,
-                "bimphlai-run: the service ended, with status %d; no fence was signalled, and the program was killed\n",
-                WEXITSTATUS(run->server_waited));
-    service_kill_users(&service);
-    others_use_it = service_held_ends(&service) > 0;
-    if (!others_use_it)
-        service_remove(&service);
+        say("the service ended, with status %d; no fence was signalled, and the program was killed",
+            WEXITSTATUS(run->server_waited));
     return BIM_LOST;
 }
 
@@ -145,9 +162,18 @@ static void tell_left(void)
 {
     const struct board *board = service.board;
 
-    fprintf(stderr, "bimphlai-run: left: %llu timelines, %llu files, %llu buffers, %zu descriptors; %llu requests\n",
-            (unsigned long long)board->timelines, (unsigned long long)board->files, (unsigned long long)board->buffers,
-            service_ends(&service), (unsigned long long)board->requests);
+    say("left: %llu timelines, %llu files, %llu buffers, %zu descriptors; %llu requests",
+        (unsigned long long)board->timelines, (unsigned long long)board->files, (unsigned long long)board->buffers,
+        service_ends(&service), (unsigned long long)board->requests);
+}
+
+/* Whoever goes on to use the service has it from the server and the guard. */
+static int leave(struct run *run)
+{
+    while (!run->server_has_ended || !(run->lacks_guard || run->users_are_killed))
+        wait_for_events(run);
+    service_remove(&service);
+    return launch_status(run->waited);
 }
 
 static int serve_program(const struct options *options, struct run *run)
@@ -157,29 +183,13 @@ static int serve_program(const struct options *options, struct run *run)
     wait_for_an_end(run);
     if (!run->program_has_ended)
         return lose(run);
-    kill(service.server, SIGTERM);
+    service_end(&service);
     said = hear(run);
     if (!said)
         return lose(run);
     if (options->is_verbose)
         tell_left();
-    others_use_it = said == SERVER_STAYS;
-    if (others_use_it)
-        return launch_status(run->waited);
-    while (!run->server_has_ended)
-        wait_for_signals(run);
-    service_remove(&service);
-    return launch_status(run->waited);
-}
-
-static void raise_limit(void)
-{
-    struct rlimit files;
-
-    if (getrlimit(RLIMIT_NOFILE, &files) == 0) {
-        files.rlim_cur = files.rlim_max;
-        setrlimit(RLIMIT_NOFILE, &files);
-    }
+    return said == SERVER_STAYS ? launch_status(run->waited) : leave(run);
 }
 
 static int start_service(struct run *run, const struct options *options, const char *trace)
@@ -196,7 +206,7 @@ static int start_service(struct run *run, const struct options *options, const c
         return STATUS_FAULT;
     status = launch_prepare(service.socket, trace);
     if (!status && options->is_verbose)
-        fprintf(stderr, "bimphlai-run: service %d at %s\n", service.server, service.socket);
+        say("service %d at %s", (int)service.board->server.number, service.socket);
     return status;
 }
 
@@ -214,54 +224,29 @@ static int start(struct run *run, const struct options *options, const char *tra
     return error ? fault("the program can't start", error) : 0;
 }
 
+/* What was started ends, if the program can't be. */
+static void give_up(void)
+{
+    if (service.board) {
+        service.board->has_ended = 1;
+        process_kill(&service.board->server);
+    }
+    service_remove(&service);
+}
+
 int supervise(const struct options *options, const char *trace)
 {
     struct run run = { .program = 0 };
     int status = start(&run, options, trace);
 
     if (status) {
-        if (service.server > 0)
-            kill(service.server, SIGKILL);
-        service_remove(&service);
+        give_up();
         return status;
     }
-    raise_limit();
+    process_raise_limit();
     if (options->is_local)
         wait_for_an_end(&run);
     status = options->is_local ? launch_status(run.waited) : serve_program(options, &run);
     call_close(run.signals);
-    return status == BIM_LOST ? status : report(options, trace, status);
-}
-
-static void look_again(void)
-{
-    call_poll(NULL, 0, MILLISECONDS_BETWEEN_LOOKS);
-}
-
-/* Keeps the descriptors while the server is there; if it is lost, ends whoever uses it, and keeps them for those who
- * only wait. */
-static void hold(void)
-{
-    while (service_is_there(&service))
-        look_again();
-    if (service.board->has_ended)
-        return;
-    service_kill_clients(&service);
-    while (service_held_ends(&service) > 0)
-        look_again();
-    service_remove(&service);
-}
-
-void supervise_leave(void)
-{
-    int nowhere;
-
-    if (!others_use_it || service_share() != 0)
-        return;
-    setsid();
-    nowhere = open("/dev/null", O_RDWR | O_CLOEXEC);
-    for (int file = STDIN_FILENO; file <= STDERR_FILENO; file++)
-        dup2(nowhere, file);
-    hold();
-    _exit(0);
+    return run.users_are_killed ? status : report(options, trace, status);
 }

@@ -6,8 +6,5 @@
 
 /* Runs the program, with a server unless it is local, and returns the status with which to end. */
 int supervise(const struct options *options, const char *trace);
-/* If others than the program still use the service, leaves a process that keeps it from failing open. To be called
- * last. */
-void supervise_leave(void);
 
 #endif

@@ -1,18 +1,33 @@
-/* usage: killed LOG MICROSECONDS [leave]
+/* usage: killed TOOL ORDER MICROSECONDS [WORD ...]
  *
- * Processes wait in all ways for points that nobody reaches, and after some time the service is killed; with "leave", once the
- * program and the tool have ended. Whoever sees success then writes so into the log. All have to be ended. */
+ * Starts itself by the tool. Processes then wait in all ways for points that nobody reaches, and after some time those of the tool
+ * are killed, in an order of letters: T is the tool, S its server, G its guard; - waits until there is a guard again, and L for
+ * the program and the tool to end. Whoever sees success says so. All have to be ended, and soon. The words:
+ *
+ *   full     the service has no descriptor left
+ *   blind    nobody can read /proc any more
+ *   deaf     standard error is a pipe that nobody reads; closed: one whose reader has gone
+ *   early    the order begins with the start of the tool, whose program ends at once */
 #include "service.h"
+#include <sched.h>
 #include <sys/epoll.h>
+#include <sys/mount.h>
 #include <sys/select.h>
+#include <sys/syscall.h>
 
-/* How long those go on that nobody ends, in seconds. */
-static unsigned longest = 20;
-static int log_file;
+/* Seconds: how long those go on that nobody ends, and in what time they are to be ended. */
+enum { LONGEST = 30, IN_TIME = 15, LONGEST_UNSEEN = 3 };
+enum { FEW = 64 };
 
-static int succeeded(const char *how)
+static unsigned longest = LONGEST;
+static int is_full, is_blind, is_deaf, is_closed, is_early;
+
+/* What the processes that wait say goes through this pipe, which ends with the last of them. */
+static int tells;
+
+static int tell(const char *what)
 {
-    return write(log_file, how, strlen(how)) < 0;
+    return write(tells, what, strlen(what)) < 0;
 }
 
 /* As libsync's sync_wait: what is no error is success. */
@@ -21,7 +36,7 @@ static int waits_by_poll(int f)
     struct pollfd polled = { .fd = f, .events = POLLIN };
     int count = poll(&polled, 1, -1);
 
-    return count > 0 && !(polled.revents & (POLLERR | POLLNVAL)) ? succeeded("poll ") : 0;
+    return count > 0 && !(polled.revents & (POLLERR | POLLNVAL)) ? tell("poll ") : 0;
 }
 
 static int waits_by_select(int f)
@@ -30,7 +45,7 @@ static int waits_by_select(int f)
 
     FD_ZERO(&set);
     FD_SET(f, &set);
-    return select(f + 1, &set, NULL, NULL, NULL) > 0 && FD_ISSET(f, &set) ? succeeded("select ") : 0;
+    return select(f + 1, &set, NULL, NULL, NULL) > 0 && FD_ISSET(f, &set) ? tell("select ") : 0;
 }
 
 static int waits_by_epoll(int f)
@@ -38,7 +53,7 @@ static int waits_by_epoll(int f)
     struct epoll_event event = { .events = EPOLLIN };
     int group = epoll_create1(EPOLL_CLOEXEC);
 
-    return epoll_ctl(group, EPOLL_CTL_ADD, f, &event) == 0 && epoll_wait(group, &event, 1, -1) > 0 ? succeeded("epoll ") : 0;
+    return epoll_ctl(group, EPOLL_CTL_ADD, f, &event) == 0 && epoll_wait(group, &event, 1, -1) > 0 ? tell("epoll ") : 0;
 }
 
 static int asks(int f)
@@ -47,7 +62,7 @@ static int asks(int f)
 
     while (ioctl(f, SYNC_IOC_FILE_INFO, &info) < 0 || info.status == 0)
         info.num_fences = 0;
-    return succeeded("info ");
+    return tell("info ");
 }
 
 static int merges(int f)
@@ -55,7 +70,7 @@ static int merges(int f)
     for (;;) {
         int both = merge("both", f, f);
         if (both >= 0 && ready(both, POLLIN, 0) & (POLLIN | POLLHUP))
-            return succeeded("merge ");
+            return tell("merge ");
         if (both >= 0)
             close(both);
     }
@@ -67,10 +82,18 @@ static int waits_for_buffer(int f)
 
     while (b < 0 || import(b, f, DMA_BUF_SYNC_WRITE))
         pause_for(1);
-    return ready(b, POLLIN, -1) & (POLLIN | POLLHUP) ? succeeded("buffer ") : 0;
+    return ready(b, POLLIN, -1) & (POLLIN | POLLHUP) ? tell("buffer ") : 0;
 }
 
-static int (*const ways[])(int) = { waits_by_poll, waits_by_select, waits_by_epoll, asks, merges, waits_for_buffer };
+/* A system call, which no library sees. */
+static int waits_directly(int f)
+{
+    struct pollfd polled = { .fd = f, .events = POLLIN };
+
+    return syscall(SYS_ppoll, &polled, 1, NULL, NULL, 0) > 0 && polled.revents & (POLLIN | POLLHUP) ? tell("call ") : 0;
+}
+
+static int (*const ways[])(int) = { waits_by_poll, waits_by_select, waits_by_epoll, asks, merges, waits_for_buffer, waits_directly };
 enum { WAYS = sizeof ways / sizeof *ways };
 
 /* A child that waits; if asked, in a session of its own and without its parent. */
@@ -85,41 +108,27 @@ static void begin(int f, int way, int apart)
     }
     alarm(longest);
     ways[way](f);
-    pause_for(20000);
+    pause_for(1000 * (int)longest);
     _exit(0);
 }
 
-/* Kills the service after some time, which begins once the tool is gone if that is asked for. */
-static void kill_later(pid_t service, pid_t tool, int microseconds, int leaves)
+/* The program: begins all, says so, and goes on unless it is to leave. */
+static int program(int leaves)
 {
-    while (leaves && kill(tool, 0) == 0)
-        pause_for(1);
-    usleep((useconds_t)microseconds);
-    kill(service, SIGKILL);
-    _exit(0);
-}
+    int t = timeline(), f = fence(t, 1), u = timeline();
 
-int main(int argc, char **argv)
-{
-    pid_t found[MOST], tool = getppid();
-    int t = timeline(), f = fence(t, 1), u = timeline(), leaves = argc == 4;
-
-    /* Who waits for a file when program and tool are gone, and asks nothing, waits for good. */
-    longest = leaves ? 2 : longest;
+    if (is_early)
+        return 0;
     alarm(longest);
-    log_file = argc >= 3 ? open(argv[1], O_WRONLY | O_APPEND) : -1;
-    int count = service(tool, getpid(), found);
-    HOLDS(log_file >= 0);
-    HOLDS(f >= 0);
-    if (failures)
-        return report("killed");
+    if (f < 0 || u < 0)
+        return tell("nothing ");
     for (int i = 0; i < WAYS; i++) {
         begin(f, i, 0);
         begin(f, i, 1);
     }
-    /* Not the tool itself, if its service is another process. */
-    if (fork() == 0)
-        kill_later(found[count > 1], tool, atoi(argv[2]), leaves);
+    while (is_full && timeline() >= 0) {
+    }
+    tell("!");
     if (leaves)
         return 0;
     for (__u32 i = 1;; i++) {
@@ -128,4 +137,200 @@ int main(int argc, char **argv)
         if (g >= 0)
             close(g);
     }
+}
+
+/* The processes of the tool, 0 once they are killed; and the tool's status, as a shell has it. */
+static struct {
+    pid_t tool, server, guard;
+    int status;
+} run;
+
+static int is_named(pid_t process, const char *name)
+{
+    char path[64], found[32] = "";
+    FILE *stream;
+
+    snprintf(path, sizeof path, "/proc/%d/comm", (int)process);
+    if (!(stream = fopen(path, "r")))
+        return 0;
+    if (fgets(found, sizeof found, stream))
+        found[strcspn(found, "\n")] = 0;
+    fclose(stream);
+    return strcmp(found, name) == 0;
+}
+
+/* Finds a child with a name, but for one of them; 0 if there is none. */
+static pid_t child_of(pid_t parent, const char *name, pid_t other)
+{
+    pid_t found[MOST];
+    int count = parent > 0 ? service(parent, other, found) : 0;
+
+    for (int i = 1; i < count; i++)
+        if (is_named(found[i], name))
+            return found[i];
+    return 0;
+}
+
+/* Waits for the guard that the tool or the server starts in place of one that was killed. */
+static void await_guard(pid_t killed)
+{
+    for (int left = SOON; !run.guard && left > 0; left--) {
+        run.guard = child_of(run.tool, "fence-guard", killed);
+        if (!run.guard)
+            run.guard = child_of(run.server, "fence-guard", killed);
+        if (!run.guard)
+            pause_for(1);
+    }
+}
+
+static void end(pid_t *process)
+{
+    HOLDS(*process > 0 && kill(*process, SIGKILL) == 0);
+    *process = 0;
+}
+
+static void kill_in(const char *order)
+{
+    pid_t tool = run.tool, guard = run.guard;
+
+    for (; *order; order++)
+        switch (*order) {
+        case 'T': end(&run.tool); break;
+        case 'S': end(&run.server); break;
+        case 'G': end(&run.guard); break;
+        case '-': pause_for(1), await_guard(guard); break;
+        default: run.status = end_of(tool); run.tool = 0;
+        }
+}
+
+/* A pipe that is full, or has no reader. */
+static int useless_errors(void)
+{
+    static const char bytes[4096];
+    int pair[2];
+
+    if (pipe(pair))
+        return -1;
+    if (is_closed) {
+        close(pair[0]);
+        return pair[1];
+    }
+    fcntl(pair[1], F_SETFL, O_NONBLOCK);
+    while (write(pair[1], bytes, sizeof bytes) > 0) {
+    }
+    fcntl(pair[1], F_SETFL, 0);
+    return pair[1];
+}
+
+static void become_tool(char **argv, int errors)
+{
+    char told[16], *words[MOST] = { argv[1], argv[0], "--in", told };
+    struct rlimit few = { FEW, FEW };
+
+    snprintf(told, sizeof told, "%d", tells);
+    for (int i = 2; argv[i] && i < MOST - 3; i++)
+        words[i + 2] = argv[i];
+    if (is_full)
+        setrlimit(RLIMIT_NOFILE, &few);
+    dup2(errors, STDERR_FILENO);
+    close(errors);
+    execv(words[0], words);
+    _exit(127);
+}
+
+/* Reads what the processes say until one says that all have begun, or the last has ended. */
+static void hear(int file, char *text, size_t room, int until_begun)
+{
+    size_t length = 0;
+
+    while (length < room - 1 && read(file, text + length, 1) == 1)
+        if (text[length++] == '!' && until_begun)
+            break;
+    text[length] = 0;
+}
+
+/* Finds the processes, kills them after some time, and waits until all have ended. */
+static void kill_all(char **argv, int heard)
+{
+    char text[256] = "";
+    __u64 from;
+
+    if (!is_early) {
+        hear(heard, text, sizeof text, 1);
+        run.server = child_of(run.tool, "bimphlai-run", 0);
+        run.guard = child_of(run.tool, "fence-guard", 0);
+        HOLDS(strcmp(text, "!") == 0 && run.server > 0 && run.guard > 0);
+    }
+    usleep((useconds_t)atoi(argv[3]));
+    HOLDS(!is_blind || mount("none", "/proc", "tmpfs", 0, NULL) == 0);
+    from = now();
+    kill_in(argv[2]);
+    hear(heard, text, sizeof text, 0);
+    HOLDS(now() - from < IN_TIME * 1000000000ull);
+    if (*text)
+        printf("seen: %s\n", text);
+    HOLDS(!*text);
+}
+
+static int has_word(char **argv, const char *word)
+{
+    for (; *argv; argv++)
+        if (strcmp(*argv, word) == 0)
+            return 1;
+    return 0;
+}
+
+static void take_words(char **argv)
+{
+    is_full = has_word(argv, "full");
+    is_blind = has_word(argv, "blind");
+    is_deaf = has_word(argv, "deaf");
+    is_closed = has_word(argv, "closed");
+    is_early = has_word(argv, "early");
+    /* Whoever can't be found waits for good. */
+    longest = is_blind ? LONGEST_UNSEEN : LONGEST;
+}
+
+/* What the tool said, if anybody was to read it, and how it ended. */
+static void look_at_end(const char *order, int errors)
+{
+    static char said[4096];
+
+    if (run.status < 0)
+        run.status = end_of(run.tool > 0 ? run.tool : -1);
+    HOLDS(run.status == (strchr(order, 'T') ? 128 + SIGKILL : strchr(order, 'L') ? 0 : 123) || (is_early && run.status == 0));
+    if (run.status != 123 || is_deaf || is_closed)
+        return;
+    HOLDS(pread(errors, said, sizeof said - 1, 0) > 0);
+    HOLDS(strstr(said, "bimphlai-run: the service ended"));
+}
+
+int main(int argc, char **argv)
+{
+    char name[] = "/tmp/killed.XXXXXX";
+    int pair[2], errors;
+
+    if (argc < 4)
+        return 2;
+    take_words(argv);
+    if (strcmp(argv[1], "--in") == 0) {
+        tells = atoi(argv[2]);
+        return program(strchr(argv[3], 'L') != NULL);
+    }
+    give_up_after(3 * LONGEST);
+    errors = is_deaf || is_closed ? useless_errors() : mkstemp(name);
+    if (pipe(pair) || errors < 0)
+        return 2;
+    tells = pair[1];
+    run.status = -1;
+    run.tool = fork();
+    if (run.tool == 0)
+        become_tool(argv, errors);
+    close(tells);
+    pid_t tool = run.tool;
+    kill_all(argv, pair[0]);
+    run.tool = tool;
+    look_at_end(argv[2], errors);
+    unlink(name);
+    return report("killed");
 }

@@ -1,0 +1,134 @@
+#define _GNU_SOURCE
+#include "guard.h"
+
+#include "calls.h"
+#include "users.h"
+
+#include <errno.h>
+#include <string.h>
+#include <sys/prctl.h>
+
+/* How often processes are killed that still don't end, and how long they have between. */
+enum { PASSES = 2000, MILLISECONDS_TO_DIE = 1 };
+enum { MILLISECONDS_BETWEEN_LOOKS = 100 };
+
+static char *words_begin;
+static size_t words_length;
+
+void guard_note_words(int count, char **words)
+{
+    words_begin = words[0];
+    words_length = count > 0 ? words[count - 1] + strlen(words[count - 1]) - words[0] : 0;
+}
+
+static void rename_words(void)
+{
+    size_t length = words_length < sizeof GUARD_NAME ? words_length : sizeof GUARD_NAME;
+
+    if (length == 0)
+        return;
+    memset(words_begin, 0, words_length);
+    memcpy(words_begin, GUARD_NAME, length);
+}
+
+static void become_guard(void)
+{
+    sigset_t all;
+
+    sigfillset(&all);
+    sigprocmask(SIG_BLOCK, &all, NULL);
+    process_raise_limit();
+    setsid();
+    prctl(PR_SET_NAME, GUARD_NAME);
+    rename_words();
+    /* Its folder can be removed or unmounted. */
+    if (chdir("/")) {}
+}
+
+struct guard {
+    struct service *service;
+    bool has_tool; /* bimphlai-run goes on */
+};
+
+/* The streams are bimphlai-run's, so that whoever reads them sees their end once it has ended. */
+static void leave_streams(const struct service *service)
+{
+    for (int file = STDIN_FILENO; file <= STDERR_FILENO; file++)
+        syscall(SYS_dup3, service->nowhere, file, 0);
+}
+
+/* Waits for the end of the process with this handle, of bimphlai-run, or of some milliseconds. */
+static void look(struct guard *guard, int handle, int milliseconds)
+{
+    const struct process *tool = &guard->service->board->tool;
+    struct pollfd ends[] = { { handle, POLLIN, 0 }, { guard->has_tool ? tool->handle : -1, POLLIN, 0 } };
+
+    call_poll(ends, 2, milliseconds);
+    if (!guard->has_tool || process_goes_on(tool))
+        return;
+    guard->has_tool = false;
+    leave_streams(guard->service);
+}
+
+static void watch(struct guard *guard)
+{
+    const struct board *board = guard->service->board;
+    bool has_handles = board->server.handle >= 0 && board->tool.handle >= 0;
+
+    while (process_goes_on(&board->server))
+        look(guard, board->server.handle, has_handles ? -1 : MILLISECONDS_BETWEEN_LOOKS);
+}
+
+/* A process that can't end, as in a call of a driver that hangs, sees nothing any more either. */
+static void kill_users(struct guard *guard)
+{
+    for (int passes = 0; passes < PASSES && users_kill(guard->service); passes++)
+        look(guard, -1, MILLISECONDS_TO_DIE);
+}
+
+/* Whoever can't be killed, or isn't known, waits for good. */
+static void hold(struct guard *guard)
+{
+    while (service_held_ends(guard->service) > 0) {
+        look(guard, -1, MILLISECONDS_BETWEEN_LOOKS);
+        users_kill(guard->service);
+    }
+    service_remove_folder(guard->service);
+}
+
+static void say(const struct service *service, char what)
+{
+    while (call_write(service->said, &what, 1) < 0 && errno == EINTR) {}
+}
+
+static void end_users(struct guard *guard)
+{
+    service_free_spares(guard->service);
+    kill_users(guard);
+    if (service_held_ends(guard->service) == 0)
+        service_remove_folder(guard->service);
+    say(guard->service, GUARD_HAS_KILLED);
+    hold(guard);
+}
+
+int guard_start(struct service *service)
+{
+    struct guard guard = { service, true };
+    pid_t number;
+
+    if (process_goes_on(&service->board->guard))
+        return 0;
+    process_close(&service->board->guard);
+    number = service_share();
+    if (number < 0)
+        return errno;
+    if (number > 0) {
+        service->board->guard = process_open(number);
+        return 0;
+    }
+    become_guard();
+    watch(&guard);
+    if (!service->board->has_ended)
+        end_users(&guard);
+    _exit(0);
+}
