@@ -70,14 +70,26 @@ static bool may_give(int file)
     return !is_crowded || (rlim_t)file < limit.rlim_cur;
 }
 
+/* What a file or a buffer waits for never comes after an exec, but its end would seem to: so our end is open then, too. */
+static bool outlasts_exec(int file)
+{
+    uint64_t inode;
+    enum bim_mark mark = end_mark(file, &inode);
+
+    return mark == BIM_FILE_MARK || mark == BIM_BUFFER_END_MARK;
+}
+
 static int place(int file)
 {
-    int moved = call_dup_from(file, is_crowded ? (int)limit.rlim_cur : HIGH);
+    int how = outlasts_exec(file) ? F_DUPFD : F_DUPFD_CLOEXEC;
+    int moved = syscall(SYS_fcntl, file, how, is_crowded ? (int)limit.rlim_cur : HIGH);
 
-    if (moved >= 0)
+    if (moved >= 0) {
         call_close(file);
-    else
+    } else {
         moved = file;
+        syscall(SYS_fcntl, file, F_SETFD, how == F_DUPFD ? 0 : FD_CLOEXEC);
+    }
     lowest = moved < lowest ? moved : lowest;
     above = moved >= above ? moved + 1 : above;
     return moved;
