@@ -29,6 +29,14 @@ static void tell(uint64_t inode)
     errno = before;
 }
 
+void shim_close(int file)
+{
+    uint64_t inode = closing(file);
+
+    call_close(file);
+    tell(inode);
+}
+
 EXPORT int close(int file)
 {
     NEXT(close);

@@ -34,6 +34,8 @@ struct sync_file_of_buffer {
 #define EXPORT_SYNC_FILE _IOWR('b', 2, struct sync_file_of_buffer)
 #define IMPORT_SYNC_FILE _IOW('b', 3, struct sync_file_of_buffer)
 
+enum { SOCKET_CALLS = 0x89 }; /* the type of SIOCATMARK and its like */
+
 /* Asks for a new descriptor, and stores it in the caller's struct. If it can't be stored, it is closed again. */
 static int give_file(struct bim_request *request, void *arg, void *data, size_t size, int32_t *field)
 {
@@ -45,7 +47,7 @@ static int give_file(struct bim_request *request, void *arg, void *data, size_t 
     memcpy(field, &given, sizeof given);
     error = user_put(arg, data, size);
     if (error)
-        close(given);
+        shim_close(given);
     return error;
 }
 
@@ -173,45 +175,66 @@ static int allocate(void *arg)
     data.fd = given;
     error = user_put(arg, &data, sizeof data);
     if (error)
-        close(given);
+        shim_close(given);
     return error;
 }
 
 /* Waits as an interruptible wait of the kernel's does: by a read, which a signal handler interrupts or not, as it asked
  * for. */
-static int wait_for(struct bim_request *request)
+static int wait_for_byte(int file)
 {
     char byte;
-    int file = shim_ask_for_file(request), error = 0;
+    ssize_t length = call_read(file, &byte, 1);
+
+    if (length == 0)
+        shim_lose_service();
+    return length < 0 ? errno : 0;
+}
+
+/* Waits until a buffer is ready, or only looks. Returns 0, or EAGAIN if it isn't, or EINTR. */
+static int poll_buffer(int buffer, short event, int milliseconds)
+{
+    struct pollfd file = { buffer, event, 0 };
+    int count = call_poll(&file, 1, milliseconds);
+
+    if (count > 0)
+        shim_look_for_loss(&file, 1);
+    return count < 0 ? errno : file.revents & event ? 0 : EAGAIN;
+}
+
+/* Waits for the fences of an access. A process that has no number left for their file polls the buffer, which a signal
+ * handler interrupts in any case. */
+static int wait_for(int buffer, short event, struct bim_request *request)
+{
+    int file = shim_ask_for_file(request), error;
 
     if (file < 0)
-        return errno;
+        return errno == EMFILE ? poll_buffer(buffer, event, -1) : errno;
     if (shim_is_traced())
         shim_wait(file, true);
-    if (call_read(file, &byte, 1) < 0)
-        error = errno;
+    error = wait_for_byte(file);
     if (shim_is_traced())
         shim_wait(file, false);
-    close(file);
+    shim_close(file);
     return error;
 }
 
 static int access_buffer(int file, uint64_t buffer, void *arg)
 {
     struct bim_request request = { .op = BIM_OP_EXPORT, .a = buffer };
-    struct pollfd ready = { file, 0, 0 };
     struct dma_buf_sync data;
     int error = user_get(&data, arg, sizeof data);
+    short event;
 
     if (error)
         return error;
     request.flags = data.flags & DMA_BUF_SYNC_RW;
     if (data.flags & ~(uint64_t)DMA_BUF_SYNC_VALID_FLAGS_MASK || !request.flags)
         return EINVAL;
-    ready.events = request.flags & DMA_BUF_SYNC_WRITE ? POLLOUT : POLLIN;
-    if (data.flags & DMA_BUF_SYNC_END || call_poll(&ready, 1, 0) == 1)
+    event = request.flags & DMA_BUF_SYNC_WRITE ? POLLOUT : POLLIN;
+    if (data.flags & DMA_BUF_SYNC_END || poll_buffer(file, event, 0) == 0)
         return 0;
-    return wait_for(&request);
+    return wait_for(file, event, &request);
 }
 
 static int set_name(uint64_t buffer, const char *arg)
@@ -250,10 +273,22 @@ static int import_file(int file, uint64_t buffer, void *arg)
     return shim_ask(&request, file, &answer, NULL);
 }
 
+/* The kernel takes a number for the new descriptor before it looks at anything else. */
+static int after_number(int error)
+{
+    int number = error ? syscall(SYS_eventfd2, 0, O_CLOEXEC) : -1;
+
+    if (error && number < 0)
+        return errno;
+    if (number >= 0)
+        call_close(number);
+    return error;
+}
+
 static int on_timeline(uint64_t inode, unsigned long call, void *arg)
 {
     switch (call) {
-    case CREATE_FENCE: return create_fence(inode, arg);
+    case CREATE_FENCE: return after_number(create_fence(inode, arg));
     case INC: return inc(inode, arg);
     case FIONREAD: return user_put(arg, &(int){ 0 }, sizeof(int)); /* as of an empty file */
     default: return ENOTTY;
@@ -263,7 +298,7 @@ static int on_timeline(uint64_t inode, unsigned long call, void *arg)
 static int on_file(uint64_t inode, unsigned long call, void *arg)
 {
     switch (call) {
-    case SYNC_IOC_MERGE: return merge(inode, arg);
+    case SYNC_IOC_MERGE: return after_number(merge(inode, arg));
     case SYNC_IOC_FILE_INFO: return file_info(inode, arg);
     case SET_DEADLINE: return set_deadline(inode, arg);
     default: return ENOTTY;
@@ -282,26 +317,54 @@ static int on_buffer(int file, uint64_t inode, unsigned long call, void *arg)
     }
 }
 
-/* Whether a call is one of those above, or one that only what stands for our objects takes. All others are the
- * kernel's at once. */
+static int on_heap(unsigned long call, void *arg)
+{
+    return call == DMA_HEAP_IOCTL_ALLOC ? allocate(arg) : EINVAL;
+}
+
+/* Whether a call is one of those above, or one that only what stands for our objects takes: pipes and sockets. All
+ * others are the kernel's at once. */
 static bool is_ours(unsigned long call)
 {
-    if (call == FIONREAD)
+    if (call == FIONREAD || call == TIOCOUTQ)
         return true;
     switch (_IOC_TYPE(call)) {
     case 'W':
     case '>':
     case 'b':
     case 'u':
-    case 'H': return true;
+    case 'H':
+    case SOCKET_CALLS: return true;
     default: return false;
     }
+}
+
+static int answer(int file, enum bim_mark mark, uint64_t inode, unsigned long call, void *arg)
+{
+    switch (mark) {
+    case BIM_TIMELINE_MARK: return on_timeline(inode, call, arg);
+    case BIM_FILE_MARK: return on_file(inode, call, arg);
+    case BIM_BUFFER_MARK: return on_buffer(file, inode, call, arg);
+    case BIM_HEAP_MARK: return on_heap(call, arg);
+    default: return ENOTTY;
+    }
+}
+
+/* A heap knows its call by the number, whatever the type, and takes no other. */
+static int after_kernel(int file, int result)
+{
+    uint64_t inode;
+
+    if (result < 0 && errno == ENOTTY)
+        errno = shim_mark(file, &inode) == BIM_HEAP_MARK ? EINVAL : ENOTTY;
+    return result;
 }
 
 EXPORT int ioctl(int file, unsigned long call, ...)
 {
     NEXT(ioctl);
     uint64_t inode;
+    enum bim_mark mark;
     va_list words;
     void *arg;
 
@@ -309,12 +372,10 @@ EXPORT int ioctl(int file, unsigned long call, ...)
     arg = va_arg(words, void *);
     va_end(words);
     call = (uint32_t)call;
-    switch (is_ours(call) ? shim_mark(file, &inode) : 0) {
-    case BIM_TIMELINE_MARK: return shim_result(on_timeline(inode, call, arg));
-    case BIM_FILE_MARK: return shim_result(on_file(inode, call, arg));
-    case BIM_BUFFER_MARK: return shim_result(on_buffer(file, inode, call, arg));
-    case BIM_HEAP_MARK: return shim_result(call == DMA_HEAP_IOCTL_ALLOC ? allocate(arg) : EINVAL);
-    case BIM_UDMABUF_MARK: return shim_udmabuf(call, arg);
-    default: return next(file, call, arg);
-    }
+    if (!is_ours(call))
+        return after_kernel(file, next(file, call, arg));
+    mark = shim_mark(file, &inode);
+    if (!mark)
+        return next(file, call, arg);
+    return mark == BIM_UDMABUF_MARK ? shim_udmabuf(call, arg) : shim_result(answer(file, mark, inode, call, arg));
 }

@@ -61,7 +61,7 @@ static int make(const struct udmabuf_create_item *items, size_t count, int *buff
     for (size_t i = 1; i < count && !error; i++)
         error = extend(*buffer, &items[i]);
     if (error && *buffer >= 0)
-        close(*buffer);
+        shim_close(*buffer);
     return error;
 }
 

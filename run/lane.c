@@ -28,8 +28,10 @@ struct lane *lane_new(int *memory)
     if (ftruncate(*memory, sizeof *lane) == 0 &&
         fcntl(*memory, F_ADD_SEALS, F_SEAL_SHRINK | F_SEAL_GROW | F_SEAL_SEAL) == 0)
         lane = map_lane(*memory);
-    if (!lane)
+    if (!lane) {
         call_close(*memory);
+        *memory = -1;
+    }
     return lane;
 }
 

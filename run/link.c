@@ -2,17 +2,18 @@
 #define _GNU_SOURCE
 #include "calls.h"
 #include "lane.h"
+#include "limit.h"
 #include "shim.h"
 
 #include <errno.h>
 #include <string.h>
-#include <sys/resource.h>
 #include <sys/un.h>
 
 /* The connection has a high number, so that a process that ends closes it last, and programs don't meet it. The
  * kernel's table grows with the highest. */
 enum { HIGHEST = 65536, BELOW_LIMIT = 8 };
 
+/* The process's own connection, for whoever has the lock; others only see whether a number is one of these. */
 static _Atomic int connection = -1, bell = -1;
 static struct lane *lane; /* NULL if there is none: then all goes by the connection */
 static const struct bim_page *_Atomic page;
@@ -40,15 +41,14 @@ static void leave(void)
 /* Moves a descriptor past the limit of the program's, which is raised for that, so that it takes none of these. */
 static int move_high(int file)
 {
-    struct rlimit limit, raised;
+    struct rlimit limit;
     int moved = -1;
 
     if (getrlimit(RLIMIT_NOFILE, &limit))
         return file;
-    raised = (struct rlimit){ limit.rlim_max, limit.rlim_max };
-    if (limit.rlim_cur <= HIGHEST && limit.rlim_cur < limit.rlim_max && setrlimit(RLIMIT_NOFILE, &raised) == 0) {
+    if (limit.rlim_cur <= HIGHEST && limit_raise(&limit)) {
         moved = call_dup_from(file, limit.rlim_cur);
-        setrlimit(RLIMIT_NOFILE, &limit);
+        limit_restore(&limit);
     }
     if (moved < 0)
         moved = call_dup_from(file, limit.rlim_cur < HIGHEST ? limit.rlim_cur - BELOW_LIMIT : HIGHEST);
@@ -66,7 +66,6 @@ static int join(void)
 
     if (file < 0)
         return -1;
-    file = move_high(file);
     strncpy(to.sun_path, shim_service(), sizeof to.sun_path - 1);
     while (syscall(SYS_connect, file, &to, sizeof to)) {
         if (errno == EINTR)
@@ -88,8 +87,8 @@ static void set_control(struct msghdr *message, struct cmsghdr *head, int passed
     memcpy(CMSG_DATA(head), &passed, sizeof passed);
 }
 
-/* Returns whether the connection is still this process's. */
-static bool send_request(const struct bim_request *request, int passed)
+/* Returns 0, ENOTCONN if the connection isn't this process's any more, or what the kernel has no room for. */
+static int send_request(int socket, const struct bim_request *request, int passed)
 {
     union {
         struct cmsghdr head;
@@ -100,13 +99,17 @@ static bool send_request(const struct bim_request *request, int passed)
 
     if (passed >= 0)
         set_control(&message, &control.head, passed);
-    while (syscall(SYS_sendmsg, connection, &message, MSG_NOSIGNAL) != (ssize_t)sizeof *request) {
-        if (errno == EBADF)
-            return false;
-        if (errno != EINTR)
-            shim_lost("the service doesn't answer any more");
+    while (syscall(SYS_sendmsg, socket, &message, MSG_NOSIGNAL) != (ssize_t)sizeof *request) {
+        switch (errno) {
+        case EINTR: continue;
+        case EBADF: return ENOTCONN;
+        case ENOMEM:
+        case ENOBUFS:
+        case ETOOMANYREFS: return ENOMEM;
+        default: shim_lost("the service doesn't answer any more");
+        }
     }
-    return true;
+    return 0;
 }
 
 /* The descriptor of a message, or -1. */
@@ -120,7 +123,7 @@ static int given_by(struct msghdr *message)
     return given;
 }
 
-static int take_answer(struct bim_answer *answer, int *given)
+static int take_answer(int socket, struct bim_answer *answer, int *given)
 {
     union {
         struct cmsghdr head;
@@ -132,7 +135,7 @@ static int take_answer(struct bim_answer *answer, int *given)
     };
     ssize_t length;
 
-    while ((length = syscall(SYS_recvmsg, connection, &message, MSG_CMSG_CLOEXEC)) < 0 && errno == EINTR) {}
+    while ((length = syscall(SYS_recvmsg, socket, &message, MSG_CMSG_CLOEXEC)) < 0 && errno == EINTR) {}
     if (length < (ssize_t)offsetof(struct bim_answer, row))
         shim_lost("the service doesn't answer any more");
     *given = given_by(&message);
@@ -140,19 +143,22 @@ static int take_answer(struct bim_answer *answer, int *given)
     return answer->error ? answer->error : answer->gives && *given < 0 ? EMFILE : 0;
 }
 
-static int ask_by_socket(const struct bim_request *request, int passed, struct bim_answer *answer, int *given)
+static int ask_by_socket(int socket, const struct bim_request *request, int passed, struct bim_answer *answer,
+                         int *given)
 {
-    return send_request(request, passed) ? take_answer(answer, given) : ENOTCONN;
+    int error = send_request(socket, request, passed);
+
+    return error ? error : take_answer(socket, answer, given);
 }
 
-/* Asks for a descriptor that belongs to the connection; returns -1 if there is none. */
+/* Asks for a descriptor that belongs to the own connection; returns -1 if there is none. */
 static int ask_for(enum bim_op op)
 {
     struct bim_request request = { .op = op };
     struct bim_answer answer;
     int given;
 
-    return ask_by_socket(&request, -1, &answer, &given) == 0 ? given : -1;
+    return ask_by_socket(connection, &request, -1, &answer, &given) == 0 ? given : -1;
 }
 
 /* A child sees its parent's page, since both have the same service. */
@@ -184,10 +190,12 @@ static void open_lane(void)
 
 static int prepare(struct own *own)
 {
+    int joined = join();
+
     (void)own;
-    connection = join();
-    if (connection < 0)
+    if (joined < 0)
         return errno;
+    connection = move_high(joined);
     open_page();
     open_lane();
     return 0;
@@ -212,10 +220,10 @@ static bool gives_none(const struct bim_request *request)
 static int try_to_ask(const struct bim_request *request, int passed, struct bim_answer *answer, int *given)
 {
     if (!lane || !gives_none(request))
-        return ask_by_socket(request, passed, answer, given);
+        return ask_by_socket(connection, request, passed, answer, given);
     if (!lane_ask(lane, bell, request, answer, check))
         return ENOTCONN;
-    return answer->gives ? ask_by_socket(request, passed, answer, given) : answer->error;
+    return answer->gives ? ask_by_socket(connection, request, passed, answer, given) : answer->error;
 }
 
 static int ask(const struct bim_request *request, int passed, struct bim_answer *answer, int *given)
@@ -229,19 +237,15 @@ static int ask(const struct bim_request *request, int passed, struct bim_answer 
     return error ? error : try_to_ask(request, passed, answer, given);
 }
 
-/* By a connection for this request alone, beside that of the request which was interrupted. */
+/* By a connection for this request only: those who have the lock use the own one at the same moment. */
 static int ask_apart(const struct bim_request *request, int passed, struct bim_answer *answer, int *given)
 {
-    int interrupted = connection, error = 0;
+    int socket = join(), error;
 
-    connection = join();
-    if (connection < 0) {
-        error = errno;
-    } else {
-        error = ask_by_socket(request, passed, answer, given);
-        call_close(connection);
-    }
-    connection = interrupted;
+    if (socket < 0)
+        return errno;
+    error = ask_by_socket(socket, request, passed, answer, given);
+    call_close(socket);
     return error;
 }
 
@@ -250,4 +254,4 @@ static int above_own(void)
     return (connection > bell ? connection : bell) + 1;
 }
 
-const struct way LINK = { prepare, ask, ask_apart, leave, is_own, above_own, true, false, NULL, get_page };
+const struct way LINK = { prepare, ask, ask_apart, leave, is_own, above_own, true, NULL, get_page };

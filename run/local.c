@@ -2,6 +2,7 @@
 #define _GNU_SOURCE
 #include "calls.h"
 #include "keeper.h"
+#include "limit.h"
 #include "shim.h"
 
 #include <errno.h>
@@ -9,7 +10,6 @@
 #include <stdlib.h>
 #include <string.h>
 #include <sys/mman.h>
-#include <sys/resource.h>
 
 /* Programs seldom have so many descriptors, and the kernel's table grows with the highest number. */
 enum { HIGH = 512 };
@@ -18,7 +18,7 @@ static struct keeper keeper;
 static const struct own *own_of_keeper;     /* which says whether the keeper is this process's */
 static struct rlimit limit;                 /* on the program's descriptors */
 static _Atomic int lowest = INT_MAX, above; /* of what the keeper holds */
-static bool is_crowded;
+static bool is_crowded, is_raised;
 static bool sigpipe_was_pending;
 static sigset_t mask;
 
@@ -51,18 +51,13 @@ static bool is_own(int file)
  * raised for a moment: so it takes none of those that the program may have. */
 static void begin_files(void)
 {
-    struct rlimit raised;
-
-    if (!is_crowded || getrlimit(RLIMIT_NOFILE, &limit))
-        return;
-    raised = (struct rlimit){ limit.rlim_max, limit.rlim_max };
-    setrlimit(RLIMIT_NOFILE, &raised);
+    is_raised = is_crowded && limit_raise(&limit);
 }
 
 static void end_files(void)
 {
-    if (is_crowded)
-        setrlimit(RLIMIT_NOFILE, &limit);
+    if (is_raised)
+        limit_restore(&limit);
 }
 
 static bool may_give(int file)
@@ -176,7 +171,7 @@ static void before_wait(void)
     keeper_sweep_timelines(&keeper);
 }
 
-/* The keeper is in the middle of a request, and the handler was installed by a call that we don't see. */
+/* The keeper may be in the middle of a request. */
 static int ask_apart(const struct bim_request *request, int passed, struct bim_answer *answer, int *given)
 {
     (void)request, (void)passed, (void)answer, (void)given;
@@ -192,4 +187,4 @@ static int above_own(void)
     return above;
 }
 
-const struct way LOCAL = { prepare, ask, ask_apart, leave, is_own, above_own, false, true, before_wait, get_page };
+const struct way LOCAL = { prepare, ask, ask_apart, leave, is_own, above_own, false, before_wait, get_page };

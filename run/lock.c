@@ -1,6 +1,7 @@
 #define _GNU_SOURCE
 #include "lock.h"
 
+#include <limits.h>
 #include <linux/futex.h>
 #include <stddef.h>
 #include <sys/syscall.h>
@@ -8,7 +9,7 @@
 
 enum { SPINS = 100, BITS = 32 };
 
-/* Those who wait are woken by a bit of their turn. */
+/* Those who wait are woken by a bit of their turn, all that share it: whose turn it is may be any of them. */
 static uint32_t bit_of(uint32_t turn)
 {
     return (uint32_t)1 << turn % BITS;
@@ -29,5 +30,5 @@ void lock_give(struct lock *lock)
 
     atomic_store_explicit(&lock->serving, turn, memory_order_seq_cst);
     if (atomic_load_explicit(&lock->next, memory_order_seq_cst) != turn)
-        syscall(SYS_futex, &lock->serving, FUTEX_WAKE_BITSET_PRIVATE, BITS, NULL, NULL, bit_of(turn));
+        syscall(SYS_futex, &lock->serving, FUTEX_WAKE_BITSET_PRIVATE, INT_MAX, NULL, NULL, bit_of(turn));
 }

@@ -28,6 +28,7 @@ struct bim_page *page_new(int *memory)
     if (page != MAP_FAILED)
         munmap(page, sizeof *page);
     call_close(*memory);
+    *memory = -1;
     return NULL;
 }
 

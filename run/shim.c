@@ -19,30 +19,50 @@
 
 /* How a thread has come to ask. */
 struct entry {
-    bool locks, blocks;
+    bool is_alone, locks, blocks;
+    int cancel; /* whether it could be cancelled */
     sigset_t mask;
 };
 
+enum { UNBEGUN, BEGINNING, BEGUN };
+
 static struct own *own, spare; /* `spare` if there is no page to be wiped */
+static bool is_wiped;          /* in a child, by the kernel */
 static char service[PATH_MAX];
 static const struct way *way;
 static bool is_traced;
 static _Atomic bool has_handlers;
-static _Atomic int is_begun;
+static _Atomic int stage;
 static sigset_t mask; /* of the thread that forks */
-static __thread bool is_inside __attribute__((tls_model("initial-exec")));
+
+#define OF_THREAD static __thread __attribute__((tls_model("initial-exec")))
+OF_THREAD bool is_inside;
+OF_THREAD bool forks; /* has the lock until it has forked, and may ask meanwhile, as other libraries' handlers do */
+OF_THREAD bool begins;
+
+/* Blocks all signals but those of faults, which can't wait. */
+static void block_signals(sigset_t *before)
+{
+    static const int FAULTS[] = { SIGSEGV, SIGBUS, SIGFPE, SIGILL, SIGTRAP, SIGSYS, SIGABRT };
+    sigset_t signals;
+
+    sigfillset(&signals);
+    for (size_t i = 0; i < sizeof FAULTS / sizeof FAULTS[0]; i++)
+        sigdelset(&signals, FAULTS[i]);
+    pthread_sigmask(SIG_BLOCK, &signals, before);
+}
 
 /* A signal handler of the thread that forks isn't to meet its lock. */
 static void before_fork(void)
 {
-    sigset_t all, before;
+    sigset_t before;
 
     if (is_inside)
         return;
-    sigfillset(&all);
-    pthread_sigmask(SIG_BLOCK, &all, &before);
+    block_signals(&before);
     lock_take(&own->lock);
     mask = before;
+    forks = true;
 }
 
 static void after_fork(void)
@@ -51,18 +71,22 @@ static void after_fork(void)
 
     if (is_inside)
         return;
+    forks = false;
     lock_give(&own->lock);
     pthread_sigmask(SIG_SETMASK, &before, NULL);
 }
 
+/* Another library's handler may have asked in the child already, which then has a connection of its own. */
 static void in_child(void)
 {
-    memset(own, 0, sizeof *own);
-    way->leave();
+    if (!is_wiped)
+        memset(own, 0, sizeof *own);
+    if (!own->is_ready)
+        way->leave();
     shuffle_fork();
     if (!is_inside)
         pthread_sigmask(SIG_SETMASK, &mask, NULL);
-    is_inside = false;
+    is_inside = forks = false;
 }
 
 static void make_own(void)
@@ -70,30 +94,57 @@ static void make_own(void)
     void *page = mmap(NULL, sizeof *own, PROT_READ | PROT_WRITE, MAP_PRIVATE | MAP_ANONYMOUS, -1, 0);
 
     own = page == MAP_FAILED ? &spare : page;
-    madvise(own, sizeof *own, MADV_WIPEONFORK);
+    is_wiped = madvise(own, sizeof *own, MADV_WIPEONFORK) == 0;
     pthread_atfork(before_fork, after_fork, in_child);
 }
 
-/* Other libraries may call before this is called as a constructor. */
-__attribute__((constructor)) static void begin(void)
+/* The first and the end of what NEXT has put there. */
+extern const struct next_call __start_bim_next[] __attribute__((visibility("hidden")));
+extern const struct next_call __stop_bim_next[] __attribute__((visibility("hidden")));
+
+static void look_up_calls(void)
+{
+    for (const struct next_call *call = __start_bim_next; call < __stop_bim_next; call++)
+        if (!*call->at)
+            *call->at = dlsym(RTLD_NEXT, call->name);
+}
+
+static void choose_way(void)
 {
     const char *value = getenv(BIM_SERVICE);
 
-    if (is_begun)
+    if (!value || !*value || strlen(value) >= sizeof service)
         return;
-    if (value && *value && strlen(value) < sizeof service) {
-        strcpy(service, value);
-        is_traced = getenv(BIM_TRACE) != NULL;
-        way = strcmp(service, BIM_LOCAL) == 0 ? &LOCAL : &LINK;
-        make_own();
-        shuffle_begin();
+    strcpy(service, value);
+    is_traced = getenv(BIM_TRACE) != NULL;
+    make_own();
+    shuffle_begin();
+    way = strcmp(service, BIM_LOCAL) == 0 ? &LOCAL : &LINK;
+}
+
+/* Other libraries may call before this is called as a constructor, several threads at once, and what this calls may
+ * call too: to that, there is no service yet. */
+__attribute__((constructor)) static void begin(void)
+{
+    int none = UNBEGUN;
+
+    if (begins)
+        return;
+    if (!atomic_compare_exchange_strong(&stage, &none, BEGINNING)) {
+        while (stage == BEGINNING)
+            sched_yield();
+        return;
     }
-    is_begun = 1;
+    begins = true;
+    look_up_calls();
+    choose_way();
+    stage = BEGUN;
+    begins = false;
 }
 
 bool shim_is_on(void)
 {
-    if (!is_begun)
+    if (stage != BEGUN)
         begin();
     return way != NULL;
 }
@@ -140,17 +191,17 @@ void shim_note_handler(void)
     has_handlers = true;
 }
 
-/* Takes the lock, and blocks all signals if a handler of the program could ask meanwhile. */
+/* Takes the lock. As in a call of the kernel's, no other thread cancels this one meanwhile, and no handler of the program
+ * is called, which could ask too, fork, or never return. */
 static void enter(struct entry *entry)
 {
-    sigset_t all;
-
-    entry->blocks = has_handlers && way->blocks_signals;
-    entry->locks = !is_alone();
-    if (entry->blocks) {
-        sigfillset(&all);
-        pthread_sigmask(SIG_BLOCK, &all, &entry->mask);
-    }
+    entry->is_alone = is_alone();
+    entry->locks = !entry->is_alone && !forks;
+    entry->blocks = has_handlers;
+    if (!entry->is_alone)
+        pthread_setcancelstate(PTHREAD_CANCEL_DISABLE, &entry->cancel);
+    if (entry->blocks)
+        block_signals(&entry->mask);
     is_inside = true;
     if (entry->locks)
         lock_take(&own->lock);
@@ -163,6 +214,8 @@ static void leave(const struct entry *entry)
     is_inside = false;
     if (entry->blocks)
         pthread_sigmask(SIG_SETMASK, &entry->mask, NULL);
+    if (!entry->is_alone)
+        pthread_setcancelstate(entry->cancel, NULL);
 }
 
 int shim_ask(struct bim_request *request, int passed, struct bim_answer *answer, int *given)
@@ -204,6 +257,11 @@ int shim_ask_for_file(struct bim_request *request)
 bool shim_is_traced(void)
 {
     return shim_is_on() && is_traced;
+}
+
+bool shim_is_local(void)
+{
+    return shim_is_on() && way == &LOCAL;
 }
 
 bool shim_has_buffers(void)
@@ -260,6 +318,20 @@ void shim_lost(const char *why)
 
     call_write(STDERR_FILENO, text, length);
     _exit(BIM_LOST);
+}
+
+void shim_lose_service(void)
+{
+    shim_lost("the service ended, and what it had not signalled will never signal");
+}
+
+void shim_look_for_loss(const struct pollfd *files, nfds_t count)
+{
+    uint64_t inode;
+
+    for (nfds_t i = 0; i < count; i++)
+        if (files[i].revents & POLLHUP && shim_mark(files[i].fd, &inode))
+            shim_lose_service();
 }
 
 enum bim_mark shim_mark(int file, uint64_t *inode)

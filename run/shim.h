@@ -8,14 +8,23 @@
 #include "wire.h"
 
 #include <dlfcn.h>
+#include <poll.h>
 #include <stdbool.h>
 #include <stddef.h>
 
-/* The call that ours stands before, as the next library has it. */
-#define NEXT(name)                 \
-    static __typeof__(&name) next; \
-    if (!next)                     \
+/* The call that ours stands before, as the next library has it. All are looked up as the library is loaded, since a
+ * signal handler can't look one up; what calls before that looks up its own. */
+#define NEXT(name)                                                                        \
+    static __typeof__(&name) next;                                                        \
+    static const struct next_call looked_up                                               \
+        __attribute__((used, section("bim_next"))) = { #name, __extension__(void *)&next }; \
+    if (!next)                                                                            \
     next = __extension__(__typeof__(&name)) dlsym(RTLD_NEXT, #name)
+
+struct next_call {
+    const char *name;
+    void **at;
+};
 
 #define EXPORT __attribute__((visibility("default")))
 
@@ -27,10 +36,13 @@ int shim_ask(struct bim_request *request, int passed, struct bim_answer *answer,
 /* The same, if only a descriptor is wanted; returns it, or -1 with errno. */
 int shim_ask_for_file(struct bim_request *request);
 bool shim_is_traced(void);
+bool shim_is_local(void);
 /* Whether there may be a buffer. */
 bool shim_has_buffers(void);
 /* Whether the service is to hear of a closing. That of a file changes nothing that a program sees, but the trace. */
 bool shim_hears_closing(bool of_timeline);
+/* Closes what a call has made that is no cancellation point. */
+void shim_close(int file);
 /* The program has a signal handler. */
 void shim_note_handler(void);
 /* To be called before a call that may wait: what was closed unseen is let go. */
@@ -45,6 +57,10 @@ int shim_above_own(void);
 
 /* Says why the process ends, which would otherwise believe what isn't so. */
 _Noreturn void shim_lost(const char *why);
+/* Nobody but the service has the other end of a descriptor of ours: once that is closed, the service is gone. */
+_Noreturn void shim_lose_service(void);
+/* To be called after a poll, before the program takes that for a signal. */
+void shim_look_for_loss(const struct pollfd *files, nfds_t count);
 
 /* What is this process's alone: a child begins with zeros, as the kernel wipes it. */
 struct own {
@@ -52,18 +68,17 @@ struct own {
     _Atomic bool is_ready; /* it has a connection, or a keeper of its own */
 };
 
-/* How a service is asked: that of a server (link.c), or of this process itself (local.c). All are called with the lock.
- */
+/* How a service is asked: that of a server (link.c), or of this process itself (local.c). All but those that say so are
+ * called with the lock. */
 struct way {
     int (*prepare)(struct own *own); /* returns 0 or an errno */
     int (*ask)(const struct bim_request *request, int passed, struct bim_answer *answer, int *given);
-    int (*ask_apart)(const struct bim_request *request, int passed, struct bim_answer *answer,
-                     int *given); /* in a handler */
+    /* In a signal handler that the library doesn't know of, whose thread may be in a request; without the lock. */
+    int (*ask_apart)(const struct bim_request *request, int passed, struct bim_answer *answer, int *given);
     void (*leave)(void);          /* in a new process, whose parent's it was */
-    bool (*is_own)(int file);
+    bool (*is_own)(int file); /* these two without the lock */
     int (*above_own)(void);
     bool sees_closings;
-    bool blocks_signals;       /* a handler can't ask while another request is answered */
     void (*before_wait)(void); /* or NULL */
     const struct bim_page *(*page)(void);
 };

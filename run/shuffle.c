@@ -45,17 +45,23 @@ void shuffle_begin(void)
     is_on = true;
 }
 
-void shuffle_pause(void)
+static void stay_away(void)
 {
     struct timespec pause = { .tv_nsec = NANOSECONDS };
     int before = errno;
-    uint64_t moment = is_on ? drawn() : 1;
+    uint64_t moment = drawn();
 
     if (moment % MOMENTS != 0)
         return;
     pause.tv_nsec <<= moment / MOMENTS % SCALES;
     syscall(SYS_nanosleep, &pause, NULL);
     errno = before;
+}
+
+void shuffle_pause(void)
+{
+    if (is_on)
+        stay_away();
 }
 
 void shuffle_fork(void)

@@ -1,0 +1,219 @@
+/* usage: handlers [forking|unseen]
+ *
+ * Threads that make, merge, increment and close, each interrupted at any point by a signal handler that does so too, or that jumps
+ * away; with "forking", also by one that forks. With "unseen" the handlers are installed past what is preloaded. */
+#include "kernel.h"
+#include <dlfcn.h>
+#include <pthread.h>
+#include <setjmp.h>
+#include <signal.h>
+
+enum { THREADS = 4, SIGNALS = 150, FORKS = 12, JUMPS = 150 };
+
+struct worker {
+    pthread_t thread;
+    int line, line_of_handler;
+    __u32 value_of_handler;
+    volatile int rounds, wrong, handled, wrong_in_handler;
+};
+
+static struct worker workers[THREADS];
+static volatile int is_over;
+static __thread struct worker *self;
+static int (*install)(int number, const struct sigaction *action, struct sigaction *before) = sigaction;
+
+/* A pending fence, which its timeline's increment signals. Returns how much went wrong. */
+static int play(int line, __u32 point)
+{
+    int f = fence(line, point), both = merge("both", f, f), wrong = 0;
+
+    wrong += f < 0 || both < 0 || status(f) != 0 || is_signalled(both);
+    wrong += inc(line, 1) != 0 || !is_signalled(f) || status(both) != 1;
+    return wrong + (close(f) != 0) + (close(both) != 0);
+}
+
+static void handle(int signal)
+{
+    int before = errno;
+
+    (void)signal;
+    self->wrong_in_handler += play(self->line_of_handler, ++self->value_of_handler);
+    self->handled++;
+    errno = before;
+}
+
+static void handle_signal(int number, void (*handler)(int), int flags)
+{
+    struct sigaction action = { .sa_handler = handler, .sa_flags = flags };
+
+    EXPECT(install(number, &action, NULL), 0);
+}
+
+static void *work(void *given)
+{
+    self = given;
+    for (__u32 point = 1; !is_over; point++) {
+        self->wrong += play(self->line, point);
+        self->rounds++;
+    }
+    return NULL;
+}
+
+static void begin(struct worker *worker)
+{
+    worker->line = timeline();
+    worker->line_of_handler = timeline();
+    EXPECT(pthread_create(&worker->thread, NULL, work, worker), 0);
+    while (worker->rounds == 0)
+        pause_for(1);
+}
+
+static void end(struct worker *worker)
+{
+    pthread_join(worker->thread, NULL);
+    EXPECT(worker->wrong, 0);
+    EXPECT(worker->wrong_in_handler, 0);
+    HOLDS(worker->handled > 0);
+    close(worker->line);
+    close(worker->line_of_handler);
+}
+
+static void calling(void)
+{
+    int before = lowest();
+
+    handle_signal(SIGUSR1, handle, SA_RESTART);
+    for (int i = 0; i < THREADS; i++)
+        begin(&workers[i]);
+    for (int i = 0; i < SIGNALS * THREADS; i++) {
+        pthread_kill(workers[i % THREADS].thread, SIGUSR1);
+        usleep(300);
+    }
+    is_over = 1;
+    for (int i = 0; i < THREADS; i++)
+        end(&workers[i]);
+    EXPECT(lowest(), before);
+}
+
+/* Sends a signal to a thread, some times, once it has taken the one before. */
+struct signaller {
+    pthread_t thread, to;
+    int number, times;
+    volatile int taken, is_ready;
+};
+
+static struct signaller signaller;
+
+static void *send_signals(void *unused)
+{
+    for (int i = 0; i < signaller.times; i++) {
+        while (signaller.taken < i || !signaller.is_ready)
+            usleep(50);
+        usleep(200 + 77 * (useconds_t)(i % 16));
+        pthread_kill(signaller.to, signaller.number);
+    }
+    return unused;
+}
+
+static void begin_signals(int number, int times)
+{
+    signaller = (struct signaller){ .to = pthread_self(), .number = number, .times = times };
+    EXPECT(pthread_create(&signaller.thread, NULL, send_signals, NULL), 0);
+}
+
+static pid_t children[FORKS];
+static volatile int is_child;
+
+/* The child goes on where its parent was interrupted. */
+static void fork_once(int signal)
+{
+    pid_t child = fork();
+
+    (void)signal;
+    is_child |= child == 0;
+    if (child > 0)
+        children[signaller.taken++] = child;
+}
+
+/* Another thread calls meanwhile. */
+static void forking(void)
+{
+    struct worker *other = &workers[0];
+    int line = timeline(), wrong = 0;
+
+    is_over = 0;
+    handle_signal(SIGUSR2, fork_once, SA_RESTART);
+    begin(other);
+    begin_signals(SIGUSR2, FORKS);
+    signaller.is_ready = 1;
+    for (__u32 point = 1; signaller.taken < FORKS && !is_child; point++)
+        wrong += play(line, point);
+    if (is_child)
+        _exit(play(timeline(), 1) || play(timeline(), 1) ? 3 : 0);
+    pthread_join(signaller.thread, NULL);
+    for (int i = 0; i < FORKS; i++)
+        EXPECT(end_of(children[i]), 0);
+    is_over = 1;
+    pthread_join(other->thread, NULL);
+    EXPECT(other->wrong, 0);
+    close(line);
+}
+
+static sigjmp_buf away;
+
+static void jump(int signal)
+{
+    (void)signal;
+    signaller.taken++;
+    siglongjmp(away, 1);
+}
+
+/* A call that was never returned from leaves nothing behind: this thread and another call as ever. */
+static void jumping(void)
+{
+    struct worker *other = &workers[0];
+    int line = timeline();
+
+    is_over = 0;
+    handle_signal(SIGHUP, jump, 0);
+    begin(other);
+    begin_signals(SIGHUP, JUMPS);
+    sigsetjmp(away, 1);
+    signaller.is_ready = 1;
+    while (signaller.taken < JUMPS) {
+        int f = fence(line, 1);
+        inc(line, 0);
+        close(f);
+    }
+    pthread_join(signaller.thread, NULL);
+    EXPECT(play(timeline(), 1), 0);
+    is_over = 1;
+    pthread_join(other->thread, NULL);
+    EXPECT(other->wrong, 0);
+    close(line);
+}
+
+/* What is preloaded comes before the C library, but isn't found in it. */
+static void look_past_preloaded(void)
+{
+    void *library = dlopen("libc.so.6", RTLD_LAZY | RTLD_NOLOAD), *found = library ? dlsym(library, "sigaction") : NULL;
+
+    HOLDS(found);
+    if (found)
+        memcpy(&install, &found, sizeof install);
+}
+
+int main(int argc, char **argv)
+{
+    int is_unseen = argc > 1 && !strcmp(argv[1], "unseen");
+
+    give_up_after(60);
+    if (is_unseen)
+        look_past_preloaded();
+    calling();
+    if (!is_unseen)
+        jumping();
+    if (argc > 1 && !strcmp(argv[1], "forking"))
+        forking();
+    return report("handlers");
+}
