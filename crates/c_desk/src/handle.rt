@@ -80,7 +80,7 @@ impl DeskHandle {
         }
     }
 
-    // The same fields, as a handle of Rattle's.
+    // Converts the C struct to `Owned<Desk>`.
     #[inline(always)]
     fn handle(&mut self) -> &mut Handle<Service>
         ensures* writes_back { sem 𝓛 (LendsHandle self.entry result) }

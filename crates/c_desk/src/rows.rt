@@ -6,7 +6,7 @@ ghost use Rattle.c_desk.specs.Reported.{filled, driver_text, fence_info, buffer_
 use command_core::{BufferRows, FenceRow, FileRow, Maker, ShowRow};
 use point_core::{Name, TimelineRow};
 
-/// The bytes of a name in a row, zeros after it, of which there is one at least.
+/// A name, NUL-terminated and NUL-padded.
 pub const NAME_ROOM: usize = 32;
 
 /// The bytes of a driver's name, likewise.

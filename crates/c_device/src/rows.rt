@@ -5,7 +5,7 @@ ghost use Rattle.c_device.specs.Reported.{driver_text, fence_row};
 
 use device_core::{Driver, FenceInfo, TEXT_BYTES};
 
-/// The bytes of a driver's name, with zeros after it, of which there is one at least.
+/// A driver name, NUL-terminated and NUL-padded.
 pub const DRIVER_TEXT_BYTES: usize = 8;
 
 /// What is reported of a fence: `struct bim_device_fence_info`.

@@ -103,7 +103,7 @@ fn print_known(number: u32, answer: &Answer, text: &mut Vec<u8>) -> Result<(), R
     }
 }
 
-/// The line that begins at that byte of a text, each of whose lines has its line feed.
+/// The line that begins at `start`. Each line of the text ends in a line feed.
 fn next_line(text: &[u8], start: usize) -> Option<&[u8]> {
     let (line, _) = first_line(text.get(start..)?)?;
     Some(line)

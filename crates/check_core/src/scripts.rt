@@ -53,7 +53,7 @@ pub fn check_scripts<R: Files + Eprint + AllocGlobal, S: Read + Copy + Drop, O: 
     )
 }
 
-/// The same, before any script was checked.
+/// Body of `check_scripts`; `outcomes` must be empty.
 fn check_all<R: Files + Eprint + AllocGlobal, S: Read + Copy + Drop, O: Write, W: Write>(
     rt: &R,
     plan: &Plan,

@@ -1,4 +1,4 @@
-// Buffers that clients share, of words alone.
+// `Board`: the lock-free `SharedTable`, one max-register per (buffer, context, usage).
 ghost use Rattle.std.specs.Prelude.{◌≡◌, ◌<◌, ◌≤◌, ◌⊎◌, ◌↔◌, true, All, Ok, Err, IfErr, IfOk, IsOk, List, OnErr, OnOk};
 ghost use Rattle.point_core.specs.declared.context.TheConstants.{CONTEXTS};
 ghost use Rattle.point_core.specs.declared.entry.Entry.{Entry};

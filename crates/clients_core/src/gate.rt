@@ -6,7 +6,7 @@ pub trait Gate: Sync {
     /// Before an act. If it is false, the client ends there with `TimedOut`.
     fn enter(&self, client: usize, act: usize) -> bool;
 
-    /// After an act, also one that was refused.
+    /// Called after every act, refused ones included.
     fn leave(&self, client: usize, act: usize);
 }
 

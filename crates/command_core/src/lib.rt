@@ -1,4 +1,5 @@
-//! The commands, which lines of a script say and a desk takes, and their answers. What a command does is the desk's to say.
+//! `Command` and `Answer`: the vocabulary shared by the parser, the desk and the printers. `desk_core` defines the
+//! semantics.
 #![tactic(auto)]
 
 mod answer;

@@ -26,7 +26,7 @@ pub(crate) enum ArgumentForm {
     Paths,
     /// Its name alone.
     Flag,
-    /// Its name and a value, which the help calls so.
+    /// An option with a value; the string is its metavariable.
     Option(&'static str),
     /// A number from 1 to this one, without which the command line is wrong.
     Number(u16),

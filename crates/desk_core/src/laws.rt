@@ -1,5 +1,4 @@
-// What holds of every history, and of every desk that stands for one: each law is the contract of a function with an
-// empty body.
+// Theorems about histories, and about every desk that refines one.
 ghost use Rattle.std.specs.Prelude.{◌≡◌, ℕ, ◌≤◌, nat_eq, count_by, List, [], ◌∷◌, ◌++◌, Contains};
 ghost use Rattle.command_core.specs.declared.command.Command.{Command};
 ghost use Rattle.command_core.specs.declared.answer.Answer.{Answer};

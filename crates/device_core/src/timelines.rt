@@ -21,7 +21,7 @@ use std::alloc::Global;
 use std::collections::HashMap;
 use std::marker::Model;
 
-/// An open timeline, and its floor: no file waits for it at a lower point. That of a new one is 0 until it first rises.
+/// An open timeline, and its floor: no file waits for a lower point. The floor of a new timeline is 0.
 #[derive(Clone, Copy)]
 pub(crate) struct OpenTimeline {
     pub(crate) timeline: Timeline,

@@ -1,4 +1,4 @@
-// From which column on files are signalled.
+// The column at which each file becomes signalled.
 ghost use Rattle.std.specs.Prelude.{◌≡◌};
 ghost use Rattle.point_core.specs.Clocks.{common_status};
 ghost use Rattle.timeline_core.specs.Timeline.{clocks_of};

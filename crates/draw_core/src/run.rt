@@ -372,7 +372,7 @@ fn word_of_line(body: &Body) -> &'static str {
     }
 }
 
-/// A line as it stands there. Of one that is too long only so many bytes that it still is.
+/// The raw line; an over-long one is cut to `LINE_BYTES + 1` bytes, so that it still reads as too long.
 fn raw_line(number: u32, text: &[u8]) -> RawLine<'_>
     ensures { result.number ≡ number }
 {

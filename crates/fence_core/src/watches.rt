@@ -242,7 +242,7 @@ impl Watches {
         listed(self.alloc, &fired)
     }
 
-    /// The same at the last reach with the point reached too.
+    /// The cookies that fire once `point` is reached as well.
     fn fired_by_point(&self, point: &Point) -> Result<Vec<u64>, Refusal>
         ensures fired { IfOk result (λ cookies. cookies.items ≡ fired_by self.now (reaching self.now.reach point.now)) }
         ensures memory { IfErr result (λ e. e ≡ Memory) }
@@ -263,7 +263,7 @@ impl Watches {
         }
     }
 
-    /// The same, from a copy of the reach.
+    /// Slow path of `fired_by_point`: several watches may fire; works on a copy of the reach.
     #[inline(never)]
     fn fired_anywhere(&self, point: &Point) -> Result<Vec<u64>, Refusal>
         ensures fired { IfOk result (λ cookies. cookies.items ≡ fired_by self.now (reaching self.now.reach point.now)) }

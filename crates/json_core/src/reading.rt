@@ -37,7 +37,7 @@ pub fn run_json<R: Read, W: Write>(
     // Whatever the result, no byte is read past that one.
     ensures within { ConsumesAtMost (SCRIPT_BYTES + 1) (R.remaining reader.old) (R.remaining reader.new) }
 
-    // Those of the lines whose line feed was read.
+    // The objects of all complete lines.
     ensures read { result ≡ Err ReadFault
         → WritesEndedObjects (R.remaining reader.old) (R.remaining reader.new)
         (W.contents writer.old) (W.contents writer.new) }

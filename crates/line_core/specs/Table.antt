@@ -51,7 +51,7 @@ abbrev pub form_at : List Form → List ℕ → Option Form
 form_at [] word = None
 form_at (form ∷ forms) word = if bytes_eq word form.word then Some form else form_at forms word
 
--- whether a word may stand for an operand
+-- whether the word is well-formed for this operand
 abbrev pub matches : Operand → List ℕ → Bool
 matches Name word = is_name word
 matches Number word = is_number word

@@ -1,4 +1,4 @@
-// Lines that are commands, on their way to who takes them.
+// Parses a command line: one `take_*` function per command.
 ghost use Rattle.std.specs.Prelude.{◌≡◌, None, Some, if◌then◌else◌, option_map};
 ghost use Rattle.line_core.specs.Following.{one_name, one_number, name_and_number, two_names_and_number};
 ghost use Rattle.line_core.specs.Following.{three_names, two_names_number_and_usage, two_names_and_flags, name_and_usage};

@@ -1,4 +1,4 @@
-// Lines on their way to who takes them.
+// `Takes`: the visitor that receives a parsed line.
 ghost use Rattle.std.specs.Prelude.{◌≡◌};
 ghost use Rattle.line_core.specs.Line.{body_of, body_from};
 ghost use Rattle.line_core.specs.Marks.{MayHaveMarks};
@@ -10,7 +10,7 @@ use crate::raw_line::RawLine;
 use crate::words::Words;
 use point_core::Refusal;
 
-/// Who takes what a line says, and gives something for it.
+/// Receives one parsed line and returns a result for it (a visitor, so that no `Body` is ever stored).
 pub trait Takes {
     ghost use Rattle.line_core.specs.declared.line.Body.{Body};
 
@@ -18,7 +18,7 @@ pub trait Takes {
 
     ghost can_take: { Self → Type 0 };
 
-    /// What it was, the body, what it gave, and what it is then.
+    /// Relates the visitor before, the body, the result, and the visitor after.
     ghost takes: { Self → Body → Self.Given → Self → Type 0 };
 
     fn take(&mut self, body: Body) -> Self::Given

@@ -26,7 +26,7 @@ sample_of meaning.Removed = []
 abbrev pub fills_of_legend : List Fill
 fills_of_legend = fill.Pending ∷ fill.Signalled ∷ fill.Cancelled ∷ []
 
--- how far down the samples of a legend begin that lies below such a place
+-- the y of the legend's first sample
 abbrev pub top_of_samples : ℕ → ℕ
 top_of_samples top = min (top + FIRST) (2 ^ 64 - 1) - HALF_SAMPLE
 

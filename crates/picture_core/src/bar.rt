@@ -5,7 +5,7 @@ ghost use Rattle.picture_core.specs.Lanes.{bar_place};
 
 use point_core::{Name, Status};
 
-/// From which column on a file is signalled.
+/// First column in which the file is signalled.
 #[derive(Clone, Copy)]
 pub struct Settled {
     pub column: usize,
@@ -26,7 +26,7 @@ pub struct Bar {
 }
 
 impl Bar {
-    /// Of a file that was made by the command of that column.
+    /// A bar for a file that the command of column `made` creates.
     pub(crate) fn of(name: &Name, made: usize) -> Bar
         ensures { result ≡ bar_of name.now made }
     {

@@ -29,7 +29,7 @@ const MIDDLE: u64 = SIGN / 2 - 4;
 
 const BESIDE: u64 = 22;
 
-/// The legend, below what lies there.
+/// Places the legend under the drawing.
 pub(crate) fn push_legend(top: u64, canvas: &mut Canvas) -> Result<(), AllocError>
     ensures told { OnOk result (AddsSamples (top_of_samples top) fills_of_legend
         (told_on canvas.old) (told_on canvas.new)) }

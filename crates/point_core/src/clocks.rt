@@ -112,7 +112,7 @@ impl Clocks {
         self.reach
     }
 
-    /// The same, where it lies.
+    /// Borrows the reach instead of copying it.
     pub fn as_reach(&self) -> &Reach
         ensures { result.now ≡ reach_of_clocks self.now }
     {

@@ -22,7 +22,7 @@ impl Listing {
     ghost use Rattle.std.specs.Prelude.{[], replicate};
     ghost use Rattle.point_core.specs.declared.context.TheConstants.{CONTEXTS};
 
-    /// Nothing is pending above 0: a place for looks. Takes no memory.
+    /// An empty listing with floor 0, to be filled and reused by later exports.
     pub fn empty(alloc: Global) -> Listing
         ensures empty { result ≡ record { points = []; floor = replicate CONTEXTS 0 } }
     {

@@ -8,7 +8,7 @@ use point_core::{Name, Refusal};
 use std::alloc::Global;
 use std::collections::HashMap;
 
-/// The book may have so many cookies more than twice those of pending watches.
+/// The cookies that the map may hold beyond twice those of pending watches, before stale ones are purged.
 const SPARE_COOKIES: usize = 64;
 
 /// The lines that made the names and cookies that stand for something, and those that closed timelines.

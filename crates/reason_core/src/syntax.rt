@@ -10,7 +10,7 @@ use std::alloc::Global;
 use std::io::Write;
 use strsim::osa_distance;
 
-/// A word is taken for a command that differs from it in one letter of so many.
+/// A command that differs from a word in one letter is suggested for words of at least this length.
 const LETTERS: usize = 3;
 
 /// Writes to `notes` why a line is no command, by the refusal that it was answered with.

@@ -16,10 +16,10 @@ pub const TEXT_LINE_BYTES: usize = 2 * (KIND_WIDTH + 1)
 
 const _: () = prove!(TEXT_LINE_BYTES == 92);
 
-/// A line of at most so many bytes is appended by a copy of that many.
+/// Lines up to this length are appended with one fixed-size copy.
 const SHORT_BYTES: usize = 32;
 
-/// The same of a longer line.
+/// Longer lines, up to this length, are appended with one copy of this many bytes.
 const MIDDLE_BYTES: usize = 2 * SHORT_BYTES;
 
 /// The bytes of the array: after the line there is room for the rest of a copy.

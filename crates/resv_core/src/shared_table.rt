@@ -32,7 +32,7 @@ pub trait SharedTable: Sync + Sized + Drop {
     // What it says of a put into a buffer, by the seat before it and after it, and the answer.
     ghost puts: { Self → ℕ → Entry → SeatModel → SeatModel → Result (Unit {0}) Refusal → Type 0 };
 
-    // The same of an export at a usage.
+    // What an implementation promises of `export` at a usage.
     ghost exports: { Self → ℕ → Usage → SeatModel → SeatModel → Result Listing Refusal → Type 0 };
 
     // What it says of its settlement of plans, by the gathered seat before it, and the answer.

@@ -77,7 +77,7 @@ impl Answers {
             HasAnswered done self.old start (W.contents writer.old)
             → HasAnswered (done ++ answered number body []) self.new start (W.contents writer.new)) }
 
-        // It is the refusal that the line was answered with, or none if that is no refusal.
+        // `Some(refusal)` if the answer was a refusal.
         ensures refused { IfOk result (λ refused. MatchOption body (refused ≡ None) (λ said.
             AnswersLine (record { number = number; body = said }) refused self.old self.new
             (W.contents writer.old) (W.contents writer.new))) }
@@ -159,8 +159,7 @@ impl Answers {
     }
 }
 
-/// The answer of a line, which may be a refusal: that of its command, or the refusal that the line is. It changes the desk as
-/// `Desk::step` does.
+/// Runs one line on the desk. A line that does not parse is answered with its own refusal.
 #[inline(always)]
 pub fn answer_line(desk: &mut Desk, body: Body) -> Answer
     ensures answer { (history : List Command) → HasHistory desk.old history

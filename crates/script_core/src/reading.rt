@@ -109,7 +109,8 @@ fn with_answers<R: Read, W: Write, N, A: Answerer<N>>(
     }
 }
 
-/// Reads the lines of a script and has each answered when its end was read. Nothing is read while an answer is not written.
+/// Reads lines and answers each as soon as its line feed (or the end of the script) has been read; never reads while
+/// output is pending.
 fn answer_lines<R: Read, W: Write, N, A: Answerer<N>>(
     answerer: &mut A,
     answers: &mut Answers,

@@ -207,7 +207,7 @@ impl ByMaking {
 }
 
 impl Made {
-    // In a place that no file had yet.
+    // A new slot, not a reused one.
     fn blank(alloc: Global, name: Name) -> Made {
         Made {
             file: SyncFile::blank(alloc, name),

@@ -125,7 +125,7 @@ struct Found<'a> {
 }
 
 impl<'a> Found<'a> {
-    /// Of no context yet.
+    /// The state before the first context is scanned.
     fn none(file: &'a SyncFile) -> Found<'a>
         ensures none { (clocks : List Clock) → HasFoundTo clocks file.now 0 result }
     {
@@ -136,7 +136,7 @@ impl<'a> Found<'a> {
         }
     }
 
-    /// Of one context more, the next.
+    /// Scans the next context.
     fn take_in(&mut self, file: &SyncFile, ctx: Context, clock: Clock)
         ensures more { (clocks : List Clock) (n : ℕ) → ctx ≡ n + 1 → clock_at clocks ctx ≡ clock →
             HasFoundTo clocks file.now n self.old → HasFoundTo clocks file.now (n + 1) self.new }
@@ -210,7 +210,7 @@ fn first_at(points: &[Point], ctx: Context) -> Option<(u64, &[Point])>
     }
 }
 
-/// Refuses a file as `Foreign` unless words of so many contexts bear it out, whose values were loaded.
+/// Returns `Foreign` unless the file is consistent with words of `made` contexts whose values are `reach`.
 fn bear_out(file: &SyncFile, made: usize, reach: &Reach) -> Result<(), Refusal>
     ensures borne_out { OnOk result (IsBorneOutAt reach.now made file.now) }
     ensures foreign { IfErr result (λ e. (e ≡ refusal.Foreign) × (¬ IsBorneOutAt reach.now made file.now)) }

@@ -34,7 +34,7 @@ fn numeral(word: &[u8]) -> Option<u64>
     Some(value)
 }
 
-/// The same of at most 32 bits.
+/// Reads a number of at most 32 bits.
 #[tactic(auto, unfolding(crate::specs::Number::numeral))]
 fn small_numeral(word: &[u8]) -> Option<u32>
     ensures value { result ≡ numeral (2 ^ 32) word.now }
@@ -79,7 +79,7 @@ fn number_before(bytes: &[u8], place: usize, value: u64) -> Option<(u32, &[u8])>
     }
 }
 
-/// The same of at most 64 bits.
+/// Reads a number of at most 64 bits.
 #[tactic(auto, unfolding(crate::specs::Number::number_at))]
 pub(crate) fn wide_number_at(bytes: &[u8]) -> Option<(u64, &[u8])>
     ensures value { option_map (λ n. (n.0, n.1.now)) result ≡ number_at (2 ^ 64) bytes.now }

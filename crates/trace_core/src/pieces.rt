@@ -143,7 +143,7 @@ impl Pieces {
     }
 }
 
-/// Whether the line that so many bytes are of is too long.
+/// Whether a line exceeds the limit: it did before, or does by its `unread` bytes.
 fn is_long(long: bool, unread: usize) -> bool
     ensures { result ≡ (long || nat_lt PIECE_BYTES unread) }
 {

@@ -25,7 +25,7 @@ pub(crate) enum Track {
 }
 
 impl Track {
-    /// The number of the process that stands for the driver or the task.
+    /// Pseudo-pid under which Perfetto groups this driver or task.
     pub(crate) fn process(&self) -> u64 {
         match self {
             Track::Timeline(key) => process_of_driver(key.driver),

@@ -113,7 +113,7 @@ fn is_reported(ledger: &Ledger, key: &FenceKey) -> bool
     ledger.hangs(key) && !ledger.is_unnumbered(key)
 }
 
-/// The fences that are pending, and of which signals may have been lost.
+/// Pending fences whose signal may have been dropped by the ring buffer.
 fn unknown_of(alloc: Global, ledger: &Ledger) -> Result<Vec<Pending>, Refusal> {
     let mut unknown = Vec::new(alloc);
     for (key, life) in ledger.lives().by_key().iter() {
@@ -136,7 +136,7 @@ fn count_unnumbered(ledger: &Ledger) -> u64 {
     count
 }
 
-/// The same, with those of a timeline together, by the order of making.
+/// Groups the pending fences by timeline, in creation order.
 fn ordered(alloc: Global, pending: Vec<Pending>) -> Result<Vec<Pending>, Refusal>
     ensures same { IfOk result (λ v. IsPermutation (map key_of pending.items) (map key_of v.items)) }
 {

@@ -9,7 +9,7 @@ use track_core::{FenceKey, Ledger, Life, TaskName, Tracker};
 /// The bytes of the shortest line of a script that acts.
 const SHORTEST_LINE: usize = 8;
 
-/// The most acts that are kept: more don't go into a script.
+/// A script holds at most this many acts.
 const ACTS: usize = SCRIPT_BYTES / SHORTEST_LINE;
 
 /// A fence of the script.

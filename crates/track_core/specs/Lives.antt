@@ -21,8 +21,8 @@ abbrev pub without_number : Sighting → Life → FenceKey → Life → Life
 without_number e own key life =
     if gives_number e own && same_key (unnumbered e.key) key then settled (without_one life) else life
 
--- What is known of a key after an event, which so many others came before, by what was known of the event's own key and of it.
--- What was known of fences that are all gone is forgotten.
+-- the state of a key after event number `born`, from the states of the event's own key and of this one; what was known of
+-- fences that are all gone is forgotten
 unfoldable pub life_step : Sighting → ℕ → Life → FenceKey → Life → Life
 life_step e born own key life =
     if same_key e.key key then settled (life_after e.event born e.time own) else without_number e own key life

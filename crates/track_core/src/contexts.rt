@@ -34,7 +34,7 @@ impl Context {
         tally: Tally::NONE,
     };
 
-    /// What an event of one of its fences is, of whose key that was known, for sure or not.
+    /// Classifies an event, given what is known of its key (certain or only likely).
     #[inline(always)]
     fn found(&self, sighting: &Sighting, life: Life, sure: bool) -> Finding
         ensures { result ≡ found_of sighting.now life sure self.now }

@@ -74,8 +74,8 @@ impl Ledger {
         Ok(Sight { life, found })
     }
 
-    /// Forgets the context of an event's key, of which that was known before it, where more are kept than need be, no fence of
-    /// the key is alive, and it is the only one of its context. Says whether it forgot it.
+    /// Drops a context from the cache when the cache is over its limit, the context has seen only this key, and no
+    /// fence of the key is alive.
     pub fn forget(&mut self, sighting: &Sighting, life: Life) -> bool
         ensures forgot { result ≡ true → (steps : List Step) →
             IsLedgerOf self.old steps → IsLedgerOf self.new (Forgot sighting.now.key ∷ steps) }

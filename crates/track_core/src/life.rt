@@ -43,7 +43,7 @@ impl Life {
         self.pending == 0 && self.signalled == 0
     }
 
-    /// After an event of the key, which so many others came before.
+    /// State after the event, which is the trace's event number `born`.
     #[tactic(auto, unfolding(crate::specs::Life::life_after))]
     pub fn after(self, event: Event, born: u64, time: u64) -> Life
         ensures { result ≡ life_after event born time self }

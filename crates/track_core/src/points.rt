@@ -33,7 +33,7 @@ impl Points {
         }
     }
 
-    /// With that one.
+    /// The set after seeing `seqno`.
     #[inline(always)]
     #[tactic(auto, unfolding(crate::specs::Points::points_after))]
     pub fn after(self, seqno: u32) -> Points

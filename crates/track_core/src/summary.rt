@@ -18,7 +18,7 @@ pub struct Counts {
 #[derive(Clone, Copy, Debug)]
 pub struct Clock {
     pub first: u64,
-    /// The latest, which is not the last where times go back.
+    /// The greatest timestamp (not the last one: timestamps may go backwards).
     pub latest: u64,
     pub last: u64,
     /// How often a time was earlier than the one before.

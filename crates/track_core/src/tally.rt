@@ -89,7 +89,7 @@ impl Tally {
         signalled_twice: 0,
     };
 
-    /// With an event of which that was found.
+    /// Adds one event, classified as `found`.
     #[tactic(auto, unfolding(crate::specs::Tally::tally_after))]
     pub fn count(&mut self, found: &Finding)
         ensures { self.new ≡ tally_after found.now self.old }

@@ -175,7 +175,7 @@ impl Waits {
         key
     }
 
-    /// Keeps the wait among the longest, where it is one of them.
+    /// Inserts the wait into the top-N if it qualifies.
     fn keep_longest(&mut self, wait: Wait) -> Result<(), Refusal> {
         let mut place = self.longest.len();
         for (index, other) in self.longest.as_slice().iter().enumerate() {

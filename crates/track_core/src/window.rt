@@ -107,7 +107,7 @@ impl Stage {
     }
 }
 
-/// Where a reading is after an event of that time, once the window began.
+/// Window state after an event at `time`.
 fn within(span: Span, time: u64) -> Stage
     ensures { result ≡ within span time }
 {

@@ -11,7 +11,7 @@ use crate::seat::Seat;
 use crate::words::{Words, WordsId};
 use std::marker::Model;
 
-/// That its holder set the flag, which nobody else did.
+/// Proof token: the holder is the one that set this flag.
 #[derive(Drop)]
 pub struct Won {
     pub(crate) flag: usize,

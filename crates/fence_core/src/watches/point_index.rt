@@ -155,7 +155,7 @@ impl PointIndex {
         Ok(())
     }
 
-    /// The same for the watches that stand in the context.
+    /// `settle` for the watches indexed under one context.
     #[inline(never)]
     pub(super) fn settle_context(
         &mut self,
