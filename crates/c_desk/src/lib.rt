@@ -288,8 +288,6 @@ pub extern "C" fn bim_unwatch(desk: &mut DeskHandle, cookie: u64, was_there: &mu
 }
 
 /// Takes the first cookies that fired, as many as there is room for, and returns how many. A closed handle has none.
-///
-/// Takes no memory.
 #[unsafe(no_mangle)]
 pub extern "C" fn bim_take_fired(desk: &mut DeskHandle, cookies: &mut [u64]) -> usize
     ensures { IsTaking desk.old desk.new cookies.old cookies.new result }

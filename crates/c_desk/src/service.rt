@@ -61,8 +61,6 @@ impl Service {
     }
 
     /// Takes the first cookies that fired, as many as there is room for, and returns how many.
-    ///
-    /// Takes no memory.
     pub fn take(&mut self, cookies: &mut [u64]) -> usize
         ensures count { result ≡ min (length cookies.old) (length self.old.fired) }
         ensures taken { cookies.new ≡ over self.old.fired cookies.old }

@@ -231,8 +231,6 @@ pub extern "C" fn bim_device_test(
 
 /// Takes the first files that were woken and are still open, as many as there is room for, and returns how many. A closed
 /// handle has none.
-///
-/// Takes no memory.
 #[unsafe(no_mangle)]
 pub extern "C" fn bim_device_take_woken(device: &mut DeviceHandle, files: &mut [u64]) -> usize
     ensures { IsTaking device.old device.new files.old files.new result }

@@ -59,8 +59,6 @@ impl Service {
     }
 
     /// Takes the first files that were woken and are still open, as many as there is room for, and returns how many.
-    ///
-    /// Takes no memory.
     pub fn take(&mut self, files: &mut [u64]) -> usize
         ensures count { result ≡ min (length files.old) (length self.old.woken) }
         ensures taken { files.new ≡ over self.old.woken files.old }

@@ -45,12 +45,12 @@ pub record HasWaited (old new : MemberModel) (f : File) (tries : ℕ) : Type 0 w
   pub status : common_status (clocks_seen new.seat) f.points ≢ Active
   pub stands : (set : List Entry) → StandsFor f set → IsReached set 0 (reach_seen new.seat)
 
--- so many polls found the file active
+-- `tries` polls found the file active
 pub record HasTimedOut (old new : MemberModel) (f : File) (tries : ℕ) : Type 0 where
   pub looked : HasLooked old new
   pub polled : HasRunOut f tries old.seat new.seat
 
--- polls, so many at most, found the file active, and the last that the words do not bear it out
+-- at most `tries` polls: all but the last found the file active, and the last found it inconsistent with the words
 pub record TurnsForeign (old new : MemberModel) (f : File) (tries : ℕ) : Type 0 where
   pub looked : HasLooked old new
   pub polled : HasPolled f tries old.seat new.seat

@@ -85,9 +85,7 @@ fn exported(
     boxed(alloc, SharedFile::of(alloc, file)?)
 }
 
-/// The file of a listing, whose points go into it.
-///
-/// Fails with `Memory` alone.
+/// Makes a file of the listing, and takes its points.
 pub fn listed_file(alloc: Global, listing: &mut Listing) -> Result<SyncFile, Refusal>
     requires rising { HasRisingContexts listing.old.points }
     ensures file { IfOk result (λ file. file ≡ listed_file listing.old) }

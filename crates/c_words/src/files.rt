@@ -114,10 +114,10 @@ pub extern "C" fn bim_file_poll(
     }
 }
 
-/// Polls a file until it is no longer active, so many times at most, as `SyncFile::wait_for` by the seat.
+/// Polls a file by the seat until it is no longer active, at most `tries` times, as `SyncFile::wait_for`.
 ///
-/// Fails with `NoEntry` if a handle is closed, with `TimedOut` after so many polls, and with `Foreign` if the words
-/// do not bear the file out.
+/// Fails with `NoEntry` if a handle is closed, with `TimedOut` after `tries` polls, and with `Foreign` if the file is
+/// inconsistent with the words.
 #[unsafe(no_mangle)]
 pub extern "C" fn bim_file_wait(file: &mut FileHandle, seat: &mut SeatHandle, tries: u32) -> i32
     ensures file_closed { IsClosed file.old → (result ≡ refused refusal.NoEntry) × (seat.new ≡ seat.old) }
@@ -180,8 +180,6 @@ fn copied(alloc: Global, file: &SharedFile) -> Result<Box<SharedFile>, Refusal>
 }
 
 /// A file on the heap.
-///
-/// Fails with `Memory` alone.
 pub fn boxed(alloc: Global, file: SharedFile) -> Result<Box<SharedFile>, Refusal>
     ensures file { IfOk result (λ made. made.value ≡ file) }
     ensures memory { IfErr result (λ e. e ≡ refusal.Memory) }

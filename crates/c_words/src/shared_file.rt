@@ -25,8 +25,6 @@ impl Model for SharedFile {
 
 impl SharedFile {
     /// The first of a file.
-    ///
-    /// Fails with `Memory` alone.
     pub fn of(alloc: Global, file: SyncFile) -> Result<SharedFile, Refusal>
         ensures file { IfOk result (λ f. f ≡ file) }
         ensures memory { IfErr result (λ e. e ≡ refusal.Memory) }
@@ -38,8 +36,6 @@ impl SharedFile {
     }
 
     /// Another of the same file.
-    ///
-    /// Fails with `Memory` alone.
     pub fn copied(&self) -> Result<SharedFile, Refusal>
         ensures file { IfOk result (λ f. f ≡ self.now) }
         ensures memory { IfErr result (λ e. e ≡ refusal.Memory) }
@@ -58,7 +54,7 @@ impl SharedFile {
 
 /// The name of a file of C's, which no call shows.
 ///
-/// Fails with `Memory` alone, which it never does: the name is one.
+/// Fails only with `Memory`, which it never does: the name is one.
 pub fn file_name() -> Result<Name, Refusal>
     ensures name { IfOk result (λ name. name ≡ file_name) }
     ensures memory { IfErr result (λ e. e ≡ refusal.Memory) }

@@ -58,8 +58,6 @@ impl Board {
 
     /// The pending points of a buffer at the usage or a stronger one, by rising context, above the values, which are loaded
     /// first and are the listing's floor. Then each place is looked at once.
-    ///
-    /// Fails with `Memory` alone.
     pub fn export(
         &self,
         alloc: Global,
@@ -84,7 +82,7 @@ impl Board {
     /// The same look, into a listing that its caller keeps for many looks: what it had goes. Its list takes memory only if
     /// there is no room in it for a point of each context of the words.
     ///
-    /// Fails with `Memory` alone. Nothing is said of the listing then.
+    /// Fails only with `Memory`. Nothing is said of the listing then.
     pub fn export_into(
         &self,
         alloc: Global,
@@ -211,7 +209,7 @@ impl SharedTable for Board {
 /// The latest point that a buffer shows of each context up to the level, if it is above the reach, by one look at each
 /// place. What the list had goes.
 ///
-/// Fails with `Memory` alone, before the first look.
+/// Fails only with `Memory`, before the first look.
 fn latest_shown(
     words: &Words,
     seat: &mut Seat,

@@ -37,7 +37,7 @@ impl Model for LockedBuffer {
 impl LockedBuffer {
     /// Nothing was put, and the floor is 0.
     ///
-    /// Fails with `Memory` alone.
+    /// Fails only with `Memory`.
     pub fn new(alloc: Global) -> Result<Self, Refusal>
         ensures empty { result ≡ Ok (record { journal = []; floor = replicate CONTEXTS 0 }) }
     {

@@ -134,8 +134,6 @@ struct Locked {
 
 impl Locked {
     /// Nothing was put.
-    ///
-    /// Fails with `Memory` alone.
     fn new(alloc: Global) -> Result<Locked, Refusal>
         ensures memory { IfErr result (λ e. e ≡ refusal.Memory) }
     {

@@ -25,8 +25,6 @@ pub(crate) struct OwnPuts {
 
 impl OwnPuts {
     /// Nothing was put.
-    ///
-    /// Fails with `Memory` alone.
     pub(crate) fn none(alloc: Global, contexts: usize) -> Result<OwnPuts, Refusal>
         requires contexts { contexts ≤ CONTEXTS }
         ensures puts { IfOk result (λ own. AreOwnPuts contexts own []) }
@@ -119,8 +117,6 @@ fn is_as_late(point: &Point, listed: &Point) -> bool
 }
 
 /// For each buffer that nothing was put.
-///
-/// Fails with `Memory` alone.
 pub(crate) fn no_puts(
     alloc: Global,
     buffers: usize,

@@ -33,8 +33,6 @@ pub(crate) fn are_as_planned(words: &Words, all: &mut Whole, plans: &[Plan], rea
 }
 
 /// The rows of each buffer above the reach, of what was raised in it.
-///
-/// Fails with `Memory` alone.
 pub(crate) fn raised_tables(
     alloc: Global,
     words: &Words,

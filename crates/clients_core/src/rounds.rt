@@ -40,7 +40,7 @@ const READ_APART: u64 = 3;
 /// timeline into buffer 0 for writing, advances its timeline by 1, puts point 3 r of the next client's timeline into
 /// buffer 1 for reading, and looks at buffer 0 for reading. The first client comes next to the last.
 ///
-/// Fails with `Memory` alone. `run_clients` refuses none of these plans before its threads start.
+/// Fails only with `Memory`. `run_clients` refuses none of these plans before its threads start.
 pub fn plans_of_rounds(alloc: Global, clients: usize, rounds: u64) -> Result<Vec<Plan>, Refusal>
     requires clients { (1 ≤ clients) × (clients ≤ CLIENTS) }
     requires rounds { rounds ≤ ROUNDS }

@@ -146,8 +146,6 @@ impl Desk {
     }
 
     /// The value of the timeline of that name.
-    ///
-    /// Takes no memory.
     pub fn timeline_value(&self, timeline: &Name) -> Option<u64>
         ensures found { IsSome result ↔ IsTrue (has_timeline self.now.timelines timeline.now) }
         ensures value { IfSome result (λ value. value ≡ value_of self.now.timelines timeline.now) }
@@ -156,8 +154,6 @@ impl Desk {
     }
 
     /// The name of the timeline of that context.
-    ///
-    /// Takes no memory.
     pub fn timeline_name(&self, ctx: Context) -> Option<Name>
         ensures { result ≡ name_at self.now.timelines ctx }
     {
@@ -165,8 +161,6 @@ impl Desk {
     }
 
     /// The status of a point.
-    ///
-    /// Takes no memory.
     pub fn point_status(&self, point: Point) -> Status
         ensures { result ≡ status_at (clocks_of self.now.timelines) point }
     {
@@ -174,8 +168,6 @@ impl Desk {
     }
 
     /// The points that the file of that name lists.
-    ///
-    /// Takes no memory.
     pub fn file_points(&self, file: &Name) -> Option<&[Point]>
         ensures points { option_copied result ≡ option_map (λ (f : File). f.points) (file_at self.now.files file.now) }
     {
@@ -184,8 +176,6 @@ impl Desk {
     }
 
     /// Whether there is a buffer of that name.
-    ///
-    /// Takes no memory.
     pub fn has_buffer(&self, buffer: &Name) -> bool
         ensures { result ≡ has_buffer self.now.buffers buffer.now }
     {
@@ -193,8 +183,6 @@ impl Desk {
     }
 
     /// Whether a watch of that cookie is pending.
-    ///
-    /// Takes no memory.
     pub fn has_watch(&self, cookie: u64) -> bool
         ensures { result ≡ has_watch self.now.watches cookie }
     {

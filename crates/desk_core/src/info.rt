@@ -11,8 +11,6 @@ use timeline_core::Timelines;
 
 /// What is reported of a file that lists those points, as Linux's `SYNC_IOC_FILE_INFO`. Without points it is shown as the
 /// stub.
-///
-/// Fails with `Memory` alone.
 pub fn of_points(
     alloc: Global,
     name: Name,

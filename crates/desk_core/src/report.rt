@@ -14,8 +14,6 @@ use syncfile_core::{Files, SyncFile};
 use timeline_core::Timelines;
 
 /// Everything: the timelines by rising context, the files and the buffers in order of making. Each is looked at once.
-///
-/// Fails with `Memory` alone.
 pub fn of_all(
     alloc: Global,
     timelines: &Timelines,
@@ -37,8 +35,6 @@ pub fn of_all(
 }
 
 /// The rows of a table, each with the name of its timeline.
-///
-/// Fails with `Memory` alone.
 pub fn show_rows(
     alloc: Global,
     tops: &[TopRow],

@@ -60,7 +60,7 @@ impl Buffer {
     /// place of the first fence that it covers, as in `dma_resv_add_fence`; the kernel's also takes that of one that
     /// has signalled, which stays here until the next trim.
     ///
-    /// Fails with `NoMemory` alone, and then leaves all as it was.
+    /// Fails only with `NoMemory`, and then leaves all as it was.
     pub(crate) fn import(
         &mut self,
         timelines: &Timelines,
@@ -87,7 +87,7 @@ impl Buffer {
     /// The fences that wait at the usage or a stronger one, the latest of each timeline, by rising timeline. Linux's
     /// `DMA_BUF_IOCTL_EXPORT_SYNC_FILE` gives each of them, by the table's order.
     ///
-    /// Fails with `NoMemory` alone.
+    /// Fails only with `NoMemory`.
     pub(crate) fn export(
         &self,
         alloc: Global,

@@ -72,7 +72,7 @@ impl Device {
 
     /// Opens a timeline at 0, as opening `sync/sw_sync` does; the name is that of the task.
     ///
-    /// Fails with `NoMemory` alone; nothing is opened then.
+    /// Fails only with `NoMemory`; nothing is opened then.
     pub fn open(&mut self, name: Text) -> Result<u64, Refusal>
         ensures number { IfOk result (λ n. (n ≡ self.old.next) × (self.new.next ≡ n + 1)) }
         ensures opened { IfOk result (λ n. (q : ℕ) →

@@ -52,7 +52,7 @@ pub struct FileInfo {
 
 /// What `SYNC_IOC_FILE_INFO` reports of a file of that number.
 ///
-/// Fails with `NoMemory` alone.
+/// Fails only with `NoMemory`.
 pub(crate) fn info(alloc: Global, number: u64, file: &File) -> Result<FileInfo, Refusal>
     ensures name { IfOk result (λ info. info.name ≡ as_text (file_name number file.now)) }
     ensures status { IfOk result (λ info. info.status ≡ status_of file.now.fences) }

@@ -13,7 +13,7 @@ use std::alloc::Global;
 
 /// Serves the requests one after another over a new device. Gives the device and one answer a request.
 ///
-/// Fails with `NoMemory` alone, when there is none for the list of answers.
+/// Fails only with `NoMemory`, when there is none for the list of answers.
 pub fn run(
     alloc: Global,
     requests: &[Request],

@@ -119,7 +119,7 @@ impl Timelines {
 
     /// Opens a timeline.
     ///
-    /// Fails with `NoMemory` alone, and then leaves all as it was.
+    /// Fails only with `NoMemory`, and then leaves all as it was.
     pub(crate) fn insert(&mut self, number: u64, timeline: Timeline) -> Result<(), Refusal>
         ensures updates { OnOk result ((q : ℕ) →
             at self.new.entries q ≡ (if nat_eq number q then Some timeline else at self.old.entries q)) }
@@ -148,7 +148,7 @@ impl Timelines {
 
     /// The files that signal once a timeline signals up to the value, by rising number.
     ///
-    /// Fails with `NoMemory` alone.
+    /// Fails only with `NoMemory`.
     pub(crate) fn woken_by(
         &self,
         alloc: Global,
@@ -200,7 +200,7 @@ impl Timelines {
 
     /// Puts a file in at each of its pending fences.
     ///
-    /// Fails with `NoMemory` alone, and then leaves all as it was.
+    /// Fails only with `NoMemory`, and then leaves all as it was.
     pub(crate) fn put_all(&mut self, file: u64, fences: &[Fence]) -> Result<(), Refusal>
         requires new { (k : Key) → k.file ≡ file → holds self.old.index k ≡ false }
         ensures put { OnOk result ((k : Key) →

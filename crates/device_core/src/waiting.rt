@@ -103,7 +103,7 @@ impl WaitingFiles {
 
     /// Puts one in.
     ///
-    /// Fails with `NoMemory` alone, and then leaves all as it was.
+    /// Fails only with `NoMemory`, and then leaves all as it was.
     pub(crate) fn put(&mut self, waiting: Waiting) -> Result<(), Refusal>
         ensures put { OnOk result ((k : Key) → holds self.new k ≡ (is_same waiting k || holds self.old k)) }
         ensures ordered { AreInOrder self.new }
@@ -118,7 +118,7 @@ impl WaitingFiles {
 
     /// The files that signal once a timeline signals up to the value, by rising number.
     ///
-    /// Fails with `NoMemory` alone.
+    /// Fails only with `NoMemory`.
     pub(crate) fn woken_by(
         &self,
         alloc: Global,
@@ -138,7 +138,7 @@ impl WaitingFiles {
 
     /// Puts a file in at each of its pending fences.
     ///
-    /// Fails with `NoMemory` alone, and then leaves all as it was.
+    /// Fails only with `NoMemory`, and then leaves all as it was.
     pub(crate) fn put_all(&mut self, file: u64, fences: &[Fence]) -> Result<(), Refusal>
         requires new { (k : Key) → k.file ≡ file → holds self.old k ≡ false }
         requires ordered { AreInOrder self.old }
@@ -156,7 +156,7 @@ impl WaitingFiles {
         Ok(())
     }
 
-    // Fails with `NoMemory` alone, and then leaves all as it was.
+    // Fails only with `NoMemory`, and then leaves all as it was.
     fn put_pending(&mut self, file: u64, fence: &Fence) -> Result<(), Refusal>
         requires ordered { AreInOrder self.old }
         ensures put { OnOk result ((k : Key) →

@@ -16,7 +16,7 @@ use std::collections::{BTreeSet, HashMap};
 /// The files that signal once a timeline signals up to the value, by rising number. Only the files that wait there are
 /// looked at.
 ///
-/// Fails with `NoMemory` alone.
+/// Fails only with `NoMemory`.
 pub(crate) fn woken_by(
     alloc: Global,
     points: &BTreeSet<Waiting>,

@@ -71,8 +71,6 @@ impl Buffers {
     }
 
     /// Whether there is a buffer of that name.
-    ///
-    /// Takes no memory.
     pub fn has(&self, name: &Name) -> bool
         ensures { result ≡ has_buffer self.now name.now }
     {
@@ -211,8 +209,6 @@ impl Buffers {
     }
 
     /// The names, by the order of making.
-    ///
-    /// Fails with `Memory` alone.
     pub fn names(&self) -> Result<Vec<Name>, Refusal>
         ensures names { IfOk result (λ names. names.items ≡ names_of self.now) }
         ensures memory { IfErr result (λ e. e ≡ Memory) }
@@ -236,7 +232,7 @@ impl Buffers {
 
 /// Puts the points of a file into a table, with that usage.
 ///
-/// Fails with `Memory` alone, and leaves the table as it was.
+/// Fails only with `Memory`, and leaves the table as it was.
 fn put_all(
     table: &mut TopTable,
     points: &[Point],

@@ -20,7 +20,7 @@ impl Drawing {
     /// Runs the lines of a script up to the window's last, and draws those in the window, a column for each that has an
     /// answer. Refused lines are drawn too.
     ///
-    /// Fails with `Memory` alone.
+    /// Fails only with `Memory`.
     pub fn of(alloc: Global, script: &[u8], window: &Window) -> Result<Drawing, Refusal>
         ensures { IfOk result (λ drawing. ShowsScript window.now (script_of script.now) drawing.picture) }
     {
@@ -38,7 +38,7 @@ impl Drawing {
 
     /// The picture as a document of SVG, which stands alone.
     ///
-    /// Fails with `Memory` alone.
+    /// Fails only with `Memory`.
     pub fn svg(&self, alloc: Global) -> Result<Vec<u8>, Refusal> {
         svg_text(alloc, &self.picture, self.run.history())
     }

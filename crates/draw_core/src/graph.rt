@@ -9,9 +9,9 @@ use desk_core::Desk;
 use picture_core::{Graph, Node, Waiter, WatchEnd, WatchLane};
 use point_core::{Name, Point, Refusal, TimelineRow};
 
-/// Enters what a desk has, of which that is a report, and those of the watches that are pending.
+/// Adds the nodes of a desk, given its report, and its pending watches.
 ///
-/// Fails with `Memory` alone.
+/// Fails only with `Memory`.
 pub(crate) fn enter_all(
     graph: &mut Graph,
     desk: &Desk,

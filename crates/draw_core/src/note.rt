@@ -13,7 +13,7 @@ const NOTE_BYTES: usize = 2048;
 
 /// Writes a line and its answer, which ends with a line feed.
 ///
-/// Fails with `Memory` alone.
+/// Fails only with `Memory`.
 pub(crate) fn push_answer(
     line: &RawLine<'_>,
     answer: &Answer,
@@ -31,7 +31,7 @@ pub(crate) fn push_answer(
 
 /// Writes why a command was refused.
 ///
-/// Fails with `Memory` alone.
+/// Fails only with `Memory`.
 pub(crate) fn push_reason(
     desk: &Desk,
     book: &Book,
@@ -46,7 +46,7 @@ pub(crate) fn push_reason(
 
 /// Writes why a line is no command.
 ///
-/// Fails with `Memory` alone.
+/// Fails only with `Memory`.
 pub(crate) fn push_fault(
     alloc: Global,
     line: &RawLine<'_>,

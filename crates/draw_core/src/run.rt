@@ -34,7 +34,7 @@ pub const COLUMNS: usize = 500;
 
 /// How many lines of a script have an answer.
 ///
-/// Fails with `Memory` alone.
+/// Fails only with `Memory`.
 pub fn count_lines(alloc: Global, script: &[u8]) -> Result<usize, Refusal>
     ensures { IfOk result (λ count. count ≡ length (script_of script.now)) }
 {
@@ -56,7 +56,7 @@ impl Run {
     /// Runs the lines of a script up to the window's last, and records those in the window, a column for each that has an answer.
     /// Refused lines are recorded too.
     ///
-    /// Fails with `Memory` alone.
+    /// Fails only with `Memory`.
     pub fn of(alloc: Global, script: &[u8], window: &Window) -> Result<Run, Refusal>
         ensures columns { IfOk result (λ run.
             lines_drawn run.history.columns.items ≡ drawn_lines window.now (script_of script.now)) }
@@ -80,7 +80,7 @@ impl Run {
 
     /// What waits for what after the last line that was run.
     ///
-    /// Fails with `Memory` alone.
+    /// Fails only with `Memory`.
     pub fn graph(&mut self) -> Result<Graph, Refusal>
         ensures edges { (history : List CommandModel) → HasHistory self.old.desk history →
             IfOk result (λ graph. graph.edges.items ≡ edges_in (world_of history) self.old.history.lanes.watches.items) }
@@ -138,7 +138,7 @@ impl Run {
 
     /// Answers a line up to the window's last, which has a column of its own if it is in the window.
     ///
-    /// Fails with `Memory` alone.
+    /// Fails only with `Memory`.
     fn take(&mut self, line: &RawLine<'_>, body: &Body) -> Result<(), Refusal>
         ensures drawn { OnOk result ((done : List LineModel) → All (λ (l : LineModel). l.number < line.now.number) done →
             HasDrawn self.old.window done self.old.desk self.old.history.columns.items self.old.history.bars.items →

@@ -16,8 +16,8 @@ pub const CALLBACKS: usize = 4096;
 
 const _: () = prove!(CALLBACKS == 4096);
 
-/// The callbacks of one fence, as the list `cb_list` of Linux's `struct dma_fence`: held by registration, until they are
-/// taken, once and for good.
+/// The callbacks of one fence, as the list `cb_list` of Linux's `struct dma_fence`, in the order of registration. Once
+/// the list has been handed out it accepts nothing more.
 #[derive(Drop)]
 pub struct CallbackList {
     cookies: Vec<u64>,
@@ -69,8 +69,6 @@ impl CallbackList {
 
     /// Takes the list, and returns its cookies in order of registration; from then on it is taken. A list that was taken
     /// before has none.
-    ///
-    /// Takes no memory.
     pub fn take(&mut self) -> Vec<u64>
         ensures given { result.items ≡ cookies_in self.old }
         ensures distinct { IsDistinct nat_eq result.items }

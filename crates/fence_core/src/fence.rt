@@ -43,7 +43,7 @@ impl Fence {
     /// The fence of these points: the stub of none, a plain fence of one, else an array, as Linux's `sync_file_merge`
     /// makes them.
     ///
-    /// Fails with `Memory` alone, and only when it makes an array.
+    /// Fails only with `Memory`, and only when it makes an array.
     pub fn of(alloc: Global, points: &[Point]) -> Result<Fence, Refusal>
         requires rising { HasRisingContexts points.now }
         ensures fence { IfOk result (λ f. f ≡ fence_of points.now) }
@@ -61,8 +61,6 @@ impl Fence {
 
     /// The points that it waits for, by rising context, as Linux's `dma_fence_unwrap_for_each` goes over them. A plain
     /// fence has its own point, and the stub none.
-    ///
-    /// Takes no memory.
     pub fn members(&self) -> &[Point]
         ensures value { result.now ≡ members_of self.now }
         ensures rising { HasRisingContexts result.now }
@@ -75,8 +73,6 @@ impl Fence {
     }
 
     /// Whether each of its points is signalled. The stub is.
-    ///
-    /// Takes no memory.
     pub fn is_signalled(&self, reach: &Reach) -> bool
         ensures { result ≡ are_reached reach.now (members_of self.now) }
     {
@@ -86,8 +82,6 @@ impl Fence {
     }
 
     /// Whether each of its points is signalled once this one is reached too.
-    ///
-    /// Takes no memory.
     pub(crate) fn is_signalled_with(&self, reach: &Reach, point: &Point) -> bool
         ensures { result ≡ are_reached (reaching reach.now point.now) (members_of self.now) }
     {
@@ -97,8 +91,6 @@ impl Fence {
     }
 
     /// The first of its points that is above the reach. There is none if it is signalled.
-    ///
-    /// Takes no memory.
     pub(crate) fn first_above(&self, reach: &Reach) -> Option<Point>
         ensures above { IfSome result (λ p. IsOneAbove reach.now (members_of self.now) p) }
         ensures pending { IfSome result (λ _. are_reached reach.now (members_of self.now) ≡ false) }

@@ -120,8 +120,6 @@ impl SharedFence {
     /// Hands the callbacks out by registration, under the lock of the list, as `CallbackList::take` does. It takes the
     /// token of the one call of `signal` that set the flag, so there is one such call at most, ever. What was added
     /// between the two calls is handed out with the rest.
-    ///
-    /// Takes no memory.
     pub fn hand_out(&self, rt: &impl Wait, token: Won) -> Vec<u64>
         requires own { token ≡ token_of self.now }
         ensures distinct { IsDistinct nat_eq result.items }

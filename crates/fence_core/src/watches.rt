@@ -154,8 +154,6 @@ impl Watches {
 
     /// Removes the watch of that cookie, and reports whether there was one, as Linux's `dma_fence_remove_callback`
     /// does. The others keep their order.
-    ///
-    /// Takes no memory.
     pub fn remove(&mut self, cookie: u64) -> bool
         ensures found { result ≡ has_watch self.old cookie }
         ensures without { self.new ≡ without_watch self.old cookie }
@@ -173,7 +171,7 @@ impl Watches {
     /// Takes out the watches all of whose points are signalled at this reach, and returns their cookies in order of
     /// registration. It is for any rise; a desk raises one context at a time, by `after_inc`.
     ///
-    /// Fails with `Memory` alone, and only when a watch fires; then none has fired, and nothing has changed. The
+    /// Fails only with `Memory`, and only when a watch fires; then none has fired, and nothing has changed. The
     /// reach must be at least the last one that was handed in by a call that was not refused.
     pub fn after_rise(&mut self, reach: &Reach) -> Result<Vec<u64>, Refusal>
         requires rises { IsAtLeast reach.now self.old.reach }
@@ -198,7 +196,7 @@ impl Watches {
     /// As `after_rise`, to the last reach that was handed in, with the point reached too. If no watch stands at or below
     /// the point in its context, nothing else is looked at.
     ///
-    /// Fails with `Memory` alone, and only when a watch fires; then none has fired, and nothing has changed.
+    /// Fails only with `Memory`, and only when a watch fires; then none has fired, and nothing has changed.
     #[inline(always)]
     pub fn after_inc(&mut self, point: Point) -> Result<Vec<u64>, Refusal>
         ensures fired { IfOk result (λ cookies. cookies.items ≡ fired_by self.old (reaching self.old.reach point)) }

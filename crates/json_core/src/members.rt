@@ -16,8 +16,6 @@ use std::alloc::{AllocError, Global};
 
 /// Writes the object of the answer of the line of that number after the text, and a line feed. Bytes of the line that are no
 /// UTF-8 are written as U+FFFD.
-///
-/// Fails with `Memory` alone.
 pub fn push_line(
     alloc: Global,
     number: u32,

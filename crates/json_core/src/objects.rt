@@ -36,8 +36,6 @@ pub(crate) struct Objects {
 
 impl Objects {
     /// Of no line.
-    ///
-    /// Fails with `Memory` alone.
     pub(crate) fn new(alloc: Global) -> Result<Objects, Refusal>
         ensures none { IfOk result (λ objects. (contents : Option (List ℕ)) →
             HasWritten [] [] objects.desk objects.out.items objects.totals contents contents) }

@@ -10,8 +10,6 @@ pub(crate) const HELD_BYTES: usize = LINE_BYTES + 1;
 
 /// Cuts a script into its lines, byte by byte. It holds the number of its line, from 1, and the line's bytes so far, or
 /// that they are more than `LINE_BYTES`.
-///
-/// Takes no memory.
 #[derive(Debug, Drop)]
 pub struct LineCutter {
     number: u32,

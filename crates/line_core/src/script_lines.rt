@@ -16,8 +16,6 @@ pub(crate) const BLOCK_BYTES: usize = 16384;
 
 /// The lines of a script from a reader, one after another. It keeps one block of the script, and of a line that began
 /// before that block no more than its first bytes.
-///
-/// Takes no memory.
 #[derive(Drop)]
 pub struct ScriptLines {
     block: [u8; BLOCK_BYTES],

@@ -14,7 +14,7 @@ const START: &str = "digraph waits {\n\
 
 /// A graph as a document of DOT, with an arrow from what waits to what it waits for.
 ///
-/// Fails with `Memory` alone.
+/// Fails only with `Memory`.
 pub fn dot_text(alloc: Global, graph: &Graph) -> Result<Vec<u8>, Refusal> {
     let mut out = Vec::new(alloc);
     push_document(graph, &mut out)?;

@@ -18,7 +18,7 @@ impl History {
     /// Enters what an accepted command did, in its column; in 0 where it is not drawn. Of a watch, `points` are those of its
     /// file.
     ///
-    /// Fails with `Memory` alone.
+    /// Fails only with `Memory`.
     pub fn enter(
         &mut self,
         alloc: Global,

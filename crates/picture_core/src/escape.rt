@@ -9,7 +9,7 @@ use std::alloc::AllocError;
 /// of DOT: the bytes that would end it are references of characters by their numbers, as `&#60;`, and the backslash and each
 /// byte that doesn't print are written as in a Rust literal, as `\x07`, with such a reference for the backslash.
 ///
-/// Fails with `Memory` alone.
+/// Fails only with `Memory`.
 pub fn push_escaped(text: &[u8], out: &mut Vec<u8>) -> Result<(), AllocError>
     ensures ok { OnOk result (out.new.items ≡ out.old.items ++ escaped text.now) }
 {

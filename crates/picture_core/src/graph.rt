@@ -68,7 +68,7 @@ impl Graph {
 
     /// One node more.
     ///
-    /// Fails with `Memory` alone.
+    /// Fails only with `Memory`.
     pub fn add_node(&mut self, node: Node) -> Result<(), Refusal>
         ensures edges { self.new.edges ≡ self.old.edges }
     {
@@ -77,7 +77,7 @@ impl Graph {
 
     /// One edge more, to a point, which becomes a node where it is none yet.
     ///
-    /// Fails with `Memory` alone.
+    /// Fails only with `Memory`.
     pub fn add_wait(&mut self, waiter: &Waiter, waiting: &Waiting) -> Result<(), Refusal>
         ensures edges { OnOk result (self.new.edges.items
             ≡ self.old.edges.items ++ edge_to waiter.now waiting.now.timeline waiting.now.point ∷ []) }

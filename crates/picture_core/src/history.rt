@@ -184,7 +184,7 @@ impl History {
 
     /// One column more.
     ///
-    /// Fails with `Memory` alone.
+    /// Fails only with `Memory`.
     pub fn add_column(&mut self, column: Column) -> Result<(), Refusal>
         ensures columns { OnOk result (self.new.columns.items ≡ self.old.columns.items ++ column ∷ []) }
         ensures bars { self.new.bars ≡ self.old.bars }
@@ -195,7 +195,7 @@ impl History {
 
     /// One point more that the file of a bar waits for.
     ///
-    /// Fails with `Memory` alone.
+    /// Fails only with `Memory`.
     pub fn add_wait(&mut self, wait: BarWait) -> Result<(), Refusal>
         ensures columns { self.new.columns ≡ self.old.columns }
         ensures bars { self.new.bars ≡ self.old.bars }

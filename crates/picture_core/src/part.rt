@@ -16,7 +16,7 @@ pub(crate) enum Part<'a> {
 
 /// Writes the parts to a document.
 ///
-/// Fails with `Memory` alone.
+/// Fails only with `Memory`.
 pub(crate) fn push_parts(parts: &[Part<'_>], out: &mut Vec<u8>) -> Result<(), Refusal> {
     for part in parts {
         push_part(part, out)?;

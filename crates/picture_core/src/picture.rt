@@ -23,8 +23,6 @@ const WORDS: u64 = 32;
 const REFUSALS: u64 = 43;
 
 /// Draws a history: a column for each line, and a lane for each timeline, file, buffer and watch.
-///
-/// Fails with `Memory` alone.
 pub fn picture_of(alloc: Global, history: &History) -> Result<Picture, Refusal>
     ensures shows { IfOk result (λ picture. ShowsHistory history.now picture) }
     ensures memory { IfErr result (λ e. e ≡ Memory) }

@@ -52,7 +52,6 @@ pub(crate) struct Sheet {
 }
 
 impl Sheet {
-    /// Fails with `Memory` alone.
     pub(crate) fn of(alloc: Global, history: &History) -> Result<Sheet, Refusal>
         ensures ok { IfOk result (λ sheet. IsSheetOf history.now sheet) }
         ensures memory { IfErr result (λ e. e ≡ Memory) }
@@ -185,8 +184,6 @@ fn lanes(top: u64, count: usize, height: u64) -> (u64, u64)
 }
 
 /// The lane of each bar, which is as high as what it waits for, and what lies under them all.
-///
-/// Fails with `Memory` alone.
 fn bars_of(alloc: Global, history: &History, top: u64) -> Result<(Vec<u64>, u64), Refusal>
     ensures ok { IfOk result (λ lanes. AreLanes history.now lanes.0.items lanes.1) }
     ensures first { IfOk result (λ lanes. All (λ lane. top ≤ lane) lanes.0.items) }
@@ -229,9 +226,7 @@ fn raise_all(heights: &mut [u64])
     }
 }
 
-/// The left edge of each column, from column 0 on, and the right edge of the last, which stands beside them too.
-///
-/// Fails with `Memory` alone.
+/// The left edge of each column, then the right edge of the last, which is also returned by itself.
 fn edges_of(alloc: Global, history: &History) -> Result<(Vec<u64>, u64), Refusal>
     ensures ok { IfOk result (λ edges. AreEdges history.now edges.0.items edges.1) }
     ensures memory { IfErr result (λ e. e ≡ Memory) }
@@ -264,10 +259,10 @@ fn word_widths(alloc: Global, columns: &[Column]) -> Result<Vec<u64>, AllocError
     Ok(widths)
 }
 
-/// Where things begin that lie one after another and are so long, with the place where the last ends, which stands beside
-/// them too.
+/// Places things of these lengths one after another: where each begins, then the end of the last, which is also returned by
+/// itself.
 ///
-/// Fails with `Memory` alone, also where a place is too great a number.
+/// Fails only with `Memory`, also where a place is too great a number.
 fn places_of(alloc: Global, first: u64, lengths: &[u64]) -> Result<(Vec<u64>, u64), Refusal>
     ensures count { IfOk result (λ places. length places.0.items ≡ length lengths.now + 1) }
     ensures apart { IfOk result (λ places. (gap : ℕ) → All (λ l. gap ≤ l) lengths.now → AreApart gap places.0.items) }

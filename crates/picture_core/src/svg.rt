@@ -13,7 +13,7 @@ use std::alloc::{AllocError, Global};
 
 /// The picture of a history as a document of SVG, which stands alone.
 ///
-/// Fails with `Memory` alone.
+/// Fails only with `Memory`.
 pub fn svg_text(alloc: Global, picture: &Picture, history: &History) -> Result<Vec<u8>, Refusal> {
     let mut out = Vec::new(alloc);
     push_document(picture, history, &mut out)?;

@@ -41,8 +41,6 @@ impl Floor {
     }
 
     /// The values of a reach.
-    ///
-    /// Fails with `Memory` alone.
     pub fn of(alloc: Global, reach: &Reach) -> Result<Floor, Refusal>
         ensures floor { IfOk result (λ f. f ≡ reach.now) }
         ensures memory { IfErr result (λ e. e ≡ Refusal.Memory) }
@@ -60,8 +58,6 @@ impl Floor {
     }
 
     /// Takes the values of a reach in place of its own, in the same memory if that is enough.
-    ///
-    /// Fails with `Memory` alone.
     pub fn copy_from(&mut self, reach: &Reach) -> Result<(), Refusal>
         ensures floor { OnOk result (self.new ≡ reach.now) }
         ensures memory { IfErr result (λ e. e ≡ Refusal.Memory) }

@@ -19,14 +19,12 @@ impl<T> Model for Items<T> {
 }
 
 impl<T> Items<T> {
-    /// Takes no memory.
     pub fn of(items: Vec<T>) -> Self
         ensures { result ≡ items.items }
     {
         Items { items }
     }
 
-    /// Takes no memory.
     pub fn as_slice(&self) -> &[T]
         ensures { result.now ≡ self.now }
     {

@@ -97,8 +97,6 @@ impl LatestPoints {
     }
 
     /// The latest points that are above the reach, by rising context, in memory for these alone.
-    ///
-    /// Fails with `Memory` alone.
     pub fn points(&self, alloc: Global, reach: &Reach) -> Result<Vec<Point>, Refusal>
         ensures points { IfOk result (λ ps. ps.items ≡ points_above self.now reach.now) }
         ensures memory { IfErr result (λ e. e ≡ Refusal.Memory) }
@@ -106,7 +104,7 @@ impl LatestPoints {
         self.points_expected(alloc, reach, self.number_above(reach))
     }
 
-    /// The same, in memory that begins with room for so many points. There may be more.
+    /// Like `points`, with room for `expected` points from the start. There may be more.
     pub fn points_expected(
         &self,
         alloc: Global,
@@ -121,9 +119,7 @@ impl LatestPoints {
         Ok(points)
     }
 
-    /// The same, into a list that is kept, whose points go. It takes memory if they need more than the list has.
-    ///
-    /// Fails with `Memory` alone.
+    /// Like `points`, but clears and reuses the list `points`; allocates only to grow it.
     pub fn list(&self, reach: &Reach, points: &mut Vec<Point>) -> Result<(), Refusal>
         ensures points { OnOk result (points.new.items ≡ points_above self.now reach.now) }
         ensures memory { IfErr result (λ e. e ≡ Refusal.Memory) }

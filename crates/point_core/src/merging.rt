@@ -12,8 +12,6 @@ use std::alloc::Global;
 
 /// The pending points of two lists by rising context, as `canon` gives them of both together: the cost is that of the
 /// points, however many contexts there can be.
-///
-/// Fails with `Memory` alone.
 pub fn merged(
     alloc: Global,
     left: &[Point],
@@ -33,9 +31,7 @@ pub fn merged(
     Ok(points)
 }
 
-/// The same, into a list that is kept, whose points go. It takes memory if they may need more than the list has.
-///
-/// Fails with `Memory` alone.
+/// Like `merged`, but clears and reuses a list; allocates only if the points may need more room than it has.
 pub fn merge_into(
     points: &mut Vec<Point>,
     left: &[Point],

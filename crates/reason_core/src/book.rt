@@ -41,8 +41,6 @@ impl Book {
     }
 
     /// Enters what an accepted command made, and takes out what it unmade. The desk is the one that has just taken the command.
-    ///
-    /// Fails with `Memory` alone.
     pub fn enter(&mut self, line: u32, command: &Command, desk: &Desk) -> Result<(), Refusal>
         ensures refusals { IfErr result (λ refusal. refusal ≡ Memory) }
     {

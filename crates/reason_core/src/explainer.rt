@@ -64,8 +64,6 @@ impl Explainer {
     }
 
     /// Enters what an accepted line made or unmade, the last that was answered.
-    ///
-    /// Fails with `Memory` alone.
     fn enter(&mut self, answers: &Answers, number: u32, body: &Body) -> Result<(), Refusal>
         ensures refusals { IfErr result (λ refusal. refusal ≡ Memory) }
     {

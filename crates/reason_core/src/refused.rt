@@ -35,7 +35,7 @@ enum Reason {
 
 /// Writes to `notes` why the desk refused a command, which it has just done.
 ///
-/// Fails with `Write` alone.
+/// Fails only with `Write`.
 pub fn explain_command<N: Write>(
     desk: &Desk,
     book: &Book,

@@ -149,8 +149,6 @@ fn suggest<N: Write>(
 }
 
 /// The command that differs in the fewest letters, if these are few; two letters that are swapped count as one.
-///
-/// Fails with `Memory` alone.
 fn nearest(alloc: Global, word: &[u8]) -> Result<Option<&'static str>, Refusal>
     ensures refusals { IfErr result (λ refusal. refusal ≡ Memory) }
 {

@@ -86,7 +86,7 @@ impl Plan {
     /// The acts of so many rounds, in which each point that is put is multiplied by the number of its round, from 1. Takes
     /// no memory.
     ///
-    /// Fails with `Overflow` alone, if one of these points or the number of all acts is past the greatest u64.
+    /// Fails only with `Overflow`, if one of these points or the number of all acts is past the greatest u64.
     pub fn repeated(acts: Vec<Act>, times: u32) -> Result<Plan, Refusal>
         ensures acts { OkIff result (IsTrue (is_repeatable acts.items times)) (rounds_of acts.items times) }
         ensures overflow { IfErr result (λ e. e ≡ refusal.Overflow) }

@@ -28,8 +28,8 @@ const _: () = prove!(PLACES == 1_280);
 
 /// The fences of a buffer, each with the usage that it was added for, as Linux's `struct dma_resv`.
 ///
-/// What matters of a table is its latest pending point of each context at each usage or a stronger one. If an
-/// entry stands, and which of the others are still kept, is not said.
+/// Two tables are equivalent if their latest pending points agree, for each context at each usage or a stronger one.
+/// Whether an entry is still stored once it is signalled or covered is unspecified.
 #[derive(Debug, Drop)]
 pub struct Resv {
     entries: Vec<Entry>,
@@ -65,7 +65,7 @@ impl Resv {
     /// table is trimmed; the kernel makes a larger table, and doesn't carry signalled fences over. Here all places are
     /// taken by the first call that needs one, and they always suffice.
     ///
-    /// Fails with `Memory` alone, if there were no places yet, and leaves the table as it was.
+    /// Fails only with `Memory`, if there were no places yet, and leaves the table as it was.
     pub fn reserve(&mut self, n: usize, reach: &Reach) -> Result<(), Refusal>
         requires few { n ≤ CONTEXTS }
         ensures table { IsTable self.new }
@@ -147,8 +147,6 @@ impl Resv {
 
     /// The pending points at the usage or a stronger one: the latest of each context, by rising context. Linux's
     /// `dma_resv_get_fences` gives each pending fence of these usages.
-    ///
-    /// Fails with `Memory` alone.
     pub fn collect(&self, usage: Usage, reach: &Reach) -> Result<Vec<Point>, Refusal>
         ensures points { IfOk result (λ ps. ps.items ≡ listing self.now.entries (usage_number usage) reach.now) }
         ensures memory { IfErr result (λ e. e ≡ Refusal.Memory) }
@@ -160,8 +158,6 @@ impl Resv {
 
     /// The points that `collect` gives, into a list that is kept, by a table that is kept: what both had goes. It takes memory
     /// if there are more points than the list has room for.
-    ///
-    /// Fails with `Memory` alone.
     pub fn collect_into(
         &self,
         usage: Usage,
@@ -178,8 +174,6 @@ impl Resv {
     }
 
     /// The pending top of each context at each usage: from the strongest usage to the weakest, and by rising context.
-    ///
-    /// Fails with `Memory` alone.
     pub fn table(&self, reach: &Reach) -> Result<Vec<TopRow>, Refusal>
         ensures rows { IfOk result (λ rows. rows.items ≡ rows_of self.now.entries reach.now) }
         ensures memory { IfErr result (λ e. e ≡ Refusal.Memory) }

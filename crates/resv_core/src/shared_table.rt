@@ -40,7 +40,7 @@ pub trait SharedTable: Sync + Sized + Drop {
 
     /// The table of as many buffers as the words have. Nothing was put.
     ///
-    /// Fails with `Memory` alone.
+    /// Fails only with `Memory`.
     fn empty(alloc: Global, words: &Words) -> Result<Self, Refusal>
         ensures words { IfOk result (λ table. made_for table ≡ words.now) }
         ensures memory { IfErr result (λ e. e ≡ refusal.Memory) };

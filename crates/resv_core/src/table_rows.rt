@@ -10,8 +10,6 @@ use std::alloc::Global;
 
 /// The pending top of each context at each usage: from the strongest usage to the weakest, and by rising context. One table of
 /// latest points serves all usages, since a weaker one has what the stronger ones have.
-///
-/// Fails with `Memory` alone.
 pub(crate) fn rows_of(
     alloc: Global,
     entries: &[Entry],

@@ -49,7 +49,7 @@ impl TopTable {
     /// Adds a fence, as Linux's `dma_resv_add_fence`. There it takes the place of an entry that is signalled, or of its
     /// context; here it raises the points of its context, if it is later.
     ///
-    /// Fails with `Memory` alone, which only the first fence takes, and leaves the table as it was.
+    /// Fails only with `Memory`, which only the first fence takes, and leaves the table as it was.
     pub fn put(&mut self, point: Point, usage: Usage) -> Result<(), Refusal>
         ensures table { IsTable self.new }
         ensures agrees { OnOk result ((reach : List ℕ) →
@@ -104,8 +104,6 @@ impl TopTable {
 
     /// The pending points at the usage or a stronger one: the latest of each context, by rising context. Linux's
     /// `dma_resv_get_fences` gives each pending fence of these usages.
-    ///
-    /// Fails with `Memory` alone.
     pub fn collect(&self, usage: Usage, reach: &Reach) -> Result<Vec<Point>, Refusal>
         ensures points { IfOk result (λ ps. ps.items ≡ listing self.now.entries (usage_number usage) reach.now) }
         ensures memory { IfErr result (λ e. e ≡ Refusal.Memory) }
@@ -130,8 +128,6 @@ impl TopTable {
     }
 
     /// The pending top of each context at each usage: from the strongest usage to the weakest, and by rising context.
-    ///
-    /// Fails with `Memory` alone.
     pub fn table(&self, reach: &Reach) -> Result<Vec<TopRow>, Refusal>
         ensures rows { IfOk result (λ rows. rows.items ≡ rows_of self.now.entries reach.now) }
         ensures memory { IfErr result (λ e. e ≡ Refusal.Memory) }
@@ -155,8 +151,6 @@ impl TopTable {
 }
 
 /// The tables of the first fences.
-///
-/// Fails with `Memory` alone.
 #[inline(never)]
 fn first_of(alloc: Global, points: &[Point], usage: Usage) -> Result<Box<Tops>, Refusal>
     ensures tops { IfOk result (λ tops. AreTops tops.value [] (entries_as usage points.now)) }

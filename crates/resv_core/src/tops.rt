@@ -104,10 +104,8 @@ impl Tops {
         put_at(&mut self.bookkeep, Usage::Bookkeep, entry);
     }
 
-    /// The points that are above the reach, from the strongest usage to the weakest and by rising context. The tables began as
-    /// this reach or a lower one.
-    ///
-    /// Fails with `Memory` alone.
+    /// The points above the reach, from the strongest usage to the weakest, by rising context. The tables must have begun at this
+    /// reach or a lower one.
     pub fn rows(&self, alloc: Global, reach: &Reach) -> Result<Vec<TopRow>, Refusal>
         ensures rows { (es : List Entry) → AreTops self.now reach.now es →
             IfOk result (λ rows. rows.items ≡ rows_of es reach.now) }

@@ -41,8 +41,6 @@ pub fn print(line: u32, answer: &Answer, out: &mut Vec<u8>) -> Result<(), Refusa
 }
 
 /// The text of the answer that is done and has no more to report.
-///
-/// Takes no memory.
 pub fn done_line() -> TextLine
     ensures { result ≡ line_text (codes "ok" ∷ []) }
 {
@@ -52,8 +50,6 @@ pub fn done_line() -> TextLine
 }
 
 /// The text of an answer that is a number.
-///
-/// Takes no memory.
 pub fn value_line(value: u64) -> TextLine
     ensures { result ≡ value_line value }
 {

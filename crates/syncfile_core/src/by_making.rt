@@ -97,8 +97,6 @@ impl ByMaking {
     }
 
     /// The names, by the order of making.
-    ///
-    /// Fails with `Memory` alone.
     pub(crate) fn names(&self, alloc: Global) -> Result<Vec<Name>, Refusal>
         ensures names { IfOk result (λ names. names.items ≡ names_of self.now) }
         ensures distinct { HasDistinctNames self.now }

@@ -25,8 +25,6 @@ impl Draft {
     }
 
     /// One point, with a floor of 0 everywhere.
-    ///
-    /// Fails with `Memory` alone.
     pub(crate) fn draw_plain(&mut self, point: Point) -> Result<(), Refusal>
         ensures file { OnOk result ((name : List ℕ) → drafted name self.new ≡ plain_file name point) }
         ensures rising { OnOk result (HasRisingContexts self.new.points.items) }
@@ -40,8 +38,6 @@ impl Draft {
     }
 
     /// What a listing has, whose memory is taken.
-    ///
-    /// Fails with `Memory` alone.
     pub(crate) fn draw_listing(&mut self, listing: Listing) -> Result<(), Refusal>
         requires rising { HasRisingContexts listing.points }
         ensures file { OnOk result ((name : List ℕ) →
@@ -55,8 +51,6 @@ impl Draft {
     }
 
     /// The latest points that are above the reach, with the reach as the floor; no points if there is no table.
-    ///
-    /// Fails with `Memory` alone.
     pub(crate) fn draw_latest(
         &mut self,
         latest: Option<&LatestPoints>,
@@ -73,8 +67,6 @@ impl Draft {
 }
 
 /// The latest points that are above the reach, into a list that is kept; none if there is no table.
-///
-/// Fails with `Memory` alone.
 fn list_latest(
     points: &mut Vec<Point>,
     latest: Option<&LatestPoints>,

@@ -56,8 +56,6 @@ impl Files {
     }
 
     /// The file of that name.
-    ///
-    /// Takes no memory.
     pub fn get(&self, name: &Name) -> Option<&SyncFile>
         ensures found { option_copied result ≡ file_at self.now name.now }
     {
@@ -65,8 +63,6 @@ impl Files {
     }
 
     /// The names, by the order of making.
-    ///
-    /// Fails with `Memory` alone.
     pub fn names(&self) -> Result<Vec<Name>, Refusal>
         ensures names { IfOk result (λ names. names.items ≡ names_of self.now) }
         ensures distinct { HasDistinctNames self.now }

@@ -14,8 +14,6 @@ use point_core::{Floor, LatestPoints, Reach, Refusal};
 
 impl Draft {
     /// The merge of two files, whose points are gone through once.
-    ///
-    /// Fails with `Memory` alone.
     pub(crate) fn draw_merge(
         &mut self,
         left: &SyncFile,
@@ -37,8 +35,6 @@ impl Draft {
 
 /// The greatest value of each context, among the reach and the floors of both files: the reach, if no floor is above
 /// it.
-///
-/// Fails with `Memory` alone.
 fn draw_floor(
     floor: &mut Floor,
     left: &SyncFile,
@@ -88,8 +84,6 @@ impl Gathered {
     }
 
     /// Draws the file of the points that are above the reach.
-    ///
-    /// Fails with `Memory` alone.
     pub(crate) fn draw(&self, draft: &mut Draft, reach: &Reach) -> Result<(), Refusal>
         requires gathered { IsGatheredAbove self.now.latest self.now.floor reach.now }
         ensures file { (inputs : List File) →

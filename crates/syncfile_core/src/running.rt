@@ -170,7 +170,7 @@ impl<'a> Found<'a> {
 
     /// The file's status, once all contexts of the words were loaded.
     ///
-    /// Fails with `Foreign` alone, if the words don't bear the file out.
+    /// Fails only with `Foreign`, if the words don't bear the file out.
     fn status_of(&self, file: &SyncFile, contexts: usize) -> Result<Status, Refusal>
         ensures status { (clocks : List Clock) → HasFoundTo clocks file.now contexts self.now →
             IfOk result (λ status. status ≡ common_status clocks file.now.points) }

@@ -33,8 +33,6 @@ impl Model for SyncFile {
 
 impl SyncFile {
     /// A file of one point, with a floor of 0 everywhere.
-    ///
-    /// Fails with `Memory` alone.
     pub fn plain(alloc: Global, name: Name, point: Point) -> Result<SyncFile, Refusal>
         ensures file { IfOk result (λ f. f ≡ plain_file name point) }
         ensures memory { IfErr result (λ e. e ≡ Memory) }

@@ -139,8 +139,6 @@ impl Timelines {
 
     /// Raises the value of the open timeline of that context to the point, if it is not there yet: what `inc` does, once the
     /// name was looked up and the sum is known.
-    ///
-    /// Takes no memory.
     pub fn raise_to(&mut self, point: Point)
         requires made { point.ctx ≤ length self.old }
         requires not_closed { (clock_at (clocks_of self.old) point.ctx).closed ≡ false }
@@ -169,8 +167,6 @@ impl Timelines {
     }
 
     /// The context of the timeline of that name.
-    ///
-    /// Takes no memory.
     pub fn context(&self, name: &Name) -> Option<Context>
         ensures found { IsSome result ↔ IsTrue (has_timeline self.now name.now) }
         ensures value { IfSome result (λ ctx. ctx ≡ context_of self.now name.now) }
@@ -181,8 +177,6 @@ impl Timelines {
     }
 
     /// The name of the timeline of that context, or none if it was not made.
-    ///
-    /// Takes no memory.
     pub fn name(&self, ctx: Context) -> Option<Name>
         ensures { result ≡ name_at self.now ctx }
     {
@@ -190,8 +184,6 @@ impl Timelines {
     }
 
     /// The value of each context, and which are closed; 0 and open if no timeline was made.
-    ///
-    /// Takes no memory.
     pub fn clocks(&self) -> Clocks
         ensures value { result ≡ clocks_of self.now }
         ensures timelines { AreTimelines self.now }
@@ -200,8 +192,6 @@ impl Timelines {
     }
 
     /// The same, by reference.
-    ///
-    /// Takes no memory.
     pub fn as_clocks(&self) -> &Clocks
         ensures value { result.now ≡ clocks_of self.now }
         ensures timelines { AreTimelines self.now }
@@ -211,8 +201,6 @@ impl Timelines {
 
     /// What each context has reached: its value, or the greatest one if its timeline is closed; 0 if no timeline was
     /// made.
-    ///
-    /// Takes no memory.
     pub fn reach(&self) -> Reach
         ensures value { result ≡ reach_of self.now }
         ensures timelines { AreTimelines self.now }
@@ -221,8 +209,6 @@ impl Timelines {
     }
 
     /// The same, by reference.
-    ///
-    /// Takes no memory.
     pub fn as_reach(&self) -> &Reach
         ensures value { result.now ≡ reach_of self.now }
         ensures timelines { AreTimelines self.now }
@@ -231,8 +217,6 @@ impl Timelines {
     }
 
     /// A row for each timeline, by context.
-    ///
-    /// Fails with `Memory` alone.
     pub fn rows(&self) -> Result<Vec<TimelineRow>, Refusal>
         ensures rows { IfOk result (λ rows. rows.items ≡ rows_of self.now) }
         ensures memory { IfErr result (λ e. e ≡ Refusal.Memory) }

@@ -37,7 +37,7 @@ pub record AreLines (bytes : List ℕ) (whole : Bool) (lines : List ℕ) (end : 
   pub within : end ≤ length bytes
   pub ends : (take end bytes ≡ lines ++ 10 ∷ []) ⊎ ((end ≡ length bytes) × (whole ≡ true))
 
--- joining the lines with those after `end` gives that, whichever way the text goes on
+-- joining the lines with those after `end` gives `given`, for every continuation of the text
 abbrev pub JoinsTo : List ℕ → Bool → List ℕ → ℕ → (ℕ → List ℕ → Option (Printed × List ℕ)) → Type 0
 JoinsTo bytes whole lines end given =
     (n : ℕ) (more : List ℕ) → MayFollow whole more → joined_from (suc n) lines (drop end bytes ++ more) ≡ given n more

@@ -28,8 +28,6 @@ pub enum Progress {
 ///
 /// `next` gives the next piece and `pass` goes on after it; when `next` gives none, `read` reads more, or the text is at
 /// its end if it `is_whole`.
-///
-/// Takes no memory.
 #[derive(Drop)]
 pub struct Pieces {
     held: [u8; HELD_BYTES],

@@ -53,7 +53,7 @@ pub(crate) struct Chart {
 impl Chart {
     /// No event.
     ///
-    /// Fails with `Memory` alone.
+    /// Fails only with `Memory`.
     pub(crate) fn new(alloc: Global) -> Result<Chart, AllocError>
         ensures begun { IfOk result (λ chart. chart.page.held.items ≡ head) }
     {
@@ -95,7 +95,7 @@ impl Chart {
 
     /// Adds what comes of an event that the tracker has taken in.
     ///
-    /// Fails with `Memory` alone.
+    /// Fails only with `Memory`.
     pub(crate) fn see(&mut self, tracker: &Tracker, seen: &Seen) -> Result<(), Refusal>
         ensures slices { OnOk result (Grows self.old.page self.new.page (slices_of seen.now)) }
     {
@@ -247,7 +247,7 @@ impl Chart {
 
     /// Adds the slice of a fence. Gives its row.
     ///
-    /// Fails with `Memory` alone.
+    /// Fails only with `Memory`.
     fn add_fence(&mut self, tracker: &Tracker, slice: &Slice) -> Result<Row, Refusal>
         ensures slices { OnOk result (Grows self.old.page self.new.page (slice.now ∷ [])) }
     {
@@ -262,7 +262,7 @@ impl Chart {
 
     /// Adds the slice of a wait. Gives its row.
     ///
-    /// Fails with `Memory` alone.
+    /// Fails only with `Memory`.
     fn add_wait(&mut self, tracker: &Tracker, wait: &Wait, slice: &Slice) -> Result<Row, Refusal>
         ensures slices { OnOk result (Grows self.old.page self.new.page (slice.now ∷ [])) }
     {

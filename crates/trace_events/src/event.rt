@@ -80,7 +80,7 @@ pub(crate) enum TraceEvent<'a> {
 
 /// Adds the object of the event after the text, and what stands between objects.
 ///
-/// Fails with `Memory` alone.
+/// Fails only with `Memory`.
 pub(crate) fn push_event(
     alloc: Global,
     event: &TraceEvent<'_>,
@@ -97,7 +97,7 @@ pub(crate) fn push_event(
 
 /// Adds the last object, which marks the time at which the text ends, and what ends the document.
 ///
-/// Fails with `Memory` alone.
+/// Fails only with `Memory`.
 pub(crate) fn push_end(alloc: Global, time: u64, text: Vec<u8>) -> Result<Vec<u8>, AllocError>
     ensures added { IfOk result (λ added. added.items ≡ text.items ++ end_text time) }
 {

@@ -25,7 +25,7 @@ pub(crate) struct Page {
 impl Page {
     /// What stands before the first event.
     ///
-    /// Fails with `Memory` alone.
+    /// Fails only with `Memory`.
     pub(crate) fn new(alloc: Global) -> Result<Page, AllocError>
         ensures begun { IfOk result (λ page. page.held.items ≡ head) }
     {
@@ -35,7 +35,7 @@ impl Page {
 
     /// Adds an event.
     ///
-    /// Fails with `Memory` alone; then what was held is lost.
+    /// Fails only with `Memory`; then what was held is lost.
     pub(crate) fn push(&mut self, event: &TraceEvent<'_>) -> Result<(), AllocError>
         ensures grown { OnOk result (Grows self.old self.new (option_to_list (slice_in event.now))) }
     {
@@ -46,7 +46,7 @@ impl Page {
 
     /// Adds what ends the document, at that time.
     ///
-    /// Fails with `Memory` alone; then what was held is lost.
+    /// Fails only with `Memory`; then what was held is lost.
     pub(crate) fn end(&mut self, time: u64) -> Result<(), AllocError>
         ensures added { OnOk result (self.new.held.items ≡ self.old.held.items ++ end_text time) }
     {
@@ -57,7 +57,7 @@ impl Page {
 
     /// Writes what is held where it is a block.
     ///
-    /// Fails with `Write` alone.
+    /// Fails only with `Write`.
     pub(crate) fn write_block<W: Write>(&mut self, writer: &mut W) -> Result<(), Refusal>
         ensures passed { OnOk result (Passes self.old self.new (W.contents writer.old) (W.contents writer.new)) }
     {
@@ -70,7 +70,7 @@ impl Page {
 
     /// Writes what is held.
     ///
-    /// Fails with `Write` alone.
+    /// Fails only with `Write`.
     pub(crate) fn write<W: Write>(&mut self, writer: &mut W) -> Result<(), Refusal>
         ensures written { OnOk result (Appends (W.contents writer.old) (W.contents writer.new) self.old.held.items) }
         ensures none { OnOk result (self.new.held.items ≡ []) }

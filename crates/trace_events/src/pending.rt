@@ -15,7 +15,7 @@ pub(crate) struct Pending {
 
 /// The fences that are pending, but for those that their driver has not numbered, which are none yet.
 ///
-/// Fails with `Memory` alone.
+/// Fails only with `Memory`.
 pub(crate) fn pending_of(alloc: Global, ledger: &Ledger) -> Result<Vec<Pending>, Refusal> {
     let mut pending = Vec::new(alloc);
     for (key, life) in ledger.lives().by_key().iter() {

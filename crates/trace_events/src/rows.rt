@@ -77,7 +77,7 @@ impl Rows {
     /// A row of the track on which each slice ended before this one begins: of several, the one that was left last, and a new
     /// one if there is none.
     ///
-    /// Fails with `Memory` alone.
+    /// Fails only with `Memory`.
     pub(crate) fn place(&mut self, track: Track, begin: u64, end: u64) -> Result<Place, Refusal> {
         let Ok((number, is_first)) = self.tracks.insert_full(track) else {
             return Err(Refusal::Memory);

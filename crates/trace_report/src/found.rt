@@ -75,7 +75,7 @@ pub(crate) struct Found {
 impl Found {
     /// What is pending at the end. Of the fences that hang each is there once, and no other.
     ///
-    /// Fails with `Memory` alone.
+    /// Fails only with `Memory`.
     pub(crate) fn new(alloc: Global, ledger: &Ledger) -> Result<Found, Refusal>
         ensures hangs { IfOk result (λ f. (steps : List Step) →
             IsLedgerOf ledger.now steps → AreHangs ledger.now steps f.hangs.items) }

@@ -22,7 +22,7 @@ pub(crate) struct Timelines {
 impl Timelines {
     /// Of the timelines of what was found.
     ///
-    /// Fails with `Memory` alone.
+    /// Fails only with `Memory`.
     pub(crate) fn new(alloc: Global, found: &Found) -> Result<Timelines, Refusal> {
         let mut timelines = Timelines {
             pending: IndexMap::new(alloc),

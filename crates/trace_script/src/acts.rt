@@ -95,7 +95,7 @@ impl Acts {
 
     /// Begins with the fences that are pending, in the order of their making.
     ///
-    /// Fails with `Memory` alone.
+    /// Fails only with `Memory`.
     pub(crate) fn begin(&mut self, alloc: Global, tracker: &Tracker) -> Result<(), Refusal> {
         let mut earlier = Vec::new(alloc);
         collect(&tracker.ledger, &mut earlier)?;
@@ -108,7 +108,7 @@ impl Acts {
 
     /// Takes in that this is known of the key after one of its events.
     ///
-    /// Fails with `Memory` alone.
+    /// Fails only with `Memory`.
     pub(crate) fn see(
         &mut self,
         alloc: Global,
@@ -134,7 +134,7 @@ impl Acts {
 
     /// Takes in that a task waits for the key.
     ///
-    /// Fails with `Memory` alone.
+    /// Fails only with `Memory`.
     pub(crate) fn wait(
         &mut self,
         key: &FenceKey,

@@ -41,7 +41,7 @@ impl SafeNames {
 
     /// The timeline's place, which gets one with a name if it has none.
     ///
-    /// Fails with `Memory` alone.
+    /// Fails only with `Memory`.
     pub(crate) fn place(
         &mut self,
         alloc: Global,

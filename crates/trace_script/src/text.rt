@@ -28,10 +28,9 @@ pub enum Scripted {
 
 /// Reads a trace up to the end of a window, and gives what happened in the window as a script.
 ///
-/// A timeline of the script stands for those of one name. Its points count the fences in the order in which they were signalled,
-/// and after these those that were not. A file stands for a fence, and is closed where that was destroyed. The fences that are
-/// pending where the window begins are made first. So each line is accepted, and the files that are pending at the end are those
-/// of the fences that are.
+/// A timeline of the script is all timelines of one name. Its points number the fences: signalled ones first, in the order of
+/// their signals, then the others. A file is a fence, and is closed when the fence was destroyed. Fences that are pending when
+/// the window begins are made first. So each line is accepted, and a file is pending at the end exactly if its fence is.
 ///
 /// Fails with `Read` if the reader fails, and with `Memory`.
 pub fn script_of_trace<R: Read>(

@@ -97,7 +97,7 @@ impl Contexts {
     /// Takes in an event, which so many others came before, and of whose key that was known, for sure or not. Gives what it
     /// is.
     ///
-    /// Fails with `Memory` alone, and then nothing has changed.
+    /// Fails only with `Memory`, and then nothing has changed.
     pub fn see(
         &mut self,
         sighting: &Sighting,

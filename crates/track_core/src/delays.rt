@@ -56,7 +56,7 @@ impl Delays {
 
     /// Counts a time.
     ///
-    /// Fails with `Memory` alone.
+    /// Fails only with `Memory`.
     pub fn add(&mut self, timeline: TimelineKey, time: u64) -> Result<(), Refusal> {
         let key = StepKey {
             timeline,

@@ -55,7 +55,7 @@ impl Ledger {
 
     /// Takes in an event. Gives what it came upon.
     ///
-    /// Fails with `Memory` alone; then it is not to be used further.
+    /// Fails only with `Memory`; then it is not to be used further.
     pub fn see(&mut self, sighting: &Sighting) -> Result<Sight, Refusal>
         ensures known { IfOk result (λ sight. (steps : List Step) →
             IsLedgerOf self.old steps → sight.life ≡ life_in steps sighting.now.key) }

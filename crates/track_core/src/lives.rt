@@ -49,7 +49,7 @@ impl Lives {
 
     /// Takes in an event, which so many others came before. Gives what was known of its key.
     ///
-    /// Fails with `Memory` alone; then it is not to be used further.
+    /// Fails only with `Memory`; then it is not to be used further.
     #[tactic(auto, unfolding(crate::specs::Lives::life_step))]
     pub fn see(&mut self, sighting: &Sighting, born: u64) -> Result<Life, Refusal>
         ensures known { IfOk result (λ own. own ≡ life_at self.old sighting.now.key) }

@@ -40,7 +40,7 @@ impl Names {
 
     /// The number of the name, which gets one if it has none.
     ///
-    /// Fails with `Memory` alone, at the latest when all numbers of 32 bits are given; then nothing has changed.
+    /// Fails only with `Memory`, at the latest when all numbers of 32 bits are given; then nothing has changed.
     pub fn number(&mut self, name: &[u8]) -> Result<u32, Refusal>
         ensures named { IfOk result (λ n. name_at self.new n ≡ Some name.now) }
         ensures kept { (n : ℕ) (other : List ℕ) → name_at self.old n ≡ Some other → name_at self.new n ≡ Some other }

@@ -68,7 +68,7 @@ impl Summary {
 
     /// Takes in a piece of the text.
     ///
-    /// Fails with `Memory` alone.
+    /// Fails only with `Memory`.
     pub fn take(&mut self, piece: &Piece<'_>) -> Result<(), Refusal> {
         self.bytes = self.bytes.saturating_add(piece.length as u64);
         self.lines = self.lines.saturating_add(piece.lines as u64);

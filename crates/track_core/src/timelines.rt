@@ -46,9 +46,9 @@ impl Timelines {
         &self.by_key
     }
 
-    /// Counts an event of the timeline of which that was found.
+    /// Counts one event of the timeline `key`, classified as `found`.
     ///
-    /// Fails with `Memory` alone, and then nothing has changed.
+    /// Fails only with `Memory`, and then nothing has changed.
     pub fn count(&mut self, key: TimelineKey, found: &Finding) -> Result<(), Refusal>
         ensures counted { OnOk result ((k : TimelineKey) → tally_at self.new k ≡
             (if same_timeline key k then tally_after found.now (tally_at self.old key) else tally_at self.old k)) }

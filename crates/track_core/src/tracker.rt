@@ -58,7 +58,7 @@ impl Tracker {
 
     /// Takes in the next piece of the text. Gives the event that it is a record of, where it is one.
     ///
-    /// Fails with `Memory` alone; then it is not to be used further.
+    /// Fails only with `Memory`; then it is not to be used further.
     pub fn take(&mut self, piece: &Piece<'_>) -> Result<Option<Seen>, Refusal>
         ensures more { OnOk result ((items : List Meaning) →
             Tracks self.old items → Tracks self.new (meaning_of piece.now.item ∷ items)) }
@@ -112,7 +112,7 @@ impl Tracker {
 
     /// The event, with its names by number.
     ///
-    /// Fails with `Memory` alone.
+    /// Fails only with `Memory`.
     fn sighting(&mut self, event: &Record<'_>) -> Result<Sighting, Refusal>
         ensures says { IfOk result (λ e. Says self.new.drivers self.new.timelines e (printed event.now)) }
         ensures drivers { Keeps self.old.drivers self.new.drivers }

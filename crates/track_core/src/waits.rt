@@ -109,7 +109,7 @@ impl Waits {
 
     /// A wait begins.
     ///
-    /// Fails with `Memory` alone.
+    /// Fails only with `Memory`.
     pub fn start(&mut self, sighting: &Sighting, task: TaskName) -> Result<(), Refusal> {
         let wait = Wait {
             pid: sighting.pid,
@@ -127,7 +127,7 @@ impl Waits {
 
     /// A wait ends, of a fence that is pending or not. Gives the wait, where its start was seen.
     ///
-    /// Fails with `Memory` alone.
+    /// Fails only with `Memory`.
     pub fn end(&mut self, sighting: &Sighting, is_pending: bool) -> Result<Option<Wait>, Refusal> {
         let next = self.next_key(sighting);
         let last = WaitKey {

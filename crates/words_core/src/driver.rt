@@ -39,7 +39,7 @@ impl Driver {
     /// Adds n to the context by one fetch_add, and answers its new value, as sw_sync's increment does; ours does not
     /// wrap.
     ///
-    /// Fails with `Overflow` alone, if the value would pass the greatest u64. No step is made then.
+    /// Fails only with `Overflow`, if the value would pass the greatest u64. No step is made then.
     pub fn inc(&mut self, words: &Words, n: u64) -> Result<u64, Refusal>
         requires own { self.old.seat.words ≡ words.now }
         ensures value { IfOk result (λ value. value ≡ self.old.value + n) }
@@ -72,7 +72,7 @@ impl Driver {
     /// cancelled, as those of a sw_sync timeline are by Linux's `sw_sync_debugfs_release`, and nobody advances it or closes
     /// it again.
     ///
-    /// Fails with `Overflow` alone, at the greatest value, if no point is left to cancel, and hands itself back. No step
+    /// Fails only with `Overflow`, at the greatest value, if no point is left to cancel, and hands itself back. No step
     /// is made then.
     pub fn close(self, words: &Words) -> Result<Seat, (Refusal, Driver)>
         requires own { self.seat.words ≡ words.now }

@@ -47,8 +47,8 @@ impl Seat {
         self.parts
     }
 
-    /// With all parts a seat has made every step on the words. Else it comes back with the number of parts that are
-    /// missing, for good if a seat was dropped.
+    /// A seat with all parts has made every step on the words. Otherwise returns the seat and the number of parts that are
+    /// missing. If a seat was dropped, its parts are missing for good.
     pub fn gather(self) -> Result<Whole, (Seat, u32)>
         ensures all { IfOk result (λ whole. (whole ≡ self) × (self.parts ≡ PARTS)) }
         ensures missing { IfErr result (λ e. (e.0 ≡ self) × (self.parts ≢ PARTS) × (e.1 + self.parts ≡ PARTS)) }

@@ -17,7 +17,7 @@ use point_core::{Context, Point, Reach, Refusal};
 impl Words {
     /// The right to advance a context, by one test-and-set of its claim.
     ///
-    /// Fails with `Exists` alone, from the second claim on that was ever made on the context, and hands the seat back.
+    /// Fails only with `Exists`, from the second claim on that was ever made on the context, and hands the seat back.
     /// If it is Ok, neither the seat nor those that it descends from knew of a claim.
     pub fn driver(&self, mut seat: Seat, ctx: Context) -> Result<Driver, (Refusal, Seat)>
         requires own { seat.words ≡ self.now }

@@ -18,7 +18,7 @@ use std::collections::HashMap;
 impl Device {
     /// Makes a buffer without fences, whose exports are stubs of that time.
     ///
-    /// Fails with `NoMemory` alone; nothing is made then.
+    /// Fails only with `NoMemory`; nothing is made then.
     pub fn buffer(&mut self, now: u64) -> Result<u64, Refusal>
         ensures number { IfOk result (λ n. (n ≡ self.old.next) × (self.new.next ≡ n + 1)) }
         ensures made { IfOk result (λ n. (q : ℕ) →

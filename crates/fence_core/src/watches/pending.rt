@@ -71,7 +71,7 @@ impl PendingWatches {
 
     /// Puts a watch in.
     ///
-    /// Fails with `Memory` alone, and then leaves all as it was.
+    /// Fails only with `Memory`, and then leaves all as it was.
     pub(super) fn insert(
         &mut self,
         registration: Registration,

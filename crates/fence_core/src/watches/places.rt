@@ -33,7 +33,7 @@ impl Places {
 
     /// Gives the watch of that cookie a place.
     ///
-    /// Fails with `Memory` alone, and then leaves all as it was.
+    /// Fails only with `Memory`, and then leaves all as it was.
     pub(super) fn insert(&mut self, cookie: u64, place: &WaitingPoint) -> Result<(), Refusal>
         ensures put { OnOk result ((q : ℕ) →
             place_at self.new q ≡ (if nat_eq cookie q then Some place.now else place_at self.old q)) }

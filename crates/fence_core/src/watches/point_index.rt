@@ -105,7 +105,7 @@ impl PointIndex {
 
     /// Puts a point in.
     ///
-    /// Fails with `Memory` alone, and then no point has gone and none has come.
+    /// Fails only with `Memory`, and then no point has gone and none has come.
     pub(super) fn put(&mut self, point: &Point, registration: Registration) -> Result<(), Refusal>
         requires above { 1 ≤ point.now.value }
         ensures put { OnOk result ((k : Waiting) →
@@ -131,7 +131,7 @@ impl PointIndex {
     /// Moves each watch that stands at or below the reach to a point above it. Only the contexts where the reach is
     /// above the floor are looked at.
     ///
-    /// Fails with `Memory` alone; some watches may then not have moved.
+    /// Fails only with `Memory`; some watches may then not have moved.
     pub(super) fn settle(
         &mut self,
         places: &mut Places,
@@ -301,7 +301,7 @@ impl PointIndex {
 
 /// Puts a point in, in the queue of its context.
 ///
-/// Fails with `Memory` alone, and then no point has gone and none has come.
+/// Fails only with `Memory`, and then no point has gone and none has come.
 fn insert(
     queues: &mut Vec<PointQueue>,
     alloc: Global,
@@ -323,7 +323,7 @@ fn insert(
 
 /// Makes a queue for each context up to this one that has none yet.
 ///
-/// Fails with `Memory` alone. No watch stands in a queue that is made.
+/// Fails only with `Memory`. No watch stands in a queue that is made.
 fn make_queues(queues: &mut Vec<PointQueue>, alloc: Global, ctx: Context) -> Result<(), Refusal>
     ensures same { (c : ℕ) → queue_at queues.new.items c ≡ queue_at queues.old.items c }
     ensures enough { OnOk result (ctx ≤ length queues.new.items) }

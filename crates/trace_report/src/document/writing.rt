@@ -36,7 +36,7 @@ impl Document {
 
     /// Adds the parts, one after another.
     ///
-    /// Fails with `Memory` alone.
+    /// Fails only with `Memory`.
     pub(crate) fn add(&mut self, parts: &[Part<'_>]) -> Result<(), AllocError>
         ensures grown { OnOk result (Grows self.old.text self.new.text) }
     {
@@ -45,7 +45,7 @@ impl Document {
 
     /// Adds a number.
     ///
-    /// Fails with `Memory` alone.
+    /// Fails only with `Memory`.
     pub(crate) fn add_number(&mut self, number: u64) -> Result<(), AllocError>
         ensures grown { OnOk result (Grows self.old.text self.new.text) }
     {
@@ -54,7 +54,7 @@ impl Document {
 
     /// Adds members that are numbers.
     ///
-    /// Fails with `Memory` alone.
+    /// Fails only with `Memory`.
     pub(crate) fn add_numbers(&mut self, members: &[(&str, u64)]) -> Result<(), AllocError>
         ensures grown { OnOk result (Grows self.old.text self.new.text) }
     {
@@ -109,7 +109,7 @@ fn with_line_feed(text: Vec<u8>) -> Result<Vec<u8>, AllocError>
 
 /// Writes what is held where it is a block. Gives what is held after it.
 ///
-/// Fails with `Write` alone.
+/// Fails only with `Write`.
 fn write_block<W: Write>(held: Vec<u8>, writer: &mut W) -> Result<Vec<u8>, Refusal>
     ensures passed { IfOk result (λ rest. Passes held.items rest.items (W.contents writer.old) (W.contents writer.new)) }
 {

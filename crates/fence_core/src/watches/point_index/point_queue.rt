@@ -48,7 +48,7 @@ impl PointQueue {
 
     /// Puts a watch in.
     ///
-    /// Fails with `Memory` alone, and then leaves all as it was.
+    /// Fails only with `Memory`, and then leaves all as it was.
     pub(super) fn put(&mut self, watch: &Standing) -> Result<(), Refusal>
         ensures put { OnOk result ((s : Stands) → has self.new s ≡ (is_alike watch.now s || has self.old s)) }
         ensures low { OnOk result ((value : ℕ) → is_low value watch.now ≡ false →
