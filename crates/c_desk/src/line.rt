@@ -12,7 +12,7 @@ use report_core::{TEXT_LINE_BYTES, TextLine};
 use script_core::{done_line, print, refusal_line, value_line};
 use std::alloc::Global;
 
-/// A line's number in the text of its refusal, which is that of a script of this line alone.
+/// A line's number in the text of its refusal: a script of only this line would give it that number.
 pub const LINE: u32 = 1;
 
 /// The least room of an answer: the text of one without rows fits into it, with its NUL.

@@ -6,7 +6,7 @@ pub enum CheckForm {
     /// A line for each answer that differs and for each script that does not pass, and the counts. File names and line numbers
     /// may be in bold.
     Lines { bold: bool },
-    /// The counts alone.
+    /// Only the counts.
     Counts,
     /// The Test Anything Protocol, in that version: a test for each script, with the answers that differ.
     Tap(u64),

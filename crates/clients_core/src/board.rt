@@ -21,7 +21,7 @@ use std::marker::Model;
 use std::sync::Wait;
 use words_core::{Seat, Whole, Words, WordsId};
 
-/// A table of words alone: a buffer's entry for a context and a usage is raised to each point that is put, by one step, and
+/// A table that is only words: a buffer's entry for a context and a usage is raised to each point that is put, by one step, and
 /// shows the latest. No call takes a lock or waits.
 #[derive(Drop)]
 pub struct Board {

@@ -57,7 +57,7 @@ pub struct Draw<'a> {
 pub enum Report {
     /// Each answer that differs, each script that does not pass, and the counts.
     All,
-    /// The counts alone.
+    /// Only the counts.
     Counts,
     /// Tests of the Test Anything Protocol.
     Tap,

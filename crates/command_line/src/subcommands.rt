@@ -24,7 +24,7 @@ pub(crate) enum ArgumentForm {
     File,
     /// Files and folders, or else standard input.
     Paths,
-    /// Its name alone.
+    /// An option without a value.
     Flag,
     /// An option with a value; the string is its metavariable.
     Option(&'static str),

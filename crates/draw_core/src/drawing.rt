@@ -36,7 +36,7 @@ impl Drawing {
         self.run.history()
     }
 
-    /// The picture as a document of SVG, which stands alone.
+    /// The picture as a complete SVG document.
     ///
     /// Fails only with `Memory`.
     pub fn svg(&self, alloc: Global) -> Result<Vec<u8>, Refusal> {

@@ -1,6 +1,6 @@
 //! A script's run for its picture: its history column by column, and what waits for what at its end.
 //!
-//! What is drawn comes from the desk and its answers alone.
+//! A drawing is made only of the desk and its answers.
 #![tactic(auto)]
 
 mod asking;

@@ -21,7 +21,7 @@ use words_core::{Once, Seat, Won, Words, WordsId};
 /// A fence that threads share, with a flag of its own, after Linux's `dma_fence_signal`: the one call that sets the
 /// flag takes the callbacks.
 ///
-/// It is the caller's duty that the flag is given to no other fence, and set by this fence's `signal` alone.
+/// The caller must give the flag to no other fence, and must let only this fence's `signal` set it.
 #[derive(Drop)]
 pub struct SharedFence {
     fence: Fence,

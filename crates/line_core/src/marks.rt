@@ -101,7 +101,7 @@ fn half_lane_marks(bytes: &[u8], start: usize) -> u64
         .to_bitmask()
 }
 
-/// Where the first word begins. The bytes are for the contract alone, here and below.
+/// Where the first word begins. Only the contract uses the bytes, here and below.
 pub(crate) fn marked_start(bytes: &[u8], marks: u64) -> Option<usize>
     requires marks { HasMarks bytes.now marks }
     ensures place { result ≡ position (λ b. not (is_space b)) bytes.now }

@@ -67,7 +67,7 @@ fn wide_lane_feeds(bytes: &[u8], start: usize) -> u64
         .to_bitmask()
 }
 
-/// The first line, if its line feed was seen. The bytes are for the contract alone, here and below.
+/// The first line, if its line feed was seen. Only the contract uses the bytes, here and below.
 #[inline(always)]
 pub(crate) fn first_scanned(bytes: &[u8], scan: &Scan) -> Option<ScannedLine>
     requires scanned { IsScanOf bytes.now scan.now }

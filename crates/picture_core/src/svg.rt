@@ -11,7 +11,7 @@ use crate::word::{letter_of, word_of_heading, words_of};
 use point_core::{Name, Refusal};
 use std::alloc::{AllocError, Global};
 
-/// The picture of a history as a document of SVG, which stands alone.
+/// The picture of a history as a complete SVG document.
 ///
 /// Fails only with `Memory`.
 pub fn svg_text(alloc: Global, picture: &Picture, history: &History) -> Result<Vec<u8>, Refusal> {

@@ -96,7 +96,7 @@ impl LatestPoints {
         }
     }
 
-    /// The latest points that are above the reach, by rising context, in memory for these alone.
+    /// The latest points that are above the reach, by rising context, in memory for exactly these.
     pub fn points(&self, alloc: Global, reach: &Reach) -> Result<Vec<Point>, Refusal>
         ensures points { IfOk result (λ ps. ps.items ≡ points_above self.now reach.now) }
         ensures memory { IfErr result (λ e. e ≡ Refusal.Memory) }

@@ -48,7 +48,7 @@ impl Model for TextLine {
 }
 
 impl TextLine {
-    /// The line feed alone.
+    /// Only the line feed.
     #[inline(always)]
     pub fn new() -> Self
         ensures { result ≡ 10 ∷ [] }

@@ -23,8 +23,8 @@ use words_core::{Seat, Whole, Words};
 /// Buffers that clients share by reference, beside the words of their timelines. Each call is made with the caller's
 /// seat, whose words and parts it keeps; the seat's trace only grows.
 ///
-/// Every table is made for one set of words, by `empty`, and is used with these words and their seats alone. What it says of a
-/// put, of an export and of what it settles, beside what all tables do, is its own: a board, which is words alone, has a step
+/// Every table is made for one set of words, by `empty`, and is used only with these words and their seats. What it says of a
+/// put, of an export and of what it settles, beside what all tables do, is its own: a board, which is only words, has a step
 /// for each put and look in the seat's trace.
 pub trait SharedTable: Sync + Sized + Drop {
     ghost made_for: { Self → WordsModel };
@@ -47,7 +47,7 @@ pub trait SharedTable: Sync + Sized + Drop {
 
     /// Puts a fence into a buffer.
     ///
-    /// Fails with `Torn`, if table and words don't belong together, and with `Memory`, alone.
+    /// Fails only with `Torn`, if table and words don't belong together, and with `Memory`.
     fn put<R: Wait>(
         &self,
         rt: &R,
@@ -117,7 +117,7 @@ pub trait SharedTable: Sync + Sized + Drop {
     /// The values that the gathered seat knows, and the tables of the plans above them.
     ///
     /// Fails with `Torn` if a context is closed, since a floor that was loaded then is the greatest value, above the
-    /// gathered one; with `Torn` if what was put is not what the plans put; and with `Memory`, alone.
+    /// gathered one; with `Torn` if the plans put something else than what was put; and with `Memory`.
     fn settle<R: Wait>(
         &self,
         rt: &R,

@@ -19,7 +19,7 @@ pub(crate) fn draw(rt: &HostRuntime, asked: &Draw<'_>) -> Result<u8, Refusal> {
     }
 }
 
-// What owns much stands alone in its function, which hands on a reference to it.
+// A function that owns much memory only hands on a reference to it.
 
 fn draw_lines(rt: &HostRuntime, asked: &Draw<'_>, window: &Window) -> Result<u8, Refusal> {
     let script = script_of(rt, asked.script)?;

@@ -30,7 +30,7 @@ fn losses(bytes: &[u8]) -> Option<Option<u64>>
     }
 }
 
-/// The number, where the text alone follows it.
+/// The number, if only the text follows it.
 #[tactic(auto, unfolding(crate::specs::Loss::counted))]
 fn counted(bytes: &[u8], text: &str) -> Option<Option<u64>>
     ensures counted { result ≡ counted bytes.now text.now }

@@ -58,7 +58,7 @@ impl Finding {
         }
     }
 
-    /// Whether nothing was found of it, so that it counts by its kind alone.
+    /// Whether nothing else was found of the event, so that it only counts by its kind.
     #[inline(always)]
     #[tactic(auto, unfolding(crate::specs::Finding::is_plain))]
     pub fn is_plain(&self) -> bool

@@ -6,7 +6,7 @@ ghost use Rattle.track_core.specs.Points.{are_none, is_only, points_after};
 #[derive(Clone, Copy, Debug)]
 pub enum Points {
     None,
-    /// This one alone.
+    /// Only this seqno.
     One(u32),
     Several,
 }

@@ -12,7 +12,7 @@ pub const PARTS: u32 = 65_536;
 const _: () = prove!(PARTS == 65_536);
 
 /// A thread's right to step on a set of words, with a trace of its steps and a start, what its parent had seen when it
-/// was parted. Both are seen by contracts alone: a seat has no bytes but its number of parts.
+/// was parted. Both are ghost state: at run time a seat is only its number of parts.
 #[derive(Drop)]
 pub struct Seat {
     pub(crate) token: atomic_table::Seat<(), View>,

@@ -157,7 +157,7 @@ impl Words {
         self.split::<Brand>(seat, n)
     }
 
-    // A split has a ghost number of parts, since what it leaves is a function of the view alone. `part` calls it with
+    // A split has a ghost number of parts, since what it leaves is a function of only the view. `part` calls it with
     // `Brand`, and its proof picks that number.
     fn split<N: PartCount>(&self, seat: &mut Seat, n: u32) -> Seat
         requires own { seat.old.words ≡ self.now }
@@ -186,7 +186,7 @@ impl Words {
     }
 
     // The join, and a second load of word 0, which shows that the parts are no more than all and each word won once
-    // at most: a join alone shows its caller nothing of the rule.
+    // at most: a join by itself shows its caller nothing of the rule.
     fn absorb(&self, seat: &mut Seat, other: Seat)
         requires own { (seat.old.words ≡ self.now) × (other.words ≡ self.now) }
         ensures both { seat.new ≡ both_of seat.old other }
