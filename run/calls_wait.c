@@ -1,114 +1,157 @@
-/* poll(2), select(2) and epoll_wait(2) are the kernel's. In a trace, the waits of the first two are noted. */
+/* poll(2), select(2) and epoll_wait(2) are the kernel's. In a trace, the waits of the first two are noted. What they report
+ * once the service is gone looks like a signal, and isn't believed. */
 #define _GNU_SOURCE
 #include "calls.h"
 #include "shim.h"
 #include "shuffle.h"
+#include "user.h"
 
 #include <errno.h>
 #include <poll.h>
+#include <stdio.h>
 #include <sys/epoll.h>
 #include <sys/select.h>
 
 enum { NOTED = 64 };
 
+/* Whether something is to be done before a wait. */
+static bool prepares_waits(void)
+{
+    return shim_is_traced() || shim_is_local();
+}
+
 /* Notes the waits of a poll that begin, and returns which these are, of the first 64. */
 static uint64_t begin_waits(const struct pollfd *files, nfds_t count)
 {
+    struct pollfd copy[NOTED];
     uint64_t noted = 0;
 
     shim_before_wait();
-    if (!shim_is_traced())
+    count = count < NOTED ? count : NOTED;
+    if (!shim_is_traced() || user_get(copy, files, count * sizeof *files))
         return 0;
-    for (nfds_t i = 0; i < count && i < NOTED; i++)
-        if (files[i].events & POLLIN && shim_wait(files[i].fd, true))
+    for (nfds_t i = 0; i < count; i++)
+        if (copy[i].events & POLLIN && shim_wait(copy[i].fd, true))
             noted |= (uint64_t)1 << i;
     return noted;
 }
 
 static void end_waits(const struct pollfd *files, uint64_t noted)
 {
-    int before = errno;
+    int before;
 
     shuffle_pause();
     if (!noted)
         return;
+    before = errno;
     for (int i = 0; i < NOTED; i++)
         if (noted >> i & 1)
             shim_wait(files[i].fd, false);
     errno = before;
 }
 
-EXPORT int poll(struct pollfd *files, nfds_t count, int milliseconds)
+/* What a call that waits does after the kernel's answer. */
+static int after_poll(const struct pollfd *files, nfds_t count, uint64_t noted, int result)
 {
-    NEXT(poll);
-    uint64_t noted = milliseconds != 0 ? begin_waits(files, count) : 0;
-    int result = next(files, count, milliseconds);
-
     end_waits(files, noted);
+    if (result > 0)
+        shim_look_for_loss(files, count);
     return result;
 }
 
 static bool waits(const struct timespec *limit)
 {
-    return !limit || limit->tv_sec != 0 || limit->tv_nsec != 0;
+    struct timespec copy;
+
+    if (!prepares_waits())
+        return false;
+    return !limit || (user_get(&copy, limit, sizeof copy) == 0 && (copy.tv_sec != 0 || copy.tv_nsec != 0));
 }
 
-EXPORT int ppoll(struct pollfd *files, nfds_t count, const struct timespec *limit, const sigset_t *mask)
-{
-    NEXT(ppoll);
-    uint64_t noted = waits(limit) ? begin_waits(files, count) : 0;
-    int result = next(files, count, limit, mask);
+#define POLL(name, parameters, arguments, may_wait)                                       \
+    int name parameters;                                                                  \
+    EXPORT int name parameters                                                            \
+    {                                                                                     \
+        NEXT(name);                                                                       \
+        uint64_t noted = (may_wait) && prepares_waits() ? begin_waits(files, count) : 0;  \
+                                                                                          \
+        return after_poll(files, count, noted, next arguments);                           \
+    }
 
-    end_waits(files, noted);
-    return result;
-}
-
+POLL(poll, (struct pollfd *files, nfds_t count, int milliseconds), (files, count, milliseconds), milliseconds != 0)
+POLL(ppoll, (struct pollfd *files, nfds_t count, const struct timespec *limit, const sigset_t *mask),
+     (files, count, limit, mask), waits(limit))
 /* What fortified programs call. */
-int __poll_chk(struct pollfd *files, nfds_t count, int milliseconds, size_t room);
-int __ppoll_chk(struct pollfd *files, nfds_t count, const struct timespec *limit, const sigset_t *mask, size_t room);
+POLL(__poll_chk, (struct pollfd *files, nfds_t count, int milliseconds, size_t room), (files, count, milliseconds, room),
+     milliseconds != 0)
+POLL(__ppoll_chk,
+     (struct pollfd *files, nfds_t count, const struct timespec *limit, const sigset_t *mask, size_t room),
+     (files, count, limit, mask, room), waits(limit))
 
-EXPORT int __poll_chk(struct pollfd *files, nfds_t count, int milliseconds, size_t room)
-{
-    NEXT(__poll_chk);
-    uint64_t noted = milliseconds != 0 ? begin_waits(files, count) : 0;
-    int result = next(files, count, milliseconds, room);
-
-    end_waits(files, noted);
-    return result;
-}
-
-EXPORT int __ppoll_chk(struct pollfd *files, nfds_t count, const struct timespec *limit, const sigset_t *mask,
-                       size_t room)
-{
-    NEXT(__ppoll_chk);
-    uint64_t noted = waits(limit) ? begin_waits(files, count) : 0;
-    int result = next(files, count, limit, mask, room);
-
-    end_waits(files, noted);
-    return result;
-}
-
-/* The descriptors of a set, as a poll has them. */
-static nfds_t files_of(const fd_set *set, int count, struct pollfd *files)
+/* The descriptors of a set from one on, as a poll has them. Stores that after the last. */
+static nfds_t files_of(const fd_set *set, int *from, int count, struct pollfd *files)
 {
     nfds_t found = 0;
 
-    for (int file = 0; set && file < count && found < NOTED; file++)
-        if (FD_ISSET(file, set))
-            files[found++] = (struct pollfd){ file, POLLIN, 0 };
+    for (; set && *from < count && found < NOTED; ++*from)
+        if (FD_ISSET(*from, set))
+            files[found++] = (struct pollfd){ *from, POLLIN, 0 };
     return found;
+}
+
+/* The same of a set that may be anywhere. */
+static nfds_t files_before(const fd_set *set, int count, struct pollfd *files)
+{
+    fd_set copy;
+    int from = 0;
+
+    count = count < FD_SETSIZE ? count : FD_SETSIZE;
+    if (!set || count <= 0 || user_get(&copy, set, (size_t)(count + 63) / 64 * 8))
+        return 0;
+    return files_of(&copy, &from, count, files);
+}
+
+/* A select reports no hang-up as such. */
+static void look_at_set(const fd_set *set, int count)
+{
+    struct pollfd files[NOTED];
+    nfds_t found;
+
+    for (int from = 0; (found = files_of(set, &from, count, files)) > 0;)
+        if (call_poll(files, found, 0) > 0)
+            shim_look_for_loss(files, found);
+}
+
+static int after_select(int count, const fd_set *readable, const fd_set *writable, const struct pollfd *files,
+                        uint64_t noted, int result)
+{
+    int before = errno;
+
+    end_waits(files, noted);
+    if (result > 0 && shim_is_on()) {
+        look_at_set(readable, count);
+        look_at_set(writable, count);
+    }
+    errno = before;
+    return result;
+}
+
+static bool waits_until(const struct timeval *limit)
+{
+    struct timeval copy;
+
+    if (!prepares_waits())
+        return false;
+    return !limit || (user_get(&copy, limit, sizeof copy) == 0 && (copy.tv_sec != 0 || copy.tv_usec != 0));
 }
 
 EXPORT int select(int count, fd_set *readable, fd_set *writable, fd_set *others, struct timeval *limit)
 {
     NEXT(select);
     struct pollfd files[NOTED];
-    bool may_wait = !limit || limit->tv_sec || limit->tv_usec;
-    uint64_t noted = may_wait ? begin_waits(files, files_of(readable, count, files)) : 0;
-    int result = next(count, readable, writable, others, limit);
+    uint64_t noted = waits_until(limit) ? begin_waits(files, files_before(readable, count, files)) : 0;
 
-    end_waits(files, noted);
-    return result;
+    return after_select(count, readable, writable, files, noted, next(count, readable, writable, others, limit));
 }
 
 EXPORT int pselect(int count, fd_set *readable, fd_set *writable, fd_set *others, const struct timespec *limit,
@@ -116,44 +159,75 @@ EXPORT int pselect(int count, fd_set *readable, fd_set *writable, fd_set *others
 {
     NEXT(pselect);
     struct pollfd files[NOTED];
-    uint64_t noted = waits(limit) ? begin_waits(files, files_of(readable, count, files)) : 0;
-    int result = next(count, readable, writable, others, limit, mask);
+    uint64_t noted = waits(limit) ? begin_waits(files, files_before(readable, count, files)) : 0;
 
-    end_waits(files, noted);
-    return result;
+    return after_select(count, readable, writable, files, noted, next(count, readable, writable, others, limit, mask));
 }
+
+static _Atomic bool is_watched; /* something of ours, by a set of epoll */
 
 /* Linux's epoll takes nothing that has no poll of its own, and a timeline has none. */
 EXPORT int epoll_ctl(int set, int how, int file, struct epoll_event *event)
 {
     NEXT(epoll_ctl);
+    enum bim_mark mark;
     uint64_t inode;
 
-    if (how == EPOLL_CTL_ADD && shim_mark(file, &inode) == BIM_TIMELINE_MARK)
+    if (how != EPOLL_CTL_ADD)
+        return next(set, how, file, event);
+    mark = shim_mark(file, &inode);
+    if (mark == BIM_TIMELINE_MARK)
         return shim_result(EPERM);
+    if (mark)
+        is_watched = true;
     return next(set, how, file, event);
 }
 
-EXPORT int epoll_wait(int set, struct epoll_event *events, int room, int milliseconds)
+/* An event doesn't say of which descriptor it is, but /proc says which are in the set. */
+static void look_at_watched(int set)
 {
-    NEXT(epoll_wait);
-    int result;
+    char path[64], line[256];
+    struct pollfd watched = { -1, 0, 0 };
+    FILE *text;
 
-    if (milliseconds != 0)
-        shim_before_wait();
-    result = next(set, events, room, milliseconds);
+    snprintf(path, sizeof path, "/proc/self/fdinfo/%d", set);
+    text = fopen(path, "re");
+    while (text && fgets(line, sizeof line, text))
+        if (sscanf(line, "tfd: %d", &watched.fd) == 1 && call_poll(&watched, 1, 0) > 0)
+            shim_look_for_loss(&watched, 1);
+    if (text)
+        fclose(text);
+}
+
+static int after_epoll(int set, const struct epoll_event *events, int result)
+{
+    int before = errno;
+    bool has_hung_up = false;
+
+    for (int i = 0; is_watched && i < result; i++)
+        has_hung_up |= (events[i].events & EPOLLHUP) != 0;
+    if (has_hung_up)
+        look_at_watched(set);
     shuffle_pause();
+    errno = before;
     return result;
 }
 
-EXPORT int epoll_pwait(int set, struct epoll_event *events, int room, int milliseconds, const sigset_t *mask)
-{
-    NEXT(epoll_pwait);
-    int result;
+#define EPOLL(name, parameters, arguments, may_wait)     \
+    int name parameters;                                 \
+    EXPORT int name parameters                           \
+    {                                                    \
+        NEXT(name);                                      \
+                                                         \
+        if (may_wait)                                    \
+            shim_before_wait();                          \
+        return after_epoll(set, events, next ? next arguments : shim_result(ENOSYS)); \
+    }
 
-    if (milliseconds != 0)
-        shim_before_wait();
-    result = next(set, events, room, milliseconds, mask);
-    shuffle_pause();
-    return result;
-}
+EPOLL(epoll_wait, (int set, struct epoll_event *events, int room, int milliseconds), (set, events, room, milliseconds),
+      milliseconds != 0)
+EPOLL(epoll_pwait, (int set, struct epoll_event *events, int room, int milliseconds, const sigset_t *mask),
+      (set, events, room, milliseconds, mask), milliseconds != 0)
+EPOLL(epoll_pwait2,
+      (int set, struct epoll_event *events, int room, const struct timespec *limit, const sigset_t *mask),
+      (set, events, room, limit, mask), waits(limit))

@@ -59,7 +59,7 @@ int shim_above_own(void);
 _Noreturn void shim_lost(const char *why);
 /* Nobody but the service has the other end of a descriptor of ours: once that is closed, the service is gone. */
 _Noreturn void shim_lose_service(void);
-/* To be called after a poll, before the program takes that for a signal. */
+/* To be called after a poll, before the program takes a hang-up for a signal. */
 void shim_look_for_loss(const struct pollfd *files, nfds_t count);
 
 /* What is this process's alone: a child begins with zeros, as the kernel wipes it. */
