@@ -2,15 +2,30 @@
 #include "ends.h"
 
 #include "calls.h"
+#include "page.h"
 
 #include <errno.h>
 #include <fcntl.h>
 #include <poll.h>
+#include <linux/magic.h>
 #include <sys/socket.h>
+#include <sys/vfs.h>
 #include <unistd.h>
 
 /* What fills the least room that a socket's queue can have, so that it isn't writable. */
 enum { QUEUE_BYTES = 2048 };
+
+/* Of a number: the bits that are always 1, and 0. */
+#define NUMBER_SIGN  ((uint64_t)1 << 63)
+#define NUMBER_SPARE ((uint64_t)3 << 62)
+
+/* Headers that are older than Linux 5.7, and those of C libraries, lack these. */
+#ifndef PIPEFS_MAGIC
+#define PIPEFS_MAGIC 0x50495045
+#endif
+#ifndef SOCKFS_MAGIC
+#define SOCKFS_MAGIC 0x534F434B
+#endif
 
 static int give_up(struct ends *ends, int error)
 {
@@ -18,13 +33,32 @@ static int give_up(struct ends *ends, int error)
     return error;
 }
 
+/* Draws a number that nobody guesses, neither 0 nor BIM_ANY. The low bits count, so that the slots of a page fill in
+ * turn. Returns 0 or an errno. */
+static int draw(uint64_t *number)
+{
+    static uint64_t count;
+    uint64_t drawn;
+
+    if (syscall(SYS_getrandom, &drawn, sizeof drawn, 0) != (long)sizeof drawn)
+        return errno;
+    *number = NUMBER_SIGN | (drawn / PAGE_SLOTS * PAGE_SLOTS & ~NUMBER_SPARE) | count++ % PAGE_SLOTS;
+    return 0;
+}
+
+/* The number of an object is the time of the last access of its inode, which each copy of a descriptor shows. Polls and
+ * writes don't change it, and no program reads what is ours. */
 static int mark_ends(struct ends *ends, enum bim_mark mark)
 {
-    struct stat found;
+    struct timespec times[2] = { { .tv_nsec = 0 }, { .tv_nsec = UTIME_OMIT } };
+    int error = draw(&ends->inode);
 
-    if (fchmod(ends->theirs, mark & ~S_IFMT) || call_fstat(ends->theirs, &found))
+    if (error)
+        return give_up(ends, error);
+    times[0].tv_sec = (time_t)ends->inode;
+    if (syscall(SYS_utimensat, ends->theirs, NULL, times, 0) ||
+        syscall(SYS_fchmod, ends->theirs, mark & ~S_IFMT))
         return give_up(ends, errno);
-    ends->inode = found.st_ino;
     return 0;
 }
 
@@ -49,8 +83,8 @@ int ends_sockets(struct ends *ends)
     error = mark_ends(ends, BIM_BUFFER_MARK);
     if (error)
         return error;
-    if (setsockopt(ends->theirs, SOL_SOCKET, SO_SNDBUF, &least, sizeof least) ||
-        fchmod(ends->ours, BIM_BUFFER_END_MARK & ~S_IFMT))
+    if (syscall(SYS_setsockopt, ends->theirs, SOL_SOCKET, SO_SNDBUF, &least, sizeof least) ||
+        syscall(SYS_fchmod, ends->ours, BIM_BUFFER_END_MARK & ~S_IFMT))
         return give_up(ends, errno);
     return 0;
 }
@@ -69,23 +103,40 @@ bool end_is_alone(int ours)
     return call_poll(&end, 1, 0) == 1 && end.revents & (POLLERR | POLLHUP);
 }
 
+/* Whether a descriptor is on the file system of the kernel's own pipes, or sockets, whose device the first one tells:
+ * what has a name is on another. */
+static bool is_nameless(int file, dev_t device, long kind, _Atomic dev_t *known)
+{
+    struct statfs found;
+
+    if (*known)
+        return device == *known;
+    if (syscall(SYS_fstatfs, file, &found) || found.f_type != kind)
+        return false;
+    *known = device;
+    return true;
+}
+
 enum bim_mark end_mark(int file, uint64_t *inode)
 {
+    static _Atomic dev_t pipes, sockets;
     struct stat found;
+    bool is_ours;
 
     if (call_fstat(file, &found) || !(found.st_mode & S_ISVTX))
         return 0;
-    *inode = found.st_ino;
+    *inode = (uint64_t)found.st_atim.tv_sec;
     switch (found.st_mode) {
     case BIM_TIMELINE_MARK:
-    case BIM_FILE_MARK:
+    case BIM_FILE_MARK: is_ours = is_nameless(file, found.st_dev, PIPEFS_MAGIC, &pipes); break;
     case BIM_BUFFER_MARK:
-    case BIM_BUFFER_END_MARK:
+    case BIM_BUFFER_END_MARK: is_ours = is_nameless(file, found.st_dev, SOCKFS_MAGIC, &sockets); break;
     case BIM_MEMORY_MARK:
     case BIM_HEAP_MARK:
-    case BIM_UDMABUF_MARK: return found.st_mode;
-    default: return 0;
+    case BIM_UDMABUF_MARK: is_ours = found.st_nlink == 0; break;
+    default: is_ours = false; break;
     }
+    return is_ours ? found.st_mode : 0;
 }
 
 bool end_is_ours(int file)

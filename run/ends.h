@@ -4,7 +4,8 @@
  * file readable for good, so the kernel's own poll, select and epoll report it. A timeline has one from the start. A
  * buffer is a socket, and the service holds its peer: a byte sent to it makes it readable, and taking what it sent
  * makes it writable. Once the last copy of a program's end is closed, in whatever process, the service's end reports
- * POLLERR or POLLHUP. The inode is the object's identity. */
+ * POLLERR or POLLHUP. The object's number, which is drawn for it, is kept in the inode: whoever has a descriptor, and
+ * nobody else, can name the object. */
 #ifndef BIM_RUN_ENDS_H
 #define BIM_RUN_ENDS_H
 
@@ -15,7 +16,7 @@
 
 struct ends {
     int theirs, ours;
-    uint64_t inode;
+    uint64_t inode; /* the number in it */
 };
 
 /* Make a pair, marked as the mode says. Return 0 or an errno. */
@@ -25,7 +26,7 @@ void ends_close(struct ends *ends);
 
 /* Whether all copies of a program's end are closed. */
 bool end_is_alone(int ours);
-/* The mark and inode of a descriptor: 0 if it has no mark of ours. */
+/* The mark of a descriptor, and the number in its inode: 0 if it has no mark of ours. */
 enum bim_mark end_mark(int file, uint64_t *inode);
 
 /* Whether a descriptor is an end of the service's. */

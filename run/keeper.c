@@ -64,29 +64,20 @@ void keeper_forget(struct keeper *keeper, struct object *object)
         map_remove(&keeper->by_number, object->number);
     if (object->kind == TIMELINE && object->line)
         record_forget(object->line);
-    if (object->inode) {
+    if (object->inode)
         map_remove(&keeper->by_inode, object->inode);
-        page_drop(keeper->page, object->inode);
-    }
     if (object->end >= 0)
         call_close(object->end);
     free(object);
 }
 
-/* Makes the pair of an object, with an inode that no other has. */
-static int make_ends(struct keeper *keeper, enum kind kind, struct ends *ends)
+static int make_ends(enum kind kind, struct ends *ends)
 {
-    struct ends taken;
-    int error =
-        kind == BUFFER ? ends_sockets(ends) : ends_pipe(ends, kind == TIMELINE ? BIM_TIMELINE_MARK : BIM_FILE_MARK);
-
-    if (error || !keeper_find(keeper, ends->inode))
-        return error;
-    /* The kernel's numbers of inodes have 32 bits, and come again. */
-    taken = *ends;
-    error = make_ends(keeper, kind, ends);
-    ends_close(&taken);
-    return error;
+    switch (kind) {
+    case BUFFER: return ends_sockets(ends);
+    case TIMELINE: return ends_pipe(ends, BIM_TIMELINE_MARK);
+    default: return ends_pipe(ends, BIM_FILE_MARK);
+    }
 }
 
 static int make_placed_ends(struct keeper *keeper, enum kind kind, struct ends *ends)
@@ -94,7 +85,7 @@ static int make_placed_ends(struct keeper *keeper, enum kind kind, struct ends *
     int error;
 
     keeper->host->begin_files();
-    error = make_ends(keeper, kind, ends);
+    error = make_ends(kind, ends);
     if (!error && keeper->host->may_give(ends->theirs)) {
         ends->ours = keeper->host->place(ends->ours);
     } else if (!error) {

@@ -62,18 +62,6 @@ void page_put(struct bim_page *page, uint64_t inode, const struct bim_answer *an
     atomic_fetch_add_explicit(&slot->turn, 1, memory_order_release);
 }
 
-void page_drop(struct bim_page *page, uint64_t inode)
-{
-    struct page_slot *slot = &page->slots[slot_of(inode)];
-
-    if (slot->inode != inode)
-        return;
-    atomic_fetch_add_explicit(&slot->turn, 1, memory_order_acq_rel);
-    atomic_thread_fence(memory_order_release);
-    slot->inode = 0;
-    atomic_fetch_add_explicit(&slot->turn, 1, memory_order_release);
-}
-
 bool page_get(const struct bim_page *page, uint64_t inode, struct bim_answer *answer)
 {
     const struct page_slot *slot = &page->slots[slot_of(inode)];

@@ -12,7 +12,7 @@
 
 enum { PAGE_SLOTS = 4096 };
 
-/* Of a file that has signalled, with one fence. A later file takes the place of an earlier one. */
+/* Of a file that has signalled, with one fence. A later file takes the place of an earlier one; no number comes again. */
 struct page_slot {
     _Atomic uint32_t turn; /* odd while it is written */
     int32_t status;
@@ -33,7 +33,6 @@ const struct bim_page *page_open(int memory);
 void page_close(struct bim_page *page);
 
 void page_put(struct bim_page *page, uint64_t inode, const struct bim_answer *answer);
-void page_drop(struct bim_page *page, uint64_t inode);
 /* Stores what was reported of a file, if it is there, and returns whether it is. */
 bool page_get(const struct bim_page *page, uint64_t inode, struct bim_answer *answer);
 

@@ -20,12 +20,12 @@ static unsigned pick(unsigned below)
 /* What messages are about, and the descriptors that go with them. */
 static int timelines[2], files[2], buffers[2], others[2];
 
-static __u64 some_inode(void)
+static __u64 some_number(void)
 {
     int *all[] = { timelines, files, buffers, others };
 
     /* A random one is so great that no other process has it. */
-    return pick(8) == 0 ? (__u64)pick(1u << 31) << 32 : inode_of(all[pick(4)][pick(2)]);
+    return pick(8) == 0 ? (__u64)pick(1u << 31) << 32 : number_of(all[pick(4)][pick(2)]);
 }
 
 /* A request that a client could send. */
@@ -33,8 +33,8 @@ static struct bim_request good(void)
 {
     struct bim_request request = { .op = pick(BIM_OPS + 2), .value = pick(40), .flags = pick(5), .size = pick(9000) };
 
-    request.a = some_inode();
-    request.b = some_inode();
+    request.a = some_number();
+    request.b = some_number();
     memcpy(request.name, "name", 5);
     memcpy(request.task, "fuzz", 5);
     request.thread = getpid();

@@ -1,7 +1,7 @@
 /* Messages that no client sends, of which each has one answer or none. */
 #include "client.h"
 
-enum { PAGE = 4096 };
+enum { PAGE = 4096, GUESSES = 300 };
 
 /* Sends bytes, with a descriptor unless it is -1; returns whether they went. */
 static int post(int client, const void *bytes, size_t length, int passed)
@@ -40,7 +40,7 @@ static void lengths(void)
     struct {
         struct bim_request request;
         char more;
-    } message = { .request = { .op = BIM_OP_INC, .value = 0, .a = inode_of(t) } };
+    } message = { .request = { .op = BIM_OP_INC, .value = 0, .a = number_of(t) } };
 
     for (size_t i = 0; i < sizeof LENGTHS / sizeof *LENGTHS; i++) {
         int whole = connected(), other = connected();
@@ -63,7 +63,7 @@ static void other_buffers(void)
 {
     int t = timeline(), f = fence(t, 1), one = buffer(PAGE), other = buffer(PAGE), client = connected();
     struct bim_request request = {
-        .op = BIM_OP_IMPORT, .flags = DMA_BUF_SYNC_RW, .a = inode_of(one), .b = inode_of(f)
+        .op = BIM_OP_IMPORT, .flags = DMA_BUF_SYNC_RW, .a = number_of(one), .b = number_of(f)
     };
 
     EXPECT(post(client, &request, sizeof request, other), 1);
@@ -80,6 +80,50 @@ static void other_buffers(void)
         close(files[i]);
 }
 
+/* How many of the numbers around one name something that can be incremented. */
+static int guessed(int client, __u64 around)
+{
+    struct bim_request request = { .op = BIM_OP_INC, .value = 1 };
+    int found = 0;
+
+    for (__u64 number = around - GUESSES; number != around + GUESSES; number++) {
+        request.a = number;
+        if (number != around && post(client, &request, sizeof request, -1))
+            found += answer_of(client) == 0;
+    }
+    return found;
+}
+
+/* Guesses what names the objects of others, by those of its own. */
+static int guess(void)
+{
+    int pipes[2], client = connected(), t = timeline();
+    struct stat found;
+
+    if (client < 0 || t < 0 || pipe(pipes) || fstat(pipes[0], &found))
+        return -1;
+    return guessed(client, found.st_ino) + guessed(client, number_of(t));
+}
+
+/* Who never had a descriptor of a timeline can't name it. */
+static void strangers(void)
+{
+    int t = timeline(), f = fence(t, 1);
+    pid_t child;
+
+    fflush(stdout);
+    child = fork();
+    if (child == 0) {
+        close(t);
+        close(f);
+        _exit(guess());
+    }
+    EXPECT(end_of(child), 0);
+    EXPECT(is_signalled(f), 0);
+    close(f);
+    close(t);
+}
+
 int main(void)
 {
     int before = lowest();
@@ -87,6 +131,7 @@ int main(void)
     give_up_after(30);
     lengths();
     other_buffers();
+    strangers();
     EXPECT(lowest(), before);
     return report("messages");
 }
