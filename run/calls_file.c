@@ -9,6 +9,7 @@
 #include <stdlib.h>
 #include <string.h>
 #include <sys/mman.h>
+#include <sys/sendfile.h>
 #include <sys/uio.h>
 
 static bool is_ours(int file)
@@ -16,11 +17,6 @@ static bool is_ours(int file)
     uint64_t inode;
 
     return shim_mark(file, &inode) != 0;
-}
-
-static bool is_buffer(int file, uint64_t *inode)
-{
-    return shim_has_buffers() && shim_mark(file, inode) == BIM_BUFFER_MARK;
 }
 
 EXPORT ssize_t read(int file, void *bytes, size_t length)
@@ -62,7 +58,7 @@ EXPORT ssize_t write(int file, const void *bytes, size_t length)
     NEXT(write);
     uint64_t inode;
 
-    return is_buffer(file, &inode) ? shim_result(EINVAL) : written(file, next(file, bytes, length));
+    return shim_is_buffer(file, &inode) ? shim_result(EINVAL) : written(file, next(file, bytes, length));
 }
 
 EXPORT ssize_t writev(int file, const struct iovec *parts, int count)
@@ -70,7 +66,7 @@ EXPORT ssize_t writev(int file, const struct iovec *parts, int count)
     NEXT(writev);
     uint64_t inode;
 
-    return is_buffer(file, &inode) ? shim_result(EINVAL) : written(file, next(file, parts, count));
+    return shim_is_buffer(file, &inode) ? shim_result(EINVAL) : written(file, next(file, parts, count));
 }
 
 /* These would take the byte by which a file reports that it has signalled. */
@@ -88,13 +84,42 @@ EXPORT ssize_t tee(int from, int to, size_t length, unsigned flags)
     return is_ours(from) || is_ours(to) ? shim_result(EINVAL) : next(from, to, length, flags);
 }
 
+EXPORT ssize_t vmsplice(int file, const struct iovec *parts, size_t count, unsigned flags)
+{
+    NEXT(vmsplice);
+
+    return is_ours(file) ? shim_result(EBADF) : next(file, parts, count, flags);
+}
+
+/* A sync file isn't open for writing. */
+static ssize_t refuse_sending(int to)
+{
+    uint64_t inode;
+
+    return shim_result(shim_mark(to, &inode) == BIM_FILE_MARK ? EBADF : EINVAL);
+}
+
+EXPORT ssize_t sendfile(int to, int from, off_t *at, size_t length)
+{
+    NEXT(sendfile);
+
+    return is_ours(to) || is_ours(from) ? refuse_sending(to) : next(to, from, at, length);
+}
+
+EXPORT ssize_t sendfile64(int to, int from, off64_t *at, size_t length)
+{
+    NEXT(sendfile64);
+
+    return is_ours(to) || is_ours(from) ? refuse_sending(to) : next(to, from, at, length);
+}
+
 /* The memory of a buffer, as a descriptor, or -1. */
 static int memory_of(int file, struct bim_answer *answer)
 {
     struct bim_request request = { .op = BIM_OP_MEMORY };
     int memory;
 
-    if (!is_buffer(file, &request.a))
+    if (!shim_is_buffer(file, &request.a))
         return -1;
     return shim_ask(&request, -1, answer, &memory) == 0 ? memory : -1;
 }

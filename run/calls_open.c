@@ -15,10 +15,11 @@
 enum { PATH_ROOM = 64 };
 enum path { NOT_OURS, SW_SYNC, SYNC_INFO, DMA_HEAP, UDMABUF };
 
-/* The path is readable: the kernel has read it, or copy_of has. */
+/* The path is readable: the kernel has read it, or a copy was made; or there is none, as a call may have it that names a
+ * file by its descriptor. */
 static enum path path_of(const char *path)
 {
-    if (!shim_is_on() || path[0] != '/')
+    if (!shim_is_on() || !path || path[0] != '/')
         return NOT_OURS;
     if (strcmp(path, "/sys/kernel/debug/sync/sw_sync") == 0 || strcmp(path, "/dev/sw_sync") == 0)
         return SW_SYNC;
@@ -87,17 +88,45 @@ static int replace_file(enum path path, int flags, int opened)
     return open_path(path, flags);
 }
 
+/* Whether a path may name a descriptor of ours. Only root opens one for which its owner has no rights. */
+static bool is_of_descriptor(const char *path, int opened)
+{
+    if (opened < 0 && errno != EACCES)
+        return false;
+    return strncmp(path, "/proc/", 6) == 0 || strncmp(path, "/dev/fd/", 8) == 0;
+}
+
+static enum bim_mark mark_of_path(const char *path)
+{
+    int before = errno, file = syscall(SYS_openat, AT_FDCWD, path, O_PATH | O_CLOEXEC, 0);
+    enum bim_mark mark;
+    uint64_t inode;
+
+    mark = shim_mark(file, &inode);
+    if (file >= 0)
+        call_close(file);
+    errno = before;
+    return mark;
+}
+
+static int refuse_file(int opened)
+{
+    if (opened >= 0)
+        call_close(opened);
+    return shim_result(ENXIO);
+}
+
 /* What the kernel makes of a descriptor's path below /proc, if the descriptor is ours: a timeline's opens another
  * timeline, and a file's, like a buffer's, can't be opened. */
 static int reopen(const char *path, int flags, int opened)
 {
     uint64_t inode;
 
-    if (opened < 0 || flags & O_PATH || (strncmp(path, "/proc/", 6) != 0 && strncmp(path, "/dev/fd/", 8) != 0))
+    if (!shim_is_on() || flags & O_PATH || !is_of_descriptor(path, opened))
         return opened;
-    switch (shim_mark(opened, &inode)) {
+    switch (opened < 0 ? mark_of_path(path) : shim_mark(opened, &inode)) {
     case BIM_TIMELINE_MARK: return replace_file(SW_SYNC, flags, opened);
-    case BIM_FILE_MARK: call_close(opened); return shim_result(ENXIO);
+    case BIM_FILE_MARK: return refuse_file(opened);
     default: return opened;
     }
 }

@@ -269,6 +269,11 @@ bool shim_has_buffers(void)
     return shim_is_on() && (!way->page() || atomic_load_explicit(&way->page()->buffers, memory_order_relaxed));
 }
 
+bool shim_is_buffer(int file, uint64_t *inode)
+{
+    return shim_has_buffers() && shim_mark(file, inode) == BIM_BUFFER_MARK;
+}
+
 /* The service of this process itself sees no closing by itself, and knows nothing that it hasn't made. */
 bool shim_hears_closing(bool of_timeline)
 {

@@ -39,6 +39,7 @@ bool shim_is_traced(void);
 bool shim_is_local(void);
 /* Whether there may be a buffer. */
 bool shim_has_buffers(void);
+bool shim_is_buffer(int file, uint64_t *inode);
 /* Whether the service is to hear of a closing. That of a file changes nothing that a program sees, but the trace. */
 bool shim_hears_closing(bool of_timeline);
 /* Closes what a call has made that is no cancellation point. */
