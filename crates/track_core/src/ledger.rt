@@ -3,7 +3,7 @@ ghost use Rattle.std.specs.Prelude.{◌≡◌, List, [], ◌∷◌, true, false,
 ghost use Rattle.point_core.specs.declared.refusal.Refusal.TheVariants.{Memory};
 ghost use Rattle.track_core.specs.Contexts.{context_at};
 ghost use Rattle.track_core.specs.Keys.{context_of};
-ghost use Rattle.track_core.specs.History.{Step, Seen, Lost, Forgot, IsLedgerOf, events_in, every, found_in, hangs, is_of_timeline, is_past, is_unnumbered, life_in, loss_in, tally_in};
+ghost use Rattle.track_core.specs.History.{Step, Seen, Lost, Forgot, IsLedgerOf, events_in, every, found_in, hangs, is_of_timeline, is_past, is_unnumbered, life_in, tally_in};
 ghost use Rattle.track_core.specs.Lives.{life_at};
 
 use crate::contexts::Contexts;
@@ -30,7 +30,7 @@ pub struct Sight {
 #[derive(Drop)]
 pub struct Ledger {
     events: u64,
-    // how many events came before events were lost the last time
+    // how many events came before events were lost the last time: of what was made earlier, missing signals prove nothing
     loss: u64,
     lives: Lives,
     contexts: Contexts,
@@ -154,14 +154,6 @@ impl Ledger {
         ensures counted { (steps : List Step) → IsLedgerOf self.now steps → result ≡ events_in steps }
     {
         self.events
-    }
-
-    /// How many events were seen before events were lost the last time: of what was made earlier, missing signals prove
-    /// nothing.
-    pub fn loss(&self) -> u64
-        ensures counted { (steps : List Step) → IsLedgerOf self.now steps → result ≡ loss_in steps }
-    {
-        self.loss
     }
 
     /// The keys of fences that are alive.
