@@ -132,7 +132,8 @@ static bool owes_none(struct keeper *all)
     return false;
 }
 
-static const struct host HOST = { begin_files, end_files, place, make_room, may_give, hold_sigpipe, drop_sigpipe, owes_none };
+static const struct host HOST = { begin_files,  end_files,    place,    make_room, may_give,
+                                  hold_sigpipe, drop_sigpipe, owes_none };
 
 static int prepare(struct own *own)
 {

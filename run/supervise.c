@@ -58,8 +58,13 @@ static int block_signals(struct run *run)
 /* Starts the program, in the environment that is prepared. Returns 0 or an errno. */
 static int start_program(struct run *run, char **program)
 {
+    if (service.board)
+        service.board->program = (struct process){ 0, -1 };
     run->program = fork();
     if (run->program == 0) {
+        /* bimphlai-run may be killed before it notes the program. */
+        if (service.board)
+            service.board->program.number = getpid();
         sigaction(SIGCHLD, &run->childs, NULL);
         sigprocmask(SIG_SETMASK, &run->mask, NULL);
         _exit(launch_become(program));

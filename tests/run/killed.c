@@ -145,20 +145,6 @@ static struct {
     int status;
 } run;
 
-static int is_named(pid_t process, const char *name)
-{
-    char path[64], found[32] = "";
-    FILE *stream;
-
-    snprintf(path, sizeof path, "/proc/%d/comm", (int)process);
-    if (!(stream = fopen(path, "r")))
-        return 0;
-    if (fgets(found, sizeof found, stream))
-        found[strcspn(found, "\n")] = 0;
-    fclose(stream);
-    return strcmp(found, name) == 0;
-}
-
 /* Finds a child with a name, but for one of them; 0 if there is none. */
 static pid_t child_of(pid_t parent, const char *name, pid_t other)
 {

@@ -44,6 +44,21 @@ static inline int service(pid_t tool, pid_t program, pid_t found[MOST])
     return count;
 }
 
+/* Whether a process has a name. */
+static inline int is_named(pid_t process, const char *name)
+{
+    char path[64], found[32] = "";
+    FILE *stream;
+
+    snprintf(path, sizeof path, "/proc/%d/comm", (int)process);
+    if (!(stream = fopen(path, "r")))
+        return 0;
+    if (fgets(found, sizeof found, stream))
+        found[strcspn(found, "\n")] = 0;
+    fclose(stream);
+    return strcmp(found, name) == 0;
+}
+
 /* How many descriptors these processes have. */
 static inline int held(const pid_t *processes, int count)
 {
