@@ -7,6 +7,7 @@
 #include <poll.h>
 #include <signal.h>
 #include <stddef.h>
+#include <sys/epoll.h>
 #include <sys/socket.h>
 #include <sys/stat.h>
 #include <sys/syscall.h>
@@ -62,6 +63,12 @@ static inline ssize_t call_send(int file, const void *bytes, size_t length)
 static inline ssize_t call_recv(int file, void *bytes, size_t length)
 {
     return syscall(SYS_recvfrom, file, bytes, length, MSG_DONTWAIT, NULL, NULL);
+}
+
+/* A run may be in another, whose library would refuse a timeline. */
+static inline int call_epoll_ctl(int set, int how, int file, struct epoll_event *event)
+{
+    return syscall(SYS_epoll_ctl, set, how, file, event);
 }
 
 /* Another number of a descriptor, the least from `least` on. */

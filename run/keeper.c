@@ -6,7 +6,6 @@
 #include <errno.h>
 #include <stdlib.h>
 #include <string.h>
-#include <sys/epoll.h>
 #include <time.h>
 
 enum { WOKEN_ROOM = 64 };
@@ -140,7 +139,7 @@ static int watch_end(const struct keeper *keeper, const struct object *object, u
 
     if (keeper->ends < 0)
         return 0;
-    return epoll_ctl(keeper->ends, EPOLL_CTL_ADD, object->end, &event) ? ENOMEM : 0;
+    return call_epoll_ctl(keeper->ends, EPOLL_CTL_ADD, object->end, &event) ? ENOMEM : 0;
 }
 
 /* Keeps an object that has its number, or undoes it after an error. */
