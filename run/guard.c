@@ -96,7 +96,7 @@ static void hold(struct guard *guard)
     service_remove_folder(guard->service);
 }
 
-static void say(const struct service *service, char what)
+static void tell(const struct service *service, char what)
 {
     while (call_write(service->said, &what, 1) < 0 && errno == EINTR) {}
 }
@@ -107,7 +107,7 @@ static void end_users(struct guard *guard)
     kill_users(guard);
     if (service_held_ends(guard->service) == 0)
         service_remove_folder(guard->service);
-    say(guard->service, GUARD_HAS_KILLED);
+    tell(guard->service, GUARD_HAS_KILLED);
     hold(guard);
 }
 
@@ -127,6 +127,7 @@ int guard_start(struct service *service)
         return 0;
     }
     become_guard();
+    tell(service, GUARD_IS_READY);
     watch(&guard);
     if (!service->board->has_ended)
         end_users(&guard);

@@ -9,8 +9,8 @@
 /* By another name, what kills bimphlai-run by name leaves it. */
 #define GUARD_NAME "fence-guard"
 
-/* What the guard says to bimphlai-run once the processes of a lost service are killed. */
-enum { GUARD_HAS_KILLED = 'K' };
+/* What the guard says to bimphlai-run: that it has its name, and that the processes of a lost service are killed. */
+enum { GUARD_IS_READY = 'G', GUARD_HAS_KILLED = 'K' };
 
 /* Tells where the words of the command line are, which the guard overwrites in its own memory. */
 void guard_note_words(int count, char **words);

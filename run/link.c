@@ -58,6 +58,15 @@ static int move_high(int file)
     return moved;
 }
 
+/* Another user may serve where this user's service was. */
+static bool is_served_by_user(int file)
+{
+    struct ucred server;
+    socklen_t size = sizeof server;
+
+    return getsockopt(file, SOL_SOCKET, SO_PEERCRED, &server, &size) == 0 && server.uid == geteuid();
+}
+
 /* Returns a new connection, or -1 with errno. */
 static int join(void)
 {
@@ -74,7 +83,11 @@ static int join(void)
         errno = ENOTCONN;
         return -1;
     }
-    return file;
+    if (is_served_by_user(file))
+        return file;
+    call_close(file);
+    errno = ENOTCONN;
+    return -1;
 }
 
 static void set_control(struct msghdr *message, struct cmsghdr *head, int passed)

@@ -27,6 +27,7 @@ struct run {
     int waited, server_waited;
     bool program_has_ended, server_has_ended, lacks_guard;
     char said;             /* the last word of the server, or 0 */
+    bool is_guarded;
     bool users_are_killed; /* by the guard, since the server is lost */
 };
 
@@ -113,10 +114,11 @@ static void take_words(struct run *run)
     char said;
 
     while (call_read(service.hears, &said, 1) == 1)
-        if (said == GUARD_HAS_KILLED)
-            run->users_are_killed = true;
-        else
-            run->said = said;
+        switch (said) {
+        case GUARD_IS_READY: run->is_guarded = true; break;
+        case GUARD_HAS_KILLED: run->users_are_killed = true; break;
+        default: run->said = said;
+        }
 }
 
 /* Waits for signals and words. After a guard that was killed comes another, unless all is over. */
@@ -207,6 +209,8 @@ static int start_service(struct run *run, const struct options *options, const c
     error = service_start(&service, trace);
     if (error)
         return fault("the service can't start", error);
+    while (!run->is_guarded && !run->server_has_ended)
+        wait_for_events(run);
     if (!hear(run))
         return STATUS_FAULT;
     status = launch_prepare(service.socket, trace);
