@@ -7,6 +7,7 @@
  *   full     the service has no descriptor left
  *   blind    nobody can read /proc any more
  *   deaf     standard error is a pipe that nobody reads; closed: one whose reader has gone
+ *   nested   the tool runs another, whose processes wait
  *   early    the order begins with the start of the tool, whose program ends at once */
 #include "service.h"
 #include <sched.h>
@@ -20,7 +21,7 @@ enum { LONGEST = 30, IN_TIME = 15, LONGEST_UNSEEN = 3 };
 enum { FEW = 64 };
 
 static unsigned longest = LONGEST;
-static int is_full, is_blind, is_deaf, is_closed, is_early;
+static int is_full, is_blind, is_deaf, is_closed, is_nested, is_early;
 
 /* What the processes that wait say goes through this pipe, which ends with the last of them. */
 static int tells;
@@ -112,7 +113,7 @@ static void begin(int f, int way, int apart)
     _exit(0);
 }
 
-/* The program: begins all, says so, and goes on unless it is to leave. */
+/* The program: begins all, says so, and goes on unless it is to leave, once its input has ended. */
 static int program(int leaves)
 {
     int t = timeline(), f = fence(t, 1), u = timeline();
@@ -130,7 +131,7 @@ static int program(int leaves)
     }
     tell("!");
     if (leaves)
-        return 0;
+        return read(STDIN_FILENO, &(char){ 0 }, 1) != 0;
     for (__u32 i = 1;; i++) {
         int g = fence(u, i);
         inc(u, 1);
@@ -208,16 +209,17 @@ static int useless_errors(void)
     return pair[1];
 }
 
-static void become_tool(char **argv, int errors)
+static void become_tool(char **argv, int input, int errors)
 {
-    char told[16], *words[MOST] = { argv[1], argv[0], "--in", told };
+    char told[16], *all[MOST] = { argv[1], argv[1], argv[0], "--in", told }, **words = is_nested ? all : all + 1;
     struct rlimit few = { FEW, FEW };
 
     snprintf(told, sizeof told, "%d", tells);
-    for (int i = 2; argv[i] && i < MOST - 3; i++)
-        words[i + 2] = argv[i];
+    for (int i = 2; argv[i] && i < MOST - 4; i++)
+        all[i + 3] = argv[i];
     if (is_full)
         setrlimit(RLIMIT_NOFILE, &few);
+    dup2(input, STDIN_FILENO);
     dup2(errors, STDERR_FILENO);
     close(errors);
     execv(words[0], words);
@@ -236,7 +238,7 @@ static void hear(int file, char *text, size_t room, int until_begun)
 }
 
 /* Finds the processes, kills them after some time, and waits until all have ended. */
-static void kill_all(char **argv, int heard)
+static void kill_all(char **argv, int heard, int input)
 {
     char text[256] = "";
     __u64 from;
@@ -247,6 +249,7 @@ static void kill_all(char **argv, int heard)
         run.guard = child_of(run.tool, "fence-guard", 0);
         HOLDS(strcmp(text, "!") == 0 && run.server > 0 && run.guard > 0);
     }
+    close(input);
     usleep((useconds_t)atoi(argv[3]));
     HOLDS(!is_blind || mount("none", "/proc", "tmpfs", 0, NULL) == 0);
     from = now();
@@ -272,6 +275,7 @@ static void take_words(char **argv)
     is_blind = has_word(argv, "blind");
     is_deaf = has_word(argv, "deaf");
     is_closed = has_word(argv, "closed");
+    is_nested = has_word(argv, "nested");
     is_early = has_word(argv, "early");
     /* Whoever can't be found waits for good. */
     longest = is_blind ? LONGEST_UNSEEN : LONGEST;
@@ -294,7 +298,7 @@ static void look_at_end(const char *order, int errors)
 int main(int argc, char **argv)
 {
     char name[] = "/tmp/killed.XXXXXX";
-    int pair[2], errors;
+    int told[2], input[2], errors;
 
     if (argc < 4)
         return 2;
@@ -305,16 +309,15 @@ int main(int argc, char **argv)
     }
     give_up_after(3 * LONGEST);
     errors = is_deaf || is_closed ? useless_errors() : mkstemp(name);
-    if (pipe(pair) || errors < 0)
+    if (pipe(told) || pipe2(input, O_CLOEXEC) || errors < 0)
         return 2;
-    tells = pair[1];
+    tells = told[1];
     run.status = -1;
-    run.tool = fork();
-    if (run.tool == 0)
-        become_tool(argv, errors);
+    pid_t tool = run.tool = fork();
+    if (tool == 0)
+        become_tool(argv, input[0], errors);
     close(tells);
-    pid_t tool = run.tool;
-    kill_all(argv, pair[0]);
+    kill_all(argv, told[0], input[1]);
     run.tool = tool;
     look_at_end(argv[2], errors);
     unlink(name);
