@@ -18,7 +18,7 @@ _bimphlai_run() {
     elif [ "$at" -lt "$COMP_CWORD" ]; then
         mapfile -t COMPREPLY < <(compgen -f -- "$word")
     elif [[ $word == -* ]]; then
-        mapfile -t COMPREPLY < <(compgen -W "--local --trace --report --require --shuffle --verbose --help --version" -- "$word")
+        mapfile -t COMPREPLY < <(compgen -W "--local --direct --trace --report --require --shuffle --verbose --help --version" -- "$word")
     else
         mapfile -t COMPREPLY < <(compgen -c -- "$word")
         mapfile -t -O "${#COMPREPLY[@]}" COMPREPLY < <(compgen -f -- "$word")

@@ -1,6 +1,7 @@
 # Completion of bimphlai-run for fish.
 
 complete -c bimphlai-run -l local -d 'No service: for programs of one process'
+complete -c bimphlai-run -l direct -d 'Serve calls past the C library too'
 complete -c bimphlai-run -r -l trace -d 'Write what happens to fences'
 complete -c bimphlai-run -l report -d 'Report at the end what hangs and who waits'
 complete -c bimphlai-run -l require -d 'End with 1 if a fence hangs or a rule was broken'

@@ -1,38 +1,15 @@
 /* ioctl(2) on our descriptors: what Linux's sw_sync, sync files, dma-bufs and heaps take. */
 #define _GNU_SOURCE
 #include "calls.h"
+#include "ioctls.h"
 #include "shim.h"
 #include "user.h"
 
 #include <errno.h>
-#include <linux/dma-buf.h>
-#include <linux/dma-heap.h>
-#include <linux/ioctl.h>
 #include <sched.h>
 #include <stdarg.h>
 #include <string.h>
 #include <sys/ioctl.h>
-
-/* Linux has these in no header of its interface. */
-struct create_fence {
-    uint32_t value;
-    char name[32];
-    int32_t fence;
-};
-#define CREATE_FENCE _IOWR('W', 0, struct create_fence)
-#define INC          _IOW('W', 1, uint32_t)
-
-/* Headers that are older lack these. */
-struct set_deadline {
-    uint64_t deadline_ns, pad;
-};
-struct sync_file_of_buffer {
-    uint32_t flags;
-    int32_t fd;
-};
-#define SET_DEADLINE     _IOW('>', 5, struct set_deadline)
-#define EXPORT_SYNC_FILE _IOWR('b', 2, struct sync_file_of_buffer)
-#define IMPORT_SYNC_FILE _IOW('b', 3, struct sync_file_of_buffer)
 
 enum { SOCKET_CALLS = 0x89 }; /* the type of SIOCATMARK and its like */
 

@@ -1,6 +1,7 @@
 /* open(2) and stat(2) of the paths by which programs reach fences. */
 #define _GNU_SOURCE
 #include "calls.h"
+#include "direct.h"
 #include "shim.h"
 #include "user.h"
 
@@ -136,6 +137,21 @@ static bool makes_files(int flags)
     return flags & (O_CREAT | __O_TMPFILE);
 }
 
+/* What the kernel would make, or would catch as a direct call, isn't to be made. */
+static bool looks_first(int flags)
+{
+    return makes_files(flags) || direct_is_on();
+}
+
+bool shim_open(const char *path, int flags, int *file)
+{
+    enum path which = path_before(path);
+
+    if (which)
+        *file = open_path(which, flags);
+    return which;
+}
+
 #define MODE_OF(flags)                \
     mode_t mode = 0;                  \
     if (makes_files(flags)) {         \
@@ -150,10 +166,10 @@ static bool makes_files(int flags)
     {                                                                                \
         NEXT(name);                                                                  \
         MODE_OF(flags)                                                               \
-        enum path which = makes_files(flags) ? path_before(path) : NOT_OURS;         \
+        enum path which = looks_first(flags) ? path_before(path) : NOT_OURS;         \
         int file = which ? -1 : next(path, flags, mode);                             \
                                                                                      \
-        if (!which && !makes_files(flags))                                           \
+        if (!which && !looks_first(flags))                                           \
             which = path_after(path, file < 0);                                      \
         return which ? replace_file(which, flags, file) : reopen(path, flags, file); \
     }
@@ -163,10 +179,10 @@ static bool makes_files(int flags)
     {                                                                                \
         NEXT(name);                                                                  \
         MODE_OF(flags)                                                               \
-        enum path which = makes_files(flags) ? path_before(path) : NOT_OURS;         \
+        enum path which = looks_first(flags) ? path_before(path) : NOT_OURS;         \
         int file = which ? -1 : next(folder, path, flags, mode);                     \
                                                                                      \
-        if (!which && !makes_files(flags))                                           \
+        if (!which && !looks_first(flags))                                           \
             which = path_after(path, file < 0);                                      \
         return which ? replace_file(which, flags, file) : reopen(path, flags, file); \
     }

@@ -1,6 +1,7 @@
 /* sigaction(2) and its like: whether the program has signal handlers at all, which may call while a call is
  * interrupted. */
 #define _GNU_SOURCE
+#include "direct.h"
 #include "shim.h"
 
 #include <signal.h>
@@ -14,8 +15,17 @@ static void note(sighandler_t handler)
 EXPORT int sigaction(int number, const struct sigaction *action, struct sigaction *before)
 {
     NEXT(sigaction);
-    int result = next(number, action, before);
+    struct sigaction copy;
+    int result;
 
+    if (number == SIGSYS && direct_is_on())
+        return 0;
+    if (action && direct_is_on()) {
+        copy = *action;
+        direct_may_block(&action->sa_mask, &copy.sa_mask);
+        action = &copy;
+    }
+    result = next(number, action, before);
     if (result == 0 && action)
         note(action->sa_handler);
     return result;
@@ -27,6 +37,8 @@ EXPORT int sigaction(int number, const struct sigaction *action, struct sigactio
     {                                                          \
         NEXT(name);                                            \
                                                                \
+        if (number == SIGSYS && direct_is_on())                \
+            return SIG_DFL;                                    \
         note(handler);                                         \
         return next(number, handler);                          \
     }
@@ -36,3 +48,17 @@ SIGNAL(bsd_signal)
 SIGNAL(sysv_signal)
 SIGNAL(__sysv_signal)
 SIGNAL(ssignal)
+
+#define BLOCK(name)                                                            \
+    EXPORT int name(int how, const sigset_t *signals, sigset_t *before)        \
+    {                                                                          \
+        NEXT(name);                                                            \
+        sigset_t room;                                                         \
+                                                                               \
+        if (how != SIG_UNBLOCK)                                                \
+            signals = direct_may_block(signals, &room);                        \
+        return next(how, signals, before);                                     \
+    }
+
+BLOCK(sigprocmask)
+BLOCK(pthread_sigmask)

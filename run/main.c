@@ -34,10 +34,10 @@ static int begin_trace(const struct options *options, char *path)
     return error ? fault("a file for the trace", error) : 0;
 }
 
-/* Has the program be held up as the seed says, and by no seed of a run in which this one is. Returns 0 or a status. */
-static int set_seed(const char *seed)
+/* Sets a variable of the program's, or removes that of a run in which this one is. Returns 0 or a status. */
+static int set_variable(const char *name, const char *value)
 {
-    return (seed ? setenv(BIM_SHUFFLE, seed, 1) : unsetenv(BIM_SHUFFLE)) ? fault("the environment", errno) : 0;
+    return (value ? setenv(name, value, 1) : unsetenv(name)) ? fault("the environment", errno) : 0;
 }
 
 static int run(const struct options *options, const char *trace)
@@ -71,7 +71,9 @@ int main(int count, char **words)
         return status;
     status = program_check(options.program[0]);
     if (!status)
-        status = set_seed(options.seed);
+        status = set_variable(BIM_SHUFFLE, options.seed);
+    if (!status)
+        status = set_variable(BIM_DIRECT, options.is_direct ? "1" : NULL);
     if (!status)
         status = begin_trace(&options, path);
     if (status)

@@ -13,6 +13,7 @@ static const char HELP[] =
     "dma-bufs. It needs no root, no kernel that has them, and no change of the program.\n"
     "\n"
     "  --local       no service: the fences of each process are its own; for programs of one process\n"
+    "  --direct      serves what a program asks of the kernel past the C library, too\n"
     "  --trace FILE  writes what happens to fences to FILE, for `fencectl trace`\n"
     "  --report      reports at the end what hangs and who waits, on standard error\n"
     "  --require     ends with 1 if a fence hangs or a rule was broken\n"
@@ -24,15 +25,15 @@ static const char HELP[] =
     "The status is that of the program; 2 for options that don't fit, 123 if the service was lost, 125 if it can't\n"
     "start, 126 if the program can't be run with it, and 127 if there is no such program.\n";
 
-enum word { LOCAL = 256, TRACE, REPORT, REQUIRE, SHUFFLE, VERBOSE, HELP_, VERSION };
+enum word { LOCAL = 256, DIRECT, TRACE, REPORT, REQUIRE, SHUFFLE, VERBOSE, HELP_, VERSION };
 enum { SEED_DIGITS = 19 }; /* which fit into 64 bits */
 
 static const struct option WORDS[] = {
-    { "local", no_argument, NULL, LOCAL },     { "trace", required_argument, NULL, TRACE },
+    { "local", no_argument, NULL, LOCAL },     { "direct", no_argument, NULL, DIRECT },
     { "report", no_argument, NULL, REPORT },   { "require", no_argument, NULL, REQUIRE },
-    { "shuffle", required_argument, NULL, SHUFFLE }, { "verbose", no_argument, NULL, VERBOSE },
-    { "help", no_argument, NULL, HELP_ },      { "version", no_argument, NULL, VERSION },
-    { NULL, 0, NULL, 0 },
+    { "verbose", no_argument, NULL, VERBOSE }, { "trace", required_argument, NULL, TRACE },
+    { "help", no_argument, NULL, HELP_ },      { "shuffle", required_argument, NULL, SHUFFLE },
+    { "version", no_argument, NULL, VERSION }, { NULL, 0, NULL, 0 },
 };
 
 static int tell_usage(void)
@@ -58,6 +59,7 @@ static int take(struct options *options, int word)
 {
     switch (word) {
     case LOCAL: options->is_local = true; return -1;
+    case DIRECT: options->is_direct = true; return -1;
     case TRACE: options->trace = optarg; return *optarg ? -1 : tell_usage();
     case REPORT: options->reports = true; return -1;
     case REQUIRE:

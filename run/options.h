@@ -7,7 +7,7 @@
 enum { STATUS_OPTIONS = 2 };
 
 struct options {
-    bool is_local, reports, requires, is_verbose;
+    bool is_local, is_direct, reports, requires, is_verbose;
     const char *trace; /* the file's name, or NULL */
     const char *seed;  /* a number's digits, or NULL */
     char **program;    /* with its arguments */

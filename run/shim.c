@@ -2,6 +2,7 @@
 #include "shim.h"
 
 #include "calls.h"
+#include "direct.h"
 #include "shuffle.h"
 
 #include <errno.h>
@@ -140,6 +141,8 @@ __attribute__((constructor)) static void begin(void)
     choose_way();
     stage = BEGUN;
     begins = false;
+    if (way)
+        direct_begin();
 }
 
 bool shim_is_on(void)

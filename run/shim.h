@@ -87,6 +87,8 @@ extern const struct way LINK, LOCAL;
 /* What the environment says of the service. */
 const char *shim_service(void);
 
+/* Opens a path, if it is one of ours; `file` becomes its descriptor, or -1 with errno. Returns whether it is ours. */
+bool shim_open(const char *path, int flags, int *file);
 /* A call of mmap(2) on a buffer, whose first part was answered. */
 struct shim_map {
     uint64_t buffer, from;

@@ -12,6 +12,7 @@
 #define BIM_SERVICE "BIMPHLAI_RUN"
 #define BIM_TRACE   "BIMPHLAI_RUN_TRACE"
 #define BIM_SHUFFLE "BIMPHLAI_RUN_SHUFFLE"
+#define BIM_DIRECT  "BIMPHLAI_RUN_DIRECT"
 #define BIM_LOCAL   "local"
 
 /* How a process ends that can't have what it was promised: its service is gone, or is another process's. */
