@@ -69,6 +69,8 @@ int ends_pipe(struct ends *ends, enum bim_mark mark)
     if (pipe2(pair, O_CLOEXEC))
         return errno;
     *ends = (struct ends){ pair[0], pair[1], 0 };
+    /* A page is the least. Each counts towards what the user may have, past which all his new pipes are small. */
+    syscall(SYS_fcntl, ends->ours, F_SETPIPE_SZ, 1);
     return mark_ends(ends, mark);
 }
 

@@ -36,16 +36,30 @@ static void timelines_in_turn(void)
     EXPECT(wrong, 0);
 }
 
+/* How much a new pipe of the program's own takes. */
+static int room_of_pipe(void)
+{
+    int pair[2], room;
+
+    if (pipe(pair))
+        return -1;
+    room = fcntl(pair[1], F_GETPIPE_SZ);
+    close(pair[0]);
+    close(pair[1]);
+    return room;
+}
+
 /* Half of the files of one timeline signal, one step at a time. */
 static void files_at_a_time(int count)
 {
-    int t = timeline(), wrong = 0;
+    int t = timeline(), wrong = 0, room = room_of_pipe();
 
     for (int i = 0; i < count; i++) {
         all[i] = fence(t, 1 + (__u32)(i % 100));
         wrong += all[i] < 0;
     }
     EXPECT(wrong, 0);
+    EXPECT(room_of_pipe(), room);
     for (__u32 value = 1; value <= 50; value++)
         wrong += inc(t, 1) != 0;
     for (int i = 0; i < count; i++)
