@@ -186,34 +186,58 @@ static int await(struct keeper *keeper, struct object *object, enum access acces
     return 0;
 }
 
-/* Takes the readiness for an access back if the device says that something is pending. */
-static int refresh(struct keeper *keeper, struct object *object, enum access access, int theirs)
+static void await_or_retry(struct keeper *keeper, struct object *object, enum access access)
 {
-    int32_t signalled;
-    int error = bim_device_test(&keeper->device, object->number, USAGES[access], &signalled);
+    if (await(keeper, object, access) == 0)
+        return;
+    stop_awaiting(keeper, &object->buffer, access);
+    keeper->has_unawaited = true;
+}
 
-    if (error || signalled)
-        return error;
+/* Whether the device says that nothing is pending for an access. */
+static bool is_idle(struct keeper *keeper, const struct object *object, enum access access)
+{
+    int32_t signalled = 0;
+
+    return bim_device_test(&keeper->device, object->number, USAGES[access], &signalled) == 0 && signalled;
+}
+
+/* Takes the readiness for an access back if the device says that something is pending. */
+static void refresh(struct keeper *keeper, struct object *object, enum access access, int theirs)
+{
+    if (is_idle(keeper, object, access))
+        return;
     if (object->buffer.is_ready[access] && access == READING)
         end_take_readable(theirs);
     if (object->buffer.is_ready[access] && access == WRITING)
         end_take_writable(theirs);
     object->buffer.is_ready[access] = false;
-    return await(keeper, object, access);
+    await_or_retry(keeper, object, access);
 }
 
-/* Keeps what was imported for the trace. */
-static int put_fences(struct buffer *buffer, uint32_t flags, const struct fences *file, struct trace *trace)
+static void retry(struct keeper *keeper, struct object *object)
 {
-    enum access access = flags & BIM_SYNC_WRITE ? WRITING : READING;
-    struct fences both;
-    int error = record_union(&both, &buffer->fences[access], file);
+    for (enum access access = 0; access < ACCESSES; access++) {
+        if (object->buffer.is_ready[access] || object->buffer.awaited[access])
+            continue;
+        if (is_idle(keeper, object, access))
+            buffer_is_ready(object, access);
+        else
+            await_or_retry(keeper, object, access);
+    }
+}
 
-    if (error)
-        return error;
-    record_drop(&buffer->fences[access], false, trace);
-    buffer->fences[access] = both;
-    return 0;
+void buffers_retry(struct keeper *keeper)
+{
+    if (!keeper->has_unawaited)
+        return;
+    keeper->has_unawaited = false;
+    for (size_t i = 0; i < keeper->by_inode.room; i++) {
+        struct object *object = keeper->by_inode.entries[i].value;
+
+        if (object && object->kind == BUFFER && object->number)
+            retry(keeper, object);
+    }
 }
 
 /* The program's end comes along, since only that can take readiness back. */
@@ -224,20 +248,29 @@ static bool is_end_of(const struct object *object, int passed)
     return passed >= 0 && end_mark(passed, &inode) == BIM_BUFFER_MARK && inode == object->inode;
 }
 
+/* Once the device has the file, nothing can fail any more: what lacks memory then is tried again. */
 int buffer_import(struct keeper *keeper, const struct bim_request *request, struct object *object, int passed)
 {
+    static const struct fences none;
+    enum access access = request->flags & BIM_SYNC_WRITE ? WRITING : READING;
     struct object *file = keeper_find(keeper, request->b);
-    int error = object->kind == BUFFER && !is_end_of(object, passed) ? EBADF : 0;
+    struct fences both;
+    int error;
 
-    if (!error)
-        error = bim_device_import(&keeper->device, object->number, file ? file->number : 0, request->flags);
-    if (!error)
-        error = put_fences(&object->buffer, request->flags, &file->fences, keeper->trace);
-    if (!error)
-        error = refresh(keeper, object, READING, passed);
-    if (!error)
-        error = refresh(keeper, object, WRITING, passed);
-    return error;
+    if (object->kind != BUFFER || !is_end_of(object, passed))
+        return object->kind == BUFFER ? EBADF : ENOTTY;
+    error = record_union(&both, &object->buffer.fences[access], file && file->kind == SYNC_FILE ? &file->fences : &none);
+    if (error)
+        return error;
+    error = bim_device_import(&keeper->device, object->number, file ? file->number : 0, request->flags);
+    /* The fences of one are let go, of which none is the last: those before, or both. */
+    record_drop(error ? &both : &object->buffer.fences[access], false, keeper->trace);
+    if (error)
+        return error;
+    object->buffer.fences[access] = both;
+    refresh(keeper, object, READING, passed);
+    refresh(keeper, object, WRITING, passed);
+    return 0;
 }
 
 void buffer_drop(struct keeper *keeper, struct object *object)

@@ -76,6 +76,7 @@ struct keeper {
     bim_device_fence_info *rows;
     size_t rows_room;
     size_t counts[READINESS];
+    bool has_unawaited; /* buffers of which, for want of memory, nothing would report that they are ready again */
     uint64_t requests;
     uint64_t now;          /* of the request that is served, or of the closings that are done */
     uint64_t signalled_at; /* when an increment has last signalled anything, or 0 */
@@ -120,6 +121,8 @@ int buffer_memory(const struct bim_request *request, const struct object *buffer
 int buffer_export(struct keeper *keeper, const struct bim_request *request, struct object *buffer, int *gives);
 int buffer_import(struct keeper *keeper, const struct bim_request *request, struct object *buffer, int passed);
 void buffer_is_ready(struct object *buffer, enum access access);
+/* Tries once more what lacked memory. */
+void buffers_retry(struct keeper *keeper);
 void buffer_drop(struct keeper *keeper, struct object *buffer);
 
 int info_of_file(struct keeper *keeper, const struct bim_request *request, struct object *file,

@@ -190,5 +190,6 @@ void keeper_serve(struct keeper *keeper, const struct bim_request *request, int 
     default: answer->error = serve_object(keeper, request, passed, answer, gives); break;
     }
     answer->gives = *gives >= 0;
+    buffers_retry(keeper);
     trace_flush(keeper->trace);
 }

@@ -170,6 +170,7 @@ void keeper_settle(struct keeper *keeper)
     if (cancels(keeper))
         let_go_on(keeper);
     settle(keeper, true, &teller);
+    buffers_retry(keeper);
     trace_flush(keeper->trace);
 }
 

@@ -7,6 +7,7 @@
 #include "../../run/keeper.h"
 #include <errno.h>
 #include <fcntl.h>
+#include <poll.h>
 #include <signal.h>
 #include <stdio.h>
 #include <stdlib.h>
@@ -18,7 +19,7 @@
 enum { MOST = 200, POINTS = 40, NONE = -1 };
 
 static long left = NONE; /* allocations until one is refused; NONE: none is */
-static int was_refused, failures;
+static int was_refused, failures, error; /* of the last request */
 
 void *__real_malloc(size_t size);
 void *__real_calloc(size_t count, size_t size);
@@ -93,6 +94,7 @@ static int ask(struct bim_request request, int passed)
     int file;
 
     keeper_serve(&keeper, &request, passed, &answer, &file);
+    error = answer.error;
     if (answer.error)
         expect("a refusal", request.op, answer.error, ENOMEM);
     if (answer.error)
@@ -140,8 +142,17 @@ static void lend(void)
     close(file);
 }
 
-/* One request of each kind. */
-static void play(void)
+/* Expects that a poll of a buffer reports it, or doesn't. */
+static void expect_ready(const char *what, int buffer, int is_ready)
+{
+    struct pollfd polled = { .fd = buffer == NONE ? -1 : given[buffer], .events = POLLIN | POLLOUT };
+
+    poll(&polled, 1, 0);
+    expect(what, buffer, polled.revents, buffer != NONE && is_ready ? POLLIN | POLLOUT : 0);
+}
+
+/* One request of each kind. Returns a buffer that is ready at the end, or NONE. */
+static int play(void)
 {
     int line = ask((struct bim_request){ .op = BIM_OP_TIMELINE, .name = "line", .task = "task" }, -1);
     int other = ask((struct bim_request){ .op = BIM_OP_TIMELINE, .name = "other" }, -1);
@@ -150,6 +161,8 @@ static void play(void)
     int buffer = ask((struct bim_request){ .op = BIM_OP_BUFFER, .size = 4096, .flags = 2 }, -1);
 
     ask_of(BIM_OP_IMPORT, buffer, both, 0, BIM_SYNC_WRITE);
+    if (both != NONE)
+        expect_ready("a poll of a buffer with a file", buffer, error != 0);
     ask_of(BIM_OP_EXPORT, buffer, NONE, 0, BIM_SYNC_READ);
     ask_of(BIM_OP_INFO, both, NONE, 8, 0);
     lend();
@@ -157,7 +170,10 @@ static void play(void)
     for (int i = 0; i < POINTS; i++)
         ask_of(BIM_OP_FENCE, line, NONE, 5 + i, 0);
     ask_of(BIM_OP_INC, line, NONE, 10, 0);
+    if (line == NONE || error)
+        buffer = NONE;
     close_one(other);
+    return buffer;
 }
 
 static int free_number(void)
@@ -171,16 +187,17 @@ static int free_number(void)
 /* Plays with an allocation refused. Returns whether there was one to refuse. */
 static int run(long nth, const char *trace)
 {
-    int before = free_number();
+    int before = free_number(), buffer;
 
     was_refused = count = 0;
     if (keeper_open(&keeper, &HOST, trace))
         exit(2);
     keeper.ends = epoll_create1(EPOLL_CLOEXEC);
     left = nth;
-    play();
+    buffer = play();
     left = NONE;
     keeper_settle(&keeper);
+    expect_ready("a poll of the buffer at the end", buffer, 1);
     for (int i = 0; i < count; i++)
         close_one(i);
     expect("objects", nth, keeper.by_inode.count, 0);
