@@ -159,6 +159,17 @@ static bool send_answer(const struct client *client, struct bim_answer *answer, 
     return sendmsg(client->socket, &message, MSG_NOSIGNAL | MSG_DONTWAIT) >= 0;
 }
 
+/* The same; what can't be sent, as when the user has too many descriptors on the way, is an errno for the client. */
+static bool send_or_refuse(const struct client *client, struct bim_answer *answer, int gives)
+{
+    if (send_answer(client, answer, gives))
+        return true;
+    if (errno != ENOMEM && errno != ENOBUFS && errno != ETOOMANYREFS)
+        return false;
+    *answer = (struct bim_answer){ .error = ENOMEM };
+    return send_answer(client, answer, -1);
+}
+
 /* The first descriptor that came with a message, or -1. All others are closed: there is room for two if one is
  * aligned. */
 static int passed_by(struct msghdr *message)
@@ -207,7 +218,7 @@ static bool serve_request(struct server *server, struct client *client, const st
     bool taken;
 
     answer_client(server, client, request, passed, &answer, &gives);
-    taken = send_answer(client, &answer, gives);
+    taken = send_or_refuse(client, &answer, gives);
     if (gives >= 0)
         call_close(gives);
     return taken;
