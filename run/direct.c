@@ -34,10 +34,8 @@ static const int WORDS[] = { REG_RDI, REG_RSI, REG_RDX, REG_R10 };
 #endif
 
 /* Machines that are newer have only the other. */
-#ifdef SYS_open
-#define OLD_OPEN SYS_open
-#else
-#define OLD_OPEN SYS_openat
+#ifndef SYS_open
+#define SYS_open SYS_openat
 #endif
 
 /* The calls that are caught, of objects and devices. */
@@ -46,12 +44,13 @@ static const uint32_t CALLS[] = {
     DMA_BUF_SET_NAME_B, EXPORT_SYNC_FILE, IMPORT_SYNC_FILE, DMA_HEAP_IOCTL_ALLOC, UDMABUF_CREATE, UDMABUF_CREATE_LIST
 };
 
-/* The filter lets a call with these in the registers that it doesn't use pass. It stays when the process becomes another
- * program, so it can't know an address. */
+/* The filter lets a call pass that has these in registers which it doesn't use. The filter stays when the process
+ * becomes another program, so it can't know an address. */
 enum { PASS_ONE = 0x62696d70, PASS_TWO = 0x686c6169 };
 
-enum { COUNT = sizeof CALLS / sizeof CALLS[0], IOCTL = 7, OPENAT = IOCTL + COUNT + 2, OPEN = OPENAT + 4, PASS = OPEN + 4 };
-enum { TRAP = PASS + 5, LENGTH = TRAP + 1 };
+/* Where the parts of the filter begin. */
+enum { COUNT = sizeof CALLS / sizeof CALLS[0], IOCTL = 7, OPENAT = IOCTL + COUNT + 2, OPEN = OPENAT + 4 };
+enum { PASS = OPEN + 4, TRAP = PASS + 5, LENGTH = TRAP + 1 };
 
 static bool is_on;
 static volatile bool is_caught; /* a call was */
@@ -153,7 +152,7 @@ static void build(struct sock_filter filter[LENGTH])
     filter[2] = load(offsetof(struct seccomp_data, nr));
     filter[3] = compare(SYS_ioctl, 3, IOCTL, 4);
     filter[4] = compare(SYS_openat, 4, OPENAT, 5);
-    filter[5] = compare(OLD_OPEN, 5, OPEN, 6);
+    filter[5] = compare(SYS_open, 5, OPEN, 6);
     filter[6] = answer(SECCOMP_RET_ALLOW);
     filter[IOCTL] = load_word(1);
     for (int i = 0, at = IOCTL + 1; i < COUNT; i++, at++)
@@ -182,11 +181,12 @@ static bool set_filter(void)
 /* A process that was another program with this library has the filter already, and its first call is caught. */
 void direct_begin(void)
 {
-    struct sigaction action = { .sa_sigaction = on_call, .sa_flags = SA_SIGINFO | SA_NODEFER | SA_ONSTACK | SA_RESTART };
+    struct sigaction action = { .sa_flags = SA_SIGINFO | SA_NODEFER | SA_ONSTACK | SA_RESTART };
     sigset_t signals;
 
     if (!getenv(BIM_DIRECT))
         return;
+    action.sa_sigaction = on_call;
     sigaction(SIGSYS, &action, NULL);
     sigemptyset(&signals);
     sigaddset(&signals, SIGSYS);

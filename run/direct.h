@@ -1,5 +1,5 @@
-/* Direct calls (--direct): what a program asks of the kernel past the C library. A filter of system calls has the kernel
- * send SIGSYS in their place, whose handler serves them. */
+/* Direct calls (--direct): what a program asks of the kernel past the C library. A filter of system calls has the
+ * kernel send SIGSYS in their place, whose handler serves them. */
 #ifndef BIM_RUN_DIRECT_H
 #define BIM_RUN_DIRECT_H
 
