@@ -18,22 +18,39 @@ static bool is_too_large(uint64_t size)
     return size / sysconf(_SC_PAGESIZE) > (uint64_t)sysconf(_SC_PHYS_PAGES);
 }
 
-static int make_memory(struct keeper *keeper, uint64_t size)
+static int give_up(int memory)
+{
+    call_close(memory);
+    errno = ENOMEM;
+    return -1;
+}
+
+/* Memory of a size, or -1 with errno. What isn't to be written can't be mapped so either, also later. */
+static int new_memory(uint64_t size, uint32_t flags)
+{
+    int memory = memfd_create("dmabuf", MFD_CLOEXEC), fixed;
+
+    if (memory < 0)
+        return -1;
+    if (is_too_large(size) || ftruncate(memory, size) || syscall(SYS_fchmod, memory, BIM_MEMORY_MARK & ~S_IFMT))
+        return give_up(memory);
+    fixed = flags == O_RDONLY ? call_open_again(memory) : -1;
+    if (fixed < 0)
+        return memory;
+    call_close(memory);
+    return fixed;
+}
+
+static int make_memory(struct keeper *keeper, const struct bim_request *request)
 {
     int memory;
 
     keeper->host->begin_files();
-    memory = memfd_create("dmabuf", MFD_CLOEXEC);
+    memory = new_memory(request->size, request->flags);
     if (memory >= 0)
         memory = keeper->host->place(memory);
     keeper->host->end_files();
-    if (memory < 0)
-        return -1;
-    if (!is_too_large(size) && ftruncate(memory, size) == 0 && fchmod(memory, BIM_MEMORY_MARK & ~S_IFMT) == 0)
-        return memory;
-    call_close(memory);
-    errno = ENOMEM;
-    return -1;
+    return memory;
 }
 
 /* A descriptor of the keeper's for memory that a program has. */
@@ -56,7 +73,7 @@ static int add_part(struct keeper *keeper, const struct bim_request *request, st
 
     if (error)
         return error;
-    memory = passed < 0 ? make_memory(keeper, request->size) : keep_memory(keeper, passed);
+    memory = passed < 0 ? make_memory(keeper, request) : keep_memory(keeper, passed);
     if (memory < 0)
         return errno;
     error = parts_add(&buffer->memory, memory, request->from, request->size);
@@ -104,16 +121,18 @@ int buffer_memory(const struct bim_request *request, const struct object *buffer
 
     if (buffer->kind != BUFFER)
         return ENOTTY;
-    if (request->value >= buffer->buffer.memory.count)
-        return EINVAL;
-    part = &buffer->buffer.memory.at[request->value];
     answer->size = buffer->buffer.size;
     answer->flags = buffer->buffer.flags;
     answer->parts = buffer->buffer.memory.count;
     answer->is_lent = buffer->buffer.is_lent;
+    memcpy(answer->name, buffer->buffer.name, sizeof answer->name);
+    if (request->value == BIM_NO_PART)
+        return 0;
+    if (request->value >= buffer->buffer.memory.count)
+        return EINVAL;
+    part = &buffer->buffer.memory.at[request->value];
     answer->from = part->from;
     answer->length = part->size;
-    memcpy(answer->name, buffer->buffer.name, sizeof answer->name);
     *gives = call_dup_from(part->memory, 0);
     return *gives < 0 ? errno : 0;
 }

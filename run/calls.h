@@ -7,6 +7,7 @@
 #include <poll.h>
 #include <signal.h>
 #include <stddef.h>
+#include <stdio.h>
 #include <sys/epoll.h>
 #include <sys/socket.h>
 #include <sys/stat.h>
@@ -69,6 +70,15 @@ static inline ssize_t call_recv(int file, void *bytes, size_t length)
 static inline int call_epoll_ctl(int set, int how, int file, struct epoll_event *event)
 {
     return syscall(SYS_epoll_ctl, set, how, file, event);
+}
+
+/* Opens the file of a descriptor for reading only. Without /proc, or if its owner may not read it, returns -1. */
+static inline int call_open_again(int file)
+{
+    char path[32];
+
+    snprintf(path, sizeof path, "/proc/self/fd/%d", file);
+    return syscall(SYS_openat, AT_FDCWD, path, O_RDONLY | O_CLOEXEC, 0);
 }
 
 /* Another number of a descriptor, the least from `least` on. */

@@ -3,13 +3,15 @@
 #define _GNU_SOURCE
 #include "calls.h"
 #include "shim.h"
+#include "user.h"
 
 #include <errno.h>
 #include <stdio.h>
-#include <stdlib.h>
 #include <string.h>
 #include <sys/mman.h>
+#include <sys/param.h>
 #include <sys/sendfile.h>
+#include <sys/time.h>
 #include <sys/uio.h>
 
 static bool is_ours(int file)
@@ -43,13 +45,20 @@ EXPORT ssize_t __read_chk(int file, void *bytes, size_t length, size_t room)
     return is_ours(file) ? shim_result(EINVAL) : next(file, bytes, length, room);
 }
 
-/* A pipe's read end can't be written to anyhow, but a timeline is open for writing. */
+/* A pipe's read end can't be written to anyhow, nor can a sealed file; but on a kernel, a timeline and a heap are open
+ * for writing. */
 static ssize_t written(int file, ssize_t result)
 {
     uint64_t inode;
 
-    if (result < 0 && errno == EBADF)
-        errno = shim_mark(file, &inode) == BIM_TIMELINE_MARK ? EINVAL : EBADF;
+    if (result >= 0 || (errno != EBADF && errno != EPERM))
+        return result;
+    switch (shim_mark(file, &inode)) {
+    case BIM_TIMELINE_MARK:
+    case BIM_HEAP_MARK:
+    case BIM_UDMABUF_MARK: errno = EINVAL; break;
+    default: break;
+    }
     return result;
 }
 
@@ -113,59 +122,81 @@ EXPORT ssize_t sendfile64(int to, int from, off64_t *at, size_t length)
     return is_ours(to) || is_ours(from) ? refuse_sending(to) : next(to, from, at, length);
 }
 
-/* The memory of a buffer, as a descriptor, or -1. */
-static int memory_of(int file, struct bim_answer *answer)
+/* Asks for a part of a buffer's memory, or for no part. Returns an errno: ENODEV for what is no buffer. */
+static int ask_for_memory(int file, uint32_t part, struct bim_answer *buffer, int *memory)
 {
-    struct bim_request request = { .op = BIM_OP_MEMORY };
-    int memory;
+    struct bim_request request = { .op = BIM_OP_MEMORY, .value = part };
 
-    if (!shim_is_buffer(file, &request.a))
-        return -1;
-    return shim_ask(&request, -1, answer, &memory) == 0 ? memory : -1;
+    return shim_is_buffer(file, &request.a) ? shim_ask(&request, -1, buffer, memory) : ENODEV;
 }
 
-static bool may_map(const struct bim_answer *buffer, size_t length, int protection, int flags, off_t from)
+/* What the kernel says of a mapping: 0 or an errno. A heap's driver maps page by page, which can't be done to a private
+ * copy of several. */
+static int refusal_of_map(const struct bim_answer *buffer, const struct shim_map *map)
 {
-    if (buffer->is_lent && (flags & MAP_TYPE) == MAP_PRIVATE)
-        errno = EINVAL;
-    else if (protection & PROT_WRITE && (flags & MAP_TYPE) != MAP_PRIVATE && buffer->flags == O_RDONLY)
-        errno = EACCES;
-    else if (from < 0 || length > buffer->size || (uint64_t)from > buffer->size - length)
-        errno = EINVAL;
-    else
-        return true;
-    return false;
+    bool is_private = (map->flags & MAP_TYPE) == MAP_PRIVATE;
+
+    if (buffer->flags != O_RDONLY && buffer->flags != O_RDWR)
+        return EACCES;
+    if (map->protection & PROT_WRITE && !is_private && buffer->flags == O_RDONLY)
+        return EACCES;
+    if (map->length > buffer->size || map->from > buffer->size - map->length)
+        return EINVAL;
+    return is_private && (buffer->is_lent || map->length > (size_t)sysconf(_SC_PAGESIZE)) ? EINVAL : 0;
 }
 
 /* The kernel can't map what stands for a buffer; its memory is another file. */
-static void *map(void *at, size_t length, int protection, int flags, int file, off_t from)
+static void *map(const struct shim_map *map, int file)
 {
-    struct shim_map map = {
-        .from = from, .at = at, .length = length, .protection = protection, .flags = flags
-    };
     struct bim_answer buffer;
     void *mapped = MAP_FAILED;
-    int memory = memory_of(file, &buffer);
+    int memory = -1, error = ask_for_memory(file, 0, &buffer, &memory);
 
-    if (memory < 0) {
-        errno = ENODEV;
-        return MAP_FAILED;
-    }
-    if (may_map(&buffer, length, protection, flags, from))
-        mapped = shim_mark(file, &map.buffer) ? shim_map(&map, &buffer, memory) : MAP_FAILED;
-    call_close(memory);
+    if (!error)
+        error = refusal_of_map(&buffer, map);
+    if (!error)
+        mapped = shim_map(map, &buffer, memory);
+    else
+        errno = error;
+    if (memory >= 0)
+        call_close(memory);
     return mapped;
 }
 
-#define MMAP(name)                                                                              \
-    EXPORT void *name(void *at, size_t length, int protection, int flags, int file, off_t from) \
-    {                                                                                           \
-        NEXT(name);                                                                             \
-        void *mapped = next(at, length, protection, flags, file, from);                         \
-                                                                                                \
-        if (mapped != MAP_FAILED || errno != ENODEV || flags & MAP_ANONYMOUS)                   \
-            return mapped;                                                                      \
-        return map(at, length, protection, flags, file, from);                                  \
+static void *map_buffer(void *at, size_t length, int protection, int flags, int file, off_t from)
+{
+    struct shim_map whole = {
+        .from = from, .at = at, .length = length, .protection = protection, .flags = flags
+    };
+
+    return shim_mark(file, &whole.buffer) == BIM_BUFFER_MARK ? map(&whole, file) : MAP_FAILED;
+}
+
+/* A heap's memory is in its buffers. */
+static bool is_device(int file, int flags)
+{
+    uint64_t inode;
+    enum bim_mark mark = flags & MAP_ANONYMOUS ? 0 : shim_mark(file, &inode);
+
+    return mark == BIM_HEAP_MARK || mark == BIM_UDMABUF_MARK;
+}
+
+static void *refused_map(void)
+{
+    errno = ENODEV;
+    return MAP_FAILED;
+}
+
+#define MMAP(name)                                                                                  \
+    EXPORT void *name(void *at, size_t length, int protection, int flags, int file, off_t from)     \
+    {                                                                                               \
+        NEXT(name);                                                                                 \
+        void *mapped =                                                                              \
+            is_device(file, flags) ? refused_map() : next(at, length, protection, flags, file, from); \
+                                                                                                    \
+        if (mapped != MAP_FAILED || errno != ENODEV || flags & MAP_ANONYMOUS)                       \
+            return mapped;                                                                          \
+        return map_buffer(at, length, protection, flags, file, from);                               \
     }
 
 MMAP(mmap)
@@ -175,11 +206,9 @@ MMAP(mmap64)
 static off_t seek(int file, off_t to, int whence)
 {
     struct bim_answer buffer;
-    int memory = memory_of(file, &buffer);
 
-    if (memory < 0)
+    if (ask_for_memory(file, BIM_NO_PART, &buffer, NULL))
         return shim_result(ESPIPE);
-    call_close(memory);
     if (to != 0 || (whence != SEEK_SET && whence != SEEK_END))
         return shim_result(EINVAL);
     return whence == SEEK_END ? (off_t)buffer.size : 0;
@@ -197,16 +226,19 @@ static off_t seek(int file, off_t to, int whence)
 LSEEK(lseek)
 LSEEK(lseek64)
 
+/* What a kernel shows of a buffer's size, and of a device. */
 static int add_size(int file, struct stat *found)
 {
     struct bim_answer buffer;
-    int memory = S_ISSOCK(found->st_mode) && found->st_mode & S_ISVTX ? memory_of(file, &buffer) : -1;
 
-    if (memory < 0)
+    if (!(found->st_mode & S_ISVTX))
         return 0;
-    call_close(memory);
-    found->st_size = buffer.size;
-    found->st_blocks = buffer.size / 512;
+    if (S_ISREG(found->st_mode) && is_device(file, 0))
+        found->st_mode = S_IFCHR | 0600;
+    if (S_ISSOCK(found->st_mode) && ask_for_memory(file, BIM_NO_PART, &buffer, NULL) == 0) {
+        found->st_size = buffer.size;
+        found->st_blocks = buffer.size / 512;
+    }
     return 0;
 }
 
@@ -222,12 +254,11 @@ static int add_size(int file, struct stat *found)
 FSTAT(fstat, stat)
 FSTAT(fstat64, stat64)
 
-/* What a link of /proc/self/fd names. */
+/* What a link of /proc names. */
 static int name_of(int file, char *name, size_t room)
 {
     struct bim_answer buffer = { .name = "" };
     uint64_t inode;
-    int memory;
 
     switch (shim_mark(file, &inode)) {
     case BIM_TIMELINE_MARK: return snprintf(name, room, "/sys/kernel/debug/sync/sw_sync");
@@ -235,42 +266,91 @@ static int name_of(int file, char *name, size_t room)
     case BIM_HEAP_MARK: return snprintf(name, room, "/dev/dma_heap/system");
     case BIM_UDMABUF_MARK: return snprintf(name, room, "/dev/udmabuf");
     case BIM_BUFFER_MARK:
-        memory = memory_of(file, &buffer);
-        if (memory >= 0)
-            call_close(memory);
+        ask_for_memory(file, BIM_NO_PART, &buffer, NULL);
         return snprintf(name, room, "/dmabuf:%s", buffer.name);
     default: return 0;
     }
 }
 
-static ssize_t read_link(const char *path, char *link, size_t room)
+/* Whether a link that the kernel has read may be that of a descriptor of ours. */
+static bool is_of_descriptor(const char *link, ssize_t length)
 {
-    static const char FILES[] = "/proc/self/fd/";
-    char name[64], *end;
-    long file;
-    size_t length;
+    static const char *const BEGINNINGS[] = { "pipe:[", "socket:[", "/memfd:device" };
+    bool is = false;
 
-    if (!shim_is_on() || strncmp(path, FILES, sizeof FILES - 1) != 0)
-        return 0;
-    file = strtol(path + sizeof FILES - 1, &end, 10);
-    length = *end ? 0 : name_of(file, name, sizeof name);
-    length = length < room ? length : room;
-    memcpy(link, name, length);
-    return length;
+    for (size_t i = 0; i < sizeof BEGINNINGS / sizeof BEGINNINGS[0]; i++)
+        is |= length > 0 && strncmp(link, BEGINNINGS[i], MIN((size_t)length, strlen(BEGINNINGS[i]))) == 0;
+    return is;
+}
+
+/* The name of what a path leads to, in place of the kernel's link. */
+static ssize_t read_link(int folder, const char *path, char *link, size_t room, ssize_t length)
+{
+    char name[64];
+    int file, named;
+
+    if (!shim_is_on() || !is_of_descriptor(link, length))
+        return length;
+    file = syscall(SYS_openat, folder, path, O_PATH | O_CLOEXEC, 0);
+    named = file < 0 ? 0 : name_of(file, name, sizeof name);
+    if (file >= 0)
+        call_close(file);
+    if (named == 0)
+        return length;
+    length = MIN((size_t)named, room);
+    return user_put(link, name, length) ? shim_result(EFAULT) : length;
 }
 
 EXPORT ssize_t readlink(const char *path, char *link, size_t room)
 {
     NEXT(readlink);
-    ssize_t length = read_link(path, link, room);
 
-    return length > 0 ? length : next(path, link, room);
+    return read_link(AT_FDCWD, path, link, room, next(path, link, room));
 }
 
 EXPORT ssize_t readlinkat(int folder, const char *path, char *link, size_t room)
 {
     NEXT(readlinkat);
-    ssize_t length = read_link(path, link, room);
 
-    return length > 0 ? length : next(folder, path, link, room);
+    return read_link(folder, path, link, room, next(folder, path, link, room));
+}
+
+/* What fortified programs call. */
+ssize_t __readlink_chk(const char *path, char *link, size_t room, size_t size);
+ssize_t __readlinkat_chk(int folder, const char *path, char *link, size_t room, size_t size);
+
+EXPORT ssize_t __readlink_chk(const char *path, char *link, size_t room, size_t size)
+{
+    NEXT(__readlink_chk);
+
+    return read_link(AT_FDCWD, path, link, room, next(path, link, room, size));
+}
+
+EXPORT ssize_t __readlinkat_chk(int folder, const char *path, char *link, size_t room, size_t size)
+{
+    NEXT(__readlinkat_chk);
+
+    return read_link(folder, path, link, room, next(folder, path, link, room, size));
+}
+
+/* The mode and the time of ours say what they are. On a kernel, they are those of an inode that many share. */
+EXPORT int fchmod(int file, mode_t mode)
+{
+    NEXT(fchmod);
+
+    return is_ours(file) ? 0 : next(file, mode);
+}
+
+EXPORT int futimens(int file, const struct timespec times[2])
+{
+    NEXT(futimens);
+
+    return is_ours(file) ? 0 : next(file, times);
+}
+
+EXPORT int futimes(int file, const struct timeval times[2])
+{
+    NEXT(futimes);
+
+    return is_ours(file) ? 0 : next(file, times);
 }

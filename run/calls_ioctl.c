@@ -231,6 +231,9 @@ static int export_file(uint64_t buffer, void *arg)
 
     if (error)
         return error;
+    /* The kernel looks at these before it takes a number for the descriptor. */
+    if (data.flags & ~DMA_BUF_SYNC_RW || !data.flags)
+        return EINVAL;
     request.flags = data.flags;
     return give_file(&request, arg, &data, sizeof data, &data.fd);
 }

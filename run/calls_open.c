@@ -48,10 +48,12 @@ static enum path path_before(const char *path)
 /* A device is a mark: what it makes is the service's. */
 static int open_device(enum bim_mark mark)
 {
-    int file = memfd_create("device", MFD_CLOEXEC);
+    int file = memfd_create("device", MFD_CLOEXEC | MFD_ALLOW_SEALING);
 
-    if (file >= 0)
-        fchmod(file, mark & ~S_IFMT);
+    if (file < 0)
+        return -1;
+    syscall(SYS_fcntl, file, F_ADD_SEALS, F_SEAL_WRITE | F_SEAL_GROW | F_SEAL_SHRINK | F_SEAL_SEAL);
+    syscall(SYS_fchmod, file, mark & ~S_IFMT);
     return file;
 }
 
@@ -63,14 +65,25 @@ static int open_by_service(enum path path)
     return shim_ask_for_file(&request);
 }
 
+/* What the kernel says of flags that don't fit a file: 0 or an errno. */
+static int refusal_of_open(enum path path, int flags)
+{
+    if (flags & O_CREAT && flags & O_EXCL)
+        return EEXIST;
+    if (flags & O_DIRECTORY)
+        return ENOTDIR;
+    return path == SYNC_INFO && (flags & O_ACCMODE) != O_RDONLY ? EACCES : 0;
+}
+
 static int open_path(enum path path, int flags)
 {
-    int file;
+    int file = -1, error = flags & O_PATH ? 0 : refusal_of_open(path, flags);
 
-    if (path == SYNC_INFO && (flags & O_ACCMODE) != O_RDONLY) {
-        errno = EACCES;
-        return -1;
-    }
+    if (error)
+        return shim_result(error);
+    /* Such a descriptor only says that there is something. */
+    if (flags & O_PATH)
+        return syscall(SYS_openat, AT_FDCWD, "/dev/null", flags, 0);
     switch (path) {
     case DMA_HEAP: file = open_device(BIM_HEAP_MARK); break;
     case UDMABUF: file = open_device(BIM_UDMABUF_MARK); break;
@@ -191,6 +204,18 @@ OPEN(open)
 OPEN(open64)
 OPENAT(openat)
 OPENAT(openat64)
+
+#define CREAT(name)                                                        \
+    EXPORT int name(const char *path, mode_t mode)                         \
+    {                                                                      \
+        NEXT(name);                                                        \
+        enum path which = path_before(path);                               \
+                                                                           \
+        return which ? open_path(which, O_WRONLY) : next(path, mode);      \
+    }
+
+CREAT(creat)
+CREAT(creat64)
 
 /* What fortified programs call. */
 int __open_2(const char *path, int flags);

@@ -37,21 +37,23 @@ static void set_row(struct sync_fence_info *to, const bim_device_fence_info *row
 /* Rows for which the answer has no room come in a file. */
 static int rows_in_file(const struct keeper *keeper, size_t count, int *gives)
 {
-    struct sync_fence_info *rows = calloc(count, sizeof *rows);
     int file = memfd_create("rows", MFD_CLOEXEC);
+    struct sync_fence_info *rows;
     bool written = false;
 
+    if (file < 0)
+        return errno;
+    rows = calloc(count, sizeof *rows);
     for (size_t i = 0; rows && i < count; i++)
         set_row(&rows[i], &keeper->rows[i]);
-    if (rows && file >= 0)
+    if (rows)
         written = call_write(file, rows, count * sizeof *rows) == (ssize_t)(count * sizeof *rows);
     free(rows);
     if (written) {
         *gives = file;
         return 0;
     }
-    if (file >= 0)
-        call_close(file);
+    call_close(file);
     return ENOMEM;
 }
 
@@ -125,19 +127,23 @@ static void print_all(const struct keeper *keeper, FILE *text)
     fputs("fences:\n--------------\n", text);
 }
 
-/* Stores the text in a file that is read from its start. */
+/* Stores the text in a file that is read from its start, and can't be written. */
 static int store(const char *text, size_t length, int *gives)
 {
     int file = memfd_create("info", MFD_CLOEXEC);
 
     if (file < 0)
         return errno;
-    if (call_write(file, text, length) == (ssize_t)length && syscall(SYS_lseek, file, 0L, SEEK_SET) == 0) {
-        *gives = file;
-        return 0;
+    if (call_write(file, text, length) != (ssize_t)length || syscall(SYS_lseek, file, 0L, SEEK_SET) != 0) {
+        call_close(file);
+        return ENOMEM;
     }
-    call_close(file);
-    return ENOMEM;
+    *gives = call_open_again(file);
+    if (*gives >= 0)
+        call_close(file);
+    else
+        *gives = file;
+    return 0;
 }
 
 int info_text(const struct keeper *keeper, int *gives)

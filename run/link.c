@@ -225,8 +225,14 @@ static void check(void)
 
 static bool gives_none(const struct bim_request *request)
 {
-    return request->op == BIM_OP_INC || request->op == BIM_OP_INFO || request->op == BIM_OP_GONE ||
-           request->op == BIM_OP_WAIT;
+    switch (request->op) {
+    case BIM_OP_INC:
+    case BIM_OP_INFO:
+    case BIM_OP_GONE:
+    case BIM_OP_WAIT: return true;
+    case BIM_OP_MEMORY: return request->value == BIM_NO_PART;
+    default: return false;
+    }
 }
 
 /* Returns ENOTCONN if the program has closed the connection or the bell by a call that we don't see. */

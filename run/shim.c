@@ -3,6 +3,7 @@
 
 #include "calls.h"
 #include "direct.h"
+#include "limit.h"
 #include "shuffle.h"
 
 #include <errno.h>
@@ -221,6 +222,27 @@ static void leave(const struct entry *entry)
         pthread_setcancelstate(entry->cancel, NULL);
 }
 
+/* The program doesn't know that these calls take a descriptor for a moment. If there is no number left, they have one
+ * past its limit. */
+static bool hides_file(const struct bim_request *request)
+{
+    return request->op == BIM_OP_MEMORY || request->op == BIM_OP_INFO;
+}
+
+static int ask_in_turn(const struct bim_request *request, int passed, struct bim_answer *answer, int *given)
+{
+    struct rlimit limit;
+    int error = way->ask(request, passed, answer, given);
+
+    if (error != EMFILE || !hides_file(request))
+        return error;
+    if (limit_raise(&limit)) {
+        error = way->ask(request, passed, answer, given);
+        limit_restore(&limit);
+    }
+    return error == EMFILE ? ENOMEM : error;
+}
+
 int shim_ask(struct bim_request *request, int passed, struct bim_answer *answer, int *given)
 {
     struct entry entry;
@@ -236,7 +258,7 @@ int shim_ask(struct bim_request *request, int passed, struct bim_answer *answer,
     error = prepare();
     if (!error) {
         set_who(request);
-        error = way->ask(request, passed, answer, given);
+        error = ask_in_turn(request, passed, answer, given);
     }
     leave(&entry);
     shuffle_pause();

@@ -24,7 +24,7 @@ enum bim_mark {
     BIM_FILE_MARK = S_IFIFO | S_ISVTX | 0400,
     BIM_BUFFER_MARK = S_IFSOCK | S_ISVTX | 0600,
     BIM_BUFFER_END_MARK = S_IFSOCK | S_ISVTX | 0200, /* of the service's end */
-    BIM_MEMORY_MARK = S_IFREG | S_ISVTX | 0200,      /* of the memory of a buffer */
+    BIM_MEMORY_MARK = S_IFREG | S_ISVTX | 0400,      /* of the memory of a buffer */
     BIM_HEAP_MARK = S_IFREG | S_ISVTX | 0600,
     BIM_UDMABUF_MARK = S_IFREG | S_ISVTX | 0700 /* of /dev/udmabuf */
 };
@@ -41,7 +41,7 @@ enum bim_op {
     BIM_OP_GONE,   /* a: what was just closed, or BIM_ANY. Answered once all closings so far are done */
     BIM_OP_BUFFER, /* size, flags: O_ACCMODE of it. With a descriptor of memory: of its bytes from `from` on */
     BIM_OP_EXTEND, /* a: the buffer; size, from: a part that is added, of the memory whose descriptor is passed */
-    BIM_OP_MEMORY, /* a: the buffer; value: which part, from 0 on; gives the part's memory */
+    BIM_OP_MEMORY, /* a: the buffer; value: which part, from 0 on, whose memory it gives; or BIM_NO_PART */
     BIM_OP_NAME,   /* a: the buffer; name */
     BIM_OP_EXPORT, /* a: the buffer; flags */
     BIM_OP_IMPORT, /* a: the buffer, which is passed as a descriptor too; b: the file; flags */
@@ -50,7 +50,8 @@ enum bim_op {
     BIM_OPS
 };
 
-#define BIM_ANY UINT64_MAX
+#define BIM_ANY     UINT64_MAX
+#define BIM_NO_PART UINT32_MAX
 
 enum { BIM_TASK_ROOM = 16, BIM_TEXT_ROOM = 32, BIM_ROWS = 16 };
 

@@ -6,6 +6,13 @@
 
 enum { PAGE = 4096, LATER = 30 };
 
+struct raise {
+    pthread_t thread;
+    int timeline;
+};
+
+static struct raise raised;
+
 static void allocation(void)
 {
     int heap = open(HEAP, O_RDWR), before = lowest();
@@ -58,6 +65,116 @@ static void memory(void)
     EXPECT(other[7], 42);
     munmap(one, 2 * PAGE);
     munmap(other, PAGE);
+}
+
+static void *raise_later(void *given)
+{
+    struct raise *raise = given;
+
+    pause_for(LATER);
+    inc(raise->timeline, 1);
+    return NULL;
+}
+
+static void begin(struct raise *raise, int timeline)
+{
+    raise->timeline = timeline;
+    EXPECT(pthread_create(&raise->thread, NULL, raise_later, raise), 0);
+}
+
+static int since(__u64 begun)
+{
+    return (int)((now() - begun) / 1000000);
+}
+
+/* A buffer that is open as the flags say. */
+static int buffer_of(__u32 flags)
+{
+    struct dma_heap_allocation_data data = { .len = 2 * PAGE, .fd_flags = flags | O_CLOEXEC };
+    int heap = open(HEAP, O_RDWR);
+
+    EXPECT(ioctl(heap, DMA_HEAP_IOCTL_ALLOC, &data), 0);
+    close(heap);
+    return (int)data.fd;
+}
+
+static int fails_to_map(size_t length, int protection, int flags, int fd, off_t from)
+{
+    void *mapped = mmap(NULL, length, protection, flags, fd, from);
+
+    if (mapped == MAP_FAILED)
+        return errno;
+    munmap(mapped, length);
+    return 0;
+}
+
+/* What can't be mapped: past the end, more than a buffer is open for, and private copies of several pages. */
+static void wrong_maps(void)
+{
+    int b = buffer_of(O_RDWR), written = buffer_of(O_WRONLY), fixed = buffer_of(O_RDONLY);
+    struct stat status;
+
+    EXPECT(fails_to_map(2 * PAGE, PROT_READ, MAP_SHARED, b, 0), 0);
+    EXPECT(fails_to_map(3 * PAGE, PROT_READ, MAP_SHARED, b, 0), EINVAL);
+    EXPECT(fails_to_map(2 * PAGE + 1, PROT_READ, MAP_SHARED, b, 0), EINVAL);
+    EXPECT(fails_to_map(2 * PAGE, PROT_READ, MAP_SHARED, b, PAGE), EINVAL);
+    EXPECT(fails_to_map(PAGE, PROT_READ, MAP_SHARED, b, 2 * PAGE), EINVAL);
+    EXPECT(fails_to_map(PAGE, PROT_READ, MAP_SHARED, b, 1), EINVAL);
+    EXPECT(fails_to_map(0, PROT_READ, MAP_SHARED, b, 0), EINVAL);
+    EXPECT(fails_to_map(PAGE, PROT_READ | PROT_WRITE, MAP_PRIVATE, b, PAGE), 0);
+    EXPECT(fails_to_map(2 * PAGE, PROT_READ | PROT_WRITE, MAP_PRIVATE, b, 0), EINVAL);
+    EXPECT(fails_to_map(PAGE, PROT_READ, MAP_SHARED, written, 0), EACCES);
+    EXPECT(fails_to_map(PAGE, PROT_WRITE, MAP_SHARED, written, 0), EACCES);
+    EXPECT(fails_to_map(PAGE, PROT_READ | PROT_WRITE, MAP_SHARED, fixed, 0), EACCES);
+    EXPECT(fails_to_map(PAGE, PROT_READ | PROT_WRITE, MAP_PRIVATE, fixed, 0), 0);
+    char *seen = mmap(NULL, PAGE, PROT_READ, MAP_SHARED, fixed, 0);
+    HOLDS(seen != MAP_FAILED);
+    FAILS(mprotect(seen, PAGE, PROT_READ | PROT_WRITE), EACCES);
+    munmap(seen, PAGE);
+    EXPECT(fstat(fixed, &status), 0);
+    EXPECT(status.st_size, 2 * PAGE);
+    FAILS(lseek(b, 1, SEEK_SET), EINVAL);
+    FAILS(lseek(b, 0, SEEK_CUR), EINVAL);
+    FAILS(lseek(b, -1, SEEK_END), EINVAL);
+    EXPECT(fchmod(b, 0700), 0);
+    EXPECT(lseek(b, 0, SEEK_END), 2 * PAGE);
+    close(b);
+    close(written);
+    close(fixed);
+}
+
+/* A process that has no number left can do all that needs none on a kernel. */
+static void without_numbers(void)
+{
+    int t = timeline(), f = fence(t, 1), b = buffer(PAGE), last = dup(0);
+    struct rlimit before, full;
+    struct stat status;
+
+    import(b, f, DMA_BUF_SYNC_WRITE);
+    getrlimit(RLIMIT_NOFILE, &before);
+    full = before;
+    full.rlim_cur = (rlim_t)last + 1;
+    EXPECT(setrlimit(RLIMIT_NOFILE, &full), 0);
+    FAILS(dup(0), EMFILE);
+    EXPECT(fails_to_map(PAGE, PROT_READ | PROT_WRITE, MAP_SHARED, b, 0), 0);
+    EXPECT(lseek(b, 0, SEEK_END), PAGE);
+    EXPECT(fstat(b, &status), 0);
+    EXPECT(status.st_size, PAGE);
+    EXPECT(access_buffer(b, DMA_BUF_SYNC_START | DMA_BUF_SYNC_WRITE | DMA_BUF_SYNC_END), 0);
+    FAILS(export(b, DMA_BUF_SYNC_READ), EMFILE);
+    FAILS(export(b, 0), EINVAL);
+    struct raise raise;
+    __u64 begun = now();
+    begin(&raise, t);
+    EXPECT(access_buffer(b, DMA_BUF_SYNC_START | DMA_BUF_SYNC_WRITE), 0);
+    HOLDS(since(begun) >= LATER);
+    pthread_join(raise.thread, NULL);
+    getrlimit(RLIMIT_NOFILE, &full);
+    EXPECT(full.rlim_cur, last + 1);
+    EXPECT(setrlimit(RLIMIT_NOFILE, &before), 0);
+    int files[] = { t, f, b, last };
+    for (int i = 0; i < 4; i++)
+        close(files[i]);
 }
 
 static void wrong_calls(void)
@@ -197,30 +314,6 @@ static void exports(void)
     EXPECT(status(0), 99);
 }
 
-struct raise {
-    pthread_t thread;
-    int timeline;
-};
-
-static void *raise_later(void *given)
-{
-    struct raise *raise = given;
-
-    pause_for(LATER);
-    inc(raise->timeline, 1);
-    return NULL;
-}
-
-static void begin(struct raise *raise, int timeline)
-{
-    raise->timeline = timeline;
-    EXPECT(pthread_create(&raise->thread, NULL, raise_later, raise), 0);
-}
-
-static int since(__u64 begun)
-{
-    return (int)((now() - begun) / 1000000);
-}
 
 /* An access waits for what holds it off, and a poll of several is woken by any. */
 static void waits(void)
@@ -317,13 +410,58 @@ static void interrupted(void)
     close(b);
 }
 
-int main(void)
+static volatile int was_accessed, goes_on;
+
+/* Sends signals, until one has ended the wait, or else some, before the fence signals. */
+static void *interrupt_access(void *given)
+{
+    for (int left = 3; goes_on ? left > 0 : !was_accessed; left--) {
+        pause_for(LATER);
+        pthread_kill(*(pthread_t *)given, SIGUSR1);
+    }
+    inc(raised.timeline, 1);
+    return NULL;
+}
+
+/* A signal ends a wait for an access with EINTR, unless its handler asked that it goes on. */
+static void interrupted_access(int flags)
+{
+    struct sigaction action = { .sa_handler = note, .sa_flags = flags };
+    int b = buffer(PAGE), writer;
+    pthread_t me = pthread_self(), thread;
+
+    raised.timeline = timeline();
+    writer = fence(raised.timeline, 1);
+    was_accessed = 0;
+    goes_on = (flags & SA_RESTART) != 0;
+    sigaction(SIGUSR1, &action, NULL);
+    import(b, writer, DMA_BUF_SYNC_WRITE);
+    EXPECT(pthread_create(&thread, NULL, interrupt_access, &me), 0);
+    if (goes_on)
+        EXPECT(access_buffer(b, DMA_BUF_SYNC_START | DMA_BUF_SYNC_READ), 0);
+    else
+        FAILS(access_buffer(b, DMA_BUF_SYNC_START | DMA_BUF_SYNC_READ), EINTR);
+    EXPECT(is_signalled(writer), goes_on);
+    was_accessed = 1;
+    pthread_join(thread, NULL);
+    int files[] = { writer, b, raised.timeline };
+    for (int i = 0; i < 3; i++)
+        close(files[i]);
+}
+
+int main(int argc, char **argv)
 {
     int before = lowest();
 
+    (void)argv;
     give_up_after(30);
     allocation();
     memory();
+    wrong_maps();
+    if (argc == 1)
+        without_numbers();
+    interrupted_access(0);
+    interrupted_access(SA_RESTART);
     wrong_calls();
     names();
     usages();

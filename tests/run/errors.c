@@ -1,8 +1,11 @@
 /* Which errno each call of a timeline and of a sync file fails with, and that a failed call leaves nothing. */
 #include "kernel.h"
+#include <sys/select.h>
 #include <sys/uio.h>
 
-enum { PAGE = 4096 };
+enum { PAGE = 4096, MANY = 20 };
+
+static int lines[MANY];
 
 /* Where memory ends: a page that nobody may touch, after one that may be read, or written too. */
 static char *edge(int protection)
@@ -241,6 +244,35 @@ static void opened_again(void)
     close(t);
 }
 
+ssize_t __read_chk(int file, void *bytes, size_t length, size_t room);
+
+/* The same by what fortified programs call. */
+static void fortified(void)
+{
+    int t = timeline(), f = fence(t, 0);
+    char bytes[8];
+
+    FAILS(__read_chk(f, bytes, 1, sizeof bytes), EINVAL);
+    FAILS(__read_chk(t, bytes, 1, sizeof bytes), EINVAL);
+    EXPECT(is_signalled(f), 1);
+    close(f);
+    close(t);
+}
+
+/* Pointers to nothing are refused by the kernel's own calls too. */
+static void bad_pointers_of_waits(void)
+{
+    int t = timeline(), f = fence(t, 0);
+    char *end = edge(PROT_READ | PROT_WRITE);
+
+    /* The C library itself reads limits. */
+    FAILS(select(f + 1, (fd_set *)end, NULL, NULL, NULL), EFAULT);
+    FAILS(pselect(f + 1, (fd_set *)end, NULL, NULL, NULL, NULL), EFAULT);
+    FAILS(poll((struct pollfd *)end, 1, -1), EFAULT);
+    close(f);
+    close(t);
+}
+
 static void flags(void)
 {
     int t = timeline(), hidden = open(SW_SYNC, O_RDWR | O_CLOEXEC), f = fence(t, 1), joined = merge("", f, f);
@@ -250,6 +282,9 @@ static void flags(void)
     EXPECT(fcntl(f, F_GETFD), FD_CLOEXEC);
     EXPECT(fcntl(joined, F_GETFD), FD_CLOEXEC);
     EXPECT(ioctl(f, IOC_SET_DEADLINE, &(struct deadline){ .deadline_ns = now() }), 0);
+    FAILS(ioctl(f, IOC_SET_DEADLINE, &(struct deadline){ .deadline_ns = now(), .pad = 1 }), EINVAL);
+    FAILS(ioctl(f, IOC_SET_DEADLINE, NULL), EFAULT);
+    FAILS(ioctl(t, IOC_SET_DEADLINE, &(struct deadline){ .deadline_ns = now() }), ENOTTY);
     EXPECT(is_signalled(f), 0);
     close(joined);
     close(f);
@@ -257,10 +292,25 @@ static void flags(void)
     close(t);
 }
 
+/* A file of so many fences that their rows don't fit into an answer. */
+static int of_many(int count)
+{
+    int all = -1;
+
+    for (int i = 0; i < count; i++) {
+        int t = timeline(), one = fence(t, 1), more = merge("all", i == 0 ? one : all, one);
+        close(one);
+        close(all);
+        all = more;
+        lines[i] = t;
+    }
+    return all;
+}
+
 /* With as many descriptors as it may have, a process gets none, and with one less just one. */
 static void too_many(void)
 {
-    int t = timeline(), f = fence(t, 1), last = dup(0);
+    int t = timeline(), f = fence(t, 1), many = of_many(MANY), last = dup(0);
     struct rlimit before, full;
 
     getrlimit(RLIMIT_NOFILE, &before);
@@ -271,6 +321,12 @@ static void too_many(void)
     FAILS(fence(t, 1), EMFILE);
     FAILS(merge("", f, f), EMFILE);
     FAILS(open(HEAP, O_RDWR), EMFILE);
+    /* Before it looks at what it was passed. */
+    FAILS(ioctl(t, SW_SYNC_IOC_CREATE_FENCE, NULL), EMFILE);
+    FAILS(ioctl(f, SYNC_IOC_MERGE, NULL), EMFILE);
+    FAILS(merge("", f, -1), EMFILE);
+    FAILS(ioctl(f, SYNC_IOC_MERGE, &(struct sync_merge_data){ .fd2 = f, .pad = 1 }), EMFILE);
+    EXPECT(size(many), MANY);
     EXPECT(inc(t, 0), 0);
     EXPECT(status(f), 0);
     close(last);
@@ -284,6 +340,9 @@ static void too_many(void)
     EXPECT(setrlimit(RLIMIT_NOFILE, &before), 0);
     EXPECT(fence(t, 1), last);
     close(last);
+    for (int i = 0; i < MANY; i++)
+        close(lines[i]);
+    close(many);
     close(f);
     close(t);
 }
@@ -299,8 +358,11 @@ int main(int argc, char **argv)
     bad_reports();
     reads();
     opened_again();
+    fortified();
     flags();
-    if (argc == 1)
+    if (argc == 1) {
+        bad_pointers_of_waits();
         too_many();
+    }
     return report("errors");
 }
