@@ -8,6 +8,7 @@
 #include <errno.h>
 #include <fcntl.h>
 #include <limits.h>
+#include <signal.h>
 #include <stdio.h>
 #include <stdlib.h>
 #include <string.h>
@@ -28,13 +29,16 @@ int report_temporary(char *path)
     return trace_begin(path);
 }
 
-/* Becomes fencectl, whose report goes to standard error or nowhere. */
+/* Becomes fencectl, whose report goes to standard error or nowhere, and which signals end as usual. */
 static void become_fencectl(const char *trace, bool reports)
 {
     static const char *const FOLDERS[] = { "", "../crates/fencectl/out/", NULL };
     char fencectl[PATH_MAX];
     int nowhere = open("/dev/null", O_RDWR | O_CLOEXEC);
+    sigset_t none;
 
+    sigemptyset(&none);
+    sigprocmask(SIG_SETMASK, &none, NULL);
     if (!reports)
         dup2(nowhere, STDERR_FILENO);
     dup2(STDERR_FILENO, STDOUT_FILENO);
