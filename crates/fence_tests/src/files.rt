@@ -54,7 +54,9 @@ fn has_points(rt: &impl Abort, files: &Files, bytes: &[u8], points: &[Point]) {
 }
 
 fn has_floor(rt: &impl Abort, files: &Files, bytes: &[u8], floor: &Reach) {
-    holds(rt, file(rt, files, bytes).floor.to_reach() == *floor);
+    let mut kept = Reach::zero();
+    kept.join_floor(&file(rt, files, bytes).floor);
+    holds(rt, kept == *floor);
 }
 
 /// File information reports these fences, and the status that is given.
@@ -103,7 +105,7 @@ fn are_names(rt: &impl Abort, names: &[Name], letters: &[u8]) -> bool {
 fn is_the_plain_file(rt: &impl Abort, file: &SyncFile) {
     holds(rt, file.name == name(rt, b"f"));
     holds(rt, file.points.as_slice() == [point(rt, 1, 0)].as_slice());
-    holds(rt, file.floor.to_reach() == Reach::zero());
+    holds(rt, file.floor.used() == 0);
 }
 
 #[test]
@@ -162,7 +164,8 @@ fn merges_many(rt: &impl Abort, files: &mut Files) {
 
 /// The first context was closed at 5.
 fn reports_what_is_cancelled(rt: &impl Abort, files: &Files) {
-    let clocks = Clocks::open(&reach_at(rt, 5)).shut(context(rt, 1));
+    let mut clocks = Clocks::open(&reach_at(rt, 5));
+    clocks.close(context(rt, 1));
     let h = name(rt, b"h");
     let fences = [fence(rt, 1, 7, CANCELLED)];
     holds(rt, reports(rt, files, h, &clocks, &fences) == CANCELLED);

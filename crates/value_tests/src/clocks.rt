@@ -15,7 +15,8 @@ fn raise(clocks: &mut Clocks, point: Point) {
 fn one_is_closed(rt: &impl Abort) -> Clocks {
     let mut clocks = Clocks::open(&reach_of(rt, &[(1, 3)]));
     raise(&mut clocks, point(rt, 2, 2));
-    clocks.shut(context(rt, 2))
+    clocks.close(context(rt, 2));
+    clocks
 }
 
 type Row = (u16, u64, Status);
@@ -73,11 +74,10 @@ fn is_closed(rt: &impl Abort, clocks: &Clocks) {
         clock.reached() == u64::MAX && clock.status(3) == Status::Cancelled,
     );
     holds(rt, clocks.reach() == reach_of(rt, &[(1, 3), (2, u64::MAX)]));
-    holds(rt, clocks.reach() == reach_of(rt, &[(1, 3)]).shut(second));
 }
 
-/// Clocks that are raised and closed in place are the same.
-fn are_made_in_place(rt: &impl Abort, clocks: &Clocks) {
+/// Clocks that are raised from 0 are the same.
+fn are_raised_from_zero(rt: &impl Abort, clocks: &Clocks) {
     let mut made = Clocks::zero();
     raise(&mut made, point(rt, 1, 3));
     raise(&mut made, point(rt, 2, 2));
@@ -90,5 +90,5 @@ fn are_made_in_place(rt: &impl Abort, clocks: &Clocks) {
 fn a_closed_context_keeps_its_value(rt: HostRuntime) {
     let clocks = one_is_closed(&rt);
     is_closed(&rt, &clocks);
-    are_made_in_place(&rt, &clocks);
+    are_raised_from_zero(&rt, &clocks);
 }

@@ -102,10 +102,6 @@ fn statuses_have_the_kernels_numbers(rt: HostRuntime) {
             && is_status(true, Status::Signalled, 1)
             && is_status(true, Status::Cancelled, -2),
     );
-    holds(
-        &rt,
-        Status::of(false) == Status::Active && Status::of(true) == Status::Signalled,
-    );
 }
 
 type Together = (Status, Status, Status);

@@ -1,4 +1,4 @@
-// What reaches are raised to and joined of, and the floors that are made of them.
+// What reaches are raised to, and the floors that are made of them.
 use crate::values::{context, holds, point, reach_of};
 use point_core::{Floor, Reach};
 use std::process::Abort;
@@ -37,12 +37,10 @@ fn are_apart_below(both: &Reach, one: &Reach, other: &Reach) -> bool {
 }
 
 #[test]
-fn reaches_join(rt: HostRuntime) {
+fn a_reach_above_two(rt: HostRuntime) {
     let left = reach_of(&rt, &[(1, 5)]);
     let right = reach_of(&rt, &[(1, 3), (2, 2)]);
-    let both = left.joined(&right);
-    has_value(&rt, &both, 1, 5);
-    has_value(&rt, &both, 2, 2);
+    let both = reach_of(&rt, &[(1, 5), (2, 2)]);
     holds(&rt, are_apart_below(&both, &left, &right));
 }
 
@@ -59,11 +57,7 @@ fn a_reach_never_falls(rt: HostRuntime) {
 fn a_reach_goes_as_far_as_the_last_context_in_use(rt: HostRuntime) {
     let none = Reach::zero();
     let reach = reach_of(&rt, &[(7, 1), (3, 9), (9, 0)]);
-    holds(
-        &rt,
-        none.used() == 0 && reach.used() == 7 && none.joined(&reach).used() == 7,
-    );
-    holds(&rt, reach.joined(&none) == reach);
+    holds(&rt, none.used() == 0 && reach.used() == 7);
 }
 
 #[test]
@@ -76,8 +70,15 @@ fn a_reach_is_used_again(rt: HostRuntime) {
     holds(&rt, reach == Reach::zero());
 }
 
+/// The reach that a floor keeps.
+fn kept_by(floor: &Floor) -> Reach {
+    let mut reach = Reach::zero();
+    reach.join_floor(floor);
+    reach
+}
+
 fn is_floor_of(floor: &Floor, reach: &Reach) -> bool {
-    floor.to_reach() == *reach
+    kept_by(floor) == *reach
         && reach.at_least_floor(floor)
         && !Reach::zero().at_least_floor(floor)
         && floor.used() == reach.used()
@@ -106,5 +107,5 @@ fn a_floor_is_the_reach_that_it_was_made_of(rt: HostRuntime) {
 
 #[test]
 fn a_floor_of_nothing(rt: HostRuntime) {
-    holds(&rt, Floor::zero(rt.alloc()).to_reach() == Reach::zero());
+    holds(&rt, kept_by(&Floor::zero(rt.alloc())) == Reach::zero());
 }

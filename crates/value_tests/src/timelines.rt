@@ -72,11 +72,7 @@ fn is_closed(rt: &impl Abort, timelines: &Timelines) {
 }
 
 fn has_its_clock(rt: &impl Abort, timelines: &Timelines) {
-    let clocks = timelines.as_clocks();
-    holds(
-        rt,
-        clocks.closed(context(rt, 1)) && timelines.clocks() == *clocks,
-    );
+    holds(rt, timelines.as_clocks().closed(context(rt, 1)));
     holds(rt, timelines.as_reach().get(context(rt, 1)) == u64::MAX);
 }
 

@@ -35,15 +35,6 @@ fn close(rt: &impl Abort, words: &Words, driver: Driver) -> Seat
     seat
 }
 
-/// What is loaded of the first context.
-fn clock_of(words: &Words, seat: &mut Seat) -> Clock
-    requires own { seat.old.words ≡ words.now }
-    requires context { 1 ≤ words.now.contexts }
-    ensures same { seat.new.words ≡ words.now }
-{
-    words.load_clocks(seat).clock(Context::at(0))
-}
-
 /// Checks what each kind of load says of the first context, which was closed at 4.
 fn check_loads(rt: &impl Abort, words: &Words, seat: &mut Seat)
     requires own { seat.old.words ≡ words.now }
@@ -56,9 +47,7 @@ fn check_loads(rt: &impl Abort, words: &Words, seat: &mut Seat)
         closed: true,
     };
     holds(rt, words.load(seat, ctx) == 4);
-    holds(rt, words.closed(seat, ctx));
     holds(rt, words.clock(seat, ctx) == last);
-    holds(rt, clock_of(words, seat) == last);
     holds(rt, words.load_all(seat).get(ctx) == u64::MAX);
 }
 
@@ -149,7 +138,7 @@ fn a_driver_at_the_greatest_value_comes_back(rt: HostRuntime) {
     let mut driver = driver_of(&rt, &words, part, Context::at(0));
     holds(&rt, driver.inc(&words, u64::MAX) == Ok(u64::MAX));
     check_refused(&rt, &words, driver);
-    holds(&rt, !words.closed(&mut seat, Context::at(0)));
+    holds(&rt, !words.clock(&mut seat, Context::at(0)).closed);
 }
 
 /// Drives the first context to 1,000, and closes it.
@@ -175,7 +164,7 @@ fn look(rt: &impl Abort, alloc: Global, file: &SyncFile, words: &Words, seat: &m
     requires context { 1 ≤ words.now.contexts }
     ensures same { seat.new.words ≡ words.now }
 {
-    let clock = clock_of(words, seat);
+    let clock = words.clock(seat, Context::at(0));
     let is_kept = !merged(rt, alloc, file, words, seat)
         .points
         .as_slice()

@@ -84,7 +84,9 @@ fn check_points(rt: &impl Abort, points: &[Point], wanted: &[Point]) {
 }
 
 fn check_floor(rt: &impl Abort, floor: &Floor) {
-    holds(rt, floor.to_reach() == reached());
+    let mut kept = Reach::zero();
+    kept.join_floor(floor);
+    holds(rt, kept == reached());
 }
 
 /// Polls a file, and checks the answer.
