@@ -73,6 +73,8 @@ impl LockedBuffer {
     /// The pending points of all puts at the usage or a stronger one, and the reach as their floor.
     ///
     /// Fails as `put` does.
+    ///
+    /// Users of the library call it; no program here does.
     pub fn export(&mut self, usage: Usage, reach: &Reach) -> Result<Listing, Refusal>
         ensures torn { (result ≡ Err refusal.Torn) ↔ (¬ IsAtLeast reach.now self.old.floor) }
         ensures refusals { IfErr result (λ e. (e ≡ refusal.Torn) ⊎ (e ≡ refusal.Memory)) }

@@ -12,6 +12,8 @@ use std::alloc::Global;
 /// Runs the commands one after another over a fresh desk. Gives the desk and one answer a command.
 ///
 /// Fails only with `Memory`, when there is none for the desk or for the list of answers.
+///
+/// Users of the library call it; no program here does.
 pub fn run(alloc: Global, commands: &[Command]) -> Result<(Desk, Vec<Answer>), Refusal>
     ensures answers { IfOk result (λ r. AreAnswers [] commands.now r.1.items) }
     ensures stands { IfOk result (λ r. HasHistory r.0 (history_of [] commands.now r.1.items)) }

@@ -135,6 +135,8 @@ impl Buffers {
     /// kernel gives a file of its stub.
     ///
     /// Fails with `NoEntry`, then with `Flags` for any number but 1, 2 and 3, then with `Memory`.
+    ///
+    /// Users of the library call it; no program here does.
     pub fn export(&self, name: &Name, flags: u32, reach: &Reach) -> Result<Listing, Refusal>
         ensures refused { IsRefusedFor (cause_by_flags self.now name.now flags) result }
         ensures points { IfOk result (λ l.

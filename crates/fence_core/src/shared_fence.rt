@@ -22,6 +22,8 @@ use words_core::{Once, Seat, Won, Words, WordsId};
 /// flag takes the callbacks.
 ///
 /// The caller must give the flag to no other fence, and must let only this fence's `signal` set it.
+///
+/// Users of the library call it; no program here does.
 #[derive(Drop)]
 pub struct SharedFence {
     fence: Fence,

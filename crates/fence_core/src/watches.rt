@@ -169,7 +169,7 @@ impl Watches {
     }
 
     /// Takes out the watches all of whose points are signalled at this reach, and returns their cookies in order of
-    /// registration. It is for any rise; a desk raises one context at a time, by `after_inc`.
+    /// registration. It is for any rise; a desk raises one context at a time, by `after_inc`. Users of the library call it.
     ///
     /// Fails only with `Memory`, and only when a watch fires; then none has fired, and nothing has changed. The
     /// reach must be at least the last one that was handed in by a call that was not refused.

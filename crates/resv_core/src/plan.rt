@@ -109,6 +109,7 @@ impl Plan {
     }
 
     /// The acts of the round that is repeated: of a plan that `of` made, all of them. Takes no memory.
+    /// Users of the library call it; no program here does.
     pub fn as_slice(&self) -> &[Act]
         ensures round { (times : ℕ) × (rounds_of result.now times ≡ self.now) }
     {

@@ -183,6 +183,8 @@ impl Resv {
 
     /// Whether every entry of the usage or a stronger one is signalled, as Linux's `dma_resv_test_signaled`. Takes no
     /// memory.
+    ///
+    /// Users of the library call it; no program here does.
     pub fn test(&self, usage: Usage, reach: &Reach) -> bool
         ensures reached { IsTrue result ↔ IsReached self.now.entries (usage_number usage) reach.now }
     {

@@ -89,6 +89,8 @@ impl Files {
     /// the stub, as the kernel does.
     ///
     /// Fails with `NoEntry`, then with `Memory`.
+    ///
+    /// Users of the library call it; no program here does.
     pub fn info(&self, name: &Name, clocks: &Clocks) -> Result<FileInfo, Refusal>
         ensures info { MatchOption (file_at self.now name.now)
             (result ≡ Err NoEntry)
@@ -148,6 +150,8 @@ impl Files {
     /// Merges any number of files, as `merge` does two. Of no files, it makes a file without points.
     ///
     /// Fails as `merge` does.
+    ///
+    /// Users of the library call it; no program here does.
     pub fn merge_many(&mut self, name: Name, inputs: &[Name], reach: &Reach) -> Result<(), Refusal>
         ensures refused { IsRefusedFor (cause_to_refuse_merge self.old name inputs.now) result }
         ensures last { OnOk result (self.new ≡ self.old ++ merge_of self.old name inputs.now reach.now ∷ []) }
@@ -166,6 +170,8 @@ impl Files {
     /// Makes a file of a listing.
     ///
     /// Fails as `free` does, then with `Memory`; nothing is made then.
+    ///
+    /// Users of the library call it; no program here does.
     pub fn adopt(&mut self, name: Name, listing: Listing) -> Result<(), Refusal>
         requires rising { HasRisingContexts listing.points }
         ensures refused { IsRefusedFor (cause_to_refuse self.old name) result }
