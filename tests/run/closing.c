@@ -1,5 +1,10 @@
-/* All ways in which one process closes: what is pending of a timeline is cancelled at its last close, not before. */
+/* usage: closing [raw]
+ *
+ * All ways in which one process closes: what is pending of a timeline is cancelled at its last close, not before. With "raw", also
+ * all numbers at once by a system call. */
 #include "kernel.h"
+#include <dirent.h>
+#include <dlfcn.h>
 #include <sys/syscall.h>
 
 #ifndef SYS_close_range
@@ -143,6 +148,102 @@ static void all_numbers(void)
     close(t);
 }
 
+/* The same by the C library, which may have it: what was closed is cancelled before it returns. */
+static void ranges_by_library(void)
+{
+    int (*close_numbers)(unsigned first, unsigned last, int flags);
+    void (*close_from)(int first);
+    void *found[] = { dlsym(RTLD_DEFAULT, "close_range"), dlsym(RTLD_DEFAULT, "closefrom") };
+    int t = timeline(), u = timeline(), f = fence(t, 1), g = fence(u, 1);
+
+    if (!found[0] || !found[1])
+        return;
+    memcpy(&close_numbers, &found[0], sizeof close_numbers);
+    memcpy(&close_from, &found[1], sizeof close_from);
+    EXPECT(dup2(t, 200), 200);
+    close(t);
+    FAILS(close_numbers(201, 200, 0), EINVAL);
+    EXPECT(is_signalled(f), 0);
+    if (close_numbers(200, 300, 0) == 0)
+        HOLDS(is_cancelled(f));
+    close(f);
+    EXPECT(dup2(g, 300), 300);
+    close(g);
+    EXPECT(dup2(u, 301), 301);
+    close(u);
+    close_from(301);
+    HOLDS(is_cancelled(300));
+    close_from(300);
+    FAILS(close(300), EBADF);
+    int v = timeline(), h = fence(v, 1);
+    EXPECT(inc(v, 1), 0);
+    EXPECT(is_signalled(h), 1);
+    close(h);
+    close(v);
+}
+
+/* The descriptors of a process beside those of the program, as bits. */
+static int others_of(unsigned char *others, int count, int own)
+{
+    DIR *folder = opendir("/proc/self/fd");
+    struct dirent *entry;
+    int found = 0;
+
+    memset(others, 0, (size_t)count);
+    while (folder && (entry = readdir(folder))) {
+        int fd = atoi(entry->d_name);
+        if (fd > own && fd < count && fd != dirfd(folder))
+            found += others[fd] = 1;
+    }
+    if (folder)
+        closedir(folder);
+    return found;
+}
+
+/* A program can neither close what it hasn't opened nor take its number. */
+static void others_numbers(void)
+{
+    enum { NUMBERS = 1 << 17 };
+    static unsigned char others[NUMBERS];
+    int t = timeline(), f = fence(t, 1), before = others_of(others, NUMBERS, f);
+
+    for (int fd = f + 1; fd < NUMBERS; fd++)
+        if (others[fd]) {
+            FAILS(close(fd), EBADF);
+            EXPECT(dup2(1, fd), -1);
+            EXPECT(dup3(1, fd, O_CLOEXEC), -1);
+        }
+    EXPECT(others_of(others, NUMBERS, f), before);
+    EXPECT(status(f), 0);
+    EXPECT(inc(t, 1), 0);
+    EXPECT(status(f), 1);
+    close(f);
+    close(t);
+}
+
+/* Whoever closes all that there is past the C library is served anew. */
+static void all_at_once(void)
+{
+    int t = timeline(), f = fence(t, 1), most = f;
+
+    EXPECT(inc(t, 0), 0);
+    if (syscall(SYS_close_range, most + 1, ~0u, 0))
+        return;
+    EXPECT(status(f), 0);
+    int g = fence(t, 2);
+    EXPECT(inc(t, 1), 0);
+    EXPECT(is_signalled(f), 1);
+    EXPECT(is_signalled(g), 0);
+    if (syscall(SYS_close_range, g + 1, ~0u, 0) == 0)
+        EXPECT(inc(t, 1), 0);
+    EXPECT(is_signalled(g), 1);
+    if (syscall(SYS_close_range, g + 1, ~0u, 0) == 0)
+        EXPECT(size(merge("", f, g)), 1);
+    int files[] = { f, g, t, g + 1 };
+    for (int i = 0; i < 4; i++)
+        close(files[i]);
+}
+
 /* Files outlive what they are made of, and timelines outlive files. */
 static void in_any_order(void)
 {
@@ -169,7 +270,7 @@ static void in_any_order(void)
     close(u);
 }
 
-int main(void)
+int main(int argc, char **argv)
 {
     int before = lowest();
 
@@ -180,7 +281,11 @@ int main(void)
     in_vain();
     unseen();
     ranges();
+    ranges_by_library();
     all_numbers();
+    others_numbers();
+    if (argc > 1 && !strcmp(argv[1], "raw"))
+        all_at_once();
     in_any_order();
     EXPECT(lowest(), before);
     return report("closing");
