@@ -17,7 +17,7 @@ use words_core::USAGES;
 
 /// The latest points that a client has put into a buffer, for each context of the words, at each usage or a stronger one; 0 if
 /// there is none. So a look costs the same, however many puts came before it.
-#[derive(Debug, Drop)]
+#[derive(Drop)]
 pub(crate) struct OwnPuts {
     // by context, and then by usage
     latest: Vec<u64>,

@@ -10,7 +10,7 @@ use point_core::Usage;
 
 /// A fence that was put into a buffer: its timeline, its point, and what it is for. It has signalled once the timeline
 /// has reached the point, or is closed.
-#[derive(Clone, Copy, Debug, PartialEq, Eq)]
+#[derive(Clone, Copy)]
 pub(crate) struct BufferFence {
     pub(crate) timeline: u64,
     pub(crate) value: u64,

@@ -16,7 +16,7 @@ use std::collections::{BTreeSet, HashMap};
 use std::marker::Model;
 
 /// A file, at a point that it waits for.
-#[derive(Clone, Copy, Debug, PartialEq, Eq, PartialOrd, Ord)]
+#[derive(Clone, Copy, PartialEq, Eq, PartialOrd, Ord)]
 pub(crate) struct Waiting {
     pub(crate) timeline: u64,
     pub(crate) value: u64,

@@ -11,14 +11,14 @@ use std::simd::prelude::*;
 pub(crate) const SCAN_BYTES: usize = 2 * WIDE_LANES;
 
 /// A bit for each of some bytes that is set at a line feed, and one that is set at a byte of a word.
-#[derive(Clone, Copy, Debug)]
+#[derive(Clone, Copy)]
 pub(crate) struct Scan {
     feeds: u64,
     marks: u64,
 }
 
 /// A line whose line feed was seen: how many bytes it has, their marks, and what is known of the bytes after it.
-#[derive(Clone, Copy, Debug)]
+#[derive(Clone, Copy)]
 pub(crate) struct ScannedLine {
     pub(crate) end: usize,
     pub(crate) marks: u64,

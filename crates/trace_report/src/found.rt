@@ -12,7 +12,7 @@ use std::alloc::Global;
 use track_core::{FenceKey, Ledger, Life, TimelineKey};
 
 /// A fence that is pending.
-#[derive(Clone, Copy, Debug, PartialEq, Eq, PartialOrd, Ord)]
+#[derive(Clone, Copy, PartialEq, Eq, PartialOrd, Ord)]
 pub(crate) struct Pending {
     /// How many events came before the first that is pending of its timeline was made.
     group: u64,

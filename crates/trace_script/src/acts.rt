@@ -13,7 +13,7 @@ const SHORTEST_LINE: usize = 8;
 const ACTS: usize = SCRIPT_BYTES / SHORTEST_LINE;
 
 /// A fence of the script.
-#[derive(Clone, Copy, Debug)]
+#[derive(Clone, Copy)]
 pub(crate) struct Fence {
     pub(crate) key: FenceKey,
     /// The place of its timeline.
@@ -23,7 +23,7 @@ pub(crate) struct Fence {
 }
 
 /// What happened. A fence is named by its place.
-#[derive(Clone, Copy, Debug)]
+#[derive(Clone, Copy)]
 pub(crate) enum Act {
     Make(usize),
     Signal(usize),
@@ -55,7 +55,7 @@ impl Act {
 }
 
 /// A fence that is pending where the window begins. The first in order was made first.
-#[derive(Clone, Copy, Debug, PartialEq, Eq, PartialOrd, Ord)]
+#[derive(Clone, Copy, PartialEq, Eq, PartialOrd, Ord)]
 struct Earlier {
     born: u64,
     driver: u32,

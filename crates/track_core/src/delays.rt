@@ -14,14 +14,14 @@ const STEP_BITS: u32 = 4;
 const LAST_STEP: u32 = 975;
 
 /// Times of a timeline that fall into one step.
-#[derive(Clone, Copy, Debug, PartialEq, Eq, Hash)]
+#[derive(Clone, Copy, PartialEq, Eq, Hash)]
 struct StepKey {
     timeline: TimelineKey,
     step: u32,
 }
 
 /// How many times of a timeline there are, and the longest, in microseconds.
-#[derive(Clone, Copy, Debug)]
+#[derive(Clone, Copy)]
 struct Span {
     count: u64,
     longest: u64,

@@ -30,7 +30,7 @@ use std::collections::BTreeMap;
 use std::marker::Model;
 
 /// A point, and the registration of a watch that waits for it.
-#[derive(Clone, Copy, Debug, PartialEq, Eq, PartialOrd, Ord)]
+#[derive(Clone, Copy, PartialEq, Eq, PartialOrd, Ord)]
 pub(super) struct WaitingPoint {
     ctx: Context,
     value: u64,

@@ -2,7 +2,7 @@
 use std::marker::Model;
 
 /// The number of a registration, counted from 0. It is never used again, while a cookie may be.
-#[derive(Clone, Copy, Debug, PartialEq, Eq, Hash, PartialOrd, Ord)]
+#[derive(Clone, Copy, PartialEq, Eq, Hash, PartialOrd, Ord)]
 pub(super) struct Registration(pub(super) u64);
 
 impl Model for Registration {

@@ -5,7 +5,7 @@ use point_core::Status;
 use std::process::Abort;
 
 /// An answer, or a refusal.
-#[derive(Clone, Copy, Debug, PartialEq, Eq)]
+#[derive(Clone, Copy, PartialEq, Eq)]
 pub(crate) enum Wanted {
     Number(u64),
     Woken(&'static [u64]),

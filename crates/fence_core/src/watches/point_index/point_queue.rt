@@ -13,7 +13,7 @@ use std::collections::btree_set::Iter;
 use std::marker::Model;
 
 /// A value of a context, and the registration of the watch that stands there.
-#[derive(Clone, Copy, Debug, PartialEq, Eq, PartialOrd, Ord)]
+#[derive(Clone, Copy, PartialEq, Eq, PartialOrd, Ord)]
 pub(super) struct Standing {
     pub(super) value: u64,
     pub(super) registration: Registration,
