@@ -96,10 +96,12 @@ pub fn fence(info: &FenceInfo) -> (Option<Context>, u64, Status) {
     (info.ctx, info.point, info.status)
 }
 
-/// A file's floor is kept in few bytes, and is a reach for whoever asks.
+/// A file's floor is kept in few bytes, and a reach is raised to it.
 pub fn floor(file: &SyncFile) -> Reach {
     let floor: &Floor = &file.floor;
-    floor.to_reach()
+    let mut reach = Reach::zero();
+    reach.join_floor(floor);
+    reach
 }
 
 pub fn merge_with(

@@ -51,8 +51,9 @@ pub fn values(reach: &Reach, other: &Reach, ctx: Context) -> (u64, Option<Reach>
     (reach.get(ctx), reach.raised(ctx, 1), reach.at_least(other))
 }
 
-pub fn reaches(reach: &Reach, other: &Reach, ctx: Context) -> (Reach, Reach) {
-    (reach.joined(other), reach.shut(ctx))
+pub fn close(reach: &mut Reach, clocks: &mut Clocks, ctx: Context) {
+    reach.close(ctx);
+    clocks.close(ctx);
 }
 
 pub fn signalled(point: Point, reach: &Reach) -> bool {
@@ -71,13 +72,8 @@ pub fn open(reach: &Reach) -> Clocks {
     Clocks::open(reach)
 }
 
-pub fn clocks(clocks: &Clocks, ctx: Context) -> (Clocks, Reach, u64, bool) {
-    (
-        clocks.shut(ctx),
-        clocks.reach(),
-        clocks.value(ctx),
-        clocks.closed(ctx),
-    )
+pub fn clocks(clocks: &Clocks, ctx: Context) -> (Reach, u64, bool) {
+    (clocks.reach(), clocks.value(ctx), clocks.closed(ctx))
 }
 
 pub fn status(clocks: &Clocks, point: Point) -> Status {

@@ -27,8 +27,8 @@ pub fn names(timelines: &Timelines, name: &Name, ctx: Context) -> (Option<Contex
     (timelines.context(name), timelines.name(ctx))
 }
 
-pub fn reached(timelines: &Timelines) -> (Reach, Clocks) {
-    (timelines.reach(), timelines.clocks())
+pub fn reached(timelines: &Timelines) -> (Reach, &Clocks) {
+    (timelines.reach(), timelines.as_clocks())
 }
 
 pub fn rows(timelines: &Timelines) -> Result<Vec<TimelineRow>, Refusal> {

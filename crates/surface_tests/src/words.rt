@@ -1,7 +1,7 @@
 // Shared words, seats and drivers.
 ghost use Rattle.std.specs.Prelude.{◌≡◌, ◌<◌, ◌≤◌};
 
-use point_core::{Clocks, Context, Reach, Refusal, Usage};
+use point_core::{Context, Reach, Refusal, Usage};
 use std::alloc::Global;
 use words_core::{Driver, Once, Seat, Whole, Won, Words};
 
@@ -62,22 +62,10 @@ pub fn load(words: &Words, seat: &mut Seat, ctx: Context) -> u64
     words.load(seat, ctx)
 }
 
-pub fn closed(words: &Words, seat: &mut Seat, ctx: Context) -> bool
-    requires own { (seat.old.words ≡ words.now) × (ctx ≤ words.now.contexts) }
-{
-    words.closed(seat, ctx)
-}
-
 pub fn load_all(words: &Words, seat: &mut Seat) -> Reach
     requires own { seat.old.words ≡ words.now }
 {
     words.load_all(seat)
-}
-
-pub fn load_clocks(words: &Words, seat: &mut Seat) -> Clocks
-    requires own { seat.old.words ≡ words.now }
-{
-    words.load_clocks(seat)
 }
 
 pub fn set_once(words: &Words, seat: &mut Seat, flag: usize) -> Once
