@@ -184,14 +184,6 @@ impl Timelines {
     }
 
     /// The value of each context, and which are closed; 0 and open if no timeline was made.
-    pub fn clocks(&self) -> Clocks
-        ensures value { result ≡ clocks_of self.now }
-        ensures timelines { AreTimelines self.now }
-    {
-        *self.as_clocks()
-    }
-
-    /// The same, by reference.
     pub fn as_clocks(&self) -> &Clocks
         ensures value { result.now ≡ clocks_of self.now }
         ensures timelines { AreTimelines self.now }
@@ -201,6 +193,8 @@ impl Timelines {
 
     /// What each context has reached: its value, or the greatest one if its timeline is closed; 0 if no timeline was
     /// made.
+    ///
+    /// Users of the library call it; no program here does.
     pub fn reach(&self) -> Reach
         ensures value { result ≡ reach_of self.now }
         ensures timelines { AreTimelines self.now }
