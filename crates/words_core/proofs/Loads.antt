@@ -1,17 +1,12 @@
 -- What follows from a load of all contexts.
 use Rattle.std.proofs.Common.{◌≡◌, ℕ, List, sym, ap, ◌∙◌, subst}
-use Rattle.point_core.specs.declared.clocks.Clock.{Clock}
-use Rattle.words_core.specs.Loads.{clocks_seen, reach_seen, HasLoadedAll, HasLoadedClocks}
+use Rattle.words_core.specs.Loads.{reach_seen, HasLoadedAll}
 use Rattle.words_core.specs.Seat.{SeatModel}
 use Rattle.words_core.specs.Words.{WordsModel}
 
 -- the reach is what the seat has now seen
 pub HasLoadedAll-seen : {before after : SeatModel} {reach : List ℕ} → HasLoadedAll before after reach → HasLoadedAll before after (reach_seen after)
 HasLoadedAll-seen {before} {after} h = subst (HasLoadedAll before after) h.found h
-
--- the clocks are what the seat has now seen
-pub HasLoadedClocks-seen : {before after : SeatModel} {clocks : List Clock} → HasLoadedClocks before after clocks → HasLoadedClocks before after (clocks_seen after)
-HasLoadedClocks-seen {before} {after} h = subst (HasLoadedClocks before after) h.found h
 
 -- the seat is of the same words, with the same parts
 pub kept-loaded : {before after : SeatModel} {reach : List ℕ} → HasLoadedAll before after reach → (after.words ≡ before.words) × (after.parts ≡ before.parts)

@@ -1,29 +1,16 @@
 // The loads that find the clocks of contexts.
-ghost use Rattle.std.specs.Prelude.{◌≡◌, ◌+◌, ◌<◌, ◌≤◌, true, replicate};
-ghost use Rattle.point_core.specs.Clocks.{new_clock, clock_at, with_clock, reached_by};
+ghost use Rattle.std.specs.Prelude.{◌≡◌, ◌≤◌, true, replicate};
+ghost use Rattle.point_core.specs.Clocks.{reached_by};
 ghost use Rattle.point_core.specs.declared.context.TheConstants.{CONTEXTS};
-ghost use Rattle.words_core.specs.Layout.{value_word, mark_word};
-ghost use Rattle.words_core.specs.Loads.{clock_seen, loads_at, HasLoadedAll, HasLoadedClocks};
-ghost use Rattle.words_core.specs.Seat.{seen, with_step, with_steps};
-ghost use Rattle.words_core.specs.Trace.{load};
+ghost use Rattle.words_core.specs.Layout.{value_word};
+ghost use Rattle.words_core.specs.Loads.{clock_seen, loads_at, HasLoadedAll};
+ghost use Rattle.words_core.specs.Seat.{seen, with_steps};
 
 use crate::seat::Seat;
 use crate::words::Words;
-use point_core::{Clock, Clocks, Context, Point, Reach};
+use point_core::{Clock, Context, Point, Reach};
 
 impl Words {
-    /// Whether a context is closed, by one load of its mark. Once it is, it stays so.
-    pub fn closed(&self, seat: &mut Seat, ctx: Context) -> bool
-        requires own { seat.old.words ≡ self.now }
-        requires context { ctx ≤ self.now.contexts }
-        ensures entered { seat.new ≡ with_step seat.old (load (mark_word ctx) (seen seat.new (mark_word ctx))) }
-        ensures found { result ≡ (clock_seen seat.new ctx).closed }
-        ensures last { result ≡ true → seen seat.old (value_word ctx) < seen seat.new (mark_word ctx) }
-        ensures stays { (clock_seen seat.old ctx).closed ≡ true → clock_seen seat.new ctx ≡ clock_seen seat.old ctx }
-    {
-        self.mark(seat, ctx) > 0
-    }
-
     /// The clock of a context, by one load of its mark, which has both if it is closed, and one of its value if it
     /// is open. It reaches no less than what the seat has seen. A closed one stays as it is, at no less than any value that
     /// the seat has seen.
@@ -51,23 +38,11 @@ impl Words {
         }
     }
 
-    /// The clocks of all contexts, by the loads of each, in rising order: no one moment need have had them all. Each is as
-    /// `clock` finds it, so a point that was signalled or cancelled stays so. Those past the last context are open at 0.
-    pub fn load_clocks(&self, seat: &mut Seat) -> Clocks
-        requires own { seat.old.words ≡ self.now }
-        ensures loaded { HasLoadedClocks seat.old seat.new result }
-    {
-        let mut clocks = Clocks::zero();
-        for index in 0..self.sizes.contexts {
-            let ctx = Context::at(index);
-            let clock = self.clock(seat, ctx);
-            put(&mut clocks, ctx, clock);
-        }
-        clocks
-    }
-
-    /// What the clocks of all contexts reach, by the same loads: the value of an open context, and the greatest value of a
-    /// closed one. Past the last context it is 0.
+    /// What the clocks of all contexts reach, by the loads of each, in rising order: no one moment need have had them all.
+    /// That is the value of an open context, and the greatest value of a closed one. Each clock is as `clock` finds it, so a
+    /// point that was signalled or cancelled stays so. Past the last context it is 0.
+    ///
+    /// Users of the library call it; no program here does.
     pub fn load_all(&self, seat: &mut Seat) -> Reach
         requires own { seat.old.words ≡ self.now }
         ensures loaded { HasLoadedAll seat.old seat.new result }
@@ -91,18 +66,5 @@ impl Words {
                 value: clock.reached(),
             });
         }
-    }
-}
-
-// The clock of a context that was new.
-fn put(clocks: &mut Clocks, ctx: Context, clock: Clock)
-    requires new { clock_at clocks.old ctx ≡ new_clock }
-    ensures put { clocks.new ≡ with_clock clocks.old ctx clock }
-    ensures context { ctx ≤ CONTEXTS }
-{
-    let value = clock.value;
-    clocks.raise_to(Point { ctx, value });
-    if clock.closed {
-        clocks.close(ctx);
     }
 }

@@ -28,6 +28,7 @@ impl Model for Won {
 
 impl Won {
     /// The flag.
+    /// Users of the library call it; no program here does.
     pub fn flag(&self) -> usize
         ensures { result ≡ self.now.flag }
     {

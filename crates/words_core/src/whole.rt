@@ -74,6 +74,7 @@ impl Whole {
     }
 
     /// Whether a flag is set, by one load: exactly when one step has won it, once.
+    /// Users of the library call it; no program here does.
     pub fn flag(&mut self, words: &Words, flag: usize) -> bool
         requires own { self.old.words ≡ words.now }
         requires flag { flag < words.now.flags }
@@ -87,6 +88,7 @@ impl Whole {
     }
 
     /// The seat again.
+    /// Users of the library call it; no program here does.
     pub fn seat(self) -> Seat
         ensures { result ≡ self }
     {
