@@ -7,8 +7,6 @@ use Rattle.std.proofs.lemmas.List.Folds.{list_all-map}
 use Rattle.std.proofs.lemmas.List.Elements.{All-nil, All-cons, All-head, All-tail, All-weaker, All-contains, All-contains_itself}
 use Rattle.point_core.specs.declared.entry.Point.{Point}
 use Rattle.point_core.specs.declared.entry.Entry.{Entry}
-use Rattle.point_core.specs.declared.status.Status.TheVariants.{Signalled}
-use Rattle.point_core.specs.Status.{status_if}
 use Rattle.point_core.specs.Usage.{usage_number}
 use Rattle.point_core.specs.Reach.{value_at, is_reached}
 use Rattle.point_core.specs.Agreement.{top, AgreesAbove, as_entry, as_entries, covers, Covers, IsReached, all_reached}
@@ -76,11 +74,6 @@ all_reached-AgreesAbove {reach} {es} {fs} usage there back =
     let left = all_reached-IsReached reach usage es in
     let right = all_reached-IsReached reach usage fs in
     same_Bool _ _ (λ is. right.1 (IsReached-AgreesAbove usage there (left.0 is))) (λ is. left.1 (IsReached-AgreesAbove usage back (right.0 is)))
-
--- a status shows whether all is reached
-pub status_if-Signalled : (b : Bool) (P : Type 0) → ((b ≡ true) ↔ P) → (status_if b ≡ Signalled) ↔ P
-status_if-Signalled true P h = (λ _. h.0 refl, λ _. refl)
-status_if-Signalled false P h = (λ is. absurd (cc), λ p. absurd (false≢true (h.1 p)))
 
 pub covers-Covers : (by other : Entry) → (covers by other ≡ true) ↔ Covers by other
 covers-Covers by other = (

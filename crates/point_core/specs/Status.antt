@@ -1,5 +1,5 @@
 -- The numbers of a status.
-use Rattle.std.specs.Prelude.{ℤ, pos, negsuc, Bool, true, false, if◌then◌else◌}
+use Rattle.std.specs.Prelude.{ℤ, pos, negsuc, Bool, true, false}
 use Rattle.point_core.specs.declared.status.Status.{Status}
 use Rattle.point_core.specs.declared.status.Status.TheVariants.{Active, Signalled, Cancelled}
 
@@ -8,9 +8,6 @@ abbrev pub status_number : Status → ℤ
 status_number Active = pos 0
 status_number Signalled = pos 1
 status_number Cancelled = negsuc 1
-
-abbrev pub status_if : Bool → Status
-status_if b = if b then Signalled else Active
 
 -- the status of two fences together
 abbrev pub status_with : Status → Status → Status

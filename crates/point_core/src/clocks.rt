@@ -88,6 +88,7 @@ impl Clocks {
     }
 
     /// The values of a reach, with every context open.
+    /// Users of the library call it; no program here does.
     pub fn open(reach: &Reach) -> Clocks
         ensures clocks { result ≡ map open_clock reach.now }
     {
@@ -186,15 +187,5 @@ impl Clocks {
     {
         self.clocks[ctx.index()].closed = true;
         self.reach.close(ctx);
-    }
-
-    /// The clocks once a context is closed.
-    pub fn shut(&self, ctx: Context) -> Clocks
-        ensures clocks { result ≡ with_clock self.now ctx (closed_clock (clock_at self.now ctx)) }
-        ensures reach { reach_of_clocks result ≡ shut_value (reach_of_clocks self.now) ctx }
-    {
-        let mut shut = *self;
-        shut.close(ctx);
-        shut
     }
 }

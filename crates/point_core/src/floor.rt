@@ -90,15 +90,6 @@ impl Floor {
         self.values.len()
     }
 
-    /// The reach that is kept.
-    pub fn to_reach(&self) -> Reach
-        ensures { result ≡ self.now }
-    {
-        let mut reach = Reach::zero();
-        reach.join_floor(self);
-        reach
-    }
-
     /// The values up to the last that is not 0.
     pub(crate) fn in_use(&self) -> &[u64]
         ensures values { padded result.now ≡ self.now }

@@ -101,20 +101,7 @@ impl LatestPoints {
         ensures points { IfOk result (λ ps. ps.items ≡ points_above self.now reach.now) }
         ensures memory { IfErr result (λ e. e ≡ Refusal.Memory) }
     {
-        self.points_expected(alloc, reach, self.number_above(reach))
-    }
-
-    /// Like `points`, with room for `expected` points from the start. There may be more.
-    pub fn points_expected(
-        &self,
-        alloc: Global,
-        reach: &Reach,
-        expected: usize,
-    ) -> Result<Vec<Point>, Refusal>
-        ensures points { IfOk result (λ ps. ps.items ≡ points_above self.now reach.now) }
-        ensures memory { IfErr result (λ e. e ≡ Refusal.Memory) }
-    {
-        let mut points = Vec::with_capacity(alloc, expected)?;
+        let mut points = Vec::with_capacity(alloc, self.number_above(reach))?;
         self.list(reach, &mut points)?;
         Ok(points)
     }

@@ -43,6 +43,8 @@ pub struct TopRow {
 
 /// The pending points by rising context: the greatest of each context, if it is above the reach. Linux's
 /// `sync_file_merge` drops the same points, and keeps the latest of each context.
+///
+/// Users of the library call it; no program here does.
 pub fn canon(alloc: Global, points: &[Point], reach: &Reach) -> Result<Vec<Point>, Refusal>
     ensures listing { IfOk result (λ ps. ps.items ≡ listing (as_entries points.now) 0 reach.now) }
     ensures memory { IfErr result (λ e. e ≡ Refusal.Memory) }

@@ -76,6 +76,7 @@ impl Reach {
     }
 
     /// The reach after the context advances by n, or none if its value would pass the greatest u64.
+    /// Users of the library call it; no program here does.
     pub fn raised(&self, ctx: Context, n: u64) -> Option<Reach>
         ensures fits { IsSome result ↔ (value_at self.now ctx + n < 2 ^ 64) }
         ensures value { IfSome result (λ r. r ≡ with_value self.now ctx (value_at self.now ctx + n)) }
@@ -104,15 +105,6 @@ impl Reach {
         self.values.raise(ctx.index(), u64::MAX);
     }
 
-    /// The reach once a context is closed: every point of it is reached.
-    pub fn shut(&self, ctx: Context) -> Reach
-        ensures { result ≡ shut_value self.now ctx }
-    {
-        let mut shut = *self;
-        shut.close(ctx);
-        shut
-    }
-
     /// How many contexts there are up to the last whose value is not 0. A loop over what is reached can end there.
     pub fn used(&self) -> usize
         ensures last { result ≡ used_of self.now }
@@ -128,24 +120,6 @@ impl Reach {
         ensures full { length self.now ≡ CONTEXTS }
     {
         &self.values
-    }
-
-    /// Raises each value to the other's, if that is greater.
-    pub fn join(&mut self, other: &Reach)
-        ensures values { self.new ≡ later_values self.old other.now }
-        ensures full { (length self.old ≡ CONTEXTS) × (length other.now ≡ CONTEXTS) }
-    {
-        self.values.join(other.values.in_use());
-    }
-
-    /// The greater value of each context.
-    pub fn joined(&self, other: &Reach) -> Reach
-        ensures values { result ≡ later_values self.now other.now }
-        ensures full { (length self.now ≡ CONTEXTS) × (length other.now ≡ CONTEXTS) }
-    {
-        let mut joined = *self;
-        joined.join(other);
-        joined
     }
 
     /// Whether no value is below the other's.

@@ -1,6 +1,6 @@
 // Whether a fence is signalled.
 ghost use Rattle.std.specs.Prelude.{◌≡◌};
-ghost use Rattle.point_core.specs.Status.{status_number, status_if, status_with, is_signalled};
+ghost use Rattle.point_core.specs.Status.{status_number, status_with, is_signalled};
 
 /// The status of a point or a sync file, as Linux's `dma_fence_get_status` gives it. A timeline that is closed
 /// before a point is reached leaves the point with the error `-ENOENT`, as Linux's `sw_sync_debugfs_release` does.
@@ -15,17 +15,6 @@ pub enum Status {
 }
 
 impl Status {
-    /// Signalled if it is so.
-    pub fn of(signalled: bool) -> Status
-        ensures { result ≡ status_if signalled }
-    {
-        if signalled {
-            Status::Signalled
-        } else {
-            Status::Active
-        }
-    }
-
     /// Whether nothing is pending any more, as Linux's `dma_fence_is_signaled`: signalled or cancelled.
     pub fn is_signalled(self) -> bool
         ensures { result ≡ is_signalled self }
