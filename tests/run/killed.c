@@ -161,7 +161,7 @@ static pid_t child_of(pid_t parent, const char *name, pid_t other)
 /* Waits for the guard that the tool or the server starts in place of one that was killed. */
 static void await_guard(pid_t killed)
 {
-    for (int left = SOON; !run.guard && left > 0; left--) {
+    for (int left = SOON / 10; !run.guard && left > 0; left--) {
         run.guard = child_of(run.tool, "fence-guard", killed);
         if (!run.guard)
             run.guard = child_of(run.server, "fence-guard", killed);
