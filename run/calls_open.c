@@ -16,8 +16,8 @@
 enum { PATH_ROOM = 64 };
 enum path { NOT_OURS, SW_SYNC, SYNC_INFO, DMA_HEAP, UDMABUF };
 
-/* The path is readable: the kernel has read it, or a copy was made; or there is none, as a call may have it that names a
- * file by its descriptor. */
+/* The path is readable, since the kernel has read it, or a copy was made. A call that names a file by its descriptor
+ * may have none. */
 static enum path path_of(const char *path)
 {
     if (!shim_is_on() || !path || path[0] != '/')

@@ -1,4 +1,5 @@
-/* What stands for a buffer is a socket, and on a kernel it is none: nobody shuts it down, or takes what makes it ready. */
+/* What stands for a buffer is a socket, and a kernel's buffer is none: nobody shuts it down, or takes what makes it
+ * ready. */
 #define _GNU_SOURCE
 #include "shim.h"
 

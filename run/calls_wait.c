@@ -1,5 +1,5 @@
-/* poll(2), select(2) and epoll_wait(2) are the kernel's. In a trace, the waits of the first two are noted. What they report
- * once the service is gone looks like a signal, and isn't believed. */
+/* poll(2), select(2) and epoll_wait(2) are the kernel's. In a trace, the waits of the first two are noted. What they
+ * report once the service is gone looks like a signal, and isn't believed. */
 #define _GNU_SOURCE
 #include "calls.h"
 #include "shim.h"
@@ -82,8 +82,8 @@ POLL(poll, (struct pollfd *files, nfds_t count, int milliseconds), (files, count
 POLL(ppoll, (struct pollfd *files, nfds_t count, const struct timespec *limit, const sigset_t *mask),
      (files, count, limit, mask), waits(limit))
 /* What fortified programs call. */
-POLL(__poll_chk, (struct pollfd *files, nfds_t count, int milliseconds, size_t room), (files, count, milliseconds, room),
-     milliseconds != 0)
+POLL(__poll_chk, (struct pollfd *files, nfds_t count, int milliseconds, size_t room),
+     (files, count, milliseconds, room), milliseconds != 0)
 POLL(__ppoll_chk,
      (struct pollfd *files, nfds_t count, const struct timespec *limit, const sigset_t *mask, size_t room),
      (files, count, limit, mask, room), waits(limit))

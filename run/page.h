@@ -12,7 +12,8 @@
 
 enum { PAGE_SLOTS = 4096 };
 
-/* Of a file that has signalled, with one fence. A later file takes the place of an earlier one; no number comes again. */
+/* Of a file that has signalled, with one fence. A later file takes the place of an earlier one. No number comes again.
+ */
 struct page_slot {
     _Atomic uint32_t turn; /* odd while it is written */
     int32_t status;

@@ -195,8 +195,8 @@ void shim_note_handler(void)
     has_handlers = true;
 }
 
-/* Takes the lock. As in a call of the kernel's, no other thread cancels this one meanwhile, and no handler of the program
- * is called, which could ask too, fork, or never return. */
+/* Takes the lock. As in a call of the kernel's, no other thread cancels this one meanwhile, and no handler of the
+ * program is called, which could ask too, fork, or never return. */
 static void enter(struct entry *entry)
 {
     entry->is_alone = is_alone();

@@ -55,8 +55,8 @@ enum bim_op {
 
 enum { BIM_TASK_ROOM = 16, BIM_TEXT_ROOM = 32, BIM_ROWS = 16 };
 
-/* Objects are named by the number in the inode of their descriptors (ends.h), which each copy of one has. The processor, the thread's number
- * and its name are for the trace alone. */
+/* Objects are named by the number in the inode of their descriptors (ends.h), which each copy of one has. The
+ * processor, the thread's number and its name are only for the trace. */
 struct bim_request {
     uint16_t op;
     uint16_t processor;
