@@ -1,5 +1,0 @@
-use Rattle.std.proofs.Common.{◌≡◌}
-use Rattle.caller.proofs.running.drive.Given as goal
-
-abbrev pub invariant-loop : goal.invariant-loop
-invariant-loop l = (l.driver.seat.words ≡ l.words) × (l.driver.value ≡ l.counter)

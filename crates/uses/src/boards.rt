@@ -1,0 +1,70 @@
+// A gate, and a board of one buffer, by their own calls.
+ghost use Rattle.std.specs.Prelude.{◌≡◌};
+
+use crate::buffers::show_listing;
+use crate::calls::{Calls, point};
+use crate::clients::plans_of;
+use crate::seats::words_of;
+use clients_core::{Board, Gate, OpenGate};
+use point_core::{Context, Point, Refusal, Usage};
+use resv_core::{Act, Settled, SharedTable};
+use std::alloc::Global;
+use words_core::{Seat, Whole, Words};
+
+pub(crate) fn make_calls(rt: &HostRuntime, calls: &mut Calls) {
+    calls.tell(rt, "enter", &OpenGate.enter(1, 0));
+    OpenGate.leave(1, 0);
+    if let Ok((words, seat)) = words_of(rt, calls, 1, 1, 0) {
+        use_board(rt, calls, &words, seat);
+    }
+}
+
+fn use_board(rt: &HostRuntime, calls: &mut Calls, words: &Words, mut seat: Seat)
+    requires own { seat.words ≡ words.now }
+    requires sizes { (words.now.contexts ≡ 1) × (words.now.buffers ≡ 1) }
+{
+    if let Ok(board) = Board::empty(rt.alloc(), words) {
+        put_and_look(rt, calls, &board, words, &mut seat);
+        settle(rt, calls, &board, words, seat);
+    }
+}
+
+/// Puts a reader's point 4 of the first context, and looks for it.
+fn put_and_look(rt: &HostRuntime, calls: &mut Calls, board: &Board, words: &Words, seat: &mut Seat)
+    requires own { (seat.old.words ≡ words.now) × (board.now ≡ words.now) }
+    requires sizes { (words.now.contexts ≡ 1) × (words.now.buffers ≡ 1) }
+    ensures own { seat.new.words ≡ words.now }
+{
+    let ctx = Context::at(0);
+    let put = board.put(words, seat, 0, Point { ctx, value: 4 }, Usage::Read);
+    calls.tell(rt, "put", &put);
+    let listing = match calls.allow() {
+        Ok(()) => board.export(rt.alloc(), words, seat, 0, Usage::Read),
+        Err(refusal) => Err(refusal),
+    };
+    show_listing(rt, calls, &listing);
+}
+
+/// Settles the plan of that put.
+fn settle(rt: &HostRuntime, calls: &mut Calls, board: &Board, words: &Words, seat: Seat)
+    requires own { (seat.words ≡ words.now) × (board.now ≡ words.now) }
+{
+    if let Ok(mut all) = seat.gather() {
+        let settled = settled(rt.alloc(), calls, board, words, &mut all);
+        calls.tell(rt, "settle", &settled);
+    }
+}
+
+fn settled(
+    alloc: Global,
+    calls: &Calls,
+    board: &Board,
+    words: &Words,
+    all: &mut Whole,
+) -> Result<Settled, Refusal>
+    requires own { (all.old.words ≡ words.now) × (board.now ≡ words.now) }
+{
+    calls.allow()?;
+    let plans = plans_of(alloc, &[&[Act::Put(0, point(0, 4), Usage::Read)]])?;
+    board.settle(alloc, words, all, plans.as_slice())
+}

@@ -1,0 +1,22 @@
+// A caller of the libraries, to read and copy: it steps a desk through a frame and reads its answers, and it merges sync files
+// while a timeline runs on another thread.
+mod frame;
+mod running;
+
+use crate::calls::Calls;
+use crate::example::frame::draw;
+use crate::example::running::merge_beside_a_driver;
+use std::thread::Threads;
+
+pub(crate) fn make_calls(rt: &HostRuntime, threads: &impl Threads, calls: &mut Calls) {
+    let frames = match calls.allow() {
+        Ok(()) => draw(rt.alloc()),
+        Err(refusal) => Err(refusal),
+    };
+    calls.tell(rt, "draw", &frames);
+    let pending = match calls.allow() {
+        Ok(()) => merge_beside_a_driver(threads, rt.alloc()),
+        Err(refusal) => Err(refusal),
+    };
+    calls.tell(rt, "merge_beside_a_driver", &pending);
+}

@@ -1,0 +1,166 @@
+// Files beside running timelines, and on words that do not bear them out.
+ghost use Rattle.std.specs.Prelude.{◌≡◌, ◌<◌, ◌≤◌};
+
+use crate::calls::{Calls, plain, point};
+use crate::seats::{drive, inc, words_of};
+use point_core::Refusal;
+use syncfile_core::SyncFile;
+use words_core::{Driver, Seat, Words};
+
+pub(crate) fn make_calls(rt: &HostRuntime, calls: &mut Calls) {
+    if let Ok((words, mut seat)) = words_of(rt, calls, 2, 0, 0) {
+        merge_and_look(rt, calls, &words, &mut seat);
+    }
+}
+
+/// Merges a file of the first context with one of the second, and looks at what comes of it on other words.
+fn merge_and_look(rt: &HostRuntime, calls: &mut Calls, words: &Words, seat: &mut Seat)
+    requires own { (seat.old.words ≡ words.now) × (1 < seat.old.parts) }
+    requires context { 1 ≤ words.now.contexts }
+{
+    if let Ok(f) = plain(rt, calls, point(0, 5)) {
+        merge_with_other(rt, calls, &f, words, seat);
+    }
+}
+
+fn merge_with_other(
+    rt: &HostRuntime,
+    calls: &mut Calls,
+    f: &SyncFile,
+    words: &Words,
+    seat: &mut Seat,
+)
+    requires own { (seat.old.words ≡ words.now) × (1 < seat.old.parts) }
+    requires context { 1 ≤ words.now.contexts }
+{
+    if let Ok(g) = plain(rt, calls, point(1, 2)) {
+        merge_once_driven(rt, calls, f, &g, words, seat);
+    }
+}
+
+/// Drives the first context to 5, which signals the first file, and merges both.
+fn merge_once_driven(
+    rt: &HostRuntime,
+    calls: &mut Calls,
+    f: &SyncFile,
+    g: &SyncFile,
+    words: &Words,
+    seat: &mut Seat,
+)
+    requires own { (seat.old.words ≡ words.now) × (1 < seat.old.parts) }
+    requires context { 1 ≤ words.now.contexts }
+{
+    drop(drive(rt, calls, words, seat, 5));
+    poll(rt, calls, f, words, seat);
+    wait(rt, calls, f, words, seat, 0);
+    wait(rt, calls, f, words, seat, 1);
+    if let Ok(m) = merge(rt, calls, f, g, words, seat) {
+        poll(rt, calls, &m, words, seat);
+        wait(rt, calls, &m, words, seat, 3);
+        look_elsewhere(rt, calls, &m, g);
+    }
+}
+
+fn poll(rt: &HostRuntime, calls: &mut Calls, file: &SyncFile, words: &Words, seat: &mut Seat)
+    requires own { seat.old.words ≡ words.now }
+    ensures same { (seat.new.words ≡ seat.old.words) × (seat.new.parts ≡ seat.old.parts) }
+{
+    let status = file.poll(words, seat);
+    calls.tell(rt, "poll", &status);
+}
+
+fn wait(
+    rt: &HostRuntime,
+    calls: &mut Calls,
+    file: &SyncFile,
+    words: &Words,
+    seat: &mut Seat,
+    tries: u32,
+)
+    requires own { seat.old.words ≡ words.now }
+    ensures same { (seat.new.words ≡ seat.old.words) × (seat.new.parts ≡ seat.old.parts) }
+{
+    let waited = file.wait_for(words, seat, tries);
+    calls.tell(rt, "wait_for", &waited);
+}
+
+/// Merges two files, and prints the points and the floor of the new one.
+fn merge(
+    rt: &HostRuntime,
+    calls: &mut Calls,
+    a: &SyncFile,
+    b: &SyncFile,
+    words: &Words,
+    seat: &mut Seat,
+) -> Result<SyncFile, Refusal>
+    requires own { seat.old.words ≡ words.now }
+    ensures same { (seat.new.words ≡ seat.old.words) × (seat.new.parts ≡ seat.old.parts) }
+{
+    let merged = match calls.allow() {
+        Ok(()) => SyncFile::merge_with(rt.alloc(), a.name, a, b, words, seat),
+        Err(refusal) => Err(refusal),
+    };
+    show_merged(rt, calls, &merged);
+    merged
+}
+
+fn show_merged(rt: &HostRuntime, calls: &mut Calls, merged: &Result<SyncFile, Refusal>) {
+    match merged {
+        Ok(file) => calls.tell(rt, "merge_with", &(file.points.as_slice(), &file.floor)),
+        Err(refusal) => calls.tell(rt, "merge_with", refusal),
+    }
+}
+
+/// Looks at a merged file on words of their own.
+fn look_elsewhere(rt: &HostRuntime, calls: &mut Calls, m: &SyncFile, g: &SyncFile) {
+    if let Ok((words, mut seat)) = words_of(rt, calls, 2, 0, 0) {
+        look_at_unknown(rt, calls, &words, &mut seat);
+        look_while_driven(rt, calls, m, g, &words, &mut seat);
+    }
+}
+
+/// Looks at a file of a context that the words do not have.
+fn look_at_unknown(rt: &HostRuntime, calls: &mut Calls, words: &Words, seat: &mut Seat)
+    requires own { seat.old.words ≡ words.now }
+    ensures same { (seat.new.words ≡ seat.old.words) × (seat.new.parts ≡ seat.old.parts) }
+{
+    if let Ok(unknown) = plain(rt, calls, point(2, 1)) {
+        poll(rt, calls, &unknown, words, seat);
+    }
+}
+
+/// Looks at it below its floor, one increment before it, and there.
+fn look_while_driven(
+    rt: &HostRuntime,
+    calls: &mut Calls,
+    m: &SyncFile,
+    g: &SyncFile,
+    words: &Words,
+    seat: &mut Seat,
+)
+    requires own { (seat.old.words ≡ words.now) × (1 < seat.old.parts) }
+    requires context { 1 ≤ words.now.contexts }
+{
+    poll(rt, calls, m, words, seat);
+    if let Some(mut driver) = drive(rt, calls, words, seat, 4) {
+        look(rt, calls, m, g, words, seat);
+        inc(rt, calls, words, &mut driver, 1);
+        look(rt, calls, m, g, words, seat);
+    }
+}
+
+/// Polls a file, and merges it with another.
+fn look(
+    rt: &HostRuntime,
+    calls: &mut Calls,
+    m: &SyncFile,
+    g: &SyncFile,
+    words: &Words,
+    seat: &mut Seat,
+)
+    requires own { seat.old.words ≡ words.now }
+    ensures own { seat.new.words ≡ words.now }
+{
+    poll(rt, calls, m, words, seat);
+    drop(merge(rt, calls, m, g, words, seat));
+}
