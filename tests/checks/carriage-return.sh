@@ -1,2 +1,0 @@
-#!/usr/bin/env bash
-printf 'timeline a\n#= ok 1\r\n'

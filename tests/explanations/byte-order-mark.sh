@@ -1,2 +1,0 @@
-#!/usr/bin/env bash
-printf '\xef\xbb\xbftimeline a\n'

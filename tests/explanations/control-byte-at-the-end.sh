@@ -1,2 +1,0 @@
-#!/usr/bin/env bash
-printf 'value b ~\x1f\n'

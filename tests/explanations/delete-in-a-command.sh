@@ -1,2 +1,0 @@
-#!/usr/bin/env bash
-printf 'a\x7f\n'

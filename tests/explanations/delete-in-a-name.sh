@@ -1,2 +1,0 @@
-#!/usr/bin/env bash
-printf 'value \x7fb c\n'
