@@ -1,5 +1,5 @@
-/* Other processes, by handles (pidfds), which never come to mean another process. Kernels before Linux 5.3 have none, and
- * there the number has to do. */
+/* Other processes, by handles (pidfds), which never come to mean another process. Kernels before Linux 5.3 have none,
+ * and there the number has to do. */
 #ifndef BIM_RUN_PROCESS_H
 #define BIM_RUN_PROCESS_H
 

@@ -1,5 +1,5 @@
-/* A user who has too many descriptors on the way, in messages that nobody has taken, gets no more by messages: that is an error of the
- * call, and not the end of the process. To be run by an ordinary user with a limit of 64 descriptors. */
+/* A user who has too many descriptors on the way, in messages that nobody has taken, gets no more by messages: the call fails then,
+ * and the process goes on. To be run by an ordinary user with a limit of 64 descriptors. */
 #include "kernel.h"
 
 enum { MANY = 80, SOME = 20 };

@@ -94,7 +94,9 @@ static int waits_directly(int f)
     return syscall(SYS_ppoll, &polled, 1, NULL, NULL, 0) > 0 && polled.revents & (POLLIN | POLLHUP) ? tell("call ") : 0;
 }
 
-static int (*const ways[])(int) = { waits_by_poll, waits_by_select, waits_by_epoll, asks, merges, waits_for_buffer, waits_directly };
+static int (*const ways[])(int) = {
+    waits_by_poll, waits_by_select, waits_by_epoll, asks, merges, waits_for_buffer, waits_directly
+};
 enum { WAYS = sizeof ways / sizeof *ways };
 
 /* A child that waits; if asked, in a session of its own and without its parent. */
