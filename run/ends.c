@@ -105,14 +105,14 @@ bool end_is_alone(int ours)
     return call_poll(&end, 1, 0) == 1 && end.revents & (POLLERR | POLLHUP);
 }
 
-/* Whether a descriptor is on the file system of the kernel's own pipes, or sockets, whose device the first one tells:
- * what has a name is on another. */
-static bool is_nameless(int file, dev_t device, long kind, _Atomic dev_t *known)
+/* Whether a descriptor is on the file system of the kernel's own pipes, or sockets: what has a name is on another. The
+ * first one tells the device, to which all others are compared before this is called. */
+__attribute__((cold)) static bool is_nameless(int file, dev_t device, long kind, _Atomic dev_t *known)
 {
     struct statfs found;
 
     if (*known)
-        return device == *known;
+        return false;
     if (syscall(SYS_fstatfs, file, &found) || found.f_type != kind)
         return false;
     *known = device;
@@ -130,9 +130,13 @@ enum bim_mark end_mark(int file, uint64_t *inode)
     *inode = (uint64_t)found.st_atim.tv_sec;
     switch (found.st_mode) {
     case BIM_TIMELINE_MARK:
-    case BIM_FILE_MARK: is_ours = is_nameless(file, found.st_dev, PIPEFS_MAGIC, &pipes); break;
+    case BIM_FILE_MARK:
+        is_ours = found.st_dev == pipes || is_nameless(file, found.st_dev, PIPEFS_MAGIC, &pipes);
+        break;
     case BIM_BUFFER_MARK:
-    case BIM_BUFFER_END_MARK: is_ours = is_nameless(file, found.st_dev, SOCKFS_MAGIC, &sockets); break;
+    case BIM_BUFFER_END_MARK:
+        is_ours = found.st_dev == sockets || is_nameless(file, found.st_dev, SOCKFS_MAGIC, &sockets);
+        break;
     case BIM_MEMORY_MARK:
     case BIM_HEAP_MARK:
     case BIM_UDMABUF_MARK: is_ours = found.st_nlink == 0; break;

@@ -126,7 +126,7 @@ static void choose_way(void)
 
 /* Other libraries may call before this is called as a constructor, several threads at once, and what this calls may
  * call too: to that, there is no service yet. */
-__attribute__((constructor)) static void begin(void)
+__attribute__((constructor, cold)) static void begin(void)
 {
     int none = UNBEGUN;
 
