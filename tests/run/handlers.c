@@ -1,7 +1,8 @@
-/* usage: handlers [forking|unseen]
+/* usage: handlers [forking|unseen|without-jumps]
  *
  * Threads that make, merge, increment and close, each interrupted at any point by a signal handler that does so too, or that jumps
- * away; with "forking", also by one that forks. With "unseen" the handlers are installed past what is preloaded. */
+ * away, which leaves descriptors open; with "forking", by one that forks. With "unseen" the handlers are installed past what is
+ * preloaded. */
 #include "kernel.h"
 #include <dlfcn.h>
 #include <pthread.h>
@@ -211,7 +212,7 @@ int main(int argc, char **argv)
     if (is_unseen)
         look_past_preloaded();
     calling();
-    if (!is_unseen)
+    if (argc == 1)
         jumping();
     if (argc > 1 && !strcmp(argv[1], "forking"))
         forking();
