@@ -28,7 +28,7 @@ use Rattle.device_core.proofs.Putting.{import-agrees}
 use Rattle.device_core.proofs.Exports.{AgreesAbove-at_usage, exported-agrees, exported-rising, tested}
 
 -- the reach of a device is that of its timelines
-value_of : (d : Objects) (n : ℕ) (t : Timeline) → HasGivenTimelines d → d.timelines n ≡ Some t → value_at (reach_of d) n ≡ t.value
+pub value_of : (d : Objects) (n : ℕ) (t : Timeline) → HasGivenTimelines d → d.timelines n ≡ Some t → value_at (reach_of d) n ≡ t.value
 value_of d zero t h is = let none = h.none in absurd (cc)
 value_of d (suc n) t h is = elim (cases_lt (suc n) d.next) [
   | inl below ↦ value_at-reach_of d (suc n) (omega arith) below ∙ ap reached_by is
@@ -46,7 +46,7 @@ reach-is d hs h all = record {
 }
 
 -- an import keeps what holds of each fence
-with-All : (P : BufferFence → Type 0) (hs : List BufferFence) (g : BufferFence) → All P hs → P g → All P (with_buffer_fence hs g)
+pub with-All : (P : BufferFence → Type 0) (hs : List BufferFence) (g : BufferFence) → All P hs → P g → All P (with_buffer_fence hs g)
 with-All P [] g all here = All-cons P g [] here all
 with-All P (h ∷ hs) g all here =
     let rest = with-All P hs g (All-tail P h hs all) here in
@@ -59,10 +59,10 @@ put_each-All : (P : BufferFence → Type 0) (put hs : List BufferFence) → All 
 put_each-All P [] hs all more = all
 put_each-All P (g ∷ gs) hs all more = put_each-All P gs (with_buffer_fence hs g) (with-All P hs g all (All-head P g gs more)) (All-tail P g gs more)
 
-import-All : (P : BufferFence → Type 0) (timelines : ℕ → Option Timeline) (usage : Usage) (fs : List Fence) (b : BufferState) → All P b.fences → All P (imported usage fs) → All P (import_into timelines usage fs b).fences
-import-All P timelines usage fs b all more = go (cases_Bool (are_signalled fs)) (cases_Bool (has_grown (length fs) b))
+pub import-All : (P : BufferFence → Type 0) (timelines : ℕ → Option Timeline) (usage : Usage) (fs : List Fence) (b : BufferState) → All P b.fences → All P (imported usage fs) → All P (import_into timelines usage fs b).fences
+import-All P timelines usage fs b all more = go (cases_Bool (are_signalled fs)) (cases_Bool (has_grown b.left (length fs) b.fences))
   where
-    go : (are_signalled fs ≡ true) ⊎ (are_signalled fs ≡ false) → (has_grown (length fs) b ≡ true) ⊎ (has_grown (length fs) b ≡ false) → All P (import_into timelines usage fs b).fences
+    go : (are_signalled fs ≡ true) ⊎ (are_signalled fs ≡ false) → (has_grown b.left (length fs) b.fences ≡ true) ⊎ (has_grown b.left (length fs) b.fences ≡ false) → All P (import_into timelines usage fs b).fences
     go (inl is) grown = rw is all
     go (inr not) (inl grown) = rw (not, grown) (put_each-All P (imported usage fs) (filter (is_waiting timelines) b.fences) (All-filter (is_waiting timelines) P b.fences all) more)
     go (inr not) (inr small) = rw (not, small) (put_each-All P (imported usage fs) b.fences all more)

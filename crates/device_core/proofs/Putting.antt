@@ -1,8 +1,8 @@
 -- Fences that are put into a buffer, and those that a trim drops.
-use Rattle.std.proofs.Common.{◌≡◌, ℕ, ◌+◌, ◌*◌, ◌<◌, ◌≤◌, ◌⊎◌, zero, suc, max, refl, sym, ap, ◌∙◌, List, [], ◌∷◌, ◌++◌, length, get_or, set, drop, map, filter, Option, None, Some, Bool, true, false, inl, inr, arith, Contains, append_assoc, append-nil}
+use Rattle.std.proofs.Common.{◌≡◌, ℕ, ◌+◌, ◌*◌, ◌<◌, ◌≤◌, ◌⊎◌, zero, suc, max, refl, sym, ap, ◌∙◌, List, [], ◌∷◌, ◌++◌, length, get_or, set, drop, map, filter, Option, None, Some, Bool, true, false, if◌then◌else◌, inl, inr, arith, Contains, append_assoc, append-nil}
 use Rattle.std.specs.Prelude.{fold}
 use Rattle.std.specs.List.{AllWithin, HoldsAt}
-use Rattle.std.proofs.lemmas.Bool.{cases_Bool, le-ltb, lt-ltb, ltb-false, false≢true}
+use Rattle.std.proofs.lemmas.Bool.{cases_Bool, ltb-false, false≢true}
 use Rattle.std.proofs.lemmas.List.{map-append, drop_more, drop_all}
 use Rattle.std.proofs.lemmas.List.Elements.{Contains-append_right}
 use Rattle.point_core.specs.declared.entry.Entry.{Entry}
@@ -18,7 +18,7 @@ use Rattle.device_core.specs.declared.buffer_fence.BufferFence.{BufferFence}
 use Rattle.device_core.specs.declared.fence.Fence.{Fence}
 use Rattle.device_core.specs.declared.fence.Timeline.{Timeline}
 use Rattle.device_core.specs.Fences.{are_signalled, is_pending, pending_of}
-use Rattle.device_core.specs.Buffers.{BufferState, IsReachOf, entries_of, entry_of, has_grown, import_into, imported, is_waiting, put_as, state_of, trimmed, waits_in, with_buffer_fence, with_fences}
+use Rattle.device_core.specs.Buffers.{BufferState, IsReachOf, entries_of, entry_of, has_grown, import_into, imported, is_waiting, put_as, state_of, trimmed_with, waits_in, with_buffer_fence, with_fences}
 
 -- what is covered adds nothing
 put_if-covered : (new old : Bool) (p q value : ℕ) → (old ≡ true → (new ≡ true) × (q ≤ p)) → put_if new p value ≡ put_if new p (put_if old q value)
@@ -151,27 +151,27 @@ AgreesAbove-none : (reach : List ℕ) (usage : Usage) (hs : List BufferFence) (p
 AgreesAbove-none reach usage hs put is = AgreesAbove-same reach (sym (ap (λ fs. entries_of (hs ++ map (put_as usage) fs)) (pending_of-signalled put is) ∙ ap entries_of (append-nil hs)))
 
 -- the states of a buffer
-pub trimmed-not : (timelines : ℕ → Option Timeline) (more : ℕ) (b : BufferState) → length b.fences + more ≤ GROWTH * max b.left UNTRIMMED → b ≡ trimmed timelines more b
-trimmed-not timelines more b few = rw (le-ltb (GROWTH * max b.left UNTRIMMED) (length b.fences + more) few) refl
-
-pub trimmed-is : (timelines : ℕ → Option Timeline) (more : ℕ) (b : BufferState) (kept : List BufferFence) (left : ℕ) → GROWTH * max b.left UNTRIMMED < length b.fences + more → kept ≡ filter (is_waiting timelines) b.fences → left ≡ length kept + more → state_of kept left b.stub_at ≡ trimmed timelines more b
-trimmed-is timelines more b kept left grown is count =
-    rw (lt-ltb (GROWTH * max b.left UNTRIMMED) (length b.fences + more) grown)
-    (ap (λ n. state_of kept n b.stub_at) count ∙ ap (λ hs. state_of hs (length hs + more) b.stub_at) is)
-
 pub import-none : (timelines : ℕ → Option Timeline) (usage : Usage) (fs : List Fence) (b : BufferState) → are_signalled fs ≡ true → b ≡ import_into timelines usage fs b
 import-none timelines usage fs b is = rw is refl
 
-pub import-is : (timelines : ℕ → Option Timeline) (usage : Usage) (fs : List Fence) (b : BufferState) (start kept new : List BufferFence) (left : ℕ) → are_signalled fs ≡ false → start ≡ b.fences → state_of kept left b.stub_at ≡ trimmed timelines (length fs) (state_of start b.left b.stub_at) → new ≡ fold with_buffer_fence kept (imported usage fs) → state_of new left b.stub_at ≡ import_into timelines usage fs b
-import-is timelines usage fs b start kept new left not same trim put =
-    let trimmed_is : state_of kept left b.stub_at ≡ trimmed timelines (length fs) b = trim ∙ ap (λ hs. trimmed timelines (length fs) (state_of hs b.left b.stub_at)) same in
-    rw not (ap (λ hs. state_of hs left b.stub_at) put ∙ ap (λ s. with_fences s (imported usage fs)) trimmed_is)
+pub import-is : (timelines : ℕ → Option Timeline) (usage : Usage) (fs : List Fence) (b : BufferState) (start kept new : List BufferFence) (grown : Bool) (left : ℕ) → are_signalled fs ≡ false → start ≡ b.fences → grown ≡ has_grown b.left (length fs) start → kept ≡ (if grown then filter (is_waiting timelines) start else start) → new ≡ fold with_buffer_fence kept (imported usage fs) → left ≡ (if grown then length new else b.left) → state_of new left b.stub_at ≡ import_into timelines usage fs b
+import-is timelines usage fs b start kept new grown left not same is trim put count =
+    let test : has_grown b.left (length fs) b.fences ≡ grown = ap (has_grown b.left (length fs)) (sym same) ∙ sym is in
+    rw (not, test) (go grown trim count)
+  where
+    go : (g : Bool) → kept ≡ (if g then filter (is_waiting timelines) start else start) → left ≡ (if g then length new else b.left) → state_of new left b.stub_at ≡ (if g then trimmed_with timelines b (imported usage fs) else with_fences b (imported usage fs))
+    go true trim count =
+        let all : new ≡ fold with_buffer_fence (filter (is_waiting timelines) b.fences) (imported usage fs) = put ∙ ap (λ hs. fold with_buffer_fence hs (imported usage fs)) (trim ∙ ap (filter (is_waiting timelines)) same) in
+        ap (λ n. state_of new n b.stub_at) count ∙ ap (λ hs. state_of hs (length hs) b.stub_at) all
+    go false trim count =
+        let all : new ≡ fold with_buffer_fence b.fences (imported usage fs) = put ∙ ap (λ hs. fold with_buffer_fence hs (imported usage fs)) (trim ∙ same) in
+        ap (λ n. state_of new n b.stub_at) count ∙ ap (λ hs. state_of hs b.left b.stub_at) all
 
 -- an import puts in what was pending, whether the table is trimmed or not
 pub import-agrees : (timelines : ℕ → Option Timeline) (usage : Usage) (fs : List Fence) (b : BufferState) (reach : List ℕ) → IsReachOf timelines b.fences reach → AgreesAbove reach (entries_of (import_into timelines usage fs b).fences) (entries_of (b.fences ++ imported usage fs))
-import-agrees timelines usage fs b reach of = go (cases_Bool (are_signalled fs)) (cases_Bool (has_grown (length fs) b))
+import-agrees timelines usage fs b reach of = go (cases_Bool (are_signalled fs)) (cases_Bool (has_grown b.left (length fs) b.fences))
   where
-    go : (are_signalled fs ≡ true) ⊎ (are_signalled fs ≡ false) → (has_grown (length fs) b ≡ true) ⊎ (has_grown (length fs) b ≡ false) → AgreesAbove reach (entries_of (import_into timelines usage fs b).fences) (entries_of (b.fences ++ imported usage fs))
+    go : (are_signalled fs ≡ true) ⊎ (are_signalled fs ≡ false) → (has_grown b.left (length fs) b.fences ≡ true) ⊎ (has_grown b.left (length fs) b.fences ≡ false) → AgreesAbove reach (entries_of (import_into timelines usage fs b).fences) (entries_of (b.fences ++ imported usage fs))
     go (inl is) grown = rw is (AgreesAbove-none reach usage b.fences fs is)
     go (inr not) (inl grown) =
         let kept = filter (is_waiting timelines) b.fences in
@@ -206,17 +206,15 @@ length-imported usage (f ∷ fs) = go (cases_Bool (is_pending f)) (length-import
     go (inr signalled) rest = rw signalled (omega (arith, rest))
 
 pub HasRoom-import : (timelines : ℕ → Option Timeline) (usage : Usage) (fs : List Fence) (b : BufferState) → HasRoom b → HasRoom (import_into timelines usage fs b)
-HasRoom-import timelines usage fs b few = go (cases_Bool (are_signalled fs)) (cases_Bool (has_grown (length fs) b))
+HasRoom-import timelines usage fs b few = go (cases_Bool (are_signalled fs)) (cases_Bool (has_grown b.left (length fs) b.fences))
   where
     most : length (imported usage fs) ≤ length fs
     most = length-imported usage fs
 
-    go : (are_signalled fs ≡ true) ⊎ (are_signalled fs ≡ false) → (has_grown (length fs) b ≡ true) ⊎ (has_grown (length fs) b ≡ false) → HasRoom (import_into timelines usage fs b)
+    go : (are_signalled fs ≡ true) ⊎ (are_signalled fs ≡ false) → (has_grown b.left (length fs) b.fences ≡ true) ⊎ (has_grown b.left (length fs) b.fences ≡ false) → HasRoom (import_into timelines usage fs b)
     go (inl is) grown = rw is few
     go (inr not) (inl grown) =
-        let kept = filter (is_waiting timelines) b.fences in
-        let put = length-put (imported usage fs) kept in
-        rw (not, grown) (omega (arith, put, most))
+        rw (not, grown) (omega arith)
     go (inr not) (inr small) =
         let put = length-put (imported usage fs) b.fences in
         let low = ltb-false (GROWTH * max b.left UNTRIMMED) (length b.fences + length fs) small in

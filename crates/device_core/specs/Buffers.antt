@@ -15,7 +15,7 @@ use Rattle.device_core.specs.declared.refusal.Refusal.{Refusal}
 use Rattle.device_core.specs.declared.refusal.Refusal.TheVariants.{Invalid}
 use Rattle.device_core.specs.Fences.{are_signalled, fence_of, pending_of, with_fence}
 
--- a buffer: its fences, how many it had after its last trim at most, and the time of the stub of an idle buffer
+-- a buffer: its fences, how many it had after the import that trimmed it last, and the time of the stub of an idle buffer
 pub record BufferState : Type 0 where
   pub fences : List BufferFence
   pub left : ℕ
@@ -68,24 +68,28 @@ abbrev pub with_buffer_fence : List BufferFence → BufferFence → List BufferF
 with_buffer_fence [] g = g ∷ []
 with_buffer_fence (h ∷ hs) g = if covers (entry_of g) (entry_of h) then g ∷ hs else h ∷ with_buffer_fence hs g
 
--- with so many more it would have grown too much since its last trim
-abbrev pub has_grown : ℕ → BufferState → Bool
-has_grown more b = nat_lt (GROWTH * max b.left UNTRIMMED) (length b.fences + more)
+-- with that many more a table would have more than it may since its last trim
+abbrev pub has_grown : ℕ → ℕ → List BufferFence → Bool
+has_grown left more hs = nat_lt (GROWTH * max left UNTRIMMED) (length hs + more)
 
--- what is waiting, if it is time for a trim before so many more are put in
-abbrev pub trimmed : (ℕ → Option Timeline) → ℕ → BufferState → BufferState
-trimmed timelines more b =
-    if has_grown more b
-    then (let kept = filter (is_waiting timelines) b.fences in record b { fences = kept; left = length kept + more })
-    else b
-
+-- the buffer with more fences, each put in its place
 abbrev pub with_fences : BufferState → List BufferFence → BufferState
 with_fences b put = record b { fences = fold with_buffer_fence b.fences put }
+
+-- the same after a trim, which leaves what waits. What is put in is pending too, and so all that the buffer then has
+abbrev pub trimmed_with : (ℕ → Option Timeline) → BufferState → List BufferFence → BufferState
+trimmed_with timelines b put =
+    let fences = fold with_buffer_fence (filter (is_waiting timelines) b.fences) put in
+    record b { fences = fences; left = length fences }
 
 -- the buffer, once a file was imported: a file of which nothing is pending changes nothing
 abbrev pub import_into : (ℕ → Option Timeline) → Usage → List Fence → BufferState → BufferState
 import_into timelines usage fs b =
-    if are_signalled fs then b else with_fences (trimmed timelines (length fs) b) (imported usage fs)
+    if are_signalled fs
+    then b
+    else (if has_grown b.left (length fs) b.fences
+    then trimmed_with timelines b (imported usage fs)
+    else with_fences b (imported usage fs))
 
 -- it is of the usage or a stronger one
 abbrev pub is_within : Usage → Entry → Bool

@@ -1,9 +1,15 @@
 -- How much a device keeps, by what is alive.
-use Rattle.std.specs.Prelude.{◌≡◌, ℕ, ◌*◌, ◌≤◌, max, is_some, List, length, filter, Option, None, Some}
+use Rattle.std.specs.Prelude.{◌≡◌, ℕ, ◌*◌, ◌≤◌, max, Bool, not, ◌&&◌, is_some, List, [], ◌∷◌, length, filter, Option, None, Some}
 use Rattle.std.specs.List.{range_with_len, sum_by}
+use Rattle.std.specs.Set.{distinct_count}
+use Rattle.point_core.specs.declared.entry.Entry.{Entry}
+use Rattle.point_core.specs.Agreement.{covers}
+use Rattle.point_core.specs.Reach.{is_reached}
 use Rattle.device_core.specs.declared.buffer.TheConstants.{GROWTH, UNTRIMMED}
 use Rattle.device_core.specs.declared.kept.Kept.{Kept}
+use Rattle.device_core.specs.declared.request.Request.{Request}
 use Rattle.device_core.specs.Fences.{pending_of}
+use Rattle.device_core.specs.History.{World, empty_world, reach_of, world_after}
 use Rattle.device_core.specs.Buffers.{BufferState}
 use Rattle.device_core.specs.State.{DeviceState, FileState, Objects, objects_of, timeline_at, file_at, buffer_at}
 
@@ -37,6 +43,22 @@ pub record KeepsWhatIsAlive (d : DeviceState) : Type 0 where
   pub buffers : length d.buffers ≤ alive (buffer_at d) d.next
   pub waiting : length d.index ≤ pending_alive (objects_of d)
 
--- a buffer that is alive has at most that many times the fences that it had after its last trim
-abbrev pub AreTrimmed : Objects → Type 0
-AreTrimmed d = (n : ℕ) (b : BufferState) → d.buffers n ≡ Some b → length b.fences ≤ GROWTH * max b.left UNTRIMMED
+-- both are the same entry: each covers the other
+abbrev pub is_same_entry : Entry → Entry → Bool
+is_same_entry a b = covers a b && covers b a
+
+-- how many of the entries that were put into a buffer are pending, each counted once
+abbrev pub pending_put : World → ℕ → ℕ
+pending_put w number =
+    distinct_count is_same_entry (filter (λ e. not (is_reached (reach_of w.objects) e.point)) (w.put number))
+
+-- the most that ever were at once, from a world on along the requests
+abbrev pub most_pending : ℕ → World → List Request → ℕ
+most_pending number w [] = pending_put w number
+most_pending number w (r ∷ rs) = max (pending_put w number) (most_pending number (world_after w r) rs)
+
+-- a buffer that is alive has at most GROWTH times the fences that were ever pending in it at once, or GROWTH times
+-- UNTRIMMED: what has signalled doesn't count, and neither does what an imported file has that isn't pending
+abbrev pub AreTrimmed : DeviceState → List Request → Type 0
+AreTrimmed d history = (n : ℕ) (b : BufferState) → buffer_at d n ≡ Some b →
+    length b.fences ≤ GROWTH * max (most_pending n empty_world history) UNTRIMMED

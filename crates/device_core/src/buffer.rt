@@ -1,10 +1,10 @@
 // A buffer.
-ghost use Rattle.std.specs.Prelude.{◌≡◌, ℕ, ◌+◌, ◌≤◌, ◌<◌, ◌∷◌, [], fold, length, option_to_list, vec_len, IfErr, IfOk, OnErr, OnOk};
+ghost use Rattle.std.specs.Prelude.{◌≡◌, ◌+◌, ◌≤◌, ◌<◌, ◌∷◌, [], filter, fold, if◌then◌else◌, length, option_to_list, vec_len, IfErr, IfOk, OnErr, OnOk};
 ghost use Rattle.std.specs.List.{filter_map};
 ghost use Rattle.std.specs.Vec.{vec_capacity};
 ghost use Rattle.device_core.specs.declared.refusal.Refusal.TheVariants.{NoMemory};
 ghost use Rattle.device_core.specs.Fences.{with_fence};
-ghost use Rattle.device_core.specs.Buffers.{empty_buffer, exported, import_into, imported, none_waits as none_waits_of, state_of, trimmed as trimmed_of, waiting_fence, with_buffer_fence};
+ghost use Rattle.device_core.specs.Buffers.{empty_buffer, exported, has_grown, import_into, imported, is_waiting, none_waits as none_waits_of, waiting_fence, with_buffer_fence};
 ghost use Rattle.device_core.specs.State.{at};
 
 use crate::buffer_fence::BufferFence;
@@ -17,10 +17,11 @@ use point_core::Usage;
 use std::alloc::Global;
 use std::marker::Model;
 
-/// A table is trimmed before it has more than this many times the fences that it had after its last trim.
+/// A table is trimmed before it has more than this many times the fences that it had after the import that trimmed it
+/// last. Those were all pending, so it never has more than this many times the fences that were ever pending at once.
 const GROWTH: usize = 2;
 
-/// A table of at most `GROWTH` times this many fences is not trimmed.
+/// A table of at most `GROWTH` times this many fences isn't trimmed.
 const UNTRIMMED: usize = 8;
 
 const _: () = prove!(GROWTH == 2);
@@ -77,8 +78,9 @@ impl Buffer {
         let Ok(_room) = self.fences.reserve(fences.len()) else {
             return Err(Refusal::NoMemory);
         };
-        self.left = trim_grown(&mut self.fences, self.left, fences.len(), timelines);
+        let trimmed = trim_grown(&mut self.fences, self.left, fences.len(), timelines);
         put_pending(&mut self.fences, fences, usage);
+        self.left = left_after(trimmed, self.left, self.fences.len());
         let most = GROWTH.saturating_mul(self.fences.len().max(UNTRIMMED));
         self.fences.shrink_to(most);
         Ok(())
@@ -157,25 +159,34 @@ fn put_option(listed: &mut Vec<Fence>, fence: Option<Fence>) -> Result<(), Refus
 }
 
 /// Drops what no longer waits, if the table would have grown too much since its last trim by that many more fences.
-/// Returns how many the table has after its last trim.
+/// Returns whether it was trimmed.
 fn trim_grown(
     fences: &mut Vec<BufferFence>,
     left: usize,
     more: usize,
     timelines: &Timelines,
-) -> usize
+) -> bool
     requires room { vec_len fences.old + more ≤ vec_capacity fences.old }
-    ensures trimmed { (stub_at : ℕ) → state_of fences.new.items result stub_at ≡
-        trimmed_of (at timelines.now.entries) more (state_of fences.old.items left stub_at) }
+    ensures grown { result ≡ has_grown left more fences.old.items }
+    ensures kept { fences.new.items ≡ (if result
+        then filter (is_waiting (at timelines.now.entries)) fences.old.items
+        else fences.old.items) }
     ensures fewer { vec_len fences.new ≤ vec_len fences.old }
     ensures places { vec_capacity fences.new ≡ vec_capacity fences.old }
 {
     let most = GROWTH.saturating_mul(left.max(UNTRIMMED));
     if fences.len() + more <= most {
-        return left;
+        return false;
     }
     fences.retain(|fence| fence.is_waiting(timelines));
-    fences.len() + more
+    true
+}
+
+/// How many fences the last trim left, now that the table has that many.
+fn left_after(trimmed: bool, left: usize, count: usize) -> usize
+    ensures { result ≡ (if trimmed then count else left) }
+{
+    if trimmed { count } else { left }
 }
 
 fn put_pending(fences: &mut Vec<BufferFence>, put: &[Fence], usage: Usage)

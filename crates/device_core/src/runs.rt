@@ -2,7 +2,6 @@
 ghost use Rattle.std.specs.Prelude.{◌≡◌, [], IfOk, IfErr};
 ghost use Rattle.device_core.specs.declared.refusal.Refusal.TheVariants.{NoMemory};
 ghost use Rattle.device_core.specs.History.{AreAnswers, HasHistory, history_of};
-ghost use Rattle.device_core.specs.State.{objects_of};
 ghost use Rattle.device_core.specs.Memory.{AreTrimmed, KeepsWhatIsAlive};
 ghost use Rattle.device_core.specs.Headline.{ReportsSums, ReportsWhatWasPut, ReportsBuffers, ReportsNumbers, ReportsEachWaking};
 
@@ -26,7 +25,7 @@ pub fn run(
     ensures numbers { IfOk result (λ r. ReportsNumbers r.0 r.1.items) }
     ensures wakings { IfOk result (λ r. ReportsEachWaking r.0 (history_of [] requests.now r.1.items) r.1.items) }
     ensures kept { IfOk result (λ r. KeepsWhatIsAlive r.0) }
-    ensures trimmed { IfOk result (λ r. AreTrimmed (objects_of r.0)) }
+    ensures trimmed { IfOk result (λ r. AreTrimmed r.0 (history_of [] requests.now r.1.items)) }
     ensures memory { IfErr result (λ e. e ≡ NoMemory) }
 {
     let Ok(mut answers) = Vec::with_capacity(alloc, requests.len()) else {

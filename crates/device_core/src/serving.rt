@@ -5,6 +5,7 @@ ghost use Rattle.device_core.specs.declared.request.Request.TheVariants as reque
 ghost use Rattle.device_core.specs.State.{objects_of};
 ghost use Rattle.device_core.specs.Request.{IsAnswer, after};
 ghost use Rattle.device_core.specs.History.{HasHistory, history_after};
+ghost use Rattle.device_core.specs.Memory.{AreTrimmed};
 
 use crate::device::Device;
 use crate::fence::Text;
@@ -22,6 +23,8 @@ impl Device {
         ensures done { OnOk result (objects_of self.new ≡ after (objects_of self.old) request) }
         ensures stands { (history : List Asked) →
             HasHistory self.old history → HasHistory self.new (history_after history request result) }
+        ensures trimmed { (history : List Asked) →
+            HasHistory self.old history → AreTrimmed self.new (history_after history request result) }
         ensures unchanged { OnErr result (self.new ≡ self.old) }
     {
         self.answer_to(request)
