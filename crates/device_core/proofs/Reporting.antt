@@ -1,5 +1,5 @@
 -- What a device says of all that was put into its files and buffers, and of its timelines.
-use Rattle.std.proofs.Common.{◌≡◌, ◌≢◌, ◌↔◌, ℕ, ◌+◌, ◌<◌, ◌≤◌, ◌⊎◌, inl, inr, true, false, not, cond, refl, sym, ap, ◌∙◌, subst, List, [], ◌∷◌, ◌++◌, append_assoc, append-nil, Option, None, Some, is_some, option_map, All, arith}
+use Rattle.std.proofs.Common.{◌≡◌, ◌≢◌, ◌↔◌, ℕ, ◌+◌, ◌<◌, ◌≤◌, ◌⊎◌, inl, inr, true, false, not, cond, refl, sym, ap, ◌∙◌, subst, List, [], ◌∷◌, ◌++◌, append_assoc, append-nil, map, Option, None, Some, is_some, option_map, All, arith}
 use Rattle.std.proofs.lemmas.Bool.{cases_eq, and_parts, and_from, not-true, le-ltb, eq-eqb, ne_eqb}
 use Rattle.std.proofs.lemmas.List.Elements.{All-nil, All-cons, All-head, All-tail, All-contains, Contains-append_right}
 use Rattle.point_core.specs.declared.entry.Entry.{Entry}
@@ -12,18 +12,21 @@ use Rattle.device_core.specs.declared.fence.Fence.{Fence}
 use Rattle.device_core.specs.declared.fence.Timeline.{Timeline}
 use Rattle.device_core.specs.declared.request.Request.{Request}
 use Rattle.device_core.specs.declared.request.Request.TheVariants as request
-use Rattle.device_core.specs.Fences.{is_pending, are_signalled, entries_in}
+use Rattle.device_core.specs.Fences.{is_pending, are_signalled, entries_in, point_in}
 use Rattle.device_core.specs.State.{FileState, DeviceState, Objects, file_at, timeline_at, buffer_at, new_timeline, raised, missing_timeline}
 use Rattle.device_core.specs.Request.{with_at, value_in, overflow, closed_timeline, dropped, cause_of}
 use Rattle.device_core.specs.History.{World, world_after, world_from, world_of, empty_world, AreAccepted, HasHistory, reach_of, reached_by, added_by, sum_of}
 use Rattle.device_core.specs.Buffers.{BufferState, at_usage, entries_of, exported, none_waits}
 use Rattle.device_core.specs.BufferWorld.{AreBufferFences}
+use Rattle.device_core.specs.Listing.{pending_points}
 use Rattle.device_core.specs.Sound.{is_above, IsFence, IsSound}
 use Rattle.device_core.specs.Headline.{ReportsWhatWasPut, ReportsBuffers, ReportsSums}
 use Rattle.device_core.proofs.Placed.{entry_in}
 use Rattle.device_core.proofs.Sound.{with_at-same, with_at-other, value_at-reach_of, fence-reached}
 use Rattle.device_core.proofs.Exports.{AgreesAbove-at_usage}
 use Rattle.device_core.proofs.BufferSteps.{export-step, test-step}
+use Rattle.device_core.proofs.Listed.{HasListed-history}
+use Rattle.device_core.proofs.Pending.{export-pending, file-pending}
 use Rattle.device_core.proofs.Stepping.{same_Some, None≢Some, no_cause, timeline_given, given_timelines, IsSound-empty, IsSound-after, IsSound-history}
 
 abbrev IsBelow : List ℕ → Entry → Type 0
@@ -76,6 +79,8 @@ ReportsWhatWasPut-stands d history had =
       same_put = λ a b f g left right same.
           AgreesAbove-trans (agrees a f left) (AgreesAbove-trans (AgreesAbove-same_entries reach (w.put a) (w.put b) same.there same.back) (AgreesAbove-sym (agrees b g right)));
       signalled = λ n f is. signalled-world w sound n f (there n f is);
+      pending = λ n f is. file-pending w.objects f.fences (w.put n) sound.first (sound.fences n f (there n f is)) (agrees n f is);
+      listed = λ n f is. (HasListed-history history had.accepted).files n f (there n f is);
       rising = λ n f is. (sound.fences n f (there n f is)).rising;
     }
 
@@ -100,17 +105,21 @@ ReportsBuffers-stands d history had =
       signalled = λ n b usage is.
           subst (λ ts. (none_waits ts usage b.fences ≡ true) ↔ IsReached (w.put n) (usage_number usage) reach) (sym timelines)
           (test-step w.objects usage b.fences (w.put n) (given_timelines w sound) (kept n b is) (agrees n b is));
+      lists = λ n b usage is.
+          subst (λ ts. map point_in (exported ts usage b.fences) ≡ pending_points reach (w.put n) (usage_number usage)) (sym timelines)
+          (export-pending w.objects usage b.fences (w.put n) sound.first (given_timelines w sound) (kept n b is)
+          (export-step w.objects usage b.fences (w.put n) (given_timelines w sound) (kept n b is) (agrees n b is)));
       exports = λ n b usage is.
           subst (λ ts. AgreesAbove reach (entries_in (exported ts usage b.fences)) (at_usage usage (w.put n))) (sym timelines)
           (export-step w.objects usage b.fences (w.put n) (given_timelines w sound) (kept n b is) (agrees n b is));
     }
 
 -- sums of increments
-sum-push : (n : ℕ) (history : List Request) (r : Request) → sum_of n (history ++ r ∷ []) ≡ sum_of n history + added_by n r
+pub sum-push : (n : ℕ) (history : List Request) (r : Request) → sum_of n (history ++ r ∷ []) ≡ sum_of n history + added_by n r
 sum-push n [] r = omega arith
 sum-push n (x ∷ rest) r = let again = sum-push n rest r in omega arith
 
-record HasSums (w : World) (history : List Request) : Type 0 where
+pub record HasSums (w : World) (history : List Request) : Type 0 where
   pub values : (n : ℕ) (t : Timeline) → w.objects.timelines n ≡ Some t → t.value ≡ sum_of n history
   pub none : (n : ℕ) → w.objects.next ≤ n → sum_of n history ≡ 0
 
@@ -135,7 +144,7 @@ adds_none w v history r h idle more was = record {
       omega arith;
 }
 
-HasSums-after : (w : World) (history : List Request) (r : Request) → IsSound w → cause_of w.objects r ≡ None → HasSums w history → HasSums (world_after w r) (history ++ r ∷ [])
+pub HasSums-after : (w : World) (history : List Request) (r : Request) → IsSound w → cause_of w.objects r ≡ None → HasSums w history → HasSums (world_after w r) (history ++ r ∷ [])
 HasSums-after w history (request.Open name) sound none h =
     adds_none w (world_after w (request.Open name)) history (request.Open name) h (λ n. refl) (omega arith) (λ n t is. elim (cases_eq w.objects.next n) [
       | inl same ↦
@@ -213,7 +222,13 @@ HasSums-from (r ∷ rs) w before sound accepted h =
     subst (HasSums (world_from (world_after w r) rs)) (append_assoc before (r ∷ []) rs)
     (HasSums-from rs (world_after w r) (before ++ r ∷ []) (IsSound-after w r sound accepted.0) accepted.1 (HasSums-after w before r sound accepted.0 h))
 
+pub HasSums-empty : HasSums empty_world []
+HasSums-empty = record { values = λ n t is. None≢Some t is; none = λ n low. refl }
+
+pub HasSums-history : (history : List Request) → AreAccepted empty_world history → HasSums (world_of history) history
+HasSums-history history accepted = HasSums-from history empty_world [] IsSound-empty accepted HasSums-empty
+
 pub ReportsSums-stands : (d : DeviceState) (history : List Request) → HasHistory d history → ReportsSums d history
 ReportsSums-stands d history had =
-    let sums = HasSums-from history empty_world [] IsSound-empty had.accepted (record { values = λ n t is. None≢Some t is; none = λ n low. refl }) in
+    let sums = HasSums-history history had.accepted in
     record { values = λ n t is. sums.values n t (sym (ap (λ (o : Objects). o.timelines n) had.is) ∙ is) }

@@ -1,20 +1,25 @@
 -- What a device reports of all that was put into its files and buffers, and of its timelines.
-use Rattle.std.specs.Prelude.{◌≡◌, ◌↔◌, ℕ, ◌+◌, ◌-◌, ◌≤◌, true, List, Some, Contains, Result}
+use Rattle.std.specs.Prelude.{◌≡◌, ◌↔◌, ℕ, ◌+◌, ◌-◌, ◌≤◌, true, List, map, Some, option_map, All, Contains, Result}
 use Rattle.std.specs.List.{range_with_len}
 use Rattle.point_core.specs.declared.entry.Entry.{Entry}
 use Rattle.point_core.specs.declared.entry.Usage.{Usage}
 use Rattle.point_core.specs.Usage.{usage_number}
-use Rattle.point_core.specs.Agreement.{AgreesAbove, IsReached}
+use Rattle.point_core.specs.Agreement.{AgreesAbove, IsReached, as_entry}
+use Rattle.point_core.specs.declared.status.Status.TheVariants.{Signalled}
+use Rattle.device_core.specs.declared.fence.Fence.{Fence}
+use Rattle.device_core.specs.declared.fence.Signal.{Signal}
 use Rattle.device_core.specs.declared.fence.Timeline.{Timeline}
 use Rattle.device_core.specs.declared.refusal.Refusal.{Refusal}
 use Rattle.device_core.specs.declared.request.Request.{Request}
 use Rattle.device_core.specs.declared.request.Answer.{Answer}
-use Rattle.device_core.specs.Fences.{are_signalled, entries_in, HasRisingTimelines}
+use Rattle.device_core.specs.Fences.{are_signalled, entries_in, pending_of, point_in, status_before, status_of, HasRisingTimelines}
 use Rattle.device_core.specs.State.{FileState, DeviceState, file_at, timeline_at, buffer_at}
 use Rattle.device_core.specs.Buffers.{BufferState, at_usage, entries_of, exported, none_waits}
+use Rattle.device_core.specs.Listing.{pending_points}
 use Rattle.device_core.specs.Request.{is_waiting}
 use Rattle.device_core.specs.Times.{numbers_given, times_woken, times_begun, times_dropped, one_if}
-use Rattle.device_core.specs.History.{world_of, reach_of, sum_of}
+use Rattle.device_core.specs.History.{empty_world, world_of, reach_of, sum_of}
+use Rattle.device_core.specs.Signals.{first_status, point_status, reached_from}
 
 -- both have the same entries, in whatever order and however often
 pub record HasSameEntries (es fs : List Entry) : Type 0 where
@@ -41,6 +46,12 @@ pub record ReportsWhatWasPut (d : DeviceState) (history : List Request) : Type 0
   -- a file is signalled exactly when each point put in is reached, or its timeline is closed
   pub signalled : (n : ℕ) (f : FileState) → file_at d n ≡ Some f →
       ((are_signalled f.fences ≡ true) ↔ IsReached (put_into history n) 0 (reach_after history))
+  -- its pending fences are at the latest pending point of each timeline of which a point was put in, by rising timeline
+  pub pending : (n : ℕ) (f : FileState) → file_at d n ≡ Some f →
+      map point_in (pending_of f.fences) ≡ pending_points (reach_after history) (put_into history n) 0
+  -- each of its fences is at a point that was put in
+  pub listed : (n : ℕ) (f : FileState) → file_at d n ≡ Some f →
+      All (λ (g : Fence). Contains (put_into history n) (as_entry (point_in g))) f.fences
   -- its fences are of rising timelines
   pub rising : (n : ℕ) (f : FileState) → file_at d n ≡ Some f → HasRisingTimelines f.fences
 
@@ -63,10 +74,28 @@ pub record ReportsBuffers (d : DeviceState) (history : List Request) : Type 0 wh
   pub signalled : (n : ℕ) (b : BufferState) (usage : Usage) → buffer_at d n ≡ Some b →
       ((none_waits (timeline_at d) usage b.fences ≡ true)
       ↔ IsReached (put_into history n) (usage_number usage) (reach_after history))
+  -- an export at a usage lists the latest pending point of each timeline of which a point was put in at it or a stronger
+  -- one, by rising timeline
+  pub lists : (n : ℕ) (b : BufferState) (usage : Usage) → buffer_at d n ≡ Some b →
+      map point_in (exported (timeline_at d) usage b.fences)
+      ≡ pending_points (reach_after history) (put_into history n) (usage_number usage)
   -- an export at a usage says what was put in at it or a stronger one
   pub exports : (n : ℕ) (b : BufferState) (usage : Usage) → buffer_at d n ≡ Some b →
       AgreesAbove (reach_after history) (entries_in (exported (timeline_at d) usage b.fences))
       (at_usage usage (put_into history n))
+
+-- the fences of a file signal when its points are reached, and are cancelled if they never are
+pub record ReportsSignals (d : DeviceState) (history : List Request) : Type 0 where
+  -- each fence has the status of its point
+  pub fences : (n : ℕ) (f : FileState) → file_at d n ≡ Some f →
+      All (λ (g : Fence). status_before g.signal Signalled ≡ point_status (timeline_at d) history (point_in g)) f.fences
+  -- a file has the first status of its points, by rising timeline, that is not signalled
+  pub files : (n : ℕ) (f : FileState) → file_at d n ≡ Some f →
+      status_of f.fences ≡ first_status (map (λ (g : Fence). point_status (timeline_at d) history (point_in g)) f.fences)
+  -- a fence has the time of the first request after which its file was there and its point reached
+  pub times : (n : ℕ) (f : FileState) → file_at d n ≡ Some f →
+      All (λ (g : Fence). option_map (λ (s : Signal). s.at) g.signal ≡ reached_from n (point_in g) empty_world history)
+      f.fences
 
 -- an open timeline is at the sum of its increments
 pub record ReportsSums (d : DeviceState) (history : List Request) : Type 0 where

@@ -9,7 +9,9 @@ pub mod Info
 pub mod Request
 pub mod BufferWorld
 pub mod History
+pub mod Listing
 pub mod Sound
 pub mod Times
+pub mod Signals
 pub mod Headline
 pub mod Memory

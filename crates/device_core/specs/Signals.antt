@@ -1,0 +1,50 @@
+-- When the point of a fence was reached along a history, and the status that it then has.
+use Rattle.std.specs.Prelude.{ℕ, Bool, ◌&&◌, nat_le, if◌then◌else◌, List, [], ◌∷◌, Option, None, Some, is_some}
+use Rattle.point_core.specs.declared.entry.Point.{Point}
+use Rattle.point_core.specs.declared.status.Status.{Status}
+use Rattle.point_core.specs.declared.status.Status.TheVariants.{Active, Signalled, Cancelled}
+use Rattle.point_core.specs.Reach.{is_reached}
+use Rattle.device_core.specs.declared.fence.Timeline.{Timeline}
+use Rattle.device_core.specs.declared.request.Request.{Request}
+use Rattle.device_core.specs.declared.request.Request.TheVariants as request
+use Rattle.device_core.specs.History.{World, reach_of, sum_of, world_after}
+
+-- the time at which a request is made, or 0 if it has none
+abbrev pub time_in : Request → ℕ
+time_in (request.Open name) = 0
+time_in (request.Fence timeline point now) = now
+time_in (request.Inc timeline n now) = now
+time_in (request.Merge a b name) = 0
+time_in (request.Status file) = 0
+time_in (request.IsSignalled file) = 0
+time_in (request.Info file) = 0
+time_in (request.Close number now) = now
+time_in (request.Buffer now) = now
+time_in (request.Export buffer flags) = 0
+time_in (request.Import buffer file flags) = 0
+time_in (request.Test buffer usage) = 0
+
+-- there is a file of that number, and its timeline has reached the point
+abbrev pub has_reached : ℕ → Point → World → Bool
+has_reached file p w = is_some (w.objects.files file) && is_reached (reach_of w.objects) p
+
+-- the time of the first request after which that is so
+abbrev pub reached_from : ℕ → Point → World → List Request → Option ℕ
+reached_from file p w [] = None
+reached_from file p w (r ∷ rs) =
+    if has_reached file p (world_after w r) then Some (time_in r) else reached_from file p (world_after w r) rs
+
+-- a point is signalled once the increments of its timeline come to it; until then it is active while the timeline is
+-- open, and cancelled once that is closed
+abbrev pub point_status : (ℕ → Option Timeline) → List Request → Point → Status
+point_status timelines history p =
+    if nat_le p.value (sum_of p.ctx history)
+    then Signalled
+    else (if is_some (timelines p.ctx) then Active else Cancelled)
+
+-- the kernel's order: the first status that is not signalled
+abbrev pub first_status : List Status → Status
+first_status [] = Signalled
+first_status (Signalled ∷ others) = first_status others
+first_status (Active ∷ others) = Active
+first_status (Cancelled ∷ others) = Cancelled
