@@ -155,11 +155,11 @@ static bool is_foreign(const struct bim_request *request)
 
 static int ask(const struct bim_request *request, int passed, struct bim_answer *answer, int *given)
 {
-    if (is_foreign(request))
-        shim_lost("--local serves one process, and this descriptor is another's; run it without --local");
     if (request->op == BIM_OP_TEXT || request->a == BIM_ANY)
         keeper_sweep(&keeper);
     keeper_serve(&keeper, request, passed, answer, given);
+    if (answer->error == ENOTTY && is_foreign(request))
+        shim_lost("--local serves one process, and this descriptor is another's; run it without --local");
     /* What seems to be pending may be cancelled by a closing that was not seen. */
     if (request->op == BIM_OP_INFO && !answer->error && answer->status == BIM_IS_ACTIVE &&
         keeper_sweep_timelines(&keeper))

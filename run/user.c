@@ -2,22 +2,11 @@
 #include "user.h"
 
 #include <errno.h>
-#include <stdbool.h>
-#include <stdint.h>
-#include <string.h>
 #include <sys/syscall.h>
 #include <sys/uio.h>
 #include <unistd.h>
 
-enum { NEAR = 16384, PAGE = 4096 };
-
-/* Callers mostly pass what is on their stack, just above this frame. That needs no look. */
-static bool is_near(const void *at, size_t length)
-{
-    uintptr_t here = (uintptr_t)__builtin_frame_address(0), begin = (uintptr_t)at;
-
-    return begin >= here && begin - here < NEAR && length < NEAR;
-}
+enum { PAGE = 4096 };
 
 /* Has the kernel copy, which fails if we would fault. */
 static int copy(long call, void *here, const void *there, size_t length)
@@ -30,22 +19,19 @@ static int copy(long call, void *here, const void *there, size_t length)
     return copied >= 0 || errno == EFAULT ? EFAULT : errno;
 }
 
-int user_get(void *to, const void *from, size_t length)
+int user_get_far(void *to, const void *from, size_t length)
 {
-    int error = is_near(from, length) ? ENOSYS : copy(SYS_process_vm_readv, to, from, length);
+    int error = copy(SYS_process_vm_readv, to, from, length);
 
-    if (error == 0 || error == EFAULT)
-        return error;
-    /* It is near, or the kernel may not copy. */
-    memcpy(to, from, length);
-    return 0;
+    /* A filter of system calls may refuse the copy. */
+    if (error && error != EFAULT)
+        memcpy(to, from, length);
+    return error == EFAULT ? EFAULT : 0;
 }
 
-int user_put(void *to, const void *from, size_t length)
+int user_put_far(void *to, const void *from, size_t length)
 {
-    int error = is_near(to, length) ? 0 : copy(SYS_process_vm_writev, (void *)from, to, length);
-
-    if (error == EFAULT)
+    if (copy(SYS_process_vm_writev, (void *)from, to, length) == EFAULT)
         return EFAULT;
     /* Done once more, so that tools which watch the program's memory see it. */
     memcpy(to, from, length);
@@ -82,5 +68,5 @@ static int copy_text(char *to, const char *from, size_t room)
 
 int user_get_text(char *to, const char *from, size_t room)
 {
-    return is_near(from, room) ? read_text(to, from, room) : copy_text(to, from, room);
+    return user_is_near(from, room) ? read_text(to, from, room) : copy_text(to, from, room);
 }

@@ -56,7 +56,8 @@ enum bim_op {
 enum { BIM_TASK_ROOM = 16, BIM_TEXT_ROOM = 32, BIM_ROWS = 16 };
 
 /* Objects are named by the number in the inode of their descriptors (ends.h), which each copy of one has. The
- * processor, the thread's number and its name are only for the trace. */
+ * processor, the thread's number and its name are only for the trace. Each call clears a request and an answer; past 80
+ * bytes that takes longer. */
 struct bim_request {
     uint16_t op;
     uint16_t processor;
@@ -68,22 +69,28 @@ struct bim_request {
         uint64_t b;
         uint64_t size;
     };
-    uint64_t from;
-    char name[BIM_TEXT_ROOM];
+    __extension__ union {
+        char name[BIM_TEXT_ROOM];
+        uint64_t from;
+    };
     char task[BIM_TASK_ROOM];
 };
 
 /* The first `rows` rows are sent. More than BIM_ROWS are in the memory file that is sent along. */
 struct bim_answer {
-    int32_t error;  /* 0 or an errno */
-    int32_t gives;  /* 1 if a descriptor is sent along */
-    int32_t status; /* of a file */
+    int32_t error; /* 0 or an errno */
+    int32_t gives; /* 1 if a descriptor is sent along */
     uint32_t rows;
-    uint32_t fences; /* how many a file has */
-    uint32_t flags;  /* O_ACCMODE of a buffer */
+    int32_t is_lent; /* 1 if a buffer's memory is of memory files of a program */
+    __extension__ union {
+        int32_t status; /* of a file */
+        uint32_t flags; /* O_ACCMODE of a buffer */
+    };
+    __extension__ union {
+        uint32_t fences; /* how many a file has */
+        uint32_t parts;  /* how many a buffer's memory has */
+    };
     uint64_t size;   /* of a buffer */
-    uint32_t parts;  /* how many a buffer's memory has */
-    int32_t is_lent; /* 1 if that memory is of memory files of a program */
     uint64_t from;   /* where a part begins in its memory */
     uint64_t length; /* of the part */
     char name[BIM_TEXT_ROOM];
