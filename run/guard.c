@@ -2,6 +2,7 @@
 #include "guard.h"
 
 #include "calls.h"
+#include "folder.h"
 #include "users.h"
 
 #include <errno.h>
@@ -93,7 +94,7 @@ static void hold(struct guard *guard)
         look(guard, -1, MILLISECONDS_BETWEEN_LOOKS);
         users_kill(guard->service);
     }
-    service_remove_folder(guard->service);
+    folder_remove(guard->service->folder);
 }
 
 static void tell(const struct service *service, char what)
@@ -106,7 +107,7 @@ static void end_users(struct guard *guard)
     service_free_spares(guard->service);
     kill_users(guard);
     if (service_held_ends(guard->service) == 0)
-        service_remove_folder(guard->service);
+        folder_remove(guard->service->folder);
     tell(guard->service, GUARD_HAS_KILLED);
     hold(guard);
 }

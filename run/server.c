@@ -5,6 +5,7 @@
 
 #include "calls.h"
 #include "clients.h"
+#include "folder.h"
 
 #include <errno.h>
 #include <stdio.h>
@@ -225,12 +226,6 @@ static bool program_is_left(const struct server *server)
     return server->tool_has_ended && process_goes_on(&board->program);
 }
 
-static void remove_folder(const struct server_setup *setup)
-{
-    unlink(setup->socket);
-    rmdir(setup->folder);
-}
-
 static void close_server(struct server *server)
 {
     const int opened[] = { server->events, server->spare, server->keeper.ends, server->keeper.page_memory };
@@ -262,7 +257,7 @@ int server_run(const struct server_setup *setup)
     if (stays)
         serve_until(&server, is_used);
     if (stays || server.tool_has_ended)
-        remove_folder(setup);
+        folder_remove(setup->folder);
     close_server(&server);
     setup->board->has_ended = 1;
     return 0;

@@ -29,8 +29,7 @@ struct server_setup {
     int listener;
     int obeys;          /* a byte in it says that the program has ended */
     int said;           /* to which the server writes one of the words above */
-    const char *folder; /* which it removes with the socket, if bimphlai-run doesn't */
-    const char *socket;
+    const char *folder; /* which it removes if bimphlai-run doesn't */
     const char *trace; /* or NULL */
     struct board *board;
     int (*start_guard)(void); /* for the time after bimphlai-run. Returns 0 or an errno */

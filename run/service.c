@@ -3,6 +3,7 @@
 
 #include "calls.h"
 #include "ends.h"
+#include "folder.h"
 #include "guard.h"
 
 #include <errno.h>
@@ -16,23 +17,6 @@
 
 /* How many may wait to connect; and how many descriptors a server that was killed may have had that it hadn't noted. */
 enum { WAITING = 128, NOT_NOTED = 64 };
-
-/* Another user's folder may come with the environment, by su or sudo, and he may put a service of his own there. */
-static bool is_own_folder(const char *path)
-{
-    struct stat found;
-
-    return path && path[0] == '/' && stat(path, &found) == 0 && S_ISDIR(found.st_mode) && found.st_uid == geteuid() &&
-           !(found.st_mode & (S_IWGRP | S_IWOTH));
-}
-
-static int make_folder(struct service *service, const char *in)
-{
-    if (!in ||
-        snprintf(service->folder, sizeof service->folder, "%s/bimphlai-run.XXXXXX", in) >= (int)sizeof service->folder)
-        return ENAMETOOLONG;
-    return mkdtemp(service->folder) ? 0 : errno;
-}
 
 /* Its name is in a folder that only this user may enter, and only this user may connect. */
 static int make_socket(struct service *service)
@@ -80,14 +64,11 @@ static int open_spares(struct service *service)
 
 int service_open(struct service *service)
 {
-    const char *runtime = getenv("XDG_RUNTIME_DIR");
-    int error = make_folder(service, is_own_folder(runtime) ? runtime : NULL);
+    int error = folder_make(service->folder, sizeof service->folder, &service->lock);
 
     if (error)
-        error = make_folder(service, "/tmp");
-    if (error)
         return error;
-    snprintf(service->socket, sizeof service->socket, "%s/socket", service->folder);
+    snprintf(service->socket, sizeof service->socket, "%s/" FOLDER_SOCKET, service->folder);
     error = make_socket(service);
     if (!error)
         error = make_pipe(&service->hears, &service->said);
@@ -110,18 +91,12 @@ void service_free_spares(struct service *service)
     memcpy(service->spares, (int[SPARES])NO_SPARES, sizeof service->spares);
 }
 
-void service_remove_folder(const struct service *service)
-{
-    unlink(service->socket);
-    rmdir(service->folder);
-}
-
 void service_remove(struct service *service)
 {
-    const int opened[] = { service->listener, service->said,  service->hears,
-                           service->orders,   service->obeys, service->nowhere };
+    const int opened[] = { service->listener, service->said,    service->hears, service->orders,
+                           service->obeys,    service->nowhere, service->lock };
 
-    service_remove_folder(service);
+    folder_remove(service->folder);
     service_free_spares(service);
     for (size_t i = 0; i < sizeof opened / sizeof opened[0]; i++)
         if (opened[i] >= 0)
@@ -147,8 +122,8 @@ static int start_guard(void)
 
 int service_start(struct service *service, const char *trace)
 {
-    struct server_setup setup = { service->listener, service->obeys, service->said,  service->folder,
-                                  service->socket,   trace,          service->board, start_guard };
+    struct server_setup setup = { service->listener, service->obeys, service->said, service->folder,
+                                  trace,             service->board, start_guard };
     pid_t server;
 
     fflush(NULL);

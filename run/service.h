@@ -13,6 +13,7 @@ enum { SPARES = 3 };
 
 struct service {
     char folder[64], socket[80];
+    int lock; /* on the folder */
     int listener;
     int said, hears;   /* the words of the server and of the guard go through this pipe */
     int orders, obeys; /* and that the program has ended through this one, to the server */
@@ -24,9 +25,10 @@ struct service {
 #define NO_SPARES { -1, -1, -1 }
 
 /* Nothing is open. */
-#define SERVICE_CLOSED                                                                                              \
-    {                                                                                                               \
-        .listener = -1, .said = -1, .hears = -1, .orders = -1, .obeys = -1, .nowhere = -1, .spares = NO_SPARES      \
+#define SERVICE_CLOSED                                                                                      \
+    {                                                                                                       \
+        .lock = -1, .listener = -1, .said = -1, .hears = -1, .orders = -1, .obeys = -1, .nowhere = -1,      \
+        .spares = NO_SPARES                                                                                 \
     }
 
 /* Makes the folder, with the socket in it. Returns 0 or an errno. */
@@ -37,7 +39,6 @@ int service_start(struct service *service, const char *trace);
 void service_end(const struct service *service);
 /* Removes the folder, and closes what service_open opened. To be called when the server serves no longer. */
 void service_remove(struct service *service);
-void service_remove_folder(const struct service *service);
 
 /* Forks a process that shares this one's descriptors: what either opens stays open, whatever becomes of the other. With
  * BIM_PLAIN_FORK it shares none, since valgrind knows no process that does; then the loss of the server ends nobody

@@ -1,0 +1,113 @@
+#define _GNU_SOURCE
+#include "folder.h"
+
+#include "calls.h"
+
+#include <dirent.h>
+#include <errno.h>
+#include <stdbool.h>
+#include <stdio.h>
+#include <stdlib.h>
+#include <string.h>
+#include <sys/file.h>
+
+#define NAME "bimphlai-run."
+
+/* Another user's folder may come with the environment, by su or sudo, and he may put a service of his own there. */
+static bool is_own(const char *path)
+{
+    struct stat found;
+
+    return path && path[0] == '/' && stat(path, &found) == 0 && S_ISDIR(found.st_mode) && found.st_uid == geteuid() &&
+           !(found.st_mode & (S_IWGRP | S_IWOTH));
+}
+
+static void remove_entries(int in, const char *name, int folder)
+{
+    unlinkat(folder, FOLDER_SOCKET, 0);
+    unlinkat(in, name, AT_REMOVEDIR);
+}
+
+/* Removes a folder of this user's whose run has ended. */
+static void remove_if_left(int in, const char *name)
+{
+    int folder = openat(in, name, O_RDONLY | O_DIRECTORY | O_NOFOLLOW | O_CLOEXEC);
+    struct stat found;
+
+    if (folder < 0)
+        return;
+    if (fstat(folder, &found) == 0 && found.st_uid == geteuid() && flock(folder, LOCK_EX | LOCK_NB) == 0)
+        remove_entries(in, name, folder);
+    call_close(folder);
+}
+
+static void remove_left(const char *in)
+{
+    DIR *all = opendir(in);
+    const struct dirent *entry;
+
+    while (all && (entry = readdir(all)))
+        if (strncmp(entry->d_name, NAME, strlen(NAME)) == 0)
+            remove_if_left(dirfd(all), entry->d_name);
+    if (all)
+        closedir(all);
+}
+
+/* Makes a folder and locks it. Returns 0 or an errno: EAGAIN if another run has removed it before it was locked. */
+static int make(char *path, int *lock)
+{
+    int error;
+
+    if (!mkdtemp(path))
+        return errno;
+    *lock = open(path, O_RDONLY | O_DIRECTORY | O_CLOEXEC);
+    error = *lock < 0 ? errno : 0;
+    if (!error)
+        flock(*lock, LOCK_EX);
+    if (access(path, F_OK))
+        error = EAGAIN;
+    if (!error)
+        return 0;
+    if (*lock >= 0)
+        call_close(*lock);
+    rmdir(path);
+    return error;
+}
+
+static int make_in(const char *in, char *path, size_t room, int *lock)
+{
+    int error;
+
+    remove_left(in);
+    do {
+        if (snprintf(path, room, "%s/" NAME "XXXXXX", in) >= (int)room)
+            return ENAMETOOLONG;
+        error = make(path, lock);
+    } while (error == EAGAIN);
+    return error;
+}
+
+int folder_make(char *path, size_t room, int *lock)
+{
+    const char *runtime = getenv("XDG_RUNTIME_DIR");
+    int error;
+
+    *lock = -1;
+    if (is_own(runtime) && make_in(runtime, path, room, lock) == 0)
+        return 0;
+    error = make_in("/tmp", path, room, lock);
+    if (error)
+        path[0] = 0;
+    return error;
+}
+
+void folder_remove(const char *path)
+{
+    char socket[256];
+
+    if (!path[0])
+        return;
+    snprintf(socket, sizeof socket, "%s/" FOLDER_SOCKET, path);
+    unlink(socket);
+    rmdir(path);
+}
