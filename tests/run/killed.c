@@ -2,7 +2,8 @@
  *
  * Starts itself by the tool. Processes then wait in all ways for points that nobody reaches, and after some time those of the tool
  * are killed, in an order of letters: T is the tool, S its server, G its guard; - waits until there is a guard again, and L for
- * the program and the tool to end. Whoever sees success says so. All have to be ended, and soon. The words:
+ * the program and the tool to end. Whoever sees success says so. All have to be ended, and soon: before the tool ends, if that
+ * isn't killed. The words:
  *
  *   full     the service has no descriptor left
  *   blind    nobody can read /proc any more
@@ -115,6 +116,49 @@ static void begin(int f, int way, int apart)
     _exit(0);
 }
 
+/* Those who wait are known by their name and their environment, in which there is this variable with the number of this process. */
+#define MARK "KILLED_BY"
+
+static void set_mark(pid_t process)
+{
+    char number[16];
+
+    snprintf(number, sizeof number, "%d", (int)process);
+    setenv(MARK, number, 1);
+}
+
+static int has_mark(pid_t process)
+{
+    static char text[1 << 16];
+    char path[64], wanted[64];
+    int file, length, found;
+
+    length = snprintf(wanted, sizeof wanted, MARK "=%d", (int)getpid());
+    snprintf(path, sizeof path, "/proc/%d/environ", (int)process);
+    file = open(path, O_RDONLY | O_CLOEXEC);
+    found = file < 0 ? -1 : (int)read(file, text, sizeof text);
+    if (file >= 0)
+        close(file);
+    return found > 0 && memmem(text, (size_t)found, wanted, (size_t)length + 1) != NULL;
+}
+
+/* How many of those who wait go on. */
+static int left(void)
+{
+    DIR *folder = opendir("/proc");
+    struct dirent *entry;
+    int count = 0;
+
+    while (folder && (entry = readdir(folder))) {
+        pid_t process = isdigit((unsigned char)entry->d_name[0]) ? atoi(entry->d_name) : 0;
+        if (process && process != getpid() && is_named(process, "killed") && has_mark(process))
+            count++;
+    }
+    if (folder)
+        closedir(folder);
+    return count;
+}
+
 /* The program: begins all, says so, and goes on unless it is to leave, once its input has ended. */
 static int program(int leaves)
 {
@@ -217,6 +261,7 @@ static void become_tool(char **argv, int input, int errors)
     struct rlimit few = { FEW, FEW };
 
     snprintf(told, sizeof told, "%d", tells);
+    set_mark(getppid());
     for (int i = 2; argv[i] && i < MOST - 4; i++)
         all[i + 3] = argv[i];
     if (is_full)
@@ -256,6 +301,10 @@ static void kill_all(char **argv, int heard, int input)
     HOLDS(!is_blind || mount("none", "/proc", "tmpfs", 0, NULL) == 0);
     from = now();
     kill_in(argv[2]);
+    if (run.tool && !is_blind && !is_early) {
+        run.status = end_of(run.tool);
+        EXPECT(left(), 0);
+    }
     hear(heard, text, sizeof text, 0);
     HOLDS(now() - from < IN_TIME * 1000000000ull);
     if (*text)

@@ -7,6 +7,7 @@
 #include <signal.h>
 #include <string.h>
 #include <sys/mman.h>
+#include <sys/resource.h>
 #include <sys/time.h>
 #include <unistd.h>
 
@@ -90,11 +91,27 @@ static void sealed(int memory, const struct bim_page *read)
     EXPECT(ftruncate(memory, 2 * sizeof *read), -1);
 }
 
+/* Where there is no memory for a page, nothing is left of it, not even its number. */
+static void refused(void)
+{
+    struct rlimit before, none;
+    int memory = 0;
+
+    getrlimit(RLIMIT_FSIZE, &before);
+    none = (struct rlimit){ 0, before.rlim_max };
+    signal(SIGXFSZ, SIG_IGN);
+    setrlimit(RLIMIT_FSIZE, &none);
+    HOLDS(!page_new(&memory) && errno == EFBIG);
+    EXPECT(memory, -1);
+    setrlimit(RLIMIT_FSIZE, &before);
+}
+
 int main(void)
 {
     const struct bim_page *read;
     int memory;
 
+    refused();
     page = page_new(&memory);
     HOLDS(page);
     read = page_open(memory);
