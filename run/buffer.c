@@ -1,7 +1,7 @@
 /* Buffers: memory that can be mapped, and a socket that polls as the kernel's dma-buf does. */
 #define _GNU_SOURCE
 #include "calls.h"
-#include "keeper.h"
+#include "registry.h"
 
 #include <errno.h>
 #include <stdlib.h>
@@ -41,39 +41,39 @@ static int new_memory(uint64_t size, uint32_t flags)
     return fixed;
 }
 
-static int make_memory(struct keeper *keeper, const struct bim_request *request)
+static int make_memory(struct registry *registry, const struct bim_request *request)
 {
     int memory;
 
-    keeper->host->begin_files();
+    registry->host->begin_files();
     memory = new_memory(request->size, request->flags);
     if (memory >= 0)
-        memory = keeper->host->place(memory);
-    keeper->host->end_files();
+        memory = registry->host->place(memory);
+    registry->host->end_files();
     return memory;
 }
 
-/* A descriptor of the keeper's for memory that a program has. */
-static int keep_memory(struct keeper *keeper, int passed)
+/* A descriptor of the registry's for memory that a program has. */
+static int keep_memory(struct registry *registry, int passed)
 {
     int memory;
 
-    keeper->host->begin_files();
+    registry->host->begin_files();
     memory = call_dup_from(passed, 0);
     if (memory >= 0)
-        memory = keeper->host->place(memory);
-    keeper->host->end_files();
+        memory = registry->host->place(memory);
+    registry->host->end_files();
     return memory;
 }
 
 /* Adds a part to a buffer: of the memory that was passed, or else of new memory. */
-static int add_part(struct keeper *keeper, const struct bim_request *request, struct buffer *buffer, int passed)
+static int add_part(struct registry *registry, const struct bim_request *request, struct buffer *buffer, int passed)
 {
     int error = passed < 0 ? 0 : parts_check(passed, request->from, request->size), memory;
 
     if (error)
         return error;
-    memory = passed < 0 ? make_memory(keeper, request) : keep_memory(keeper, passed);
+    memory = passed < 0 ? make_memory(registry, request) : keep_memory(registry, passed);
     if (memory < 0)
         return errno;
     error = parts_add(&buffer->memory, memory, request->from, request->size);
@@ -84,35 +84,35 @@ static int add_part(struct keeper *keeper, const struct bim_request *request, st
     return error;
 }
 
-int buffer_make(struct keeper *keeper, const struct bim_request *request, int passed, int *gives)
+int buffer_make(struct registry *registry, const struct bim_request *request, int passed, int *gives)
 {
     struct parts memory;
     struct object *object;
-    int error = keeper_begin(keeper, BUFFER, request, &object, gives);
+    int error = registry_begin(registry, BUFFER, request, &object, gives);
 
     if (error)
         return error;
     object->buffer = (struct buffer){ .flags = request->flags, .is_lent = passed >= 0 };
     object->buffer.is_ready[READING] = object->buffer.is_ready[WRITING] = true;
-    error = add_part(keeper, request, &object->buffer, passed);
+    error = add_part(registry, request, &object->buffer, passed);
     if (!error)
-        error = bim_device_buffer(&keeper->device, keeper->now, &object->number);
+        error = bim_device_buffer(&registry->device, registry->now, &object->number);
     memory = object->buffer.memory;
-    end_set_readable(object->end);
-    error = keeper_finish(keeper, object, error, gives);
+    endpoint_set_readable(object->endpoint);
+    error = registry_finish(registry, object, error, gives);
     if (error)
         parts_close(&memory);
-    keeper->page->buffers = 1;
+    registry->page->buffers = 1;
     return error;
 }
 
-int buffer_extend(struct keeper *keeper, const struct bim_request *request, struct object *buffer, int passed)
+int buffer_extend(struct registry *registry, const struct bim_request *request, struct object *buffer, int passed)
 {
     if (buffer->kind != BUFFER)
         return ENOTTY;
     if (buffer->buffer.memory.count == PARTS_MOST)
         return EINVAL;
-    return passed < 0 ? EBADF : add_part(keeper, request, &buffer->buffer, passed);
+    return passed < 0 ? EBADF : add_part(registry, request, &buffer->buffer, passed);
 }
 
 int buffer_memory(const struct bim_request *request, const struct object *buffer, struct bim_answer *answer, int *gives)
@@ -163,24 +163,24 @@ void buffer_is_ready(struct object *object, enum access access)
         return;
     buffer->is_ready[access] = true;
     if (access == READING)
-        end_set_readable(object->end);
+        endpoint_set_readable(object->endpoint);
     else
-        end_set_writable(object->end);
+        endpoint_set_writable(object->endpoint);
 }
 
-static void stop_awaiting(struct keeper *keeper, struct buffer *buffer, enum access access)
+static void stop_awaiting(struct registry *registry, struct buffer *buffer, enum access access)
 {
     struct object *awaited = buffer->awaited[access];
 
     if (!awaited)
         return;
-    bim_device_release(&keeper->device, awaited->number, keeper->now);
-    keeper_forget(keeper, awaited);
+    bim_device_release(&registry->device, awaited->number, registry->now);
+    registry_forget(registry, awaited);
     buffer->awaited[access] = NULL;
 }
 
 /* Has the device report when all that the access waits for has signalled, by a file that no program has. */
-static int await(struct keeper *keeper, struct object *object, enum access access)
+static int await(struct registry *registry, struct object *object, enum access access)
 {
     struct object *awaited = calloc(1, sizeof *awaited);
     uint64_t number;
@@ -189,73 +189,73 @@ static int await(struct keeper *keeper, struct object *object, enum access acces
     if (!awaited)
         return ENOMEM;
     awaited->kind = READINESS;
-    awaited->end = -1;
+    awaited->endpoint = -1;
     awaited->readiness.of = object;
     awaited->readiness.access = access;
-    error = bim_device_export(&keeper->device, object->number, AWAITS[access], &number);
+    error = bim_device_export(&registry->device, object->number, AWAITS[access], &number);
     if (!error)
-        error = map_add(&keeper->by_number, number, awaited);
+        error = map_add(&registry->by_number, number, awaited);
     if (error) {
         free(awaited);
         return error;
     }
     awaited->number = number;
-    stop_awaiting(keeper, &object->buffer, access);
+    stop_awaiting(registry, &object->buffer, access);
     object->buffer.awaited[access] = awaited;
     return 0;
 }
 
-static void await_or_retry(struct keeper *keeper, struct object *object, enum access access)
+static void await_or_retry(struct registry *registry, struct object *object, enum access access)
 {
-    if (await(keeper, object, access) == 0)
+    if (await(registry, object, access) == 0)
         return;
-    stop_awaiting(keeper, &object->buffer, access);
-    keeper->has_unawaited = true;
+    stop_awaiting(registry, &object->buffer, access);
+    registry->has_unawaited = true;
 }
 
 /* Whether the device says that nothing is pending for an access. */
-static bool is_idle(struct keeper *keeper, const struct object *object, enum access access)
+static bool is_idle(struct registry *registry, const struct object *object, enum access access)
 {
     int32_t signalled = 0;
 
-    return bim_device_test(&keeper->device, object->number, USAGES[access], &signalled) == 0 && signalled;
+    return bim_device_test(&registry->device, object->number, USAGES[access], &signalled) == 0 && signalled;
 }
 
 /* Takes the readiness for an access back if the device says that something is pending. */
-static void refresh(struct keeper *keeper, struct object *object, enum access access, int theirs)
+static void refresh(struct registry *registry, struct object *object, enum access access, int theirs)
 {
-    if (is_idle(keeper, object, access))
+    if (is_idle(registry, object, access))
         return;
     if (object->buffer.is_ready[access] && access == READING)
-        end_take_readable(theirs);
+        endpoint_take_readable(theirs);
     if (object->buffer.is_ready[access] && access == WRITING)
-        end_take_writable(theirs);
+        endpoint_take_writable(theirs);
     object->buffer.is_ready[access] = false;
-    await_or_retry(keeper, object, access);
+    await_or_retry(registry, object, access);
 }
 
-static void retry(struct keeper *keeper, struct object *object)
+static void retry(struct registry *registry, struct object *object)
 {
     for (enum access access = 0; access < ACCESSES; access++) {
         if (object->buffer.is_ready[access] || object->buffer.awaited[access])
             continue;
-        if (is_idle(keeper, object, access))
+        if (is_idle(registry, object, access))
             buffer_is_ready(object, access);
         else
-            await_or_retry(keeper, object, access);
+            await_or_retry(registry, object, access);
     }
 }
 
-void buffers_retry(struct keeper *keeper)
+void buffers_retry(struct registry *registry)
 {
-    if (!keeper->has_unawaited)
+    if (!registry->has_unawaited)
         return;
-    keeper->has_unawaited = false;
-    for (size_t i = 0; i < keeper->by_inode.room; i++) {
-        struct object *object = keeper->by_inode.entries[i].value;
+    registry->has_unawaited = false;
+    for (size_t i = 0; i < registry->by_inode.room; i++) {
+        struct object *object = registry->by_inode.entries[i].value;
 
         if (object && object->kind == BUFFER && object->number)
-            retry(keeper, object);
+            retry(registry, object);
     }
 }
 
@@ -264,39 +264,40 @@ static bool is_end_of(const struct object *object, int passed)
 {
     uint64_t inode;
 
-    return passed >= 0 && end_mark(passed, &inode) == BIM_BUFFER_MARK && inode == object->inode;
+    return passed >= 0 && endpoint_mark(passed, &inode) == BIM_BUFFER_MARK && inode == object->inode;
 }
 
 /* Once the device has the file, nothing can fail any more: what lacks memory then is tried again. */
-int buffer_import(struct keeper *keeper, const struct bim_request *request, struct object *object, int passed)
+int buffer_import(struct registry *registry, const struct bim_request *request, struct object *object, int passed)
 {
     static const struct fences none;
     enum access access = request->flags & BIM_SYNC_WRITE ? WRITING : READING;
-    struct object *file = keeper_find(keeper, request->b);
+    struct object *file = registry_find(registry, request->b);
     struct fences both;
     int error;
 
     if (object->kind != BUFFER || !is_end_of(object, passed))
         return object->kind == BUFFER ? EBADF : ENOTTY;
-    error = record_union(&both, &object->buffer.fences[access], file && file->kind == SYNC_FILE ? &file->fences : &none);
+    error = record_union(&both, &object->buffer.fences[access],
+                         file && file->kind == SYNC_FILE ? &file->fences : &none);
     if (error)
         return error;
-    error = bim_device_import(&keeper->device, object->number, file ? file->number : 0, request->flags);
+    error = bim_device_import(&registry->device, object->number, file ? file->number : 0, request->flags);
     /* The fences of one are let go, of which none is the last: those before, or both. */
-    record_drop(error ? &both : &object->buffer.fences[access], false, keeper->trace);
+    record_drop(error ? &both : &object->buffer.fences[access], false, registry->trace);
     if (error)
         return error;
     object->buffer.fences[access] = both;
-    refresh(keeper, object, READING, passed);
-    refresh(keeper, object, WRITING, passed);
+    refresh(registry, object, READING, passed);
+    refresh(registry, object, WRITING, passed);
     return 0;
 }
 
-void buffer_drop(struct keeper *keeper, struct object *object)
+void buffer_drop(struct registry *registry, struct object *object)
 {
     for (enum access access = 0; access < ACCESSES; access++) {
-        stop_awaiting(keeper, &object->buffer, access);
-        record_drop(&object->buffer.fences[access], !object->is_told, keeper->trace);
+        stop_awaiting(registry, &object->buffer, access);
+        record_drop(&object->buffer.fences[access], !object->is_told, registry->trace);
     }
     parts_close(&object->buffer.memory);
 }

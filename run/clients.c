@@ -26,8 +26,8 @@ static bool is_users(int client, struct ucred *peer)
 /* Notes for the guard whether a descriptor is a client's handle. */
 static void note_handle(const struct server *server, int handle, bool is_client)
 {
-    if (handle >= 0 && handle < BOARD_FILES)
-        server->setup->board->is_client[handle] = is_client;
+    if (handle >= 0 && handle < NOTED_FILES)
+        server->setup->shared->is_client[handle] = is_client;
 }
 
 /* A handle on the process at the other end, or -1. Kernels before Linux 6.5 have it by the number. */
@@ -88,14 +88,14 @@ static void part_with(struct server *server, struct client *client)
 {
     map_remove(&server->clients, (uint64_t)client->socket + 1);
     call_close(client->socket);
-    if (client->bell >= 0) {
-        map_remove(&server->clients, (uint64_t)client->bell + 1);
-        call_close(client->bell);
+    if (client->doorbell >= 0) {
+        map_remove(&server->clients, (uint64_t)client->doorbell + 1);
+        call_close(client->doorbell);
     }
-    if (server->incremented == client->lane)
+    if (server->incremented == client->channel)
         server->incremented = NULL;
-    if (client->lane)
-        lane_close(client->lane);
+    if (client->channel)
+        channel_close(client->channel);
     note_handle(server, client->process, false);
     if (client->process >= 0)
         call_close(client->process);
@@ -104,24 +104,24 @@ static void part_with(struct server *server, struct client *client)
     server->is_parted = true;
 }
 
-static int give_lane(struct client *client, int *gives)
+static int give_channel(struct client *client, int *gives)
 {
-    if (client->lane)
+    if (client->channel)
         return EBUSY;
-    client->lane = lane_new(gives);
-    return client->lane ? 0 : errno;
+    client->channel = channel_new(gives);
+    return client->channel ? 0 : errno;
 }
 
 /* An edge is enough: nobody reads what was rung. */
-static int give_bell(struct server *server, struct client *client, int *gives)
+static int give_doorbell(struct server *server, struct client *client, int *gives)
 {
-    if (!client->lane || client->bell >= 0)
+    if (!client->channel || client->doorbell >= 0)
         return EBUSY;
-    client->bell = eventfd(0, EFD_CLOEXEC | EFD_NONBLOCK);
-    if (client->bell < 0 || map_add(&server->clients, (uint64_t)client->bell + 1, client) ||
-        server_watch(server, client->bell, EPOLLET))
+    client->doorbell = eventfd(0, EFD_CLOEXEC | EFD_NONBLOCK);
+    if (client->doorbell < 0 || map_add(&server->clients, (uint64_t)client->doorbell + 1, client) ||
+        server_watch(server, client->doorbell, EPOLLET))
         return ENOMEM;
-    *gives = call_dup_from(client->bell, 0);
+    *gives = call_dup_from(client->doorbell, 0);
     return *gives < 0 ? errno : 0;
 }
 
@@ -130,8 +130,8 @@ static bool follows_closings(const struct bim_request *request)
 {
     switch (request->op) {
     case BIM_OP_HELLO:
-    case BIM_OP_LANE:
-    case BIM_OP_BELL:
+    case BIM_OP_CHANNEL:
+    case BIM_OP_DOORBELL:
     case BIM_OP_INC:
     case BIM_OP_FENCE: return false;
     default: return true;
@@ -202,12 +202,12 @@ static void answer_client(struct server *server, struct client *client, const st
         if (request->op != BIM_OP_GONE)
             server_settle(server);
     }
-    if (request->op != BIM_OP_LANE && request->op != BIM_OP_BELL) {
-        keeper_serve(&server->keeper, request, passed, answer, gives);
+    if (request->op != BIM_OP_CHANNEL && request->op != BIM_OP_DOORBELL) {
+        registry_serve(&server->registry, request, passed, answer, gives);
         return;
     }
     *answer = (struct bim_answer){ .gives = 1 };
-    answer->error = request->op == BIM_OP_LANE ? give_lane(client, gives) : give_bell(server, client, gives);
+    answer->error = request->op == BIM_OP_CHANNEL ? give_channel(client, gives) : give_doorbell(server, client, gives);
 }
 
 /* Answers one request. Returns whether the client took the answer. */
@@ -249,14 +249,14 @@ static void serve_socket(struct server *server, struct client *client)
         call_close(passed);
 }
 
-/* The same of its lane. An answer that gives a descriptor is asked for again, by the socket. */
-static void serve_lane(struct server *server, struct client *client)
+/* The same of its channel. An answer that gives a descriptor is asked for again, by the socket. */
+static void serve_channel(struct server *server, struct client *client)
 {
     struct bim_request request;
     struct bim_answer answer;
     int gives = -1;
 
-    if (!lane_take(client->lane, &request))
+    if (!channel_take(client->channel, &request))
         return;
     if (!is_request(&request)) {
         part_with(server, client);
@@ -265,25 +265,25 @@ static void serve_lane(struct server *server, struct client *client)
     answer_client(server, client, &request, -1, &answer, &gives);
     if (gives >= 0)
         call_close(gives);
-    lane_answer(client->lane, &answer);
+    channel_answer(client->channel, &answer);
     if (request.op == BIM_OP_INC)
-        server->incremented = client->lane;
+        server->incremented = client->channel;
 }
 
-/* The keeper is the server's first member. */
-bool client_owes_answer(struct keeper *keeper)
+/* The registry is the server's first member. */
+bool client_owes_answer(struct registry *registry)
 {
-    const struct lane *lane = ((struct server *)keeper)->incremented;
+    const struct channel *channel = ((struct server *)registry)->incremented;
 
-    return lane && lane_is_answered(lane);
+    return channel && channel_is_answered(channel);
 }
 
 void client_serve(struct server *server, int file)
 {
     struct client *client = client_of(server, file);
 
-    if (client && client->bell == file)
-        serve_lane(server, client);
+    if (client && client->doorbell == file)
+        serve_channel(server, client);
     else if (client)
         serve_socket(server, client);
 }

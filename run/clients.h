@@ -2,30 +2,30 @@
 #ifndef BIM_RUN_CLIENTS_H
 #define BIM_RUN_CLIENTS_H
 
-#include "keeper.h"
-#include "lane.h"
+#include "registry.h"
+#include "channel.h"
 #include "server.h"
 
 /* A process that has connected. */
 struct client {
-    int socket, bell; /* bell: -1 without a lane */
-    struct lane *lane;
+    int socket, doorbell; /* doorbell: -1 without a channel */
+    struct channel *channel;
     int process; /* a handle by which the guard can kill it, or -1 */
 };
 
 struct server {
-    struct keeper keeper;
+    struct registry registry;
     const struct server_setup *setup;
     int events;
-    struct lane *incremented; /* the lane of the last increment, or NULL */
-    int spare;          /* a descriptor to close when no other is left */
-    struct map clients; /* by the numbers of their sockets and bells, with 1 added */
+    struct channel *incremented; /* that of the last increment, or NULL */
+    int spare;                   /* a descriptor to close when no other is left */
+    struct map clients;          /* by the numbers of their sockets and doorbells, with 1 added */
     size_t client_count;
     bool program_has_ended, tool_has_ended, lacks_guard;
-    bool is_parted; /* a client has gone since the last closings */
-    uint64_t postponed;                /* since when closings wait */
-    bool is_hurried;                   /* no event reports what it waits for */
-    uint64_t parting;                  /* since when the program has ended */
+    bool is_parted;     /* a client has gone since the last closings */
+    uint64_t postponed; /* since when closings wait */
+    bool is_hurried;    /* no event reports what it waits for */
+    uint64_t parting;   /* since when the program has ended */
 };
 
 /* Has the loop see what a descriptor has to read. Returns 0, or -1 with errno. */
@@ -37,10 +37,10 @@ void server_see_closings(struct server *server);
 void server_settle(struct server *server);
 
 /* Whether the client that incremented last hasn't taken the answer yet. */
-bool client_owes_answer(struct keeper *keeper);
+bool client_owes_answer(struct registry *registry);
 /* Takes one that connects. */
 void client_take(struct server *server);
-/* Takes and answers a request of the client whose socket or bell this is. */
+/* Takes and answers a request of the client whose socket or doorbell this is. */
 void client_serve(struct server *server, int file);
 
 #endif

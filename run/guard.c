@@ -61,7 +61,7 @@ static void leave_streams(const struct service *service)
 /* Waits for the end of the process with this handle, of bimphlai-run, or of some milliseconds. */
 static void look(struct guard *guard, int handle, int milliseconds)
 {
-    const struct process *tool = &guard->service->board->tool;
+    const struct process *tool = &guard->service->shared->tool;
     struct pollfd ends[] = { { handle, POLLIN, 0 }, { guard->has_tool ? tool->handle : -1, POLLIN, 0 } };
 
     call_poll(ends, 2, milliseconds);
@@ -73,11 +73,11 @@ static void look(struct guard *guard, int handle, int milliseconds)
 
 static void watch(struct guard *guard)
 {
-    const struct board *board = guard->service->board;
-    bool has_handles = board->server.handle >= 0 && board->tool.handle >= 0;
+    const struct shared_state *shared = guard->service->shared;
+    bool has_handles = shared->server.handle >= 0 && shared->tool.handle >= 0;
 
-    while (process_goes_on(&board->server))
-        look(guard, board->server.handle, has_handles ? -1 : MILLISECONDS_BETWEEN_LOOKS);
+    while (process_goes_on(&shared->server))
+        look(guard, shared->server.handle, has_handles ? -1 : MILLISECONDS_BETWEEN_LOOKS);
 }
 
 /* A process that can't end, as in a call of a driver that hangs, sees nothing any more either. */
@@ -90,7 +90,7 @@ static void kill_users(struct guard *guard)
 /* Whoever can't be killed, or isn't known, waits for good. */
 static void hold(struct guard *guard)
 {
-    while (service_held_ends(guard->service) > 0) {
+    while (service_held_endpoints(guard->service) > 0) {
         look(guard, -1, MILLISECONDS_BETWEEN_LOOKS);
         users_kill(guard->service);
     }
@@ -106,7 +106,7 @@ static void end_users(struct guard *guard)
 {
     service_free_spares(guard->service);
     kill_users(guard);
-    if (service_held_ends(guard->service) == 0)
+    if (service_held_endpoints(guard->service) == 0)
         folder_remove(guard->service->folder);
     tell(guard->service, GUARD_HAS_KILLED);
     hold(guard);
@@ -117,20 +117,20 @@ int guard_start(struct service *service)
     struct guard guard = { service, true };
     pid_t number;
 
-    if (process_goes_on(&service->board->guard))
+    if (process_goes_on(&service->shared->guard))
         return 0;
-    process_close(&service->board->guard);
+    process_close(&service->shared->guard);
     number = service_share();
     if (number < 0)
         return errno;
     if (number > 0) {
-        service->board->guard = process_open(number);
+        service->shared->guard = process_open(number);
         return 0;
     }
     become_guard();
     tell(service, GUARD_IS_READY);
     watch(&guard);
-    if (!service->board->has_ended)
+    if (!service->shared->has_ended)
         end_users(&guard);
     _exit(0);
 }

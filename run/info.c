@@ -1,7 +1,7 @@
 /* What is reported: of a file, and of everything in sync/info. */
 #define _GNU_SOURCE
 #include "calls.h"
-#include "keeper.h"
+#include "registry.h"
 
 #include <errno.h>
 #include <stdio.h>
@@ -10,19 +10,19 @@
 #include <sys/mman.h>
 
 /* Asks the device, with room for all rows. */
-static int ask(struct keeper *keeper, uint64_t number, bim_device_file_info *info)
+static int ask(struct registry *registry, uint64_t number, bim_device_file_info *info)
 {
-    int error = bim_device_info(&keeper->device, number, info, keeper->rows, keeper->rows_room);
+    int error = bim_device_info(&registry->device, number, info, registry->rows, registry->rows_room);
     bim_device_fence_info *more;
 
-    if (error || info->fences <= keeper->rows_room)
+    if (error || info->fences <= registry->rows_room)
         return error;
-    more = realloc(keeper->rows, 2 * info->fences * sizeof *more);
+    more = realloc(registry->rows, 2 * info->fences * sizeof *more);
     if (!more)
         return ENOMEM;
-    keeper->rows = more;
-    keeper->rows_room = 2 * info->fences;
-    return bim_device_info(&keeper->device, number, info, keeper->rows, keeper->rows_room);
+    registry->rows = more;
+    registry->rows_room = 2 * info->fences;
+    return bim_device_info(&registry->device, number, info, registry->rows, registry->rows_room);
 }
 
 static void set_row(struct sync_fence_info *to, const bim_device_fence_info *row)
@@ -35,7 +35,7 @@ static void set_row(struct sync_fence_info *to, const bim_device_fence_info *row
 }
 
 /* Rows for which the answer has no room come in a file. */
-static int rows_in_file(const struct keeper *keeper, size_t count, int *gives)
+static int rows_in_file(const struct registry *registry, size_t count, int *gives)
 {
     int file = memfd_create("rows", MFD_CLOEXEC);
     struct sync_fence_info *rows;
@@ -45,7 +45,7 @@ static int rows_in_file(const struct keeper *keeper, size_t count, int *gives)
         return errno;
     rows = calloc(count, sizeof *rows);
     for (size_t i = 0; rows && i < count; i++)
-        set_row(&rows[i], &keeper->rows[i]);
+        set_row(&rows[i], &registry->rows[i]);
     if (rows)
         written = call_write(file, rows, count * sizeof *rows) == (ssize_t)(count * sizeof *rows);
     free(rows);
@@ -57,32 +57,32 @@ static int rows_in_file(const struct keeper *keeper, size_t count, int *gives)
     return ENOMEM;
 }
 
-static int give_rows(const struct keeper *keeper, struct bim_answer *answer, int *gives)
+static int give_rows(const struct registry *registry, struct bim_answer *answer, int *gives)
 {
     if (answer->fences > BIM_ROWS)
-        return rows_in_file(keeper, answer->fences, gives);
+        return rows_in_file(registry, answer->fences, gives);
     for (size_t i = 0; i < answer->fences; i++)
-        set_row(&answer->row[i], &keeper->rows[i]);
+        set_row(&answer->row[i], &registry->rows[i]);
     answer->rows = answer->fences;
     return 0;
 }
 
 /* Without rows the kernel reports the status of what stands for all fences: while one is pending, it is active. */
-static int status_of_all(struct keeper *keeper, uint64_t number, int32_t *status)
+static int status_of_all(struct registry *registry, uint64_t number, int32_t *status)
 {
     int32_t signalled;
-    int error = bim_device_is_signalled(&keeper->device, number, &signalled);
+    int error = bim_device_is_signalled(&registry->device, number, &signalled);
 
     if (!error && !signalled)
         *status = BIM_IS_ACTIVE;
     return error;
 }
 
-int info_of_file(struct keeper *keeper, const struct bim_request *request, struct object *file,
+int info_of_file(struct registry *registry, const struct bim_request *request, struct object *file,
                  struct bim_answer *answer, int *gives)
 {
     bim_device_file_info info;
-    int error = ask(keeper, file->number, &info);
+    int error = ask(registry, file->number, &info);
 
     if (error)
         return error;
@@ -90,12 +90,12 @@ int info_of_file(struct keeper *keeper, const struct bim_request *request, struc
     answer->fences = info.fences;
     memcpy(answer->name, info.name, sizeof answer->name);
     if (request->value == 0)
-        return status_of_all(keeper, file->number, &answer->status);
+        return status_of_all(registry, file->number, &answer->status);
     if (request->value < info.fences)
         return EINVAL;
-    error = give_rows(keeper, answer, gives);
+    error = give_rows(registry, answer, gives);
     if (!error && info.fences == 1 && info.status != BIM_IS_ACTIVE)
-        page_put(keeper->page, file->inode, answer);
+        page_put(registry->page, file->inode, answer);
     return error;
 }
 
@@ -107,23 +107,23 @@ static void print_fence(FILE *text, const struct fence *fence)
         fprintf(text, "  fence error@%llu.%09llu", at / 1000000000ull, at % 1000000000ull);
     else
         fputs("  fence active", text);
-    fprintf(text, ": %u / %d\n", fence->seqno, (int32_t)fence->line->value);
+    fprintf(text, ": %u / %d\n", fence->seqno, (int32_t)fence->timeline->value);
 }
 
-static void print_timeline(FILE *text, const struct line *line)
+static void print_timeline(FILE *text, const struct timeline *timeline)
 {
-    fprintf(text, "%s: %d\n", line->name, (int32_t)line->value);
-    for (const struct fence *fence = line->first; fence; fence = fence->next)
+    fprintf(text, "%s: %d\n", timeline->name, (int32_t)timeline->value);
+    for (const struct fence *fence = timeline->first; fence; fence = fence->next)
         print_fence(text, fence);
     fputc('\n', text);
 }
 
 /* The kernel lists no sync files below the second heading. */
-static void print_all(const struct keeper *keeper, FILE *text)
+static void print_all(const struct registry *registry, FILE *text)
 {
     fputs("objs:\n--------------\n", text);
-    for (const struct line *line = keeper->lines.first; line; line = line->after)
-        print_timeline(text, line);
+    for (const struct timeline *timeline = registry->timelines.first; timeline; timeline = timeline->after)
+        print_timeline(text, timeline);
     fputs("fences:\n--------------\n", text);
 }
 
@@ -146,7 +146,7 @@ static int store(const char *text, size_t length, int *gives)
     return 0;
 }
 
-int info_text(const struct keeper *keeper, int *gives)
+int info_text(const struct registry *registry, int *gives)
 {
     char *bytes = NULL;
     size_t length;
@@ -154,7 +154,7 @@ int info_text(const struct keeper *keeper, int *gives)
     int error = 0;
 
     if (text)
-        print_all(keeper, text);
+        print_all(registry, text);
     if (!text || fclose(text) != 0)
         error = ENOMEM;
     if (!error)

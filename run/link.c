@@ -1,7 +1,7 @@
 /* The connection to the server: one for each process, made when it first asks. */
 #define _GNU_SOURCE
 #include "calls.h"
-#include "lane.h"
+#include "channel.h"
 #include "limit.h"
 #include "shim.h"
 
@@ -14,8 +14,8 @@
 enum { HIGHEST = 65536, BELOW_LIMIT = 8 };
 
 /* The process's own connection, for whoever has the lock; others only see whether a number is one of these. */
-static _Atomic int connection = -1, bell = -1;
-static struct lane *lane; /* NULL if there is none: then all goes by the connection */
+static _Atomic int connection = -1, doorbell = -1;
+static struct channel *channel; /* NULL if there is none: then all goes by the connection */
 static const struct bim_page *_Atomic page;
 
 static const struct bim_page *get_page(void)
@@ -25,17 +25,17 @@ static const struct bim_page *get_page(void)
 
 static bool is_own(int file)
 {
-    return file >= 0 && (file == connection || file == bell);
+    return file >= 0 && (file == connection || file == doorbell);
 }
 
 static void leave(void)
 {
     if (connection >= 0)
         call_close(connection);
-    if (bell >= 0)
-        call_close(bell);
-    connection = bell = -1;
-    lane = NULL;
+    if (doorbell >= 0)
+        call_close(doorbell);
+    connection = doorbell = -1;
+    channel = NULL;
 }
 
 /* Moves a descriptor past the limit of the program's, which is raised for that, so that it takes none of these. */
@@ -185,19 +185,19 @@ static void open_page(void)
     call_close(memory);
 }
 
-static void open_lane(void)
+static void open_channel(void)
 {
-    int memory = ask_for(BIM_OP_LANE);
-    struct lane *opened = memory < 0 ? NULL : lane_open(memory);
+    int memory = ask_for(BIM_OP_CHANNEL);
+    struct channel *opened = memory < 0 ? NULL : channel_open(memory);
 
     if (memory >= 0)
         call_close(memory);
-    bell = opened ? ask_for(BIM_OP_BELL) : -1;
-    if (bell >= 0) {
-        bell = move_high(bell);
-        lane = opened;
+    doorbell = opened ? ask_for(BIM_OP_DOORBELL) : -1;
+    if (doorbell >= 0) {
+        doorbell = move_high(doorbell);
+        channel = opened;
     } else if (opened) {
-        lane_close(opened);
+        channel_close(opened);
     }
 }
 
@@ -210,7 +210,7 @@ static int prepare(struct own *own)
         return errno;
     connection = move_high(joined);
     open_page();
-    open_lane();
+    open_channel();
     return 0;
 }
 
@@ -235,12 +235,12 @@ static bool gives_none(const struct bim_request *request)
     }
 }
 
-/* Returns ENOTCONN if the program has closed the connection or the bell by a call that we don't see. */
+/* Returns ENOTCONN if the program has closed the connection or the doorbell by a call that we don't see. */
 static int try_to_ask(const struct bim_request *request, int passed, struct bim_answer *answer, int *given)
 {
-    if (!lane || !gives_none(request))
+    if (!channel || !gives_none(request))
         return ask_by_socket(connection, request, passed, answer, given);
-    if (!lane_ask(lane, bell, request, answer, check))
+    if (!channel_ask(channel, doorbell, request, answer, check))
         return ENOTCONN;
     return answer->gives ? ask_by_socket(connection, request, passed, answer, given) : answer->error;
 }
@@ -270,7 +270,7 @@ static int ask_apart(const struct bim_request *request, int passed, struct bim_a
 
 static int above_own(void)
 {
-    return (connection > bell ? connection : bell) + 1;
+    return (connection > doorbell ? connection : doorbell) + 1;
 }
 
 const struct way LINK = { prepare, ask, ask_apart, leave, is_own, above_own, true, NULL, get_page };

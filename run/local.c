@@ -1,7 +1,7 @@
 /* The service in the process itself (--local). */
 #define _GNU_SOURCE
 #include "calls.h"
-#include "keeper.h"
+#include "registry.h"
 #include "limit.h"
 #include "shim.h"
 
@@ -14,40 +14,41 @@
 /* Programs seldom have so many descriptors, and the kernel's table grows with the highest number. */
 enum { HIGH = 512 };
 
-static struct keeper keeper;
-static const struct own *own_of_keeper;     /* which says whether the keeper is this process's */
+static struct registry registry;
+static const struct own *own_of_registry;   /* which says whether the registry is this process's */
 static struct rlimit limit;                 /* on the program's descriptors */
-static _Atomic int lowest = INT_MAX, above; /* of what the keeper holds */
+static _Atomic int lowest = INT_MAX, above; /* of what the registry holds */
 static bool is_crowded, is_raised;
 static bool sigpipe_was_pending;
 static sigset_t mask;
 
 static bool is_open(void)
 {
-    return own_of_keeper && own_of_keeper->is_ready;
+    return own_of_registry && own_of_registry->is_ready;
 }
 
 static const struct bim_page *get_page(void)
 {
-    return is_open() ? keeper.page : NULL;
+    return is_open() ? registry.page : NULL;
 }
 
 static bool is_trace(int file)
 {
-    return keeper.trace && file == keeper.trace->file;
+    return registry.trace && file == registry.trace->file;
 }
 
-/* The descriptors that the keeper holds are no program's to close. */
+/* The descriptors that the registry holds are no program's to close. */
 static bool is_own(int file)
 {
     uint64_t inode;
 
     if (file < lowest || !is_open())
         return false;
-    return is_trace(file) || parts_hold(file) || end_is_ours(file) || end_mark(file, &inode) == BIM_MEMORY_MARK;
+    return is_trace(file) || parts_hold(file) || endpoint_is_ours(file) ||
+           endpoint_mark(file, &inode) == BIM_MEMORY_MARK;
 }
 
-/* What the keeper holds has high numbers. Once these are used up, it has numbers past the program's limit, which is
+/* What the registry holds has high numbers. Once these are used up, it has numbers past the program's limit, which is
  * raised for a moment: so it takes none of those that the program may have. */
 static void begin_files(void)
 {
@@ -65,13 +66,14 @@ static bool may_give(int file)
     return !is_crowded || (rlim_t)file < limit.rlim_cur;
 }
 
-/* What a file or a buffer waits for never comes after an exec, but its end would seem to: so our end is open then, too. */
+/* What a file or a buffer waits for never comes after an exec, but without our end it would seem to: so our end stays
+ * open then. */
 static bool outlasts_exec(int file)
 {
     uint64_t inode;
-    enum bim_mark mark = end_mark(file, &inode);
+    enum bim_mark mark = endpoint_mark(file, &inode);
 
-    return mark == BIM_FILE_MARK || mark == BIM_BUFFER_END_MARK;
+    return mark == BIM_FILE_MARK || mark == BIM_BUFFER_ENDPOINT_MARK;
 }
 
 static int place(int file)
@@ -90,13 +92,13 @@ static int place(int file)
     return moved;
 }
 
-static bool make_room(struct keeper *all)
+static bool make_room(struct registry *all)
 {
     if (is_crowded || getrlimit(RLIMIT_NOFILE, &limit) || limit.rlim_cur >= limit.rlim_max)
         return false;
     is_crowded = true;
     begin_files();
-    keeper_place_all(all);
+    registry_place_all(all);
     end_files();
     return true;
 }
@@ -126,7 +128,7 @@ static void drop_sigpipe(void)
 }
 
 /* Whoever asks has the answer before the next is served. */
-static bool owes_none(struct keeper *all)
+static bool owes_none(struct registry *all)
 {
     (void)all;
     return false;
@@ -137,42 +139,42 @@ static const struct host HOST = { begin_files,  end_files,    place,    make_roo
 
 static int prepare(struct own *own)
 {
-    int error = keeper_open(&keeper, &HOST, getenv(BIM_TRACE));
+    int error = registry_open(&registry, &HOST, getenv(BIM_TRACE));
 
     if (error)
         return error;
     /* The page is this process's alone. */
-    call_close(keeper.page_memory);
-    own_of_keeper = own;
+    call_close(registry.page_memory);
+    own_of_registry = own;
     return 0;
 }
 
-/* What has our mark and isn't in the keeper belongs to another process. */
+/* What has our mark and isn't in the registry belongs to another process. */
 static bool is_foreign(const struct bim_request *request)
 {
-    return request->a != 0 && request->op != BIM_OP_GONE && !keeper_find(&keeper, request->a);
+    return request->a != 0 && request->op != BIM_OP_GONE && !registry_find(&registry, request->a);
 }
 
 static int ask(const struct bim_request *request, int passed, struct bim_answer *answer, int *given)
 {
     if (request->op == BIM_OP_TEXT || request->a == BIM_ANY)
-        keeper_sweep(&keeper);
-    keeper_serve(&keeper, request, passed, answer, given);
+        registry_sweep(&registry);
+    registry_serve(&registry, request, passed, answer, given);
     if (answer->error == ENOTTY && is_foreign(request))
         shim_lost("--local serves one process, and this descriptor is another's; run it without --local");
     /* What seems to be pending may be cancelled by a closing that was not seen. */
     if (request->op == BIM_OP_INFO && !answer->error && answer->status == BIM_IS_ACTIVE &&
-        keeper_sweep_timelines(&keeper))
-        keeper_serve(&keeper, request, passed, answer, given);
+        registry_sweep_timelines(&registry))
+        registry_serve(&registry, request, passed, answer, given);
     return answer->error;
 }
 
 static void before_wait(void)
 {
-    keeper_sweep_timelines(&keeper);
+    registry_sweep_timelines(&registry);
 }
 
-/* The keeper may be in the middle of a request. */
+/* The registry may be in the middle of a request. */
 static int ask_apart(const struct bim_request *request, int passed, struct bim_answer *answer, int *given)
 {
     (void)request, (void)passed, (void)answer, (void)given;

@@ -4,104 +4,104 @@
 #include <stdlib.h>
 #include <string.h>
 
-struct line *record_timeline(struct lines *all, uint64_t number, const char *name, size_t length)
+struct timeline *record_timeline(struct timelines *all, uint64_t number, const char *name, size_t length)
 {
-    struct line *line = calloc(1, sizeof *line);
+    struct timeline *timeline = calloc(1, sizeof *timeline);
 
-    if (!line)
+    if (!timeline)
         return NULL;
-    line->all = all;
-    line->number = number;
-    memcpy(line->name, name, length);
-    line->before = all->last;
-    *(line->before ? &line->before->after : &all->first) = line;
-    all->last = line;
-    return line;
+    timeline->all = all;
+    timeline->number = number;
+    memcpy(timeline->name, name, length);
+    timeline->before = all->last;
+    *(timeline->before ? &timeline->before->after : &all->first) = timeline;
+    all->last = timeline;
+    return timeline;
 }
 
-static void free_if_unused(struct line *line)
+static void free_if_unused(struct timeline *timeline)
 {
-    if (!line->is_closed || line->fences > 0)
+    if (!timeline->is_closed || timeline->fences > 0)
         return;
-    *(line->before ? &line->before->after : &line->all->first) = line->after;
-    *(line->after ? &line->after->before : &line->all->last) = line->before;
-    free(line);
+    *(timeline->before ? &timeline->before->after : &timeline->all->first) = timeline->after;
+    *(timeline->after ? &timeline->after->before : &timeline->all->last) = timeline->before;
+    free(timeline);
 }
 
-void record_forget(struct line *line)
+void record_forget(struct timeline *timeline)
 {
-    line->is_closed = true;
-    free_if_unused(line);
+    timeline->is_closed = true;
+    free_if_unused(timeline);
 }
 
 static bool is_pending(const struct fence *fence)
 {
-    return fence->line && fence->state == PENDING;
+    return fence->timeline && fence->state == PENDING;
 }
 
 /* Takes a fence off its timeline, if it is there. */
 static void unlink_fence(struct fence *fence)
 {
-    struct line *line = fence->line;
+    struct timeline *timeline = fence->timeline;
 
     if (fence->state == SIGNALLED)
         return;
-    *(fence->before ? &fence->before->next : &line->first) = fence->next;
-    *(fence->next ? &fence->next->before : &line->last) = fence->before;
+    *(fence->before ? &fence->before->next : &timeline->first) = fence->next;
+    *(fence->next ? &fence->next->before : &timeline->last) = fence->before;
     fence->state = SIGNALLED;
 }
 
 static void free_fence(struct fence *fence)
 {
-    struct line *line = fence->line;
+    struct timeline *timeline = fence->timeline;
 
     free(fence);
-    line->fences--;
-    free_if_unused(line);
+    timeline->fences--;
+    free_if_unused(timeline);
 }
 
-static void link_after(struct line *line, struct fence *before, struct fence *fence)
+static void link_after(struct timeline *timeline, struct fence *before, struct fence *fence)
 {
     fence->before = before;
-    fence->next = before ? before->next : line->first;
-    *(before ? &before->next : &line->first) = fence;
-    *(fence->next ? &fence->next->before : &line->last) = fence;
+    fence->next = before ? before->next : timeline->first;
+    *(before ? &before->next : &timeline->first) = fence;
+    *(fence->next ? &fence->next->before : &timeline->last) = fence;
 }
 
-static struct fence *new_fence(struct line *line, uint32_t point)
+static struct fence *new_fence(struct timeline *timeline, uint32_t point)
 {
     struct fence *fence = calloc(1, sizeof *fence);
 
     if (!fence)
         return NULL;
-    fence->line = line;
-    line->fences++;
-    fence->context = line->number;
+    fence->timeline = timeline;
+    timeline->fences++;
+    fence->context = timeline->number;
     fence->seqno = point;
-    fence->value = line->value + (int32_t)(point - (uint32_t)line->value);
+    fence->value = timeline->value + (int32_t)(point - (uint32_t)timeline->value);
     fence->driver = "sw_sync";
-    memcpy(fence->timeline, line->name, sizeof fence->timeline);
+    memcpy(fence->timeline_name, timeline->name, sizeof fence->timeline_name);
     return fence;
 }
 
 /* Puts a new fence on its timeline, or returns the one of its point that is pending there. */
-static struct fence *share(struct line *line, struct fence *fence)
+static struct fence *share(struct timeline *timeline, struct fence *fence)
 {
-    struct fence *before = line->last;
+    struct fence *before = timeline->last;
 
     while (before && before->value > fence->value)
         before = before->before;
     if (!before || before->value < fence->value) {
-        link_after(line, before, fence);
+        link_after(timeline, before, fence);
         return fence;
     }
     free_fence(fence);
     return before;
 }
 
-int record_fence(struct fences *fences, struct line *line, uint32_t point, struct trace *trace)
+int record_fence(struct fences *fences, struct timeline *timeline, uint32_t point, struct trace *trace)
 {
-    struct fence *fence = new_fence(line, point);
+    struct fence *fence = new_fence(timeline, point);
 
     *fences = (struct fences){ malloc(sizeof fences->at[0]), 1, NULL };
     if (!fence || !fences->at) {
@@ -112,39 +112,39 @@ int record_fence(struct fences *fences, struct line *line, uint32_t point, struc
         return ENOMEM;
     }
     trace_event(trace, "init", fence);
-    if (fence->value <= line->value) {
+    if (fence->value <= timeline->value) {
         trace_event(trace, "signaled", fence);
         fence->state = SIGNALLED;
     } else {
-        fence = share(line, fence);
+        fence = share(timeline, fence);
     }
     fence->holders++;
     fences->at[0] = fence;
     return 0;
 }
 
-static void signal_first(struct line *line, struct trace *trace)
+static void signal_first(struct timeline *timeline, struct trace *trace)
 {
-    trace_event(trace, "signaled", line->first);
-    unlink_fence(line->first);
+    trace_event(trace, "signaled", timeline->first);
+    unlink_fence(timeline->first);
 }
 
-bool record_signals(const struct line *line, uint32_t n)
+bool record_signals(const struct timeline *timeline, uint32_t n)
 {
-    return line->first && line->first->value <= line->value + n;
+    return timeline->first && timeline->first->value <= timeline->value + n;
 }
 
-void record_inc(struct line *line, uint32_t n, struct trace *trace)
+void record_inc(struct timeline *timeline, uint32_t n, struct trace *trace)
 {
-    line->value += n;
-    while (line->first && line->first->value <= line->value)
-        signal_first(line, trace);
+    timeline->value += n;
+    while (timeline->first && timeline->first->value <= timeline->value)
+        signal_first(timeline, trace);
 }
 
 /* As in the kernel, what is cancelled stays on its timeline. */
-void record_close(struct line *line, uint64_t now, struct trace *trace)
+void record_close(struct timeline *timeline, uint64_t now, struct trace *trace)
 {
-    for (struct fence *fence = line->first; fence; fence = fence->next) {
+    for (struct fence *fence = timeline->first; fence; fence = fence->next) {
         trace_event(trace, "signaled", fence);
         fence->state = CANCELLED;
         fence->cancelled_at = now;
@@ -194,7 +194,7 @@ int record_array(struct fences *fences, uint64_t context, struct trace *trace)
     array->context = context;
     array->seqno = 1;
     array->driver = "dma_fence_array";
-    strcpy(array->timeline, "unbound");
+    strcpy(array->timeline_name, "unbound");
     fences->array = array;
     trace_event(trace, "init", array);
     return 0;
@@ -226,7 +226,7 @@ void record_enable(struct fences *fences, struct trace *trace)
 /* Whether a fence is left as it is by the end of the process that would have signalled it. */
 static bool is_left(const struct fence *fence)
 {
-    return is_pending(fence) && fence->line->ends;
+    return is_pending(fence) && fence->timeline->ends_with_process;
 }
 
 void record_drop(struct fences *fences, bool with_process, struct trace *trace)

@@ -11,20 +11,20 @@
 #include <stdint.h>
 
 /* A timeline. After it is closed, it stays while there is any fence of it. */
-struct line {
-    struct lines *all;
-    struct line *before, *after; /* among all, in order of making */
+struct timeline {
+    struct timelines *all;
+    struct timeline *before, *after; /* among all, in order of making */
     char name[BIM_TEXT_ROOM];
     uint64_t number;
-    int64_t value; /* of which the kernel shows the low 32 bits */
+    int64_t value;              /* of which the kernel shows the low 32 bits */
     struct fence *first, *last; /* pending, or cancelled, by rising value */
     size_t fences;              /* these, and those that it has signalled */
     bool is_closed;
-    bool ends; /* with its process */
+    bool ends_with_process;
 };
 
-struct lines {
-    struct line *first, *last;
+struct timelines {
+    struct timeline *first, *last;
 };
 
 enum fence_state { PENDING, SIGNALLED, CANCELLED };
@@ -32,7 +32,7 @@ enum fence_state { PENDING, SIGNALLED, CANCELLED };
 /* A fence, which all files of the point share while it is pending, or the array that stands for several. */
 struct fence {
     struct fence *before, *next; /* on its timeline, until it signals */
-    struct line *line;           /* NULL for an array */
+    struct timeline *timeline;   /* NULL for an array */
     enum fence_state state;
     uint64_t cancelled_at;
     uint64_t context;
@@ -41,7 +41,7 @@ struct fence {
     unsigned holders;
     bool is_enabled;
     const char *driver;
-    char timeline[BIM_TEXT_ROOM];
+    char timeline_name[BIM_TEXT_ROOM];
 };
 
 /* What a file or a buffer holds, by rising context. */
@@ -52,17 +52,17 @@ struct fences {
 };
 
 /* Adds a timeline after all others; NULL if there is no memory. */
-struct line *record_timeline(struct lines *all, uint64_t number, const char *name, size_t length);
+struct timeline *record_timeline(struct timelines *all, uint64_t number, const char *name, size_t length);
 /* Whether an increment signals anything. */
-bool record_signals(const struct line *line, uint32_t n);
-void record_inc(struct line *line, uint32_t n, struct trace *trace);
+bool record_signals(const struct timeline *timeline, uint32_t n);
+void record_inc(struct timeline *timeline, uint32_t n, struct trace *trace);
 /* All that is pending on the timeline is cancelled. */
-void record_close(struct line *line, uint64_t now, struct trace *trace);
+void record_close(struct timeline *timeline, uint64_t now, struct trace *trace);
 /* Nobody has the timeline any more. It is freed with the last of its fences. */
-void record_forget(struct line *line);
+void record_forget(struct timeline *timeline);
 
 /* Makes a list of the fence of a point. Returns 0 or ENOMEM. */
-int record_fence(struct fences *fences, struct line *line, uint32_t point, struct trace *trace);
+int record_fence(struct fences *fences, struct timeline *timeline, uint32_t point, struct trace *trace);
 /* Makes a list of what is pending in two, of each timeline the later. Returns 0 or ENOMEM. */
 int record_union(struct fences *fences, const struct fences *a, const struct fences *b);
 /* Has several fences of a file stand in the trace as an array of that context. Returns 0 or ENOMEM. */

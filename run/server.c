@@ -20,12 +20,12 @@ static void nothing(void)
 {
 }
 
-static struct board *board; /* the one of the setup */
+static struct shared_state *shared; /* the one of the setup */
 
 int server_note(int file)
 {
-    if (file >= board->above)
-        board->above = file + 1;
+    if (file >= shared->above)
+        shared->above = file + 1;
     return file;
 }
 
@@ -34,9 +34,9 @@ static bool any(int file)
     return file >= 0;
 }
 
-static bool no_room(struct keeper *keeper)
+static bool no_room(struct registry *registry)
 {
-    (void)keeper;
+    (void)registry;
     return false;
 }
 
@@ -50,28 +50,28 @@ int server_watch(struct server *server, int file, uint32_t how)
     return epoll_ctl(server->events, EPOLL_CTL_ADD, file, &event);
 }
 
-/* Looks at all that the set of ends reports. */
+/* Looks at all that the set of endpoints reports. */
 void server_see_closings(struct server *server)
 {
     struct epoll_event events[EVENTS];
     int count;
 
     do {
-        count = epoll_wait(server->keeper.ends, events, EVENTS, 0);
+        count = epoll_wait(server->registry.endpoints, events, EVENTS, 0);
         for (int i = 0; i < count; i++) {
-            struct object *object = map_find(&server->keeper.by_number, events[i].data.u64);
+            struct object *object = map_find(&server->registry.by_number, events[i].data.u64);
 
             if (object)
-                keeper_look(&server->keeper, object, false);
+                registry_look(&server->registry, object, false);
         }
     } while (count == EVENTS);
-    if (server->keeper.closing && server->postponed == 0)
-        server->postponed = keeper_now();
+    if (server->registry.closing && server->postponed == 0)
+        server->postponed = registry_now();
 }
 
 void server_settle(struct server *server)
 {
-    keeper_settle(&server->keeper);
+    registry_settle(&server->registry);
     server->postponed = 0;
     server->is_parted = false;
 }
@@ -80,10 +80,10 @@ void server_settle(struct server *server)
  * number. */
 static void settle_in_time(struct server *server)
 {
-    if (!server->keeper.closing)
+    if (!server->registry.closing)
         server->is_parted = false;
-    else if (!server->keeper.trace || server->is_parted ||
-             keeper_now() - server->postponed > MILLISECONDS_TO_POSTPONE * NANOSECONDS)
+    else if (!server->registry.trace || server->is_parted ||
+             registry_now() - server->postponed > MILLISECONDS_TO_POSTPONE * NANOSECONDS)
         server_settle(server);
 }
 
@@ -98,14 +98,14 @@ static void take_order(struct server *server)
 /* Once bimphlai-run has ended, nobody else starts another guard for one that was killed. */
 static void keep_guard(struct server *server)
 {
-    server->lacks_guard = !process_goes_on(&board->guard) && server->setup->start_guard() != 0;
-    server_watch(server, board->guard.handle, EPOLLONESHOT);
+    server->lacks_guard = !process_goes_on(&shared->guard) && server->setup->start_guard() != 0;
+    server_watch(server, shared->guard.handle, EPOLLONESHOT);
 }
 
 /* bimphlai-run was killed, or it has ended and leaves the service to those who still use it. */
 static void take_end_of_tool(struct server *server)
 {
-    epoll_ctl(server->events, EPOLL_CTL_DEL, board->tool.handle, NULL);
+    epoll_ctl(server->events, EPOLL_CTL_DEL, shared->tool.handle, NULL);
     server->program_has_ended = server->tool_has_ended = true;
     keep_guard(server);
 }
@@ -115,7 +115,7 @@ static void look_at_processes(struct server *server)
 {
     if (server->lacks_guard)
         keep_guard(server);
-    if (board->tool.handle < 0 && !server->tool_has_ended && !process_goes_on(&board->tool))
+    if (shared->tool.handle < 0 && !server->tool_has_ended && !process_goes_on(&shared->tool))
         take_end_of_tool(server);
 }
 
@@ -125,11 +125,11 @@ static void handle(struct server *server, int file)
         client_take(server);
     else if (file == server->setup->obeys)
         take_order(server);
-    else if (file == board->tool.handle)
+    else if (file == shared->tool.handle)
         take_end_of_tool(server);
-    else if (file == board->guard.handle)
+    else if (file == shared->guard.handle)
         keep_guard(server);
-    else if (file == server->keeper.ends)
+    else if (file == server->registry.endpoints)
         server_see_closings(server);
     else
         client_serve(server, file);
@@ -137,30 +137,33 @@ static void handle(struct server *server, int file)
 
 static int wait_for_events(struct server *server, struct epoll_event *events)
 {
-    bool hurries = server->keeper.closing || server->is_hurried, looks = server->lacks_guard || board->tool.handle < 0;
+    bool hurries = server->registry.closing || server->is_hurried;
+    bool looks = server->lacks_guard || shared->tool.handle < 0;
 
     return epoll_wait(server->events, events, EVENTS,
                       hurries ? MILLISECONDS_TO_POSTPONE : looks ? MILLISECONDS_BETWEEN_LOOKS : -1);
 }
 
-static void fill_board(struct server *server)
+static void fill_statistics(struct server *server)
 {
-    board->requests = server->keeper.requests;
-    board->timelines = server->keeper.counts[TIMELINE];
-    board->files = server->keeper.counts[SYNC_FILE];
-    board->buffers = server->keeper.counts[BUFFER];
+    struct statistics *statistics = &shared->statistics;
+
+    statistics->requests = server->registry.requests;
+    statistics->timelines = server->registry.counts[TIMELINE];
+    statistics->files = server->registry.counts[SYNC_FILE];
+    statistics->buffers = server->registry.counts[BUFFER];
 }
 
 /* Says that the service is ready, or whether it goes on after the program, since others still use it. */
 static void say(struct server *server, char what)
 {
-    fill_board(server);
+    fill_statistics(server);
     while (call_write(server->setup->said, &what, 1) < 0 && errno == EINTR) {}
 }
 
 static bool is_used(const struct server *server)
 {
-    return server->client_count > 0 || server->keeper.by_inode.count > 0;
+    return server->client_count > 0 || server->registry.by_inode.count > 0;
 }
 
 static void serve_until(struct server *server, bool (*goes_on)(const struct server *))
@@ -185,14 +188,14 @@ static bool program_goes_on(const struct server *server)
 /* The program's other processes, if they end with it, get a moment to do so. */
 static bool others_part(const struct server *server)
 {
-    return is_used(server) && keeper_now() - server->parting < MILLISECONDS_TO_PART * NANOSECONDS;
+    return is_used(server) && registry_now() - server->parting < MILLISECONDS_TO_PART * NANOSECONDS;
 }
 
 static void let_others_part(struct server *server)
 {
     server_see_closings(server);
     server_settle(server);
-    server->parting = keeper_now();
+    server->parting = registry_now();
     serve_until(server, others_part);
     server_see_closings(server);
     server_settle(server);
@@ -206,31 +209,31 @@ static int open_server(struct server *server, const struct server_setup *setup)
     sigfillset(&signals);
     sigprocmask(SIG_BLOCK, &signals, NULL);
     server->setup = setup;
-    board = setup->board;
+    shared = setup->shared;
     server->events = epoll_create1(EPOLL_CLOEXEC);
     server->spare = open("/dev/null", O_RDONLY | O_CLOEXEC);
-    errno = keeper_open(&server->keeper, &HOST, setup->trace);
+    errno = registry_open(&server->registry, &HOST, setup->trace);
     if (errno)
         return errno;
-    server->keeper.ends = epoll_create1(EPOLL_CLOEXEC);
+    server->registry.endpoints = epoll_create1(EPOLL_CLOEXEC);
     if (server_watch(server, setup->listener, 0) || server_watch(server, setup->obeys, 0) ||
-        server_watch(server, server->keeper.ends, 0))
+        server_watch(server, server->registry.endpoints, 0))
         return errno;
-    if (board->tool.handle >= 0 && server_watch(server, board->tool.handle, 0))
+    if (shared->tool.handle >= 0 && server_watch(server, shared->tool.handle, 0))
         return errno;
     return 0;
 }
 
 static bool program_is_left(const struct server *server)
 {
-    return server->tool_has_ended && process_goes_on(&board->program);
+    return server->tool_has_ended && process_goes_on(&shared->program);
 }
 
 static void close_server(struct server *server)
 {
-    const int opened[] = { server->events, server->spare, server->keeper.ends, server->keeper.page_memory };
+    const int opened[] = { server->events, server->spare, server->registry.endpoints, server->registry.page_memory };
 
-    keeper_close(&server->keeper);
+    registry_close(&server->registry);
     map_free(&server->clients);
     for (size_t i = 0; i < sizeof opened / sizeof opened[0]; i++)
         call_close(opened[i]);
@@ -259,6 +262,6 @@ int server_run(const struct server_setup *setup)
     if (stays || server.tool_has_ended)
         folder_remove(setup->folder);
     close_server(&server);
-    setup->board->has_ended = 1;
+    setup->shared->has_ended = 1;
     return 0;
 }

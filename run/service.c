@@ -2,7 +2,7 @@
 #include "service.h"
 
 #include "calls.h"
-#include "ends.h"
+#include "endpoints.h"
 #include "folder.h"
 #include "guard.h"
 
@@ -45,12 +45,12 @@ static int make_pipe(int *reads, int *writes)
     return 0;
 }
 
-static int make_board(struct service *service)
+static int make_shared_state(struct service *service)
 {
-    service->board = mmap(NULL, sizeof *service->board, PROT_READ | PROT_WRITE, MAP_SHARED | MAP_ANONYMOUS, -1, 0);
-    if (service->board == MAP_FAILED)
+    service->shared = mmap(NULL, sizeof *service->shared, PROT_READ | PROT_WRITE, MAP_SHARED | MAP_ANONYMOUS, -1, 0);
+    if (service->shared == MAP_FAILED)
         return errno;
-    service->board->tool = process_open(getpid());
+    service->shared->tool = process_open(getpid());
     return 0;
 }
 
@@ -77,7 +77,7 @@ int service_open(struct service *service)
     if (!error)
         error = open_spares(service);
     if (!error)
-        error = make_board(service);
+        error = make_shared_state(service);
     if (error)
         service_remove(service);
     return error;
@@ -123,7 +123,7 @@ static int start_guard(void)
 int service_start(struct service *service, const char *trace)
 {
     struct server_setup setup = { service->listener, service->obeys, service->said, service->folder,
-                                  trace,             service->board, start_guard };
+                                  trace,             service->shared, start_guard };
     pid_t server;
 
     fflush(NULL);
@@ -135,7 +135,7 @@ int service_start(struct service *service, const char *trace)
         setpgid(0, 0);
         _exit(server_run(&setup));
     }
-    service->board->server = process_open(server);
+    service->shared->server = process_open(server);
     return guard_start(service);
 }
 
@@ -149,21 +149,21 @@ static size_t for_each_file(size_t (*call)(const struct service *, int), const s
 {
     size_t sum = 0;
 
-    for (int file = 0; file < service->board->above + NOT_NOTED; file++)
+    for (int file = 0; file < service->shared->above + NOT_NOTED; file++)
         sum += call(service, file);
     return sum;
 }
 
-static size_t is_end(const struct service *service, int file)
+static size_t is_endpoint(const struct service *service, int file)
 {
     (void)service;
-    return end_is_ours(file);
+    return endpoint_is_ours(file);
 }
 
 static size_t is_held(const struct service *service, int file)
 {
     (void)service;
-    return end_is_ours(file) && !end_is_alone(file);
+    return endpoint_is_ours(file) && !endpoint_is_alone(file);
 }
 
 static bool is_connection(const struct service *service, int file)
@@ -180,17 +180,17 @@ static size_t close_theirs(const struct service *service, int file)
 {
     uint64_t inode;
 
-    if ((end_mark(file, &inode) && !end_is_ours(file)) || is_connection(service, file))
+    if ((endpoint_mark(file, &inode) && !endpoint_is_ours(file)) || is_connection(service, file))
         call_close(file);
     return 0;
 }
 
-size_t service_ends(const struct service *service)
+size_t service_endpoints(const struct service *service)
 {
-    return for_each_file(is_end, service);
+    return for_each_file(is_endpoint, service);
 }
 
-size_t service_held_ends(const struct service *service)
+size_t service_held_endpoints(const struct service *service)
 {
     for_each_file(close_theirs, service);
     return for_each_file(is_held, service);

@@ -19,7 +19,7 @@ struct service {
     int orders, obeys; /* and that the program has ended through this one, to the server */
     int nowhere;       /* /dev/null */
     int spares[SPARES];
-    struct board *board;
+    struct shared_state *shared;
 };
 
 #define NO_SPARES { -1, -1, -1 }
@@ -45,11 +45,11 @@ void service_remove(struct service *service);
  * safely. */
 pid_t service_share(void);
 
-/* How many ends the service holds, which are open here too. */
-size_t service_ends(const struct service *service);
+/* How many endpoints the service holds, which are open here too. */
+size_t service_endpoints(const struct service *service);
 /* After the server and its clients were ended: closes what isn't the service's own, and returns for how many of its
- * ends somebody has the other. */
-size_t service_held_ends(const struct service *service);
+ * endpoints somebody has the other. */
+size_t service_held_endpoints(const struct service *service);
 /* Closes what was opened for a time when no other descriptor is free. */
 void service_free_spares(struct service *service);
 

@@ -1,6 +1,6 @@
 /* Closings: what nobody has any more is let go. */
 #include "calls.h"
-#include "keeper.h"
+#include "registry.h"
 
 #include <errno.h>
 #include <fcntl.h>
@@ -9,8 +9,8 @@
 #include <string.h>
 #include <time.h>
 
-/* How many ends are polled at once; how often processes that end are looked at, a millisecond apart; and their flag in
- * /proc/N/stat, PF_EXITING. */
+/* How many endpoints are polled at once; how often processes that end are looked at, a millisecond apart; and their
+ * flag in /proc/N/stat, PF_EXITING. */
 enum { AT_ONCE = 64, LOOKS = 200, IS_ENDING = 4 };
 
 /* How long a closing waits for a thread that has incremented just before: to take the answer, and then to look at what
@@ -21,66 +21,66 @@ static void note_teller(struct object *object, bool is_told)
 {
     object->is_told |= is_told;
     if (object->kind == TIMELINE)
-        object->line->ends = !object->is_told;
+        object->timeline->ends_with_process = !object->is_told;
 }
 
-void keeper_look(struct keeper *keeper, struct object *object, bool is_told)
+void registry_look(struct registry *registry, struct object *object, bool is_told)
 {
     /* It may have been seen before it was told. */
     if (object->is_closing)
         note_teller(object, is_told);
-    if (object->is_closing || object->end < 0 || !end_is_alone(object->end))
+    if (object->is_closing || object->endpoint < 0 || !endpoint_is_alone(object->endpoint))
         return;
     object->is_closing = true;
-    object->next_closing = keeper->closing;
-    keeper->closing = object;
+    object->next_closing = registry->closing;
+    registry->closing = object;
     note_teller(object, is_told);
 }
 
 /* Who closes it: whoever said so, or else whoever made it, as far as the trace knows. */
-static void set_closer(struct keeper *keeper, const struct object *object, const struct who *teller)
+static void set_closer(struct registry *registry, const struct object *object, const struct who *teller)
 {
-    if (!keeper->trace)
+    if (!registry->trace)
         return;
-    keeper->trace->who = object->is_told ? *teller : object->maker;
-    keeper->trace->now = keeper->now;
+    registry->trace->who = object->is_told ? *teller : object->maker;
+    registry->trace->now = registry->now;
 }
 
 /* Returns ENOMEM for a timeline that can't be released yet. */
-static int let_go(struct keeper *keeper, struct object *object, const struct who *teller)
+static int let_go(struct registry *registry, struct object *object, const struct who *teller)
 {
-    int error = bim_device_release(&keeper->device, object->number, keeper->now);
+    int error = bim_device_release(&registry->device, object->number, registry->now);
 
     if (error)
         return error;
-    set_closer(keeper, object, teller);
-    keeper->counts[object->kind]--;
+    set_closer(registry, object, teller);
+    registry->counts[object->kind]--;
     if (object->kind == TIMELINE) {
-        record_close(object->line, keeper->now, keeper->trace);
-        keeper_wake(keeper);
+        record_close(object->timeline, registry->now, registry->trace);
+        registry_wake(registry);
     } else if (object->kind == SYNC_FILE) {
-        record_drop(&object->fences, !object->is_told, keeper->trace);
+        record_drop(&object->fences, !object->is_told, registry->trace);
     } else {
-        buffer_drop(keeper, object);
+        buffer_drop(registry, object);
     }
-    keeper_forget(keeper, object);
+    registry_forget(registry, object);
     return 0;
 }
 
 /* Lets go of those that are timelines, or of those that aren't. What can't be released stays for another time. */
-static void settle(struct keeper *keeper, bool timelines, const struct who *teller)
+static void settle(struct registry *registry, bool timelines, const struct who *teller)
 {
-    struct object *left = keeper->closing;
+    struct object *left = registry->closing;
 
-    keeper->closing = NULL;
+    registry->closing = NULL;
     while (left) {
         struct object *object = left;
 
         left = object->next_closing;
-        if ((object->kind == TIMELINE) == timelines && let_go(keeper, object, teller) == 0)
+        if ((object->kind == TIMELINE) == timelines && let_go(registry, object, teller) == 0)
             continue;
-        object->next_closing = keeper->closing;
-        keeper->closing = object;
+        object->next_closing = registry->closing;
+        registry->closing = object;
     }
 }
 
@@ -102,27 +102,27 @@ static bool is_ending(int process)
     return state != 'Z' && state != 'X' && flags & IS_ENDING;
 }
 
-static void look_at_all(struct keeper *keeper, bool timelines);
+static void look_at_all(struct registry *registry, bool timelines);
 
 /* The trace tells what a process leaves at its end by all of its closings, which come one after another. */
-static void await_ends(struct keeper *keeper)
+static void await_ends(struct registry *registry)
 {
     int looks = 0;
 
-    for (const struct object *object = keeper->closing; object; object = object->next_closing)
+    for (const struct object *object = registry->closing; object; object = object->next_closing)
         for (; !object->is_told && looks < LOOKS && is_ending(object->maker.thread); looks++)
             call_poll(NULL, 0, 1);
     if (looks == 0)
         return;
-    look_at_all(keeper, false);
-    look_at_all(keeper, true);
+    look_at_all(registry, false);
+    look_at_all(registry, true);
 }
 
 /* Whether what is closed cancels any point. */
-static bool cancels(const struct keeper *keeper)
+static bool cancels(const struct registry *registry)
 {
-    for (const struct object *object = keeper->closing; object; object = object->next_closing)
-        if (object->kind == TIMELINE && object->line->first)
+    for (const struct object *object = registry->closing; object; object = object->next_closing)
+        if (object->kind == TIMELINE && object->timeline->first)
             return true;
     return false;
 }
@@ -137,134 +137,135 @@ static void sleep_for(uint64_t nanoseconds)
 
 /* On a kernel whoever increments goes on at once, and looks at other points long before a thread that it woke can close
  * the timeline. Here its answer is on the way meanwhile. */
-static void let_go_on(struct keeper *keeper)
+static void let_go_on(struct registry *registry)
 {
-    uint64_t now = keeper_now(), last = now + NANOSECONDS_TO_TAKE, until = keeper->signalled_at + NANOSECONDS_TO_GO_ON;
+    uint64_t now = registry_now(), last = now + NANOSECONDS_TO_TAKE;
+    uint64_t until = registry->signalled_at + NANOSECONDS_TO_GO_ON;
 
-    if (keeper->signalled_at == 0)
+    if (registry->signalled_at == 0)
         return;
-    for (;; now = keeper_now()) {
-        if (now < last && keeper->host->owes_answer(keeper))
+    for (;; now = registry_now()) {
+        if (now < last && registry->host->owes_answer(registry))
             until = now + NANOSECONDS_TO_GO_ON;
         if (now >= until)
             break;
         sleep_for(until - now);
     }
-    keeper->signalled_at = 0;
-    keeper->now = now;
+    registry->signalled_at = 0;
+    registry->now = now;
 }
 
 /* Files go first: a timeline that is closed with them cancels nothing that only they held. */
-void keeper_settle(struct keeper *keeper)
+void registry_settle(struct registry *registry)
 {
     struct who teller = { .task = "" };
 
-    if (!keeper->closing)
+    if (!registry->closing)
         return;
-    if (keeper->trace) {
-        await_ends(keeper);
-        teller = keeper->trace->who;
+    if (registry->trace) {
+        await_ends(registry);
+        teller = registry->trace->who;
     }
-    keeper->now = keeper_now();
-    settle(keeper, false, &teller);
-    if (cancels(keeper))
-        let_go_on(keeper);
-    settle(keeper, true, &teller);
-    buffers_retry(keeper);
-    trace_flush(keeper->trace);
+    registry->now = registry_now();
+    settle(registry, false, &teller);
+    if (cancels(registry))
+        let_go_on(registry);
+    settle(registry, true, &teller);
+    buffers_retry(registry);
+    trace_flush(registry->trace);
 }
 
-void keeper_place_all(struct keeper *keeper)
+void registry_place_all(struct registry *registry)
 {
-    for (size_t i = 0; i < keeper->by_number.room; i++) {
-        struct object *object = keeper->by_number.entries[i].value;
+    for (size_t i = 0; i < registry->by_number.room; i++) {
+        struct object *object = registry->by_number.entries[i].value;
 
-        if (object && object->end >= 0)
-            object->end = keeper->host->place(object->end);
+        if (object && object->endpoint >= 0)
+            object->endpoint = registry->host->place(object->endpoint);
         if (object && object->kind == BUFFER)
-            parts_place(&object->buffer.memory, keeper->host->place);
+            parts_place(&object->buffer.memory, registry->host->place);
     }
-    if (keeper->trace)
-        keeper->trace->file = keeper->host->place(keeper->trace->file);
+    if (registry->trace)
+        registry->trace->file = registry->host->place(registry->trace->file);
 }
 
 /* Looks at all but timelines, or at timelines. */
-static void look_at_all(struct keeper *keeper, bool timelines)
+static void look_at_all(struct registry *registry, bool timelines)
 {
-    for (size_t i = 0; i < keeper->by_number.room; i++) {
-        struct object *object = keeper->by_number.entries[i].value;
+    for (size_t i = 0; i < registry->by_number.room; i++) {
+        struct object *object = registry->by_number.entries[i].value;
 
         if (object && (object->kind == TIMELINE) == timelines)
-            keeper_look(keeper, object, false);
+            registry_look(registry, object, false);
     }
 }
 
-void keeper_sweep(struct keeper *keeper)
+void registry_sweep(struct registry *registry)
 {
-    look_at_all(keeper, false);
-    look_at_all(keeper, true);
-    keeper_settle(keeper);
+    look_at_all(registry, false);
+    look_at_all(registry, true);
+    registry_settle(registry);
 }
 
-/* Fills in the ends of timelines with pending fences, from one on. Returns that after the last. */
-static const struct line *ends_of(const struct keeper *keeper, const struct line *line, struct pollfd *ends,
-                                  nfds_t *count)
+/* Fills in the endpoints of timelines with pending fences, from one on. Returns that after the last. */
+static const struct timeline *endpoints_of(const struct registry *registry, const struct timeline *timeline,
+                                           struct pollfd *endpoints, nfds_t *count)
 {
-    for (*count = 0; line && *count < AT_ONCE; line = line->after) {
-        const struct object *timeline = line->first ? map_find(&keeper->by_number, line->number) : NULL;
+    for (*count = 0; timeline && *count < AT_ONCE; timeline = timeline->after) {
+        const struct object *object = timeline->first ? map_find(&registry->by_number, timeline->number) : NULL;
 
-        if (timeline)
-            ends[(*count)++] = (struct pollfd){ timeline->end, 0, 0 };
+        if (object)
+            endpoints[(*count)++] = (struct pollfd){ object->endpoint, 0, 0 };
     }
-    return line;
+    return timeline;
 }
 
-bool keeper_sweep_timelines(struct keeper *keeper)
+bool registry_sweep_timelines(struct registry *registry)
 {
-    struct pollfd ends[AT_ONCE];
-    const struct line *from = keeper->lines.first;
+    struct pollfd endpoints[AT_ONCE];
+    const struct timeline *from = registry->timelines.first;
     bool any = false;
     nfds_t count;
 
     while (from && !any) {
-        from = ends_of(keeper, from, ends, &count);
-        any = count > 0 && call_poll(ends, count, 0) > 0;
+        from = endpoints_of(registry, from, endpoints, &count);
+        any = count > 0 && call_poll(endpoints, count, 0) > 0;
     }
     if (any)
-        keeper_sweep(keeper);
+        registry_sweep(registry);
     return any;
 }
 
-static void free_one(struct keeper *keeper, struct object *object)
+static void free_one(struct registry *registry, struct object *object)
 {
     if (object->kind == SYNC_FILE)
         record_drop(&object->fences, true, NULL);
     if (object->kind == BUFFER)
-        buffer_drop(keeper, object);
-    keeper_forget(keeper, object);
+        buffer_drop(registry, object);
+    registry_forget(registry, object);
 }
 
 /* Another takes the place of one that is freed. */
-static void free_all(struct keeper *keeper, bool timelines)
+static void free_all(struct registry *registry, bool timelines)
 {
-    for (size_t i = 0; i < keeper->by_number.room;) {
-        struct object *object = keeper->by_number.entries[i].value;
+    for (size_t i = 0; i < registry->by_number.room;) {
+        struct object *object = registry->by_number.entries[i].value;
 
         if (object && object->kind != READINESS && (object->kind == TIMELINE) == timelines)
-            free_one(keeper, object);
+            free_one(registry, object);
         else
             i++;
     }
 }
 
-void keeper_close(struct keeper *keeper)
+void registry_close(struct registry *registry)
 {
-    free_all(keeper, false);
-    free_all(keeper, true);
-    map_free(&keeper->by_inode);
-    map_free(&keeper->by_number);
-    free(keeper->rows);
-    bim_device_close(&keeper->device);
-    page_close(keeper->page);
-    trace_close(keeper->trace);
+    free_all(registry, false);
+    free_all(registry, true);
+    map_free(&registry->by_inode);
+    map_free(&registry->by_number);
+    free(registry->rows);
+    bim_device_close(&registry->device);
+    page_close(registry->page);
+    trace_close(registry->trace);
 }

@@ -366,7 +366,7 @@ void shim_look_for_loss(const struct pollfd *files, nfds_t count)
 
 enum bim_mark shim_mark(int file, uint64_t *inode)
 {
-    return file >= 0 && shim_is_on() ? end_mark(file, inode) : 0;
+    return file >= 0 && shim_is_on() ? endpoint_mark(file, inode) : 0;
 }
 
 int shim_result(int error)

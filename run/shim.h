@@ -2,7 +2,7 @@
 #ifndef BIM_RUN_SHIM_H
 #define BIM_RUN_SHIM_H
 
-#include "ends.h"
+#include "endpoints.h"
 #include "lock.h"
 #include "page.h"
 #include "wire.h"
@@ -66,7 +66,7 @@ void shim_look_for_loss(const struct pollfd *files, nfds_t count);
 /* What is this process's alone: a child begins with zeros, as the kernel wipes it. */
 struct own {
     struct lock lock;
-    _Atomic bool is_ready; /* it has a connection, or a keeper of its own */
+    _Atomic bool is_ready; /* it has a connection, or a registry of its own */
 };
 
 /* How a service is asked: that of a server (link.c), or of this process itself (local.c). All but those that say so are

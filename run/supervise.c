@@ -59,21 +59,21 @@ static int block_signals(struct run *run)
 /* Starts the program, in the environment that is prepared. Returns 0 or an errno. */
 static int start_program(struct run *run, char **program)
 {
-    if (service.board)
-        service.board->program = (struct process){ 0, -1 };
+    if (service.shared)
+        service.shared->program = (struct process){ 0, -1 };
     run->program = fork();
     if (run->program == 0) {
         /* bimphlai-run may be killed before it notes the program. */
-        if (service.board)
-            service.board->program.number = getpid();
+        if (service.shared)
+            service.shared->program.number = getpid();
         sigaction(SIGCHLD, &run->childs, NULL);
         sigprocmask(SIG_SETMASK, &run->mask, NULL);
         _exit(launch_become(program));
     }
     if (run->program < 0)
         return errno;
-    if (service.board)
-        service.board->program = process_open(run->program);
+    if (service.shared)
+        service.shared->program = process_open(run->program);
     return 0;
 }
 
@@ -87,10 +87,10 @@ static void reap(struct run *run)
         if (ended == run->program) {
             run->program_has_ended = true;
             run->waited = waited;
-        } else if (service.board && ended == service.board->server.number) {
+        } else if (service.shared && ended == service.shared->server.number) {
             run->server_has_ended = true;
             run->server_waited = waited;
-        } else if (service.board && ended == service.board->guard.number) {
+        } else if (service.shared && ended == service.shared->guard.number) {
             run->lacks_guard = true;
         }
     }
@@ -129,7 +129,7 @@ static void wait_for_events(struct run *run)
     call_poll(files, 2, run->lacks_guard ? MILLISECONDS_BETWEEN_STARTS : -1);
     take_signals(run);
     take_words(run);
-    if (run->lacks_guard && !run->users_are_killed && !service.board->has_ended)
+    if (run->lacks_guard && !run->users_are_killed && !service.shared->has_ended)
         run->lacks_guard = guard_start(&service) != 0;
 }
 
@@ -167,11 +167,11 @@ static int lose(struct run *run)
 
 static void tell_left(void)
 {
-    const struct board *board = service.board;
+    const struct statistics *statistics = &service.shared->statistics;
 
     say("left: %llu timelines, %llu files, %llu buffers, %zu descriptors; %llu requests",
-        (unsigned long long)board->timelines, (unsigned long long)board->files, (unsigned long long)board->buffers,
-        service_ends(&service), (unsigned long long)board->requests);
+        (unsigned long long)statistics->timelines, (unsigned long long)statistics->files,
+        (unsigned long long)statistics->buffers, service_endpoints(&service), (unsigned long long)statistics->requests);
 }
 
 /* Whoever goes on to use the service has it from the server and the guard. */
@@ -215,7 +215,7 @@ static int start_service(struct run *run, const struct options *options, const c
         return STATUS_FAULT;
     status = launch_prepare(service.socket, trace);
     if (!status && options->is_verbose)
-        say("service %d at %s", (int)service.board->server.number, service.socket);
+        say("service %d at %s", (int)service.shared->server.number, service.socket);
     return status;
 }
 
@@ -236,9 +236,9 @@ static int start(struct run *run, const struct options *options, const char *tra
 /* What was started ends, if the program can't be. */
 static void give_up(void)
 {
-    if (service.board) {
-        service.board->has_ended = 1;
-        process_kill(&service.board->server);
+    if (service.shared) {
+        service.shared->has_ended = 1;
+        process_kill(&service.shared->server);
     }
     service_remove(&service);
 }

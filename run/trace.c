@@ -82,7 +82,7 @@ void trace_event(struct trace *trace, const char *event, const struct fence *fen
                  "%16.*s-%-7d [%03d] ..... %5llu.%06llu: dma_fence_%s: driver=%s timeline=%s context=%u seqno=%u\n",
                  BIM_TASK_ROOM - 1, trace->who.task, trace->who.thread, trace->who.processor,
                  (unsigned long long)(us / 1000000), (unsigned long long)(us % 1000000), event, fence->driver,
-                 fence->timeline, (unsigned)fence->context, fence->seqno);
+                 fence->timeline_name, (unsigned)fence->context, fence->seqno);
 }
 
 /* A trace that can't be written, as on a full disk, is given up: what was traced goes on. */

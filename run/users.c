@@ -36,19 +36,19 @@ static bool is_guard(const char *name, const char *after)
 
 static bool is_user(const struct service *service, pid_t number)
 {
-    const struct board *board = service->board;
+    const struct shared_state *shared = service->shared;
     char text[STATE_BYTES + 1] = { 0 };
     const char *name, *after;
     int parent;
 
-    if (number == getpid() || number == board->tool.number || number == board->server.number ||
+    if (number == getpid() || number == shared->tool.number || number == shared->server.number ||
         process_read(number, "stat", text, STATE_BYTES) < 0)
         return false;
     name = strchr(text, '(');
     after = strrchr(text, ')');
     if (!name || !after || is_guard(name + 1, after) || sscanf(after, ") %*c %d", &parent) != 1)
         return false;
-    return (parent == board->tool.number && process_goes_on(&board->tool)) || is_served(service, number);
+    return (parent == shared->tool.number && process_goes_on(&shared->tool)) || is_served(service, number);
 }
 
 /* The number may have come to mean another process before the handle was opened, so it is looked at again. */
@@ -95,21 +95,21 @@ static bool kill_all_listed(const struct service *service)
     return found;
 }
 
-static bool kill_clients(const struct board *board)
+static bool kill_clients(const struct shared_state *shared)
 {
     bool found = false;
 
-    for (int file = 0; file < board->above && file < BOARD_FILES; file++)
-        if (board->is_client[file])
+    for (int file = 0; file < shared->above && file < NOTED_FILES; file++)
+        if (shared->is_client[file])
             found |= process_kill(&(struct process){ HAS_HANDLE, file });
     return found;
 }
 
 bool users_kill(const struct service *service)
 {
-    bool found = process_kill(&service->board->program);
+    bool found = process_kill(&service->shared->program);
 
-    found |= kill_clients(service->board);
+    found |= kill_clients(service->shared);
     found |= kill_all_listed(service);
     return found;
 }

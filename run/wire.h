@@ -23,16 +23,16 @@ enum bim_mark {
     BIM_TIMELINE_MARK = S_IFIFO | S_ISVTX | 0600,
     BIM_FILE_MARK = S_IFIFO | S_ISVTX | 0400,
     BIM_BUFFER_MARK = S_IFSOCK | S_ISVTX | 0600,
-    BIM_BUFFER_END_MARK = S_IFSOCK | S_ISVTX | 0200, /* of the service's end */
-    BIM_MEMORY_MARK = S_IFREG | S_ISVTX | 0400,      /* of the memory of a buffer */
+    BIM_BUFFER_ENDPOINT_MARK = S_IFSOCK | S_ISVTX | 0200, /* of the service's end */
+    BIM_MEMORY_MARK = S_IFREG | S_ISVTX | 0400,           /* of the memory of a buffer */
     BIM_HEAP_MARK = S_IFREG | S_ISVTX | 0600,
     BIM_UDMABUF_MARK = S_IFREG | S_ISVTX | 0700 /* of /dev/udmabuf */
 };
 
 enum bim_op {
     BIM_OP_HELLO = 1, /* gives the page of bim_page */
-    BIM_OP_LANE,      /* gives the memory of a lane */
-    BIM_OP_BELL,      /* gives its bell */
+    BIM_OP_CHANNEL,   /* gives the memory of a channel */
+    BIM_OP_DOORBELL,  /* gives its doorbell */
     BIM_OP_TIMELINE,
     BIM_OP_FENCE,  /* a: the timeline; value: the point */
     BIM_OP_INC,    /* a: the timeline; value: by how much */
@@ -55,7 +55,7 @@ enum bim_op {
 
 enum { BIM_TASK_ROOM = 16, BIM_TEXT_ROOM = 32, BIM_ROWS = 16 };
 
-/* Objects are named by the number in the inode of their descriptors (ends.h), which each copy of one has. The
+/* Objects are named by the number in the inode of their descriptors (endpoints.h), which each copy of one has. The
  * processor, the thread's number and its name are only for the trace. Each call clears a request and an answer; past 80
  * bytes that takes longer. */
 struct bim_request {

@@ -7,7 +7,7 @@
 #include "service.h"
 #include <sched.h>
 
-enum { MOST_BYTES = 3 * sizeof(struct bim_request), MOST_SENT = 3, LAZY = 40, LANES = 10 };
+enum { MOST_BYTES = 3 * sizeof(struct bim_request), MOST_SENT = 3, LAZY = 40, CHANNELS = 10 };
 
 static unsigned long long state;
 
@@ -119,8 +119,8 @@ static int drain(int client)
     }
 }
 
-/* What run/lane.h shares with a process. */
-struct lane {
+/* What run/channel.h shares with a process. */
+struct channel {
     volatile uint32_t turn;
     struct bim_request request;
     struct bim_answer answer;
@@ -149,39 +149,39 @@ static int given(int client, uint32_t op)
     return fd;
 }
 
-/* Writes into a lane what no client writes, also while it is served. */
-static void play(struct lane *lane, int bell, int times)
+/* Writes into a channel what no client writes, also while it is served. */
+static void play(struct channel *channel, int doorbell, int times)
 {
     unsigned char bytes[MOST_BYTES];
     __u64 once = 1;
 
     for (int i = 0; i < times; i++) {
         message(bytes);
-        memcpy(&lane->request, bytes, sizeof lane->request);
-        lane->turn = pick(4) ? 1 : pick(8) ? pick(4) : (uint32_t)pick(1u << 31);
-        if (write(bell, &once, sizeof once) != sizeof once)
+        memcpy(&channel->request, bytes, sizeof channel->request);
+        channel->turn = pick(4) ? 1 : pick(8) ? pick(4) : (uint32_t)pick(1u << 31);
+        if (write(doorbell, &once, sizeof once) != sizeof once)
             return;
         message(bytes);
-        memcpy(&lane->request, bytes, sizeof lane->request);
+        memcpy(&channel->request, bytes, sizeof channel->request);
         if (pick(8) == 0)
             sched_yield();
     }
 }
 
-/* Clients with a lane each, whose memory they can't take away. */
-static void play_in_lanes(int times)
+/* Clients with a channel each, whose memory they can't take away. */
+static void play_in_channels(int times)
 {
-    for (int i = 0; i < LANES; i++) {
-        int client = connected(), memory = given(client, BIM_OP_LANE), bell = given(client, BIM_OP_BELL);
-        struct lane *lane = mmap(NULL, sizeof *lane, PROT_READ | PROT_WRITE, MAP_SHARED, memory, 0);
-        HOLDS(lane != MAP_FAILED && bell >= 0);
+    for (int i = 0; i < CHANNELS; i++) {
+        int client = connected(), memory = given(client, BIM_OP_CHANNEL), doorbell = given(client, BIM_OP_DOORBELL);
+        struct channel *channel = mmap(NULL, sizeof *channel, PROT_READ | PROT_WRITE, MAP_SHARED, memory, 0);
+        HOLDS(channel != MAP_FAILED && doorbell >= 0);
         EXPECT(ftruncate(memory, 0), -1);
-        if (lane != MAP_FAILED) {
-            play(lane, bell, times / LANES);
-            munmap(lane, sizeof *lane);
+        if (channel != MAP_FAILED) {
+            play(channel, doorbell, times / CHANNELS);
+            munmap(channel, sizeof *channel);
         }
         close(memory);
-        close(bell);
+        close(doorbell);
         close(client);
     }
 }
@@ -257,7 +257,7 @@ int main(int argc, char **argv)
         others[i] = pipes[i];
     }
     be_lazy();
-    play_in_lanes(count / 2);
+    play_in_channels(count / 2);
     send_all(count);
     EXPECT(write(told[0], "", 1), 1);
     EXPECT(end_of(child), 0);

@@ -1,10 +1,10 @@
 /* usage: memory [TRACE]
  *
- * The keeper of run/, with each of its allocations refused in turn. A request that was refused memory leaves nothing behind, no
- * object, descriptor or block, and after a run all that was made can be let go. To be linked with run/'s keeper and
+ * The registry of run/, with each of its allocations refused in turn. A request that was refused memory leaves nothing behind, no
+ * object, descriptor or block, and after a run all that was made can be let go. To be linked with run/'s registry and
  *     -Wl,--wrap=malloc -Wl,--wrap=calloc -Wl,--wrap=realloc */
 #define _GNU_SOURCE
-#include "../../run/keeper.h"
+#include "../../run/registry.h"
 #include <errno.h>
 #include <fcntl.h>
 #include <poll.h>
@@ -64,9 +64,9 @@ static int same(int file)
     return file;
 }
 
-static bool no_room(struct keeper *keeper)
+static bool no_room(struct registry *registry)
 {
-    (void)keeper;
+    (void)registry;
     return false;
 }
 
@@ -75,14 +75,14 @@ static bool any(int file)
     return file >= 0;
 }
 
-static bool owes_none(struct keeper *keeper)
+static bool owes_none(struct registry *registry)
 {
-    (void)keeper;
+    (void)registry;
     return false;
 }
 
 static const struct host HOST = { nothing, nothing, same, no_room, any, nothing, nothing, owes_none };
-static struct keeper keeper;
+static struct registry registry;
 static int given[MOST];
 static uint64_t inodes[MOST];
 static int count;
@@ -93,7 +93,7 @@ static int ask(struct bim_request request, int passed)
     struct bim_answer answer;
     int file;
 
-    keeper_serve(&keeper, &request, passed, &answer, &file);
+    registry_serve(&registry, &request, passed, &answer, &file);
     error = answer.error;
     if (answer.error)
         expect("a refusal", request.op, answer.error, ENOMEM);
@@ -102,7 +102,7 @@ static int ask(struct bim_request request, int passed)
     if (file < 0)
         return NONE;
     given[count] = file;
-    end_mark(file, &inodes[count]);
+    endpoint_mark(file, &inodes[count]);
     return count++;
 }
 
@@ -190,20 +190,20 @@ static int run(long nth, const char *trace)
     int before = free_number(), buffer;
 
     was_refused = count = 0;
-    if (keeper_open(&keeper, &HOST, trace))
+    if (registry_open(&registry, &HOST, trace))
         exit(2);
-    keeper.ends = epoll_create1(EPOLL_CLOEXEC);
+    registry.endpoints = epoll_create1(EPOLL_CLOEXEC);
     left = nth;
     buffer = play();
     left = NONE;
-    keeper_settle(&keeper);
+    registry_settle(&registry);
     expect_ready("a poll of the buffer at the end", buffer, 1);
     for (int i = 0; i < count; i++)
         close_one(i);
-    expect("objects", nth, keeper.by_inode.count, 0);
-    close(keeper.ends);
-    close(keeper.page_memory);
-    keeper_close(&keeper);
+    expect("objects", nth, registry.by_inode.count, 0);
+    close(registry.endpoints);
+    close(registry.page_memory);
+    registry_close(&registry);
     expect("the first free descriptor", nth, free_number(), before);
     return was_refused;
 }

@@ -143,7 +143,7 @@ static void plays(void)
 }
 
 /* Without memory to share, a process asks by its connection. */
-static void lanes(void)
+static void channels(void)
 {
     pid_t found[MOST];
     struct rlimit before, none;
@@ -168,6 +168,6 @@ int main(void)
     apart(copies);
     apart(ranges);
     if (service && strcmp(service, "local") != 0)
-        lanes();
+        channels();
     return report("refused");
 }

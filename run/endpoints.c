@@ -1,5 +1,5 @@
 #define _GNU_SOURCE
-#include "ends.h"
+#include "endpoints.h"
 
 #include "calls.h"
 #include "page.h"
@@ -27,9 +27,9 @@ enum { QUEUE_BYTES = 2048 };
 #define SOCKFS_MAGIC 0x534F434B
 #endif
 
-static int give_up(struct ends *ends, int error)
+static int give_up(struct endpoints *endpoints, int error)
 {
-    ends_close(ends);
+    endpoints_close(endpoints);
     return error;
 }
 
@@ -48,57 +48,57 @@ static int draw(uint64_t *number)
 
 /* The number of an object is the time of the last access of its inode, which each copy of a descriptor shows. Polls and
  * writes don't change it, and no program reads what is ours. */
-static int mark_ends(struct ends *ends, enum bim_mark mark)
+static int mark_endpoints(struct endpoints *endpoints, enum bim_mark mark)
 {
     struct timespec times[2] = { { .tv_nsec = 0 }, { .tv_nsec = UTIME_OMIT } };
-    int error = draw(&ends->inode);
+    int error = draw(&endpoints->inode);
 
     if (error)
-        return give_up(ends, error);
-    times[0].tv_sec = (time_t)ends->inode;
-    if (syscall(SYS_utimensat, ends->theirs, NULL, times, 0) ||
-        syscall(SYS_fchmod, ends->theirs, mark & ~S_IFMT))
-        return give_up(ends, errno);
+        return give_up(endpoints, error);
+    times[0].tv_sec = (time_t)endpoints->inode;
+    if (syscall(SYS_utimensat, endpoints->theirs, NULL, times, 0) ||
+        syscall(SYS_fchmod, endpoints->theirs, mark & ~S_IFMT))
+        return give_up(endpoints, errno);
     return 0;
 }
 
-int ends_pipe(struct ends *ends, enum bim_mark mark)
+int endpoints_pipe(struct endpoints *endpoints, enum bim_mark mark)
 {
     int pair[2];
 
     if (pipe2(pair, O_CLOEXEC))
         return errno;
-    *ends = (struct ends){ pair[0], pair[1], 0 };
+    *endpoints = (struct endpoints){ pair[0], pair[1], 0 };
     /* A page is the least. Each counts towards what the user may have, past which all his new pipes are small. */
-    syscall(SYS_fcntl, ends->ours, F_SETPIPE_SZ, 1);
-    return mark_ends(ends, mark);
+    syscall(SYS_fcntl, endpoints->ours, F_SETPIPE_SZ, 1);
+    return mark_endpoints(endpoints, mark);
 }
 
 /* The program's end is marked first, so that nobody takes the other for one that somebody has. */
-int ends_sockets(struct ends *ends)
+int endpoints_sockets(struct endpoints *endpoints)
 {
     int pair[2], least = 1, error;
 
     if (socketpair(AF_UNIX, SOCK_STREAM | SOCK_CLOEXEC, 0, pair))
         return errno;
-    *ends = (struct ends){ pair[0], pair[1], 0 };
-    error = mark_ends(ends, BIM_BUFFER_MARK);
+    *endpoints = (struct endpoints){ pair[0], pair[1], 0 };
+    error = mark_endpoints(endpoints, BIM_BUFFER_MARK);
     if (error)
         return error;
-    if (syscall(SYS_setsockopt, ends->theirs, SOL_SOCKET, SO_SNDBUF, &least, sizeof least) ||
-        syscall(SYS_fchmod, ends->ours, BIM_BUFFER_END_MARK & ~S_IFMT))
-        return give_up(ends, errno);
+    if (syscall(SYS_setsockopt, endpoints->theirs, SOL_SOCKET, SO_SNDBUF, &least, sizeof least) ||
+        syscall(SYS_fchmod, endpoints->ours, BIM_BUFFER_ENDPOINT_MARK & ~S_IFMT))
+        return give_up(endpoints, errno);
     return 0;
 }
 
-void ends_close(struct ends *ends)
+void endpoints_close(struct endpoints *endpoints)
 {
-    call_close(ends->theirs);
-    call_close(ends->ours);
-    *ends = (struct ends){ -1, -1, 0 };
+    call_close(endpoints->theirs);
+    call_close(endpoints->ours);
+    *endpoints = (struct endpoints){ -1, -1, 0 };
 }
 
-bool end_is_alone(int ours)
+bool endpoint_is_alone(int ours)
 {
     struct pollfd end = { ours, 0, 0 };
 
@@ -119,7 +119,7 @@ __attribute__((cold)) static bool is_nameless(int file, dev_t device, long kind,
     return true;
 }
 
-enum bim_mark end_mark(int file, uint64_t *inode)
+enum bim_mark endpoint_mark(int file, uint64_t *inode)
 {
     static _Atomic dev_t pipes, sockets;
     struct stat found;
@@ -134,7 +134,7 @@ enum bim_mark end_mark(int file, uint64_t *inode)
         is_ours = found.st_dev == pipes || is_nameless(file, found.st_dev, PIPEFS_MAGIC, &pipes);
         break;
     case BIM_BUFFER_MARK:
-    case BIM_BUFFER_END_MARK:
+    case BIM_BUFFER_ENDPOINT_MARK:
         is_ours = found.st_dev == sockets || is_nameless(file, found.st_dev, SOCKFS_MAGIC, &sockets);
         break;
     case BIM_MEMORY_MARK:
@@ -145,43 +145,43 @@ enum bim_mark end_mark(int file, uint64_t *inode)
     return is_ours ? found.st_mode : 0;
 }
 
-bool end_is_ours(int file)
+bool endpoint_is_ours(int file)
 {
     uint64_t inode;
 
-    switch (end_mark(file, &inode)) {
+    switch (endpoint_mark(file, &inode)) {
     case BIM_TIMELINE_MARK:
     case BIM_FILE_MARK: return (syscall(SYS_fcntl, file, F_GETFL) & O_ACCMODE) == O_WRONLY;
-    case BIM_BUFFER_END_MARK: return true;
+    case BIM_BUFFER_ENDPOINT_MARK: return true;
     default: return false;
     }
 }
 
-void end_signal(int ours)
+void endpoint_signal(int ours)
 {
     while (call_write(ours, "", 1) < 0 && errno == EINTR) {}
 }
 
-void end_set_readable(int ours)
+void endpoint_set_readable(int ours)
 {
     call_send(ours, "", 1);
 }
 
-void end_set_writable(int ours)
+void endpoint_set_writable(int ours)
 {
     char bytes[QUEUE_BYTES];
 
     while (call_recv(ours, bytes, sizeof bytes) > 0) {}
 }
 
-void end_take_readable(int theirs)
+void endpoint_take_readable(int theirs)
 {
     char bytes[QUEUE_BYTES];
 
     while (call_recv(theirs, bytes, sizeof bytes) > 0) {}
 }
 
-void end_take_writable(int theirs)
+void endpoint_take_writable(int theirs)
 {
     static const char bytes[QUEUE_BYTES];
 

@@ -6,38 +6,38 @@
  * makes it writable. Once the last copy of a program's end is closed, in whatever process, the service's end reports
  * POLLERR or POLLHUP. The object's number, which is drawn for it, is kept in the inode: whoever has a descriptor, and
  * nobody else, can name the object. */
-#ifndef BIM_RUN_ENDS_H
-#define BIM_RUN_ENDS_H
+#ifndef BIM_RUN_ENDPOINTS_H
+#define BIM_RUN_ENDPOINTS_H
 
 #include "wire.h"
 
 #include <stdbool.h>
 #include <stdint.h>
 
-struct ends {
+struct endpoints {
     int theirs, ours;
     uint64_t inode; /* the number in it */
 };
 
 /* Make a pair, marked as the mode says. Return 0 or an errno. */
-int ends_pipe(struct ends *ends, enum bim_mark mark);
-int ends_sockets(struct ends *ends);
-void ends_close(struct ends *ends);
+int endpoints_pipe(struct endpoints *endpoints, enum bim_mark mark);
+int endpoints_sockets(struct endpoints *endpoints);
+void endpoints_close(struct endpoints *endpoints);
 
 /* Whether all copies of a program's end are closed. */
-bool end_is_alone(int ours);
+bool endpoint_is_alone(int ours);
 /* The mark of a descriptor, and the number in its inode: 0 if it has no mark of ours. */
-enum bim_mark end_mark(int file, uint64_t *inode);
+enum bim_mark endpoint_mark(int file, uint64_t *inode);
 
 /* Whether a descriptor is an end of the service's. */
-bool end_is_ours(int file);
+bool endpoint_is_ours(int file);
 
 /* Makes a file readable. Its last reader may have gone, which raises SIGPIPE unless that is blocked. */
-void end_signal(int ours);
+void endpoint_signal(int ours);
 /* What poll says of a buffer. To take readiness back needs the program's end. */
-void end_set_readable(int ours);
-void end_set_writable(int ours);
-void end_take_readable(int theirs);
-void end_take_writable(int theirs);
+void endpoint_set_readable(int ours);
+void endpoint_set_writable(int ours);
+void endpoint_take_readable(int theirs);
+void endpoint_take_writable(int theirs);
 
 #endif
