@@ -15,7 +15,7 @@ enum { AT_ONCE = 64, LOOKS = 200, IS_ENDING = 4 };
 
 /* How long a closing waits for a thread that has incremented just before: to take the answer, and then to look at what
  * it has to look at. */
-enum { NANOSECONDS_TO_TAKE = 1000000, NANOSECONDS_TO_GO_ON = 100000 };
+enum { NANOSECONDS_TO_TAKE = 10000000, NANOSECONDS_TO_GO_ON = 500000 };
 
 static void note_teller(struct object *object, bool is_told)
 {
