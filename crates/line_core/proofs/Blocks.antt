@@ -58,7 +58,7 @@ line-held held held' block piece piece' start start' len len' none e same none' 
     is_held : (xs : List ℕ) (s l : ℕ) → (length xs ≡ 0 → l ≡ 0) → line_bytes xs block s l ≡ xs
     is_held xs s l h = either xs s l h (length xs == 0) refl
 
--- what stands after a line feed
+-- the bytes after a line feed
 pub ready-behind : (block : List ℕ) (next filled place : ℕ) → next + (place + 1) ≤ filled
     → take (filled - (next + (place + 1))) (drop (next + (place + 1)) block) ≡ drop (place + 1) (take (filled - next) (drop next block))
 ready-behind block next filled place within =

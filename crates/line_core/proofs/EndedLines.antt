@@ -22,7 +22,7 @@ use Rattle.line_core.proofs.Fronts.{answered-append, some_lines}
 use Rattle.line_core.proofs.Inputs.{input_from}
 use Rattle.line_core.proofs.LineLemmas.{numbered-cons}
 
--- a line is told by the bytes that are held of it
+-- a line says what the bytes that are held of it say
 pub body_of-cut : (line : List ℕ) → body_of (cut line) ≡ body_of line
 body_of-cut line = elim (cases_lt LINE_BYTES (length line)) [
   | inl h ↦ ap (λ b. cond b (Some (Bad LongLine)) (body_from (words_of (cut line)))) (lt-ltb LINE_BYTES (length (cut line)) (omega (arith, length-take HELD_BYTES line))) ∙ sym (ap (λ b. cond b (Some (Bad LongLine)) (body_from (words_of line))) (lt-ltb LINE_BYTES (length line) h))

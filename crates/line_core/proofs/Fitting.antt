@@ -1,22 +1,16 @@
 -- The words of a command fit the operands of its row.
-use Rattle.std.proofs.Common.{◌≡◌, ℕ, ◌<◌, ◌≤◌, nat_le, Bool, true, false, ◌&&◌, cond, is_some, List, [], ◌∷◌, length, Option, None, Some, option_map, refl, sym, ap, subst, ◌∙◌, arith}
+use Rattle.std.proofs.Common.{◌≡◌, ℕ, Bool, true, false, ◌&&◌, cond, is_some, List, [], ◌∷◌, Option, None, Some, option_map, refl, ◌∙◌, arith}
 use Rattle.std.specs.Option.{option_and_then}
-use Rattle.std.proofs.lemmas.Bool.{and_parts, leb-true}
 use Rattle.std.proofs.lemmas.Bool.Decides.{nat_tests}
-use Rattle.std.proofs.lemmas.Slice.Eq.{bytes_eq-Decides}
-use Rattle.std.specs.Str.{bytes_eq}
 use Rattle.point_core.specs.declared.entry.Usage.{Usage as UsageOf}
 use Rattle.line_core.specs.declared.table.Operand.{Operand}
 use Rattle.line_core.specs.declared.table.Operand.TheVariants.{Name, Number, Usage, Flags}
 use Rattle.command_core.specs.declared.command.Command.{Command}
 use Rattle.command_core.specs.declared.command.Command.TheVariants as command
-use Rattle.command_core.specs.Names.{word_of}
 use Rattle.line_core.specs.Following.{is_name, name_of, both, all_three, all_four, one_name, one_number, name_and_number, two_names_and_number, three_names, two_names_number_and_usage, two_names_and_flags, name_and_usage}
 use Rattle.line_core.specs.Number.{is_number, number_of}
 use Rattle.line_core.specs.Usages.{usage_of, flags_of}
-use Rattle.line_core.specs.Table.{Form, forms, form_at, matches, fit, command_from}
-use Rattle.line_core.proofs.Named.{HasWord, has_word}
-use Rattle.line_core.proofs.Spelled.{other_length}
+use Rattle.line_core.specs.Table.{matches, fit}
 use Rattle.line_core.specs.Words.{one_of, two_of, three_of, four_of, are_none}
 
 and-false : (b : Bool) → false ≡ (b && false)
@@ -101,113 +95,30 @@ fit-four o p q m r s t u h k l n (a ∷ b ∷ c ∷ d ∷ e ∷ more) = and-fals
 some_words : (word : List ℕ) (words : List (List ℕ)) → are_none (word ∷ words) ≡ false
 some_words word words = grind (arith, nat_tests)
 
-fit-none : (words : List (List ℕ)) → is_some (cond (are_none words) (Some command.Report) None) ≡ fit [] words
+pub fit-none : (words : List (List ℕ)) → is_some (cond (are_none words) (Some command.Report) None) ≡ fit [] words
 fit-none [] = refl
 fit-none (word ∷ words) = is_some-chosen (are_none (word ∷ words)) command.Report ∙ some_words word words
 
--- with that first word, the words make a command just when they fit the row
-abbrev FitsAt : List ℕ → Form → Type 0
-FitsAt word form = (words : List (List ℕ)) → is_some (command_from word words) ≡ fit form.operands words
-
-abbrev AllFit : List Form → Type 0
-AllFit [] = Unit {0}
-AllFit (form ∷ forms) = FitsAt form.word form × AllFit forms
-
-same : (f g : Form) → Some f ≡ Some g → f ≡ g
-same f g e = cc
-
-step : (word : List ℕ) (b : Bool) (f form : Form) (rest : Option Form) → cond b (Some f) rest ≡ Some form → (b ≡ true → FitsAt word f) → (rest ≡ Some form → FitsAt word form) → FitsAt word form
-step word true f form rest e here more = subst (FitsAt word) (same f form e) (here refl)
-step word false f form rest e here more = more e
-
-fit-at : (fs : List Form) (word : List ℕ) (form : Form) → AllFit fs → form_at fs word ≡ Some form → FitsAt word form
-fit-at [] word form all e = absurd (cc)
-fit-at (f ∷ fs) word form all e =
-    step word (bytes_eq word f.word) f form (form_at fs word) e
-    (λ h. subst (λ w. FitsAt w f) (sym ((bytes_eq-Decides word f.word).0 h)) all.0)
-    (fit-at fs word form all.1)
-
-by-one_name : (make : List ℕ → Command) (words : List (List ℕ)) → is_some (option_map make (one_name words)) ≡ fit (Name ∷ []) words
+pub by-one_name : (make : List ℕ → Command) (words : List (List ℕ)) → is_some (option_map make (one_name words)) ≡ fit (Name ∷ []) words
 by-one_name make words = is_some-map make (one_name words) ∙ fit-one Name name_of named words
 
-by-one_number : (make : ℕ → Command) (words : List (List ℕ)) → is_some (option_map make (one_number words)) ≡ fit (Number ∷ []) words
+pub by-one_number : (make : ℕ → Command) (words : List (List ℕ)) → is_some (option_map make (one_number words)) ≡ fit (Number ∷ []) words
 by-one_number make words = is_some-map make (one_number words) ∙ fit-one Number number_of numbered words
 
-by-name_and_number : (make : List ℕ × ℕ → Command) (words : List (List ℕ)) → is_some (option_map make (name_and_number words)) ≡ fit (Name ∷ Number ∷ []) words
+pub by-name_and_number : (make : List ℕ × ℕ → Command) (words : List (List ℕ)) → is_some (option_map make (name_and_number words)) ≡ fit (Name ∷ Number ∷ []) words
 by-name_and_number make words = is_some-map make (name_and_number words) ∙ fit-two Name Number name_of number_of named numbered words
 
-by-two_names_and_number : (make : List ℕ × List ℕ × ℕ → Command) (words : List (List ℕ)) → is_some (option_map make (two_names_and_number words)) ≡ fit (Name ∷ Name ∷ Number ∷ []) words
+pub by-two_names_and_number : (make : List ℕ × List ℕ × ℕ → Command) (words : List (List ℕ)) → is_some (option_map make (two_names_and_number words)) ≡ fit (Name ∷ Name ∷ Number ∷ []) words
 by-two_names_and_number make words = is_some-map make (two_names_and_number words) ∙ fit-three Name Name Number name_of name_of number_of named named numbered words
 
-by-three_names : (make : List ℕ × List ℕ × List ℕ → Command) (words : List (List ℕ)) → is_some (option_map make (three_names words)) ≡ fit (Name ∷ Name ∷ Name ∷ []) words
+pub by-three_names : (make : List ℕ × List ℕ × List ℕ → Command) (words : List (List ℕ)) → is_some (option_map make (three_names words)) ≡ fit (Name ∷ Name ∷ Name ∷ []) words
 by-three_names make words = is_some-map make (three_names words) ∙ fit-three Name Name Name name_of name_of name_of named named named words
 
-by-two_names_number_and_usage : (make : List ℕ × List ℕ × ℕ × UsageOf → Command) (words : List (List ℕ)) → is_some (option_map make (two_names_number_and_usage words)) ≡ fit (Name ∷ Name ∷ Number ∷ Usage ∷ []) words
+pub by-two_names_number_and_usage : (make : List ℕ × List ℕ × ℕ × UsageOf → Command) (words : List (List ℕ)) → is_some (option_map make (two_names_number_and_usage words)) ≡ fit (Name ∷ Name ∷ Number ∷ Usage ∷ []) words
 by-two_names_number_and_usage make words = is_some-map make (two_names_number_and_usage words) ∙ fit-four Name Name Number Usage name_of name_of number_of usage_of named named numbered used words
 
-by-two_names_and_flags : (make : List ℕ × List ℕ × ℕ → Command) (words : List (List ℕ)) → is_some (option_map make (two_names_and_flags words)) ≡ fit (Name ∷ Name ∷ Flags ∷ []) words
+pub by-two_names_and_flags : (make : List ℕ × List ℕ × ℕ → Command) (words : List (List ℕ)) → is_some (option_map make (two_names_and_flags words)) ≡ fit (Name ∷ Name ∷ Flags ∷ []) words
 by-two_names_and_flags make words = is_some-map make (two_names_and_flags words) ∙ fit-three Name Name Flags name_of name_of flags_of named named flagged words
 
-by-name_and_usage : (make : List ℕ × UsageOf → Command) (words : List (List ℕ)) → is_some (option_map make (name_and_usage words)) ≡ fit (Name ∷ Usage ∷ []) words
+pub by-name_and_usage : (make : List ℕ × UsageOf → Command) (words : List (List ℕ)) → is_some (option_map make (name_and_usage words)) ≡ fit (Name ∷ Usage ∷ []) words
 by-name_and_usage make words = is_some-map make (name_and_usage words) ∙ fit-two Name Usage name_of usage_of named used words
-
-infixr 30 ◌also◌
-◌also◌ : {A B : Type 0} → A → B → A × B
-a also b = (a, b)
-
-all_fit : AllFit forms
-all_fit =
-    by-one_name command.Timeline
-    also by-name_and_number (λ w. command.Inc w.0 w.1)
-    also by-one_name command.Value
-    also by-one_name command.Shut
-    also by-two_names_and_number (λ w. command.Fence w.0 w.1 w.2)
-    also by-three_names (λ w. command.Merge w.0 w.1 w.2)
-    also by-one_name command.Close
-    also by-one_name command.Wait
-    also by-one_name command.Info
-    also by-one_name command.Buffer
-    also by-two_names_number_and_usage (λ w. command.Add w.0 w.1 w.2 w.3)
-    also by-two_names_and_flags (λ w. command.Import w.0 w.1 w.2)
-    also by-two_names_and_flags (λ w. command.Export w.0 w.1 w.2)
-    also by-name_and_usage (λ w. command.Test w.0 w.1)
-    also by-one_name command.Trim
-    also by-name_and_number (λ w. command.Watch w.0 w.1)
-    also by-one_number command.Unwatch
-    also by-one_name command.Show
-    also fit-none
-    also tt
-
-pub fit-row : (word : List ℕ) (form : Form) → form_at forms word ≡ Some form → FitsAt word form
-fit-row word form e = fit-at forms word form all_fit e
-
-has_row : (made : Command) → is_some (form_at forms (word_of made)) ≡ true
-has_row command.Report = refl
-has_row _ = refl
-
--- a word without a row is no command's
-pub no-row : (word : List ℕ) (words : List (List ℕ)) → form_at forms word ≡ None → command_from word words ≡ None
-no-row word words e = nothing (command_from word words) (has_word word words)
-  where
-    no_row : (found : Option Form) → found ≡ None → is_some found ≡ true → ⊥
-    no_row None e has = absurd (cc)
-    no_row (Some form) e has = absurd (cc)
-
-    nothing : (found : Option Command) → HasWord word found → found ≡ None
-    nothing None own = refl
-    nothing (Some made) own = absurd (no_row (form_at forms word) e (subst (λ w. is_some (form_at forms w) ≡ true) (own made refl) (has_row made)))
-
-abbrev are_short : List Form → Bool
-are_short [] = true
-are_short (form ∷ forms) = nat_le (length form.word) 8 && are_short forms
-
-no-long_form : (fs : List Form) (word : List ℕ) → are_short fs ≡ true → 8 < length word → form_at fs word ≡ None
-no-long_form [] word short long = refl
-no-long_form (f ∷ fs) word short long =
-    let both = and_parts (nat_le (length f.word) 8) (are_short fs) short in
-    let few : length f.word ≤ 8 = leb-true (length f.word) 8 both.0 in
-    ap (λ b. cond b (Some f) (form_at fs word)) (other_length word f.word (λ e. omega (arith, e, few))) ∙ no-long_form fs word both.1 long
-
--- no command's word has more than eight bytes
-pub no-long : (word : List ℕ) (words : List (List ℕ)) → 8 < length word → command_from word words ≡ None
-no-long word words long = no-row word words (no-long_form forms word refl long)

@@ -82,7 +82,7 @@ module _ (before now : Option (List ℕ)) (s : LinesState) (given : List (List �
     (refl, refl),
   )
 
-  -- so many bytes were read
+  -- the bytes were read
   pub Given-read : (now' : Option (List ℕ)) (bytes : List ℕ) → s.ready ≡ [] → Consumes now now' bytes → s.read + length bytes ≤ SCRIPT_BYTES + 1 → HasGiven before now' (filled_with s bytes) given
   Given-read now' bytes none consumed few =
       let room : SCRIPT_BYTES - length p.bytes ≡ SCRIPT_BYTES - s.read = ap (λ n. SCRIPT_BYTES - n) (sym p.read) in
@@ -115,7 +115,7 @@ module _ (before now : Option (List ℕ)) (s : LinesState) (given : List (List �
     split = ap lines_of (sym (append-nil (take SCRIPT_BYTES p.bytes))) ∙ p.split [] ∙ ap (λ xs. given ++ lines_of (p.front ++ (xs ++ []))) drained.1 ∙ ap (λ xs. given ++ lines_of xs) (append-nil p.front) ∙ ap (λ ls. given ++ ls) p.alone;
   }
 
--- the end of the script is told by the line alone
+-- of the state only the line counts
 pub Ended-same : (before now : Option (List ℕ)) (s s' : LinesState) (end : Ending) (given : List (List ℕ)) → HasEnded before now s end given → s'.number ≡ s.number → s'.line ≡ s.line → s'.length ≡ s.length → HasEnded before now s' end given
 Ended-same before now s s' end given e number line len = record {
   bytes = e.bytes;

@@ -9,7 +9,7 @@ pub mod Inputs
 pub mod LineLemmas
 pub mod Lowest
 pub mod Masks
-pub mod Named
+pub mod Rows
 pub mod Notes
 pub mod Numbers
 pub mod Runs

@@ -94,7 +94,7 @@ module _ (p : ℕ → Bool) where
       ap (λ k. cond (nat_lt k (length xs)) (Some k) None) at
       ∙ ap (λ b. cond b (Some n) None) (lt-ltb n (length xs) (first_set-within xs few some))
 
-  -- what is first in a front is first in the whole
+  -- the first in a front is the first in the whole
   pub position-front : (n : ℕ) (xs : List ℕ) (i : ℕ) → position p (take n xs) ≡ Some i → position p xs ≡ Some i
   position-front n xs i e =
       let at = position-Some p (take n xs) i 0 e in

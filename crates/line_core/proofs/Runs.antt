@@ -95,7 +95,7 @@ module _ (p : ℕ → Bool) where
   pub runs-front_first : (xs : List ℕ) (n : ℕ) → 0 < length xs → p (get_or xs 0 0) ≡ false → unwrap_or (position p xs) (length xs) ≡ n → take 1 (take n xs) ≡ take 1 xs
   runs-front_first xs n l f e = first_of_front xs n l (front_case xs n (nat_lt (position_or_len p xs) (length xs)) (begins xs l f) l e)
 
-  -- what stands before the first element that passes, and what stands after it
+  -- the elements before the first that passes, and those after it
   pub slice_split-some : (xs : List ℕ) (i : ℕ) → position p xs ≡ Some i → slice_split p xs ≡ take i xs ∷ slice_split p (drop (i + 1) xs)
   slice_split-some xs i e =
       let at = chosen (position_or_len p xs) (length xs) i e in

@@ -27,7 +27,7 @@ same_answer false false there back = refl
 eqb-refl : (a b : ℕ) → a ≡ b → nat_eq a b ≡ true
 eqb-refl a b e = grind (arith, nat_tests)
 
--- with a text's length and number
+-- a word has a text's length and number just when it is the text
 pub same-both : (n number : ℕ) (text : List ℕ) (other : ℕ) → AreBytes text → number_l 256 (bytes_of n number) ≡ number → other ≡ number_l 256 text → (nat_eq number other && nat_eq n (length text)) ≡ bytes_eq (bytes_of n number) text
 same-both n number text other bytes own is = same_answer _ _ there back
   where
@@ -45,7 +45,7 @@ same-both n number text other bytes own is = same_answer _ _ there back
         (eqb-refl number other (sym own ∙ ap (number_l 256) same ∙ sym is))
         (eqb-refl n (length text) (sym (length-bytes n number) ∙ ap length same))
 
--- a text of more bytes
+-- no word of at most eight bytes is a text of more
 pub same-long : (n number : ℕ) (text : List ℕ) → n ≤ 8 → 8 < length text → nat_le (length text) 8 ≡ bytes_eq (bytes_of n number) text
 same-long n number text few more =
     let no : nat_le (length text) 8 ≡ false = grind (arith, nat_tests) in

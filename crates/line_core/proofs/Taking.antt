@@ -1,4 +1,4 @@
--- Bodies of lines on their way to who takes them.
+-- How visitors receive the bodies of lines.
 use Rattle.std.proofs.Common.{◌≡◌, refl, Option, None, Some}
 use Rattle.line_core.specs.declared.line.Body.{Body}
 use Rattle.command_core.specs.declared.command.Command.{Command}
@@ -15,7 +15,7 @@ pub TakesCommand-some : {S G : Type 0} (takes : S → Body → G → S → Type 
 TakesCommand-some takes old new None given h = absurd h
 TakesCommand-some takes old new (Some c) given h = h
 
--- who keeps the body gives the body of the line
+-- a visitor that returns the body gives the body of the line
 pub TakesIfSome-kept : {S : Type 0} (old new : S) (body given : Option Body) → TakesIfSome (λ (s : S) (b g : Body) (t : S). g ≡ b) old body given new → given ≡ body
 TakesIfSome-kept old new None None h = refl
 TakesIfSome-kept old new None (Some g) h = absurd h

@@ -5,7 +5,7 @@ use Rattle.line_core.specs.declared.line.Line.{Line}
 use Rattle.line_core.specs.Line.{body_of}
 use Rattle.line_core.specs.Script.{is_line_feed}
 
--- the bytes that are held of a line: of one that is too long only so many that it still is
+-- the bytes that are held of a line: HELD_BYTES show that an over-long line is too long
 abbrev pub cut : List ℕ → List ℕ
 cut line = take HELD_BYTES line
 
@@ -22,11 +22,11 @@ line_of l = option_map (λ body. record { number = l.number; body = body }) (bod
 abbrev pub next_line : OpenLine → OpenLine
 next_line l = record { number = l.number + 1; bytes = [] }
 
--- with more bytes
+-- the line with more bytes
 abbrev pub with_bytes : OpenLine → List ℕ → OpenLine
 with_bytes l bytes = record { number = l.number; bytes = cut (l.bytes ++ bytes) }
 
--- what one byte more gives, and what is held then
+-- the line that one more byte gives, and the line that is held after it
 abbrev pub line_at : OpenLine → ℕ → Option Line
 line_at l byte = if is_line_feed byte then line_of l else None
 

@@ -8,18 +8,18 @@ use Rattle.line_core.specs.Words.{is_space}
 abbrev pub marks_of : List ℕ → ℕ
 marks_of bytes = mask_l (map (λ b. not (is_space b)) bytes)
 
--- there are few bytes, and these are their marks
+-- there are at most MARKED_BYTES bytes, and these are their marks
 pub record HasMarks (bytes : List ℕ) (marks : ℕ) : Type 0 where
   pub few : length bytes ≤ MARKED_BYTES
   pub marked : marks ≡ marks_of bytes
 
--- a line's marks and those of its bytes are the same, in one way
+-- it has one proof at most
 pub HasMarks-prop : (bytes : List ℕ) (marks : ℕ) → IsProp (HasMarks bytes marks)
 HasMarks-prop bytes marks p q =
     let few : IsProp (length bytes ≤ MARKED_BYTES) = Prim.hlevel props in
     let marked : IsProp (marks ≡ marks_of bytes) = Prim.hlevel props in
     λ i. record { few = few p.few q.few i; marked = marked p.marked q.marked i }
 
--- the same, if there are marks
+-- if there are marks, they are those of the bytes
 abbrev pub MayHaveMarks : List ℕ → Option ℕ → Type 0
 MayHaveMarks bytes marks = IfSome marks (λ m. HasMarks bytes m)

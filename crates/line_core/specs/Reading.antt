@@ -1,4 +1,4 @@
--- What is read of a script.
+-- The bytes that are read of a script.
 use Rattle.std.specs.Prelude.{◌≡◌, ℕ, ◌+◌, ◌≤◌, List, length, take, Option, IfSome}
 use Rattle.std.specs.Io.KnownBytes.{Consumes, IsAtEnd}
 use Rattle.line_core.specs.declared.script.Ending.{Ending}
@@ -9,13 +9,13 @@ use Rattle.line_core.specs.declared.script.TheConstants.{SCRIPT_BYTES}
 abbrev pub IsInput : Option (List ℕ) → List ℕ → Type 0
 IsInput known script = IfSome known (λ input. script ≡ input)
 
--- how the bytes end that were read: at the reader's end, one past the limit, or at a failed read
+-- the bytes that were read end at the reader's end, one past the limit, or at a failed read
 abbrev pub EndsSo : Option (List ℕ) → List ℕ → Ending → Type 0
 EndsSo left bytes ending.Whole = (length bytes ≤ SCRIPT_BYTES) × IsAtEnd left
 EndsSo left bytes ending.TooLong = length bytes ≡ SCRIPT_BYTES + 1
 EndsSo left bytes ending.Failed = length bytes ≤ SCRIPT_BYTES
 
--- those bytes were read, and end so
+-- these bytes were read, and end as `end` says
 pub record WasRead (old new : Option (List ℕ)) (bytes : List ℕ) (end : Ending) : Type 0 where
   pub consumed : Consumes old new bytes
   pub ends : EndsSo new bytes end
@@ -24,7 +24,7 @@ pub record WasRead (old new : Option (List ℕ)) (bytes : List ℕ) (end : Endin
 abbrev pub ReadsScript : Option (List ℕ) → Option (List ℕ) → Type 0
 ReadsScript old new = IfSome old (λ input. Consumes old new (take (SCRIPT_BYTES + 1) input))
 
--- some bytes were read, at most so many
+-- at most `most` bytes were read
 pub record ConsumesAtMost (most : ℕ) (old new : Option (List ℕ)) : Type 0 where
   pub bytes : List ℕ
   pub consumed : Consumes old new bytes

@@ -10,7 +10,7 @@ use Rattle.line_core.specs.Script.{is_line_feed}
 abbrev pub feeds_of : List ℕ → ℕ
 feeds_of bytes = mask_l (map is_line_feed bytes)
 
--- the bits are those of the first bytes, so many as are known
+-- the bits are those of the first `known` bytes
 pub record IsScanOf (bytes : List ℕ) (s : Scan) : Type 0 where
   pub known : ℕ
   pub few : known ≤ MARKED_BYTES

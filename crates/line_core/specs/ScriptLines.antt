@@ -12,7 +12,7 @@ use Rattle.line_core.specs.Marks.{MayHaveMarks}
 use Rattle.line_core.specs.Scan.{IsScanOf}
 use Rattle.line_core.specs.Script.{is_line_feed, lines_of}
 
--- how far a script was read, and its lines were given
+-- how far a script was read, and which of its lines were given
 pub record LinesState : Type 0 where
   -- how many bytes were read
   pub read : ℕ
@@ -24,7 +24,7 @@ pub record LinesState : Type 0 where
   -- what was read after it
   pub ready : List ℕ
 
--- what is open of the line after those that were given
+-- the bytes so far of the line after the lines that were given
 abbrev pub open_line : LinesState → List ℕ
 open_line s = if s.ended then [] else s.line
 
@@ -34,7 +34,7 @@ open_length s = if s.ended then 0 else s.length
 abbrev pub open_number : LinesState → ℕ
 open_number s = if s.ended then s.number + 1 else s.number
 
--- The lines `given` were given, of all that was read so far: `front` is what is open of the next one.
+-- The lines `given` were given, of all that was read so far: `front` has the bytes so far of the next line.
 pub record HasGiven (before now : Option (List ℕ)) (s : LinesState) (given : List (List ℕ)) : Type 0 where
   pub bytes : List ℕ
   pub consumed : Consumes before now bytes
@@ -116,7 +116,7 @@ all_held s = record {
   ready = [];
 }
 
--- so many bytes were read, these first ones within the limit
+-- the bytes were read, and those within the limit are ready
 abbrev pub filled_with : LinesState → List ℕ → LinesState
 filled_with s bytes = record {
   read = s.read + length bytes;
@@ -140,7 +140,7 @@ Advances old false new = (position is_line_feed old.ready ≡ None) × (new ≡ 
 
 -- ---- how they are kept
 
--- The bytes of the line: if no front of it is held they stand in the block.
+-- The bytes of the line: if no front of it is held, they are in the block.
 abbrev pub line_bytes : List ℕ → List ℕ → ℕ → ℕ → List ℕ
 line_bytes held block start len = if length held == 0 then take (min len HELD_BYTES) (drop start block) else held
 
@@ -155,7 +155,7 @@ pub record IsLaidOut (next filled start len read num : ℕ) (ended : Bool) (held
   pub long : len + (filled - next) ≤ read
   pub numbers : num + (if ended then 1 else 0) + (filled - next) ≤ read + 1
 
--- The marks are those of the line, if they are known, and the scan is of what stands after it, once the line has ended.
+-- The marks are those of the line, if they are known, and the scan is of what follows the line, once it has ended.
 pub record IsScanned (line ready : List ℕ) (ended : Bool) (marks : Option ℕ) (s : Scan) : Type 0 where
   pub of_line : MayHaveMarks line marks
   pub of_ready : IsScanOf ready s

@@ -1,4 +1,4 @@
--- The words of a line that tell usages and sync flags.
+-- Words of a line that name usages and sync flags.
 use Rattle.std.specs.Prelude.{ℕ, if◌then◌else◌, List, Option, None, Some, codes}
 use Rattle.std.specs.Str.{bytes_eq}
 use Rattle.point_core.specs.declared.entry.Usage.{Usage}

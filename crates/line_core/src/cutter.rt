@@ -33,7 +33,7 @@ impl LineCutter {
     ghost use Rattle.line_core.specs.declared.script.TheConstants.{SCRIPT_BYTES};
     ghost use Rattle.line_core.specs.Cutting.{line_of, line_at, line_after, next_line, with_bytes};
 
-    /// At the first line, without bytes.
+    /// A cutter at line 1, with no bytes of it.
     pub fn new() -> LineCutter
         ensures number { result.number ≡ 1 }
         ensures bytes { result.bytes ≡ [] }
@@ -45,7 +45,7 @@ impl LineCutter {
         }
     }
 
-    /// The number of its line.
+    /// The number of the line that is held.
     pub fn number(&self) -> u32
         ensures number { result ≡ self.now.number }
     {
@@ -97,7 +97,7 @@ impl LineCutter {
         self.length == 0
     }
 
-    /// More bytes of the line.
+    /// Adds bytes to the line that is held.
     pub(crate) fn add(&mut self, bytes: &[u8])
         ensures added { self.new ≡ with_bytes self.old bytes.now }
     {
@@ -106,7 +106,7 @@ impl LineCutter {
         self.length += count;
     }
 
-    /// Goes on to the next line.
+    /// Begins the next line.
     pub(crate) fn next_line(&mut self)
         requires few { self.old.number + 1 < 2 ^ 32 }
         ensures next { self.new ≡ next_line self.old }

@@ -30,7 +30,7 @@ pub(crate) fn marks(bytes: &[u8]) -> Option<u64>
     }
 }
 
-/// The same of a line that is shorter or longer than most, out of the way of the others.
+/// The marks of a line that is shorter or longer than most, out of the way of other lines.
 #[inline(never)]
 fn marks_of_rare(bytes: &[u8]) -> Option<u64>
     ensures marks { MayHaveMarks bytes.now result }
@@ -53,7 +53,7 @@ fn marks_of_wide_lanes(bytes: &[u8]) -> u64
     (more << WIDE_LANES) | wide_lane_marks(bytes, 0)
 }
 
-/// By the first bytes and the last, which may overlap.
+/// The marks of bytes, by the first `LANES` and the last `LANES`, which may overlap.
 fn marks_of_lanes(bytes: &[u8]) -> u64
     requires least { LANES ≤ length bytes.now }
     requires most { length bytes.now ≤ 2 * LANES }

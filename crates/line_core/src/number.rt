@@ -28,7 +28,7 @@ pub(crate) fn number(word: &[u8]) -> Option<u64>
     Some(value)
 }
 
-/// The same of a word of `DIGITS` bytes, whose number may have more than 64 bits.
+/// The number that a word of `DIGITS` bytes spells, if it has at most 64 bits.
 #[inline(never)]
 fn great_number(word: &[u8]) -> Option<u64>
     requires length { length word.now ≡ DIGITS }

@@ -1,9 +1,9 @@
-// A line of a script before it is read.
+// `RawLine`: a line of a script before it is parsed.
 ghost use Rattle.std.specs.Prelude.{◌≡◌};
 ghost use Rattle.std.proofs.Props.{props};
 ghost use Rattle.line_core.specs.Marks.{MayHaveMarks, HasMarks-prop};
 
-/// A line of a script as it stands there.
+/// A line of a script as bytes.
 #[derive(Clone, Copy, Debug)]
 pub struct RawLine<'a> {
     /// Lines are numbered from 1.
@@ -18,7 +18,7 @@ pub struct RawLine<'a> {
 }
 
 impl<'a> RawLine<'a> {
-    /// A line of that number and length, with those of its bytes that are kept.
+    /// The line of that number and length; `bytes` are those that are kept of it.
     pub fn new(number: u32, bytes: &'a [u8], length: usize) -> RawLine<'a>
         ensures number { result.number ≡ number }
         ensures bytes { result.bytes.now ≡ bytes.now }

@@ -10,7 +10,7 @@ use std::simd::prelude::*;
 /// How many bytes are compared at once. All but the last have marks.
 pub(crate) const SCAN_BYTES: usize = 2 * WIDE_LANES;
 
-/// A bit for each of some bytes that is set at a line feed, and one that is set at a byte of a word.
+/// Two bits for each byte: one is set at a line feed, the other at a byte of a word.
 #[derive(Clone, Copy)]
 pub(crate) struct Scan {
     feeds: u64,
@@ -25,7 +25,7 @@ pub(crate) struct ScannedLine {
     pub(crate) rest: Scan,
 }
 
-/// Nothing is known of the bytes.
+/// A scan that knows nothing of the bytes.
 pub(crate) fn no_scan() -> Scan
     ensures none { (bytes : List ℕ) → IsScanOf bytes result }
     ensures feeds { result.feeds ≡ 0 }
@@ -33,7 +33,7 @@ pub(crate) fn no_scan() -> Scan
     Scan { feeds: 0, marks: 0 }
 }
 
-/// What the first of `count` bytes are, from a place on.
+/// The scan of the first of `count` bytes, from `start` on.
 pub(crate) fn scan_at(block: &[u8], start: usize, count: usize) -> Scan
     requires within { start + SCAN_BYTES ≤ length block.now }
     ensures scanned { IsScanOf (take count (drop start block.now)) result }
@@ -99,7 +99,7 @@ fn scanned_end(bytes: &[u8], scan: &Scan) -> Option<usize>
     }
 }
 
-/// Without the first `count` bytes.
+/// The scan without its first `count` bytes.
 fn scan_after(scan: &Scan, count: usize) -> Scan
     requires few { count ≤ MARKED_BYTES }
     ensures feeds { result.feeds ≡ scan.now.feeds / 2 ^ count }

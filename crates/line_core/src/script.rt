@@ -51,7 +51,7 @@ pub(crate) struct Lines<'a> {
 impl<'a> Lines<'a> {
     ghost use Rattle.line_core.specs.Lines.{lines_left, turns_left};
 
-    /// The lines of the first `SCRIPT_BYTES` bytes, which end so.
+    /// The lines of the first `SCRIPT_BYTES` bytes, of which the last ends as `ending` says.
     fn new(bytes: &'a [u8], ending: Ending) -> Self
         ensures lines { lines_left result ≡ lines_until ending (take SCRIPT_BYTES bytes.now) }
     {

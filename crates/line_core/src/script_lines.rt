@@ -143,7 +143,7 @@ impl ScriptLines {
         true
     }
 
-    /// The same of any line: by another scan, or by a search in what is ready.
+    /// Goes on to the next line by another scan, or by a search in what is ready.
     #[inline(never)]
     fn advance_unscanned(&mut self) -> bool
         ensures advanced { Advances self.old result self.new }

@@ -26,7 +26,7 @@ impl Model for Spelling {
 }
 
 impl Spelling {
-    /// The word, if it has so few bytes.
+    /// The word, if it has at most `NUMBER_BYTES` bytes.
     #[inline(always)]
     pub(crate) fn of(word: &[u8]) -> Option<Spelling>
         ensures word { MatchOption result (NUMBER_BYTES < length word.now) (λ s. s ≡ word.now) }

@@ -1,6 +1,6 @@
 // The table of commands: the word of each, and the words that follow it in a line.
 ghost use Rattle.std.specs.Prelude.{◌≡◌, map, option_map};
-ghost use Rattle.line_core.specs.Table.{form_at, forms, matches, row_of};
+ghost use Rattle.line_core.specs.Table.{form_at, forms, matches, form_of};
 
 use crate::number::is_number;
 use crate::usages::{is_flags, is_usage};
@@ -14,7 +14,7 @@ pub struct CommandForm {
     pub operands: &'static [Operand],
 }
 
-/// What a word after a command's has to be.
+/// The kind of an operand, a word after the command's.
 #[derive(Clone, Copy, Debug, PartialEq, Eq)]
 pub enum Operand {
     Name,
@@ -109,14 +109,14 @@ static COMMANDS: &[CommandForm] = &[
 
 /// The table, a row for each command.
 pub fn commands() -> &'static [CommandForm]
-    ensures forms { map row_of result.now ≡ forms }
+    ensures forms { map form_of result.now ≡ forms }
 {
     COMMANDS
 }
 
 /// The row of a command's word, or none if the word is no command's.
 pub fn command_form(word: &[u8]) -> Option<&'static CommandForm>
-    ensures form { option_map (λ form. row_of form.now) result ≡ form_at forms word.now }
+    ensures form { option_map (λ form. form_of form.now) result ≡ form_at forms word.now }
 {
     for form in commands() {
         if is(word, form.word) {
@@ -127,7 +127,7 @@ pub fn command_form(word: &[u8]) -> Option<&'static CommandForm>
 }
 
 impl Operand {
-    /// Whether a word may stand for it.
+    /// Whether the word is well-formed for this operand.
     pub fn matches(self, word: &[u8]) -> bool
         ensures matches { result ≡ matches self word.now }
     {

@@ -35,7 +35,7 @@ pub fn take_raw_line<V: Takes>(line: &RawLine<'_>, to: &mut V) -> Option<V::Give
     take_by_cases(line.bytes, line.marks, to)
 }
 
-/// The same of a line's bytes, with their marks if these are known.
+/// Passes on what the line's bytes say; their marks are given if they are known.
 #[inline(always)]
 fn take_by_cases<V: Takes>(line: &[u8], marks: Option<u64>, to: &mut V) -> Option<V::Given>
     requires ready { V.can_take to.old }
@@ -72,7 +72,7 @@ fn take_words<V: Takes>(words: &Words<'_>, to: &mut V) -> Option<V::Given>
     }
 }
 
-/// What a line says, as itself.
+/// A visitor that returns the body.
 #[derive(Drop)]
 struct Kept;
 

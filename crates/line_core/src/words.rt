@@ -13,7 +13,7 @@ use std::marker::Model;
 #[derive(Drop)]
 pub(crate) struct Words<'a> {
     bytes: &'a [u8],
-    // if the bytes are few
+    // a bit for each byte that is set if the byte is of a word, if they are known
     marks: Option<u64>,
 }
 
@@ -30,7 +30,7 @@ impl<'a> Model for Words<'a> {
 }
 
 impl<'a> Words<'a> {
-    /// The words of those bytes.
+    /// The words of the bytes.
     pub(crate) fn of(bytes: &'a [u8]) -> Words<'a>
         ensures words { result ≡ words_of bytes.now }
     {
@@ -38,7 +38,7 @@ impl<'a> Words<'a> {
         Words { bytes, marks }
     }
 
-    /// The same of bytes whose marks are known.
+    /// The words of bytes whose marks are known.
     #[inline(always)]
     pub(crate) fn marked(bytes: &'a [u8], marks: u64) -> Words<'a>
         requires marks { HasMarks bytes.now marks }
@@ -111,7 +111,7 @@ fn from_word(bytes: &[u8]) -> Option<&[u8]>
     Some(&bytes[start..])
 }
 
-/// The same, with their marks.
+/// The bytes from the first word on, with their marks.
 fn from_marked_word(bytes: &[u8], marks: u64) -> Option<(&[u8], u64)>
     requires marks { HasMarks bytes.now marks }
     ensures words { MatchOption result
@@ -133,7 +133,7 @@ fn part_word(bytes: &[u8]) -> (&[u8], &[u8])
     bytes.split_at(end)
 }
 
-/// The same, with the marks of the bytes after it.
+/// The word that the bytes begin with, the bytes after it, and their marks.
 fn part_marked_word(bytes: &[u8], marks: u64) -> (&[u8], &[u8], u64)
     requires begins { BeginsWithWord bytes.now }
     requires marks { HasMarks bytes.now marks }
@@ -206,7 +206,7 @@ pub(crate) fn four<'a>(words: &Words<'a>) -> Option<(&'a [u8], &'a [u8], &'a [u8
     Some((first, second, third, fourth))
 }
 
-/// Whether the word is that text.
+/// Whether the word is the text.
 pub(crate) fn is(word: &[u8], text: &str) -> bool
     ensures same { result ≡ bytes_eq word.now text.now }
 {

@@ -1,5 +1,5 @@
 use Rattle.std.proofs.Common.{refl}
-use Rattle.line_core.proofs.Fitting.{no-long}
+use Rattle.line_core.proofs.Rows.{no-long}
 use Rattle.line_core.proofs.command.take_command.Goals as goal
 
 pub returns-in_err-spelling : goal.returns-in_err-spelling

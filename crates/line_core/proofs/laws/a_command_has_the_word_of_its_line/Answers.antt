@@ -1,4 +1,4 @@
-use Rattle.line_core.proofs.Named.{has_word}
+use Rattle.line_core.proofs.Rows.{has_word}
 use Rattle.line_core.proofs.laws.a_command_has_the_word_of_its_line.Goals as goal
 
 pub returns : goal.returns
