@@ -12,6 +12,9 @@
 /* Rounds of each kind, of which the first take as much as any others; and how many of each kind are alive at once. */
 enum { ROUNDS = 200000, FIRST = 2000, ALIVE = 50000 };
 
+/* The fences of a large file, the files of a large wake, and the bytes that a few fences take at most. */
+enum { FENCES = 1000, WOKEN = 20000, FEW_BYTES = 1000 };
+
 void *__real_malloc(size_t size);
 void *__real_realloc(void *block, size_t size);
 void __real_free(void *block);
@@ -146,6 +149,52 @@ static void gives_all_back(void)
     HOLDS(bytes - before < (alive - before) / 2);
 }
 
+/* Expects that a buffer keeps no room for fences of a file that have signalled: of FENCES fences one is pending. */
+static void keeps_room_for_what_is_pending(void)
+{
+    static uint64_t timelines[FENCES];
+    uint64_t fence, merged, all = file, into;
+
+    for (int i = 0; i < FENCES; i++) {
+        EXPECT(bim_device_timeline(&device, "task", &timelines[i]), 0);
+        EXPECT(bim_device_fence(&device, timelines[i], 1, 1, &fence), 0);
+        EXPECT(bim_device_merge(&device, all, fence, "all", &merged), 0);
+        EXPECT(bim_device_release(&device, fence, 1), 0);
+        if (all != file)
+            EXPECT(bim_device_release(&device, all, 1), 0);
+        all = merged;
+    }
+    for (int i = 0; i < FENCES; i++)
+        EXPECT(bim_device_release(&device, timelines[i], 2), 0);
+    EXPECT(bim_device_buffer(&device, 3, &into), 0);
+    long long before = bytes;
+
+    EXPECT(bim_device_import(&device, into, all, BIM_SYNC_WRITE), 0);
+    HOLDS(bytes > before && bytes - before < FEW_BYTES);
+    EXPECT(bim_device_release(&device, into, 4), 0);
+    EXPECT(bim_device_release(&device, all, 4), 0);
+}
+
+/* Expects that a device keeps less than a byte for each file of a large wake once all are taken and released. */
+static void keeps_no_room_for_what_was_woken(void)
+{
+    static uint64_t files[WOKEN], woken[WOKEN];
+    bim_device fresh = BIM_DEVICE_INIT;
+    uint64_t task;
+    long long before = bytes;
+
+    EXPECT(bim_device_open(&fresh), 0);
+    EXPECT(bim_device_timeline(&fresh, "task", &task), 0);
+    for (int i = 0; i < WOKEN; i++)
+        EXPECT(bim_device_fence(&fresh, task, 1, 1, &files[i]), 0);
+    EXPECT(bim_device_inc(&fresh, task, 1, 2), 0);
+    EXPECT(bim_device_take_woken(&fresh, woken, WOKEN), WOKEN);
+    for (int i = 0; i < WOKEN; i++)
+        EXPECT(bim_device_release(&fresh, files[i], 3), 0);
+    HOLDS(bytes - before < WOKEN);
+    bim_device_close(&fresh);
+}
+
 int main(void)
 {
     EXPECT(bim_device_open(&device), 0);
@@ -159,6 +208,8 @@ int main(void)
     stays_flat(signalled_import);
     stays_flat(one_buffer);
     gives_all_back();
+    keeps_room_for_what_is_pending();
+    keeps_no_room_for_what_was_woken();
     bim_device_close(&device);
     EXPECT(bytes, 0);
     return report("flat");
