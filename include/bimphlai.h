@@ -325,7 +325,7 @@ int bim_device_timeline(bim_device *device, const char *task, uint64_t *timeline
 int bim_device_fence(bim_device *device, uint64_t timeline, uint32_t point, uint64_t now, uint64_t *file);
 
 /* Adds n to a timeline's value. The files that this signals wait for bim_device_take_woken. Fails with ENOENT, ENOTTY,
- * EOVERFLOW and ENOMEM. SW_SYNC_IOC_INC. */
+ * EOVERFLOW and, if a file signals by it, ENOMEM. SW_SYNC_IOC_INC. */
 int bim_device_inc(bim_device *device, uint64_t timeline, uint32_t n, uint64_t now);
 
 /* Makes a file of what two files wait for, of each timeline the latest point that is pending, and stores its number.
@@ -361,8 +361,8 @@ int bim_device_info(bim_device *device, uint64_t file, bim_device_file_info *inf
                     size_t room);
 
 /* Releases a timeline, a file or a buffer, whose number is never given again. Points of a timeline that are pending
- * are cancelled now, and the files that this signals wait for bim_device_take_woken. Fails with ENOENT, and with
- * ENOMEM for a timeline alone. The close(2) of the last descriptor. */
+ * are cancelled now, and the files that this signals wait for bim_device_take_woken. Fails with ENOENT and, if a file
+ * signals by it, ENOMEM. The close(2) of the last descriptor. */
 int bim_device_release(bim_device *device, uint64_t object, uint64_t now);
 
 /* Makes a buffer, and stores its number. Its exports have that time while nothing is pending. Fails with ENOMEM. A

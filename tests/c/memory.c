@@ -386,17 +386,21 @@ static void watch_without_memory(void)
 static void device_without_memory(void)
 {
     bim_device device = BIM_DEVICE_INIT;
-    uint64_t timeline, now, later, buffer, number = KEPT;
+    uint64_t timeline, idle, now, later, buffer, number = KEPT;
     bim_device_file_info info = { .fences = KEPT };
     int32_t status;
 
     refused = EVERY;
     EXPECT(bim_device_open(&device), 0);
     EXPECT(bim_device_timeline(&device, "a", &timeline), 0);
+    EXPECT(bim_device_timeline(&device, "b", &idle), 0);
     EXPECT(bim_device_fence(&device, timeline, 1, 0, &now), 0);
     EXPECT(bim_device_fence(&device, timeline, 2, 0, &later), 0);
     EXPECT(bim_device_buffer(&device, 0, &buffer), 0);
     counting = true;
+    EXPECT(bim_device_inc(&device, timeline, 0, 1), 0);
+    EXPECT(bim_device_inc(&device, idle, 1, 1), 0);
+    EXPECT(bim_device_release(&device, idle, 1), 0);
     EXPECT(bim_device_inc(&device, later + 9, 1, 1), BIM_ENOENT);
     EXPECT(bim_device_inc(&device, later, 1, 1), BIM_ENOTTY);
     EXPECT(bim_device_inc(&device, buffer, 1, 1), BIM_ENOTTY);

@@ -11,11 +11,12 @@ use Rattle.device_core.specs.declared.request.Answer.TheVariants as answer
 use Rattle.device_core.specs.Buffers.{none_waits}
 use Rattle.device_core.specs.Fences.{are_signalled, status_of}
 use Rattle.device_core.specs.State.{FileState, DeviceState, Objects, file_at, timeline_at, objects_of, file_signalled}
-use Rattle.device_core.specs.Request.{with_at, closed, closed_timeline, dropped, after, is_waiting, has_signalled, AreWoken, IsAnswer, Reports}
+use Rattle.device_core.specs.Request.{with_at, closed, closed_timeline, dropped, risen, wakes_some, after, is_waiting, has_signalled, AreWoken, IsAnswer, Reports}
 use Rattle.device_core.specs.History.{World, world_of, HasHistory}
 use Rattle.device_core.specs.Sound.{IsSound}
 use Rattle.device_core.specs.Times.{woken_in}
 use Rattle.device_core.proofs.Counting.{info-told, object-told, wakes-after, woken-told}
+use Rattle.device_core.proofs.Needing.{wakes-none}
 use Rattle.device_core.proofs.Sound.{with_at-same, with_at-other}
 use Rattle.device_core.proofs.Stepping.{file_given, IsSound-history}
 use Rattle.c_device.specs.Service.{AreGiven, may_wake, woken_of}
@@ -79,6 +80,11 @@ module _ (d : Objects) where
   next-rises (request.Import buffer file flags) = omega arith
   next-rises (request.Test buffer usage) = omega arith
 
+-- what a result that is Ok brings with it
+pub on-ok : {X : Type 0} (r : Result X Refusal) (P Q : Type 0) → (P → Q) → OnOk r P → OnOk r Q
+on-ok (Ok x) P Q f h = f h
+on-ok (Err e) P Q f h = tt
+
 -- who is woken
 is-there : (o : Option FileState) → is_waiting o ≡ true → is_some o ≡ true
 is-there None is = is
@@ -88,41 +94,30 @@ the-file : (o : Option FileState) → is_some o ≡ true → (f : FileState) × 
 the-file None is = absurd (false≢true is)
 the-file (Some f) is = (f, refl)
 
-unsignalled : (o : Option FileState) → is_waiting o ≡ true → has_signalled o ≡ true → is_some o ≡ false
-unsignalled None waits signalled = refl
-unsignalled (Some f) waits signalled = absurd (cc)
-
 nobody : (ns : List ℕ) → ((n : ℕ) → Contains ns n → ⊥) → ns ≡ []
 nobody [] none = refl
 nobody (n ∷ ns) none = absurd (none n (0, omega arith, refl))
 
--- the closing of a file or a buffer wakes nobody
-dropped-woken : (d : Objects) (number now : ℕ) (ns : List ℕ) → is_some (d.timelines number) ≡ false → AreWoken d (closed d number now) ns → ns ≡ []
-dropped-woken d number now ns none woken =
-    let e : closed d number now ≡ dropped d number = ap (λ b. cond b (closed_timeline d number now) (dropped d number)) none in
-    nobody ns (λ n among.
-    let both = (subst (λ o. AreWoken d o ns) e woken).all n in
-    let waits = (both.0 among).0 in
-    let signalled = (both.0 among).1 in
-    elim (cases_eq number n) [
-      | inl same ↦ false≢true (sym (ap has_signalled (sym (ap (with_at d.files number None) same) ∙ with_at-same d.files number None)) ∙ signalled)
-      | inr apart ↦ false≢true (sym (unsignalled (d.files n) waits (sym (ap has_signalled (with_at-other d.files number None n apart)) ∙ signalled)) ∙ is-there (d.files n) waits)
-    ])
+-- a request that wakes no file wakes nobody
+idle : (d e : Objects) (ns : List ℕ) → ((n : ℕ) → d.next ≤ n → d.files n ≡ None) → wakes_some d e ≡ false → AreWoken d e ns → ns ≡ []
+idle d e ns given none woken = nobody ns (λ n among.
+    let both = (woken.all n).0 among in
+    wakes-none d e n given none both.0 both.1)
 
 -- a request that may not wake has woken nobody
-quiet : (d : DeviceState) (r : Request) (given : Answer) → Reports (objects_of d) r given → may_wake d r ≡ false → woken_in given ≡ []
-quiet d (request.Open name) given h still = ap woken_in h
-quiet d (request.Fence t point now) given h still = ap woken_in h
-quiet d (request.Inc t m now) given h still = absurd (false≢true (sym still))
-quiet d (request.Merge a b name) given h still = ap woken_in h
-quiet d (request.Status file) given h still = object-told woken_in (file_at d file) (λ f. answer.Status (status_of f.fences)) given (λ f. refl) h
-quiet d (request.IsSignalled file) given h still = object-told woken_in (file_at d file) (λ f. answer.Signalled (are_signalled f.fences)) given (λ f. refl) h
-quiet d (request.Info file) given h still = info-told woken_in file (file_at d file) given (λ info. refl) h
-quiet d (request.Close number now) given h still = dropped-woken (objects_of d) number now (woken_in given) still (woken-told (objects_of d) (closed (objects_of d) number now) given h)
-quiet d (request.Buffer now) given h still = ap woken_in h
-quiet d (request.Export buffer flags) given h still = ap woken_in h
-quiet d (request.Import buffer file flags) given h still = ap woken_in h
-quiet d (request.Test buffer usage) given h still = object-told woken_in ((objects_of d).buffers buffer) (λ b. answer.Signalled (none_waits (timeline_at d) usage b.fences)) given (λ b. refl) h
+quiet : (d : DeviceState) (r : Request) (given : Answer) → ((n : ℕ) → d.next ≤ n → file_at d n ≡ None) → Reports (objects_of d) r given → may_wake d r ≡ false → woken_in given ≡ []
+quiet d (request.Open name) given known h still = ap woken_in h
+quiet d (request.Fence t point now) given known h still = ap woken_in h
+quiet d (request.Inc t m now) given known h still = idle (objects_of d) (risen (objects_of d) t m now) (woken_in given) known still (woken-told (objects_of d) (risen (objects_of d) t m now) given h)
+quiet d (request.Merge a b name) given known h still = ap woken_in h
+quiet d (request.Status file) given known h still = object-told woken_in (file_at d file) (λ f. answer.Status (status_of f.fences)) given (λ f. refl) h
+quiet d (request.IsSignalled file) given known h still = object-told woken_in (file_at d file) (λ f. answer.Signalled (are_signalled f.fences)) given (λ f. refl) h
+quiet d (request.Info file) given known h still = info-told woken_in file (file_at d file) given (λ info. refl) h
+quiet d (request.Close number now) given known h still = idle (objects_of d) (closed (objects_of d) number now) (woken_in given) known still (woken-told (objects_of d) (closed (objects_of d) number now) given h)
+quiet d (request.Buffer now) given known h still = ap woken_in h
+quiet d (request.Export buffer flags) given known h still = ap woken_in h
+quiet d (request.Import buffer file flags) given known h still = ap woken_in h
+quiet d (request.Test buffer usage) given known h still = object-told woken_in ((objects_of d).buffers buffer) (λ b. answer.Signalled (none_waits (timeline_at d) usage b.fences)) given (λ b. refl) h
 
 module _ (d : DeviceState) (history : List Request) (had : HasHistory d history) where
   abbrev w : World
@@ -146,7 +141,7 @@ module _ (d : DeviceState) (history : List Request) (had : HasHistory d history)
     fits : (spare : ℕ) → (may_wake d r ≡ true → length d.files ≤ spare) → length (woken_in given) ≤ spare
     fits spare room = elim (cases_Bool (may_wake d r)) [
       | inl may ↦ let all = few d.files (woken_in given) woken.rising open-before in omega (arith, all, room may)
-      | inr still ↦ let none = ap length (quiet d r given reports still) in omega (arith, none)
+      | inr still ↦ let none = ap length (quiet d r given sound.files reports still) in omega (arith, none)
     ]
 
   -- what a request wakes finds room

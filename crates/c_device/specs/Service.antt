@@ -1,11 +1,11 @@
 -- A device and the files that it woke, and what one request makes of both.
-use Rattle.std.specs.Prelude.{◌≡◌, ℕ, ◌<◌, Bool, true, false, List, ◌++◌, filter, is_some, All, Result, OnErr}
+use Rattle.std.specs.Prelude.{◌≡◌, ℕ, ◌<◌, Bool, false, List, ◌++◌, filter, is_some, All, Result, OnErr}
 use Rattle.device_core.specs.declared.refusal.Refusal.{Refusal}
 use Rattle.device_core.specs.declared.request.Request.{Request}
 use Rattle.device_core.specs.declared.request.Request.TheVariants as request
 use Rattle.device_core.specs.declared.request.Answer.{Answer}
-use Rattle.device_core.specs.State.{DeviceState, file_at, timeline_at, objects_of}
-use Rattle.device_core.specs.Request.{IsAnswer}
+use Rattle.device_core.specs.State.{DeviceState, file_at, objects_of}
+use Rattle.device_core.specs.Request.{IsAnswer, takes_memory}
 use Rattle.device_core.specs.History.{HasHistory, history_after}
 use Rattle.device_core.specs.Times.{in_accepted, woken_in}
 
@@ -40,10 +40,10 @@ pub record IsKept (d : DeviceState) (queue : List ℕ) : Type 0 where
   pub stands : HasHistory d history
   pub given : AreGiven d.next queue
 
--- the request may wake files: it raises a timeline, or closes one that is open
+-- the request wakes files, so that room has to be made for them
 abbrev pub may_wake : DeviceState → Request → Bool
-may_wake d (request.Inc timeline n now) = true
-may_wake d (request.Close number now) = is_some (timeline_at d number)
+may_wake d (request.Inc timeline n now) = takes_memory (objects_of d) (request.Inc timeline n now)
+may_wake d (request.Close number now) = takes_memory (objects_of d) (request.Close number now)
 may_wake d (request.Open name) = false
 may_wake d (request.Fence timeline point now) = false
 may_wake d (request.Merge a b name) = false

@@ -1,10 +1,9 @@
 // A device, and the files that it woke.
-ghost use Rattle.std.specs.Prelude.{◌≡◌, ◌≤◌, ◌-◌, ℕ, [], ◌++◌, true, length, drop, min, is_some, option_to_list, IfErr, IfNone, OnOk, Err};
+ghost use Rattle.std.specs.Prelude.{◌≡◌, ◌≤◌, ◌-◌, ℕ, [], ◌++◌, true, length, drop, min, option_to_list, IfErr, IfNone, OnOk, Err};
 ghost use Rattle.std.specs.VecDeque.{deque_len, deque_capacity};
-ghost use Rattle.device_core.specs.declared.refusal.Refusal.TheVariants.{NoMemory};
 ghost use Rattle.device_core.specs.declared.request.Request.TheVariants as request;
-ghost use Rattle.device_core.specs.Request.{IsAnswer};
-ghost use Rattle.device_core.specs.State.{nothing, objects_of, timeline_at};
+ghost use Rattle.device_core.specs.Request.{IsAnswer, takes_memory};
+ghost use Rattle.device_core.specs.State.{nothing, objects_of};
 ghost use Rattle.c_handle.specs.Rows.{over};
 ghost use Rattle.c_device.specs.Service.{IsStep, AreGiven, may_wake, open_among, woken_of};
 
@@ -96,37 +95,39 @@ fn room_for_inc(
 ) -> Result<(), Refusal>
     ensures kept { open_among device.now woken.new.items ≡ open_among device.now woken.old.items }
     ensures given { (next : ℕ) → AreGiven next woken.old.items → AreGiven next woken.new.items }
-    ensures ready { OnOk result (length device.now.files ≤ deque_capacity woken.new - deque_len woken.new) }
+    ensures ready { OnOk result ((now : ℕ) →
+        takes_memory (objects_of device.now) (request.Inc timeline n now) ≡ true →
+        length device.now.files ≤ deque_capacity woken.new - deque_len woken.new) }
     ensures refused { IfErr result (λ e. (now : ℕ) →
         IsAnswer (objects_of device.now) (request.Inc timeline n now) (Err e)) }
 {
     if has_room(woken, device) || grow(woken, device) {
         return Ok(());
     }
-    Err(device.inc_refusal(timeline, n))
+    device.inc_without_memory(timeline, n)
 }
 
-// The closing of a file or a buffer wakes nothing, and takes no memory. It may leave the queue with too much room.
+// The closing of a file or a buffer wakes nothing, so no room is made for it. It may leave the queue with too much room.
 #[inline(always)]
 fn room_for_close(woken: &mut VecDeque<u64>, device: &Device, number: u64) -> Result<(), Refusal>
     ensures kept { open_among device.now woken.new.items ≡ open_among device.now woken.old.items }
     ensures given { (next : ℕ) → AreGiven next woken.old.items → AreGiven next woken.new.items }
-    ensures ready { OnOk result (is_some (timeline_at device.now number) ≡ true →
+    ensures ready { OnOk result ((now : ℕ) →
+        takes_memory (objects_of device.now) (request.Close number now) ≡ true →
         length device.now.files ≤ deque_capacity woken.new - deque_len woken.new) }
-    ensures refused { IfErr result (λ e.
-        (e ≡ NoMemory) × (is_some (timeline_at device.now number) ≡ true)) }
+    ensures refused { IfErr result (λ e. (now : ℕ) →
+        IsAnswer (objects_of device.now) (request.Close number now) (Err e)) }
 {
     if has_too_much(woken, device) {
         give_room_back(woken, device);
     }
-    if has_room(woken, device) || !device.is_timeline(number) {
+    if !device.is_timeline(number) {
         return Ok(());
     }
-    if grow(woken, device) {
-        Ok(())
-    } else {
-        Err(Refusal::NoMemory)
+    if has_room(woken, device) || grow(woken, device) {
+        return Ok(());
     }
+    device.close_without_memory(number)
 }
 
 /// Whether the queue has room for every open file.

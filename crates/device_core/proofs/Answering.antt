@@ -41,7 +41,7 @@ pub all_settled : (t v : ℕ) (s : Signal) (fs : List Fence) → are_signalled (
 all_settled t v s [] = refl
 all_settled t v s (f ∷ fs) = ap (λ b. b && are_signalled (all_signalled_by t v s fs)) (one_settled t v s f) ∙ ap (λ b. is_settled_by t v f && b) (all_settled t v s fs)
 
-wakes-is : (t v : ℕ) (s : Signal) (o : Option FileState) → (file_wakes t v o ≡ true) ↔ ((is_waiting o ≡ true) × (has_signalled (option_map (file_signalled t v s) o) ≡ true))
+pub wakes-is : (t v : ℕ) (s : Signal) (o : Option FileState) → (file_wakes t v o ≡ true) ↔ ((is_waiting o ≡ true) × (has_signalled (option_map (file_signalled t v s) o) ≡ true))
 wakes-is t v s None = (λ is. absurd (false≢true is), λ both. absurd (false≢true both.0))
 wakes-is t v s (Some f) = (
   λ is. let parts = and_parts (not (are_signalled f.fences)) (list_all (is_settled_by t v) f.fences) is in (parts.0, all_settled t v s f.fences ∙ parts.1),

@@ -33,7 +33,7 @@ pub or_cases : (a b : Bool) → (a || b) ≡ true → (a ≡ true) ⊎ (b ≡ tr
 or_cases true b h = inl refl
 or_cases false b h = inr h
 
-at_or_past : (a q : ℕ) → a ≤ q → (q ≡ a) ⊎ (a + 1 ≤ q)
+pub at_or_past : (a q : ℕ) → a ≤ q → (q ≡ a) ⊎ (a + 1 ≤ q)
 at_or_past a q low = grind arith
 
 -- the numbers below another

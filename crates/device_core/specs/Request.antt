@@ -1,5 +1,6 @@
 -- What a device is after an accepted request, why a request is refused, and what is answered.
-use Rattle.std.specs.Prelude.{◌≡◌, ◌↔◌, ℕ, ◌+◌, ◌^◌, nat_eq, nat_le, Bool, true, false, not, ◌||◌, if◌then◌else◌, List, Option, None, Some, is_some, option_map, Contains, Result, Ok, Err}
+use Rattle.std.specs.Prelude.{◌≡◌, ◌↔◌, ℕ, ◌+◌, ◌^◌, nat_eq, nat_le, Bool, true, false, not, ◌&&◌, ◌||◌, if◌then◌else◌, List, Option, None, Some, is_some, option_map, Contains, Result, Ok, Err}
+use Rattle.std.specs.List.{list_any, range_with_len}
 use Rattle.std.specs.List.Sorted.{IsStrictlyIncreasing}
 use Rattle.point_core.specs.Reach.{GREATEST}
 use Rattle.point_core.specs.declared.entry.Usage.{Usage}
@@ -123,21 +124,6 @@ cause_of d (request.Import buffer file flags) =
     cause_at_buffer d buffer (cause_after (import_usage flags) (if is_some (d.files file) then None else Some Invalid))
 cause_of d (request.Test buffer usage) = cause_at_buffer d buffer None
 
--- a look at a file or a buffer takes no memory, but for a report of it, nor does the closing of one
-abbrev pub takes_memory : Objects → Request → Bool
-takes_memory d (request.Open name) = true
-takes_memory d (request.Fence timeline point now) = true
-takes_memory d (request.Inc timeline n now) = true
-takes_memory d (request.Merge a b name) = true
-takes_memory d (request.Status file) = false
-takes_memory d (request.IsSignalled file) = false
-takes_memory d (request.Info file) = true
-takes_memory d (request.Close number now) = is_some (d.timelines number)
-takes_memory d (request.Buffer now) = true
-takes_memory d (request.Export buffer flags) = true
-takes_memory d (request.Import buffer file flags) = true
-takes_memory d (request.Test buffer usage) = false
-
 -- a file that is there and has not signalled, and one that has
 abbrev pub is_waiting : Option FileState → Bool
 is_waiting None = false
@@ -146,6 +132,26 @@ is_waiting (Some f) = not (are_signalled f.fences)
 abbrev pub has_signalled : Option FileState → Bool
 has_signalled None = false
 has_signalled (Some f) = are_signalled f.fences
+
+-- some file waits before, and has signalled after
+abbrev pub wakes_some : Objects → Objects → Bool
+wakes_some old new = list_any (λ n. is_waiting (old.files n) && has_signalled (new.files n)) (range_with_len 0 old.next)
+
+-- the request may be refused for want of memory: it makes something, puts something in or reports a list, or it wakes a
+-- file
+abbrev pub takes_memory : Objects → Request → Bool
+takes_memory d (request.Open name) = true
+takes_memory d (request.Fence timeline point now) = true
+takes_memory d (request.Inc timeline n now) = wakes_some d (risen d timeline n now)
+takes_memory d (request.Merge a b name) = true
+takes_memory d (request.Status file) = false
+takes_memory d (request.IsSignalled file) = false
+takes_memory d (request.Info file) = true
+takes_memory d (request.Close number now) = wakes_some d (closed d number now)
+takes_memory d (request.Buffer now) = true
+takes_memory d (request.Export buffer flags) = true
+takes_memory d (request.Import buffer file flags) = true
+takes_memory d (request.Test buffer usage) = false
 
 -- the files that waited and have signalled, each once, by rising number: there is one such list
 pub record AreWoken (old new : Objects) (woken : List ℕ) : Type 0 where

@@ -1,5 +1,5 @@
 -- The files that signal by a request.
-use Rattle.std.specs.Prelude.{nat_eq, ℕ, Bool, false, not, ◌&&◌, ◌||◌, List, Option, None, Some}
+use Rattle.std.specs.Prelude.{◌≡◌, nat_eq, ℕ, Bool, true, false, not, ◌&&◌, ◌||◌, List, Option, None, Some}
 use Rattle.std.specs.List.{list_any, list_all}
 use Rattle.device_core.specs.declared.fence.Fence.{Fence}
 use Rattle.device_core.specs.Fences.{is_pending, is_due, are_signalled}
@@ -16,6 +16,10 @@ wakes timeline value fs = not (are_signalled fs) && list_all (is_settled_by time
 abbrev pub file_wakes : ℕ → ℕ → Option FileState → Bool
 file_wakes timeline value None = false
 file_wakes timeline value (Some f) = wakes timeline value f.fences
+
+-- that of some file, and which
+abbrev pub WakesSome : ℕ → ℕ → (ℕ → Option FileState) → Type 0
+WakesSome timeline value files = (n : ℕ) × (file_wakes timeline value (files n) ≡ true)
 
 -- the number is among these
 abbrev pub has : List ℕ → ℕ → Bool

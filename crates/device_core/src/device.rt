@@ -127,8 +127,8 @@ impl Device {
     /// the files that signal by it, by rising number. A rise that reaches no point at which a file waits looks at no
     /// file, and mostly compares once.
     ///
-    /// Fails with `NoEntry`, or with `WrongKind` at a file or a buffer, then with `Overflow`, then with `NoMemory`;
-    /// nothing has changed then.
+    /// Fails with `NoEntry`, or with `WrongKind` at a file or a buffer, then with `Overflow`, then, if it wakes a file,
+    /// with `NoMemory`; nothing has changed then.
     pub fn inc(&mut self, timeline: u64, n: u32, now: u64) -> Result<Vec<u64>, Refusal>
         ensures woken { IfOk result (λ found. IfSome (timeline_at self.old timeline) (λ t. (f : ℕ) →
             (Contains found.items f ↔ (file_wakes timeline (t.value + n) (file_at self.old f) ≡ true)))) }
@@ -143,7 +143,9 @@ impl Device {
         ensures refused { IfNone (timeline_at self.old timeline)
             (result ≡ Err (missing_timeline (objects_of self.old) timeline)) }
         ensures last { IfSome (timeline_at self.old timeline) (λ t. IfErr result (λ e.
-            ((e ≡ NoMemory) × (t.value + n < 2 ^ 64)) ⊎ ((e ≡ Overflow) × (2 ^ 64 ≤ t.value + n)))) }
+            ((e ≡ NoMemory) × (t.value + n < 2 ^ 64)
+            × (takes_memory (objects_of self.old) (request.Inc timeline n now) ≡ true))
+            ⊎ ((e ≡ Overflow) × (2 ^ 64 ≤ t.value + n)))) }
         ensures fits { OnOk result (IfSome (timeline_at self.old timeline) (λ t. t.value + n < 2 ^ 64)) }
         ensures unchanged { OnErr result (self.new ≡ self.old) }
     {
@@ -154,9 +156,12 @@ impl Device {
         let Some(value) = known.value.checked_add(u64::from(n)) else {
             return Err(Refusal::Overflow);
         };
-        let woken = self
+        let Ok(woken) = self
             .timelines
-            .woken_by(self.alloc, &self.files, timeline, value)?;
+            .woken_by(self.alloc, &self.files, timeline, value)
+        else {
+            return Err(Refusal::NoMemory);
+        };
         let signal = Signal {
             at: now,
             is_cancelled: false,
@@ -172,7 +177,7 @@ impl Device {
     /// signal by it, by rising number. Nothing waits for a closed file any more. Nothing is woken by the closing of a
     /// buffer.
     ///
-    /// Fails with `NoEntry`, then at a timeline with `NoMemory`; nothing has changed then.
+    /// Fails with `NoEntry`, then, if it wakes a file, with `NoMemory`; nothing has changed then.
     pub fn close(&mut self, number: u64, now: u64) -> Result<Vec<u64>, Refusal>
         ensures woken { IfOk result (λ found. AreWoken (objects_of self.old) (objects_of self.new) found.items) }
         ensures closed { OnOk result (objects_of self.new ≡ closed (objects_of self.old) number now) }
@@ -204,13 +209,17 @@ impl Device {
         ensures known { OnOk result (IsSome (timeline_at self.old timeline)) }
         ensures refused { IfNone (timeline_at self.old timeline)
             (result ≡ Err (missing_timeline (objects_of self.old) timeline)) }
-        ensures last { IfSome (timeline_at self.old timeline) (λ _. IfErr result (λ e. e ≡ NoMemory)) }
+        ensures last { IfSome (timeline_at self.old timeline) (λ _. IfErr result (λ e.
+            (e ≡ NoMemory) × (takes_memory (objects_of self.old) (request.Close timeline now) ≡ true))) }
         ensures unchanged { OnErr result (self.new ≡ self.old) }
     {
         let _known = self.timeline(timeline)?;
-        let woken = self
+        let Ok(woken) = self
             .timelines
-            .woken_by(self.alloc, &self.files, timeline, u64::MAX)?;
+            .woken_by(self.alloc, &self.files, timeline, u64::MAX)
+        else {
+            return Err(Refusal::NoMemory);
+        };
         let signal = Signal {
             at: now,
             is_cancelled: true,
@@ -356,18 +365,47 @@ impl Device {
         self.timelines.contains_key(&number)
     }
 
-    /// What an increment is refused with if there is no memory for what it would wake: `NoMemory`, unless something
-    /// else refuses it.
-    pub fn inc_refusal(&self, timeline: u64, n: u32) -> Refusal
-        ensures { (now : ℕ) → IsCause (cause_of (objects_of self.now) (request.Inc timeline n now)) true result }
+    /// Whether an increment can do with no memory for what it would wake. Takes no memory.
+    ///
+    /// Fails with what the increment is refused with: `NoMemory` if it wakes a file, unless something else refuses it.
+    pub fn inc_without_memory(&self, timeline: u64, n: u32) -> Result<(), Refusal>
+        ensures none { OnOk result ((now : ℕ) →
+            takes_memory (objects_of self.now) (request.Inc timeline n now) ≡ false) }
+        ensures refused { IfErr result (λ e. (now : ℕ) →
+            IsCause (cause_of (objects_of self.now) (request.Inc timeline n now))
+            (takes_memory (objects_of self.now) (request.Inc timeline n now)) e) }
     {
-        match self.timeline(timeline) {
-            Ok(known) => match known.value.checked_add(u64::from(n)) {
-                Some(_) => Refusal::NoMemory,
-                None => Refusal::Overflow,
-            },
-            Err(refusal) => refusal,
+        let known = self.timeline(timeline)?;
+        let Some(value) = known.value.checked_add(u64::from(n)) else {
+            return Err(Refusal::Overflow);
+        };
+        // For the proof: no file has a number past the next one.
+        let _next = self.next;
+        if self.timelines.wakes_some(&self.files, timeline, value) {
+            return Err(Refusal::NoMemory);
         }
+        Ok(())
+    }
+
+    /// Whether a closing can do with no memory for what it would wake. Takes no memory.
+    ///
+    /// Fails with `NoMemory` if it is the closing of a timeline that wakes a file.
+    pub fn close_without_memory(&self, number: u64) -> Result<(), Refusal>
+        ensures none { OnOk result ((now : ℕ) →
+            takes_memory (objects_of self.now) (request.Close number now) ≡ false) }
+        ensures refused { IfErr result (λ e. (now : ℕ) →
+            IsCause (cause_of (objects_of self.now) (request.Close number now))
+            (takes_memory (objects_of self.now) (request.Close number now)) e) }
+    {
+        if !self.timelines.contains_key(&number) {
+            return Ok(());
+        }
+        // For the proof: no file has a number past the next one.
+        let _next = self.next;
+        if self.timelines.wakes_some(&self.files, number, u64::MAX) {
+            return Err(Refusal::NoMemory);
+        }
+        Ok(())
     }
 
     /// How much it keeps, which is no more than what is alive. Takes no memory.

@@ -15,8 +15,8 @@ use point_core::Usage;
 
 impl Device {
     /// The answer to one request: the first refusal whose cause holds, else what the request gives. `NoMemory` comes
-    /// last, and only if a growth was really refused; `Status`, `IsSignalled`, `Test` and the closing of a file or a buffer are
-    /// never answered it. A refused request changes nothing.
+    /// last, and only if a growth was really refused; `Status`, `IsSignalled` and `Test` are never answered it, and an
+    /// increment or a closing only if it wakes a file. A refused request changes nothing.
     #[inline(always)]
     pub fn serve(&mut self, request: Request) -> Result<Answer, Refusal>
         ensures answer { IsAnswer (objects_of self.old) request result }

@@ -9,7 +9,7 @@ ghost use Rattle.device_core.specs.declared.refusal.Refusal.TheVariants.{NoMemor
 ghost use Rattle.device_core.specs.declared.waiting.Waiting.{Waiting as Key};
 ghost use Rattle.device_core.specs.Floors.{HasRisenQuietly, lowered, lowered_by, settled, timelines_in, timelines_state};
 ghost use Rattle.device_core.specs.State.{AreInOrder, AreSignalled, IsIndexed, at, holds, raised, waits_of};
-ghost use Rattle.device_core.specs.Woken.{file_wakes};
+ghost use Rattle.device_core.specs.Woken.{WakesSome, file_wakes};
 
 use crate::fence::{Fence, Signal, Timeline};
 use crate::file::File;
@@ -161,9 +161,19 @@ impl Timelines {
         ensures woken { IfOk result (λ found. (n : ℕ) →
             (Contains found.items n ↔ (file_wakes number value (at files.now.entries n) ≡ true))) }
         ensures rising { IfOk result (λ found. IsStrictlyIncreasing found.items) }
-        ensures memory { IfErr result (λ e. e ≡ NoMemory) }
+        ensures memory { IfErr result (λ e. (e ≡ NoMemory) × WakesSome number value (at files.now.entries)) }
     {
         self.waiting.woken_by(alloc, files, number, value)
+    }
+
+    /// Whether a file signals once a timeline signals up to the value. Takes no memory.
+    pub(crate) fn wakes_some(&self, files: &HashMap<u64, File>, number: u64, value: u64) -> bool
+        requires indexed { IsIndexed self.now.index files.now.entries }
+        requires below { (n : ℕ) → 2 ^ 64 ≤ n → at files.now.entries n ≡ None }
+        ensures some { result ≡ true → WakesSome number value (at files.now.entries) }
+        ensures none { result ≡ false → (n : ℕ) → file_wakes number value (at files.now.entries n) ≡ false }
+    {
+        self.waiting.wakes_some(files, number, value)
     }
 
     /// Raises an open timeline to a value, and signals what is pending of it up to there in each file.

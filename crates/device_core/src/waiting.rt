@@ -4,13 +4,13 @@ ghost use Rattle.std.specs.List.Sorted.{IsStrictlyIncreasing};
 ghost use Rattle.device_core.specs.declared.waiting.Waiting.{Waiting as Key};
 ghost use Rattle.device_core.specs.declared.refusal.Refusal.TheVariants.{NoMemory};
 ghost use Rattle.device_core.specs.State.{AreInOrder, is_same, holds, is_due_at, waits_of, IsIndexed, at};
-ghost use Rattle.device_core.specs.Woken.{file_wakes};
+ghost use Rattle.device_core.specs.Woken.{WakesSome, file_wakes};
 ghost use Rattle.device_core.specs.Fences.{waiting};
 
 use crate::fence::Fence;
 use crate::file::File;
 use crate::refusal::Refusal;
-use crate::woken::woken_by;
+use crate::woken::{wakes_some, woken_by};
 use std::alloc::Global;
 use std::collections::{BTreeSet, HashMap};
 use std::marker::Model;
@@ -131,9 +131,19 @@ impl WaitingFiles {
         ensures woken { IfOk result (λ found. (n : ℕ) →
             (Contains found.items n ↔ (file_wakes timeline value (at files.now.entries n) ≡ true))) }
         ensures rising { IfOk result (λ found. IsStrictlyIncreasing found.items) }
-        ensures memory { IfErr result (λ e. e ≡ NoMemory) }
+        ensures memory { IfErr result (λ e. (e ≡ NoMemory) × WakesSome timeline value (at files.now.entries)) }
     {
         woken_by(alloc, &self.points, files, timeline, value)
+    }
+
+    /// Whether a file signals once a timeline signals up to the value. Takes no memory.
+    pub(crate) fn wakes_some(&self, files: &HashMap<u64, File>, timeline: u64, value: u64) -> bool
+        requires indexed { IsIndexed self.now files.now.entries }
+        requires below { (n : ℕ) → 2 ^ 64 ≤ n → at files.now.entries n ≡ None }
+        ensures some { result ≡ true → WakesSome timeline value (at files.now.entries) }
+        ensures none { result ≡ false → (n : ℕ) → file_wakes timeline value (at files.now.entries n) ≡ false }
+    {
+        wakes_some(&self.points, files, timeline, value)
     }
 
     /// Puts a file in at each of its pending fences.

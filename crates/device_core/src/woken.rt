@@ -1,8 +1,8 @@
 // The files that signal by a request.
-ghost use Rattle.std.specs.Prelude.{◌≡◌, ℕ, ◌^◌, ◌≤◌, nat_eq, ◌&&◌, ◌||◌, ◌↔◌, true, None, OnOk, IfOk, IfErr, Contains};
+ghost use Rattle.std.specs.Prelude.{◌≡◌, ℕ, ◌^◌, ◌≤◌, nat_eq, ◌&&◌, ◌||◌, ◌↔◌, true, false, None, OnOk, IfOk, IfErr, Contains};
 ghost use Rattle.device_core.specs.declared.refusal.Refusal.TheVariants.{NoMemory};
 ghost use Rattle.device_core.specs.State.{IsIndexed, at};
-ghost use Rattle.device_core.specs.Woken.{file_wakes, has, is_settled_by, wakes as wakes_of};
+ghost use Rattle.device_core.specs.Woken.{WakesSome, file_wakes, has, is_settled_by, wakes as wakes_of};
 ghost use Rattle.std.specs.List.{list_all};
 ghost use Rattle.std.specs.List.Sorted.{IsStrictlyIncreasing};
 
@@ -16,7 +16,7 @@ use std::collections::{BTreeSet, HashMap};
 /// The files that signal once a timeline signals up to the value, by rising number. Only the files that wait there are
 /// looked at.
 ///
-/// Fails only with `NoMemory`.
+/// Fails only with `NoMemory`, and only if there is such a file.
 pub(crate) fn woken_by(
     alloc: Global,
     points: &BTreeSet<Waiting>,
@@ -29,11 +29,33 @@ pub(crate) fn woken_by(
     ensures woken { IfOk result (λ found. (n : ℕ) →
         (Contains found.items n ↔ (file_wakes timeline value (at files.now.entries n) ≡ true))) }
     ensures rising { IfOk result (λ found. IsStrictlyIncreasing found.items) }
-    ensures memory { IfErr result (λ e. e ≡ NoMemory) }
+    ensures memory { IfErr result (λ e. (e ≡ NoMemory) × WakesSome timeline value (at files.now.entries)) }
 {
     let mut woken = gathered(alloc, points, files, timeline, value)?;
     put_in_order(&mut woken);
     Ok(woken)
+}
+
+/// Whether a file signals once a timeline signals up to the value. Takes no memory.
+pub(crate) fn wakes_some(
+    points: &BTreeSet<Waiting>,
+    files: &HashMap<u64, File>,
+    timeline: u64,
+    value: u64,
+) -> bool
+    requires indexed { IsIndexed points.now.keys files.now.entries }
+    requires below { (n : ℕ) → 2 ^ 64 ≤ n → at files.now.entries n ≡ None }
+    ensures some { result ≡ true → WakesSome timeline value (at files.now.entries) }
+    ensures none { result ≡ false → (n : ℕ) → file_wakes timeline value (at files.now.entries n) ≡ false }
+{
+    let first = Waiting::first(timeline);
+    let last = Waiting::last(timeline, value);
+    for due in points.range(first..=last) {
+        if file_wakes_at(files, due.file, timeline, value) {
+            return true;
+        }
+    }
+    false
 }
 
 // By rising number, each once.
@@ -56,7 +78,7 @@ fn gathered(
     requires below { (n : ℕ) → 2 ^ 64 ≤ n → at files.now.entries n ≡ None }
     ensures woken { IfOk result (λ found. (n : ℕ) →
         has found.items n ≡ file_wakes timeline value (at files.now.entries n)) }
-    ensures memory { IfErr result (λ e. e ≡ NoMemory) }
+    ensures memory { IfErr result (λ e. (e ≡ NoMemory) × WakesSome timeline value (at files.now.entries)) }
 {
     let first = Waiting::first(timeline);
     let last = Waiting::last(timeline, value);
@@ -76,7 +98,8 @@ fn put_if_woken(
 ) -> Result<(), Refusal>
     ensures put { OnOk result ((n : ℕ) → has woken.new.items n ≡
         ((nat_eq number n && file_wakes timeline value (at files.now.entries number)) || has woken.old.items n)) }
-    ensures memory { IfErr result (λ e. e ≡ NoMemory) }
+    ensures memory { IfErr result (λ e.
+        (e ≡ NoMemory) × (file_wakes timeline value (at files.now.entries number) ≡ true)) }
 {
     if !file_wakes_at(files, number, timeline, value) {
         return Ok(());

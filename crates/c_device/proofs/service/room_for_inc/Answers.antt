@@ -1,0 +1,15 @@
+use Rattle.std.proofs.Common.{◌≡◌, ◌≤◌, ◌-◌, ◌∙◌, ℕ, true, false, sym, length, OnOk}
+use Rattle.std.specs.VecDeque.{deque_len, deque_capacity}
+use Rattle.std.proofs.lemmas.Bool.{false≢true}
+use Rattle.device_core.specs.declared.request.Request.TheVariants as request
+use Rattle.device_core.specs.Request.{takes_memory}
+use Rattle.device_core.specs.State.{objects_of}
+use Rattle.c_device.proofs.Queued.{on-ok}
+use Rattle.c_device.proofs.service.room_for_inc.Goals as goal
+
+pub returns-clause-ready : goal.returns-clause-ready
+returns-clause-ready c =
+    let d = c.args.device.now in
+    let takes = λ (now : ℕ). takes_memory (objects_of d) (request.Inc c.args.timeline c.args.n now) in
+    on-ok c.inc_without_memory.result ((now : ℕ) → takes now ≡ false) ((now : ℕ) → takes now ≡ true → length d.files ≤ deque_capacity c.grow.new.woken - deque_len c.grow.new.woken)
+    (λ none now wakes. absurd (false≢true (sym (none now) ∙ wakes))) c.inc_without_memory.ensures.none
