@@ -74,6 +74,8 @@ static int add_part(struct registry *registry, const struct bim_request *request
     if (error)
         return error;
     memory = passed < 0 ? make_memory(registry, request) : keep_memory(registry, passed);
+    if (memory < 0 && errno == EMFILE && registry->host->make_room(registry))
+        return add_part(registry, request, buffer, passed);
     if (memory < 0)
         return errno;
     error = parts_add(&buffer->memory, memory, request->from, request->size);

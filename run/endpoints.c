@@ -106,13 +106,14 @@ bool endpoint_is_alone(int ours)
 }
 
 /* Whether a descriptor is on the file system of the kernel's own pipes, or sockets: what has a name is on another. The
- * first one tells the device, to which all others are compared before this is called. */
+ * first one tells the device, to which all others are compared before this is called; another thread may have learned
+ * it since. */
 __attribute__((cold)) static bool is_nameless(int file, dev_t device, long kind, _Atomic dev_t *known)
 {
     struct statfs found;
 
     if (*known)
-        return false;
+        return device == *known;
     if (syscall(SYS_fstatfs, file, &found) || found.f_type != kind)
         return false;
     *known = device;
