@@ -1,2 +1,3 @@
+pub mod Replace
 pub mod Script
 pub mod Source

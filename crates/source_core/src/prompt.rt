@@ -1,4 +1,6 @@
 // A reader at a terminal.
+ghost use Rattle.std.specs.Prelude.{◌≡◌};
+
 use std::io;
 use std::io::{Read, Write};
 
@@ -16,7 +18,9 @@ pub struct Prompted<R, W> {
 
 impl<R: Read + Drop, W: Write + Drop> Prompted<R, W> {
     /// Wraps a reader from which nothing was read yet.
-    pub fn new(reader: R, prompts: W) -> Prompted<R, W> {
+    pub fn new(reader: R, prompts: W) -> Prompted<R, W>
+        ensures reader { result.reader ≡ reader }
+    {
         Prompted {
             reader,
             prompts,
@@ -26,6 +30,8 @@ impl<R: Read + Drop, W: Write + Drop> Prompted<R, W> {
 }
 
 impl<R: Read + Drop, W: Write + Drop> Read for Prompted<R, W> {
+    ghost remaining = { λ prompted. R.remaining prompted.reader };
+
     fn read(&mut self, buf: &mut [u8]) -> io::Result<usize> {
         if self.begins {
             show(&mut self.prompts, PROMPT);

@@ -1,11 +1,16 @@
 // Files that are read and replaced as a whole.
+ghost use Rattle.std.specs.Prelude.{◌+◌, ◌-◌, ◌^◌, min, IfOk, OnOk};
+ghost use Rattle.source_core.specs.Replace.{HasFront, WasGiven};
+
 use std::fs::{File, OpenFile};
 use std::io::{Read, Write};
 use std::rt::Files;
 use std::{fs, io};
 
 /// The bytes of a file, of which it reads at most one more than `most`.
-pub fn read_file<R: Files + AllocGlobal>(rt: &R, name: &str, most: u64) -> io::Result<Vec<u8>> {
+pub fn read_file<R: Files + AllocGlobal>(rt: &R, name: &str, most: u64) -> io::Result<Vec<u8>>
+    ensures front { IfOk result (λ bytes. HasFront R.File.remaining (min (most + 1) (2 ^ 64 - 1)) bytes.items) }
+{
     let mut bytes = Vec::new(rt.alloc());
     let file = fs::open(rt, name)?;
     file.take(most.saturating_add(1)).read_to_end(&mut bytes)?;
@@ -17,7 +22,9 @@ pub fn read_file<R: Files + AllocGlobal>(rt: &R, name: &str, most: u64) -> io::R
 ///
 /// If that fails, the file stays as it was, and the one beside it is removed. If there was one beside it before, it is left
 /// alone, and the call fails.
-pub fn replace_file<R: Files + AllocGlobal>(rt: &R, name: &str, bytes: &[u8]) -> io::Result<()> {
+pub fn replace_file<R: Files + AllocGlobal>(rt: &R, name: &str, bytes: &[u8]) -> io::Result<()>
+    ensures written { OnOk result (WasGiven R.File.contents bytes.now) }
+{
     let path = fs::canonicalize(rt, name)?;
     let mut beside = String::from_str(rt.alloc(), path.as_str())?;
     beside.push_str(".new")?;
@@ -31,7 +38,9 @@ pub fn replace_file<R: Files + AllocGlobal>(rt: &R, name: &str, bytes: &[u8]) ->
 }
 
 /// Replaces a file by bytes as `replace_file` does, or makes the file if there is none of that name.
-pub fn put_file<R: Files + AllocGlobal>(rt: &R, name: &str, bytes: &[u8]) -> io::Result<()> {
+pub fn put_file<R: Files + AllocGlobal>(rt: &R, name: &str, bytes: &[u8]) -> io::Result<()>
+    ensures written { OnOk result (WasGiven R.File.contents bytes.now) }
+{
     match fs::metadata(rt, name) {
         Ok(_) => replace_file(rt, name, bytes),
         Err(error) if error.kind() == io::ErrorKind::NotFound => make_file(rt, name, bytes),
@@ -39,7 +48,9 @@ pub fn put_file<R: Files + AllocGlobal>(rt: &R, name: &str, bytes: &[u8]) -> io:
     }
 }
 
-fn make_file<R: Files + AllocGlobal>(rt: &R, name: &str, bytes: &[u8]) -> io::Result<()> {
+fn make_file<R: Files + AllocGlobal>(rt: &R, name: &str, bytes: &[u8]) -> io::Result<()>
+    ensures written { OnOk result (WasGiven R.File.contents bytes.now) }
+{
     let mut beside = String::from_str(rt.alloc(), name)?;
     beside.push_str(".new")?;
     let file = File::create_new(rt, beside.as_str())?;
@@ -57,7 +68,9 @@ fn make<R: Files>(
     beside: &str,
     mut file: R::File,
     bytes: &[u8],
-) -> io::Result<()> {
+) -> io::Result<()>
+    ensures written { OnOk result (WasGiven R.File.contents bytes.now) }
+{
     file.write_all(bytes)?;
     file.sync_all()?;
     fs::rename(rt, beside, name)
@@ -69,7 +82,9 @@ fn replace<R: Files>(
     beside: &str,
     mut file: R::File,
     bytes: &[u8],
-) -> io::Result<()> {
+) -> io::Result<()>
+    ensures written { OnOk result (WasGiven R.File.contents bytes.now) }
+{
     let permissions = fs::metadata(rt, path)?.permissions();
     file.set_permissions(permissions)?;
     file.write_all(bytes)?;

@@ -1,0 +1,12 @@
+-- What is read of a file, and written to one.
+use Rattle.std.specs.Prelude.{◌≡◌, ℕ, List, take, Option, IfSome}
+use Rattle.std.specs.Io.KnownBytes.{Appends}
+
+module _ {F : Type 0} (of_file : F → Option (List ℕ)) where
+  -- the first bytes that a file has unread, up to that many. Which file a name stands for, the system alone knows.
+  abbrev pub HasFront : ℕ → List ℕ → Type 0
+  HasFront limit bytes = (file : F) × IfSome (of_file file) (λ unread. bytes ≡ take limit unread)
+
+  -- a file was given these bytes, after those that it had
+  abbrev pub WasGiven : List ℕ → Type 0
+  WasGiven bytes = (before : F) × (after : F) × Appends (of_file before) (of_file after) bytes
