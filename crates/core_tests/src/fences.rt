@@ -1,8 +1,9 @@
-// Fences of points of two contexts.
-ghost use Rattle.std.specs.Prelude.{◌≡◌};
+// Fences of points of two contexts, and a watch.
+ghost use Rattle.std.specs.Prelude.{◌≡◌, replicate};
+ghost use Rattle.point_core.specs.declared.context.TheConstants.{CONTEXTS};
 
 use crate::values::holds;
-use fence_core::Fence;
+use fence_core::{Fence, Watches};
 use point_core::{Context, Point, Reach, Refusal};
 use std::alloc::Global;
 use std::process::Abort;
@@ -28,7 +29,7 @@ fn second_point(value: u64) -> Point
 }
 
 /// The values of the first two contexts.
-pub(crate) fn reach_of(first: u64, second: u64) -> Reach {
+fn reach_of(first: u64, second: u64) -> Reach {
     let mut reach = Reach::zero();
     reach.raise_to(first_point(first));
     reach.raise_to(second_point(second));
@@ -36,7 +37,7 @@ pub(crate) fn reach_of(first: u64, second: u64) -> Reach {
 }
 
 /// The fence of a point of the first context and one of the second, where 0 stands for none.
-pub(crate) fn fence_of(alloc: Global, first: u64, second: u64) -> Result<Fence, Refusal> {
+fn fence_of(alloc: Global, first: u64, second: u64) -> Result<Fence, Refusal> {
     match (first, second) {
         (0, 0) => Fence::of(alloc, &[]),
         (_, 0) => Fence::of(alloc, &[first_point(first)]),
@@ -88,4 +89,22 @@ fn fence_rows(rt: HostRuntime) {
     check_fence(&rt, rt.alloc(), 5, 0, &[first_point(5)]);
     check_fence(&rt, rt.alloc(), 0, 2, &[second_point(2)]);
     check_fence(&rt, rt.alloc(), 5, 2, &[first_point(5), second_point(2)]);
+}
+
+/// Registers a watch on a fence of point 5 of the first context, which fires once that point is reached.
+fn fires(rt: &impl Abort, watches: &mut Watches, fence: &Fence)
+    requires new { watches.old.reach ≡ replicate CONTEXTS 0 }
+{
+    let (none, five) = (Reach::zero(), reach_of(5, 0));
+    assert!(rt; none.at_least(&none) && five.at_least(&none), "a reach falls");
+    watches.add(7, fence, &none).expect(rt, "a watch");
+    let fired = watches.after_rise(&five).expect(rt, "memory");
+    holds(rt, fired.as_slice() == [7].as_slice());
+}
+
+#[test]
+fn a_watch_fires(rt: HostRuntime) {
+    let mut watches = Watches::new(rt.alloc()).expect(&rt, "no watches");
+    let fence = fence_of(rt.alloc(), 5, 0).expect(&rt, "a fence");
+    fires(&rt, &mut watches, &fence);
 }

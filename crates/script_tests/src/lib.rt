@@ -1,5 +1,4 @@
-//! Tests of what no script of a program shows: totals, flushes, readers and writers that fail, the lines of faults, and the calls
-//! of a desk.
+//! Tests of what no script of a program shows: totals, flushes, readers and writers that fail, and the lines of faults.
 #![tactic(auto)]
 
 #[cfg(test)]
@@ -11,8 +10,4 @@ mod explaining;
 #[cfg(test)]
 mod faults;
 #[cfg(test)]
-mod lines;
-#[cfg(test)]
 mod pipes;
-#[cfg(test)]
-mod steps;

@@ -62,7 +62,7 @@ impl Gate for ClosedGate {
     fn leave(&self, _client: usize, _act: usize) {}
 }
 
-/// Opens to one client alone, whose acts have to come in order, each between its two calls.
+/// Opens to a single client, whose acts have to come in order, each between its two calls.
 #[derive(Drop)]
 struct CountingGate {
     next: AtomicUsize,

@@ -3,8 +3,6 @@
 #![tactic(auto)]
 
 #[cfg(test)]
-mod closed_fences;
-#[cfg(test)]
 mod closed_tables;
 #[cfg(test)]
 mod closing;

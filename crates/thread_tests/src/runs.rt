@@ -1,13 +1,10 @@
 // Clients on threads against both tables.
 ghost use Rattle.std.specs.Prelude.{◌≤◌};
 
-use crate::plans::{READ, WRITTEN, check_one_table, check_refused, check_rows, plans_of, point};
+use crate::plans::{READ, WRITTEN, check_rows};
 use crate::seats::holds;
-use clients_core::{
-    ACTS, Board, CLIENTS, LockedTable, OpenGate, ROUND_BUFFERS, plans_of_rounds, run_clients,
-};
-use point_core::{Context, LimitKind, Point, Refusal, Usage};
-use resv_core::{Act, Plan, Settled, SharedTable};
+use clients_core::{Board, LockedTable, OpenGate, ROUND_BUFFERS, plans_of_rounds, run_clients};
+use resv_core::{Plan, Settled, SharedTable};
 use std::alloc::Global;
 use std::process::Abort;
 use std::sync::Wait;
@@ -48,7 +45,7 @@ fn run_once<R: Threads + Wait + Abort + Sync, T: SharedTable>(
     check_rounds(rt, &settled, plans.len());
 }
 
-/// Runs clients of 100 rounds many times, which come to what their plans alone say.
+/// Runs clients of 100 rounds many times, which come to what only their plans say.
 fn run_rounds<R: Threads + Wait + Abort + Sync, T: SharedTable>(
     rt: &R,
     alloc: Global,
@@ -81,99 +78,4 @@ fn eight_clients_under_locks(rt: HostRuntime) {
 #[test]
 fn eight_clients_on_a_board(rt: HostRuntime) {
     run_rounds::<HostRuntime, Board>(&rt, rt.alloc(), 8);
-}
-
-/// What clients of these acts settle with one buffer.
-fn settled_by<R: Threads + Wait + Abort + Sync, T: SharedTable>(
-    rt: &R,
-    alloc: Global,
-    clients: &[&[Act]],
-) -> Result<Settled, Refusal> {
-    let plans = plans_of(rt, alloc, clients);
-    match run_clients::<R, T, OpenGate>(rt, alloc, 1, plans.as_slice(), &OpenGate) {
-        Ok((settled, _table)) => Ok(settled),
-        Err(refusal) => Err(refusal),
-    }
-}
-
-/// Checks that clients of these acts are refused.
-fn check_refusal<R: Threads + Wait + Abort + Sync, T: SharedTable>(
-    rt: &R,
-    alloc: Global,
-    clients: &[&[Act]],
-    wanted: Refusal,
-) {
-    check_refused(rt, settled_by::<R, T>(rt, alloc, clients), wanted);
-}
-
-/// Runs plans that are refused.
-fn run_refused<R: Threads + Wait + Abort + Sync, T: SharedTable>(rt: &R, alloc: Global) {
-    let ctx = Context::at(1);
-    let on_the_second = [Act::Put(0, Point { ctx, value: 1 }, Usage::Write)];
-    let wraps = [Act::Inc(u64::MAX), Act::Inc(1)];
-    check_refusal::<R, T>(rt, alloc, &[&on_the_second], Refusal::NoEntry);
-    check_refusal::<R, T>(rt, alloc, &[&wraps], Refusal::Overflow);
-}
-
-/// The plans of so many clients that do nothing.
-fn idle_plans(rt: &impl Abort, alloc: Global, count: usize) -> Vec<Plan> {
-    let mut plans = Vec::new(alloc);
-    for _ in 0..count {
-        plans.push(Plan::of(Vec::new(alloc))).expect(rt, "a plan");
-    }
-    plans
-}
-
-/// Runs so many idle clients, which are too few or too many.
-fn run_idle<R: Threads + Wait + Abort + Sync, T: SharedTable>(rt: &R, alloc: Global, count: usize) {
-    let plans = idle_plans(rt, alloc, count);
-    let refused = run_clients::<R, T, OpenGate>(rt, alloc, 1, plans.as_slice(), &OpenGate);
-    check_refused(rt, refused, Refusal::Limit(LimitKind::Clients));
-}
-
-/// Runs a plan that is too long.
-fn run_too_long<R: Threads + Wait + Abort + Sync, T: SharedTable>(rt: &R, alloc: Global) {
-    let acts = Vec::from_elem(alloc, Act::Inc(0), ACTS + 1).expect(rt, "acts");
-    check_refusal::<R, T>(
-        rt,
-        alloc,
-        &[acts.as_slice()],
-        Refusal::Limit(LimitKind::Plan),
-    );
-}
-
-/// Runs a plan that is accepted.
-fn run_accepted<R: Threads + Wait + Abort + Sync, T: SharedTable>(rt: &R, alloc: Global) {
-    let acts = [
-        Act::Put(0, point(4), Usage::Read),
-        Act::Look(0, Usage::Read),
-        Act::Inc(3),
-    ];
-    let settled = settled_by::<R, T>(rt, alloc, &[&acts]).expect(rt, "a settled table");
-    check_one_table(rt, &settled, &[3], &READ, 4);
-}
-
-/// Runs two clients that advance unlike.
-fn run_unlike<R: Threads + Wait + Abort + Sync, T: SharedTable>(rt: &R, alloc: Global) {
-    let settled = settled_by::<R, T>(rt, alloc, &[&[Act::Inc(1)], &[Act::Inc(2)]]).expect(
-        rt,
-        "a settled table",
-    );
-    check_one_table(rt, &settled, &[1, 2], &[], 0);
-}
-
-/// Runs plans of one buffer.
-fn run_plans<R: Threads + Wait + Abort + Sync, T: SharedTable>(rt: &R, alloc: Global) {
-    run_refused::<R, T>(rt, alloc);
-    run_idle::<R, T>(rt, alloc, 0);
-    run_idle::<R, T>(rt, alloc, CLIENTS + 1);
-    run_too_long::<R, T>(rt, alloc);
-    run_accepted::<R, T>(rt, alloc);
-    run_unlike::<R, T>(rt, alloc);
-}
-
-#[test]
-fn plans_of_clients(rt: HostRuntime) {
-    run_plans::<HostRuntime, LockedTable>(&rt, rt.alloc());
-    run_plans::<HostRuntime, Board>(&rt, rt.alloc());
 }

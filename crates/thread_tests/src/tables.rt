@@ -128,7 +128,7 @@ fn check_unsettled<R: Wait + Abort, T: SharedTable>(
     check_refused(rt, refused, Refusal::Torn);
 }
 
-/// Checks puts into the second buffer of a new table, which show there alone, each from its usage on.
+/// Checks puts into the second buffer of a new table, which show only there, each from its usage on.
 fn check_new_table<R: Wait + Abort, T: SharedTable>(
     rt: &R,
     alloc: Global,
@@ -164,43 +164,4 @@ fn check_tables<R: Wait + Abort, T: SharedTable>(rt: &R, alloc: Global) {
 fn tables_of_two_buffers(rt: HostRuntime) {
     check_tables::<HostRuntime, LockedTable>(&rt, rt.alloc());
     check_tables::<HostRuntime, Board>(&rt, rt.alloc());
-}
-
-/// Checks a look at a board of one buffer, by the board's own call, which lists these points. Nothing is signalled.
-fn check_board_export(
-    rt: &impl Abort,
-    alloc: Global,
-    board: &Board,
-    words: &Words,
-    seat: &mut Seat,
-    usage: Usage,
-    points: &[Point],
-)
-    requires own { (seat.old.words ≡ words.now) × (board.now ≡ words.now) }
-    requires buffers { words.now.buffers ≡ 1 }
-    ensures same { seat.new.words ≡ seat.old.words }
-{
-    let listing = board
-        .export(alloc, words, seat, 0, usage)
-        .expect(rt, "a look");
-    check_listing(rt, &listing, &Reach::zero(), points);
-}
-
-/// Checks a put into an empty board, and looks for other usages, by the board's own calls.
-fn check_board(rt: &impl Abort, alloc: Global, words: &Words, seat: &mut Seat)
-    requires own { seat.old.words ≡ words.now }
-    requires sizes { (words.now.contexts ≡ 1) × (words.now.buffers ≡ 1) }
-{
-    let board = Board::empty(alloc, words).expect(rt, "a board");
-    board
-        .put(words, seat, 0, point(4), Usage::Read)
-        .expect(rt, "a put");
-    check_board_export(rt, alloc, &board, words, seat, Usage::Write, &[]);
-    check_board_export(rt, alloc, &board, words, seat, Usage::Read, &[point(4)]);
-}
-
-#[test]
-fn a_board_of_one_buffer(rt: HostRuntime) {
-    let (words, mut seat) = words_of(&rt, rt.alloc(), 1, 1, 0);
-    check_board(&rt, rt.alloc(), &words, &mut seat);
 }

@@ -20,7 +20,7 @@ const SLOW: u64 = 9;
 
 const TURNS: u32 = 1_000_000;
 
-/// Records each put that its table has accepted. It lists nothing for `Bookkeep`, and never settles the plan of a client alone.
+/// Records each put that its table has accepted. It lists nothing for `Bookkeep`, and never settles the plan of a single client.
 /// A client's look is its `export`.
 #[derive(Drop)]
 struct OddTable {
