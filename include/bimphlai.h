@@ -306,6 +306,7 @@ enum bim_errno {
     BIM_EEXIST = 17,    /* an open handle where one is to be opened */
     BIM_EINVAL = 22,    /* a number that is no usage, or no flags; an import of no file */
     BIM_ENOTTY = 25,    /* the object is of another kind */
+    BIM_ENOSPC = 28,    /* no number is left: none is given twice */
     BIM_EOVERFLOW = 75  /* the value would pass UINT64_MAX: values don't wrap, their points do */
 };
 
@@ -317,11 +318,11 @@ int bim_device_open(bim_device *device);
 void bim_device_close(bim_device *device);
 
 /* Makes a timeline at value 0, and stores its number. Its name is that of the task that opens it, cut at 31 bytes.
- * Fails with ENOMEM. Opening sync/sw_sync. */
+ * Fails with ENOSPC and ENOMEM. Opening sync/sw_sync. */
 int bim_device_timeline(bim_device *device, const char *task, uint64_t *timeline);
 
 /* Makes a file of a point on a timeline, and stores its number. A point that the timeline has reached is signalled
- * now. Fails with ENOENT, ENOTTY, EOVERFLOW and ENOMEM. SW_SYNC_IOC_CREATE_FENCE. */
+ * now. Fails with ENOSPC, ENOENT, ENOTTY, EOVERFLOW and ENOMEM. SW_SYNC_IOC_CREATE_FENCE. */
 int bim_device_fence(bim_device *device, uint64_t timeline, uint32_t point, uint64_t now, uint64_t *file);
 
 /* Adds n to a timeline's value. The files that this signals wait for bim_device_take_woken. Fails with ENOENT, ENOTTY,
@@ -329,8 +330,8 @@ int bim_device_fence(bim_device *device, uint64_t timeline, uint32_t point, uint
 int bim_device_inc(bim_device *device, uint64_t timeline, uint32_t n, uint64_t now);
 
 /* Makes a file of what two files wait for, of each timeline the latest point that is pending, and stores its number.
- * Its name is cut at 31 bytes; without one it is named after its fences. Fails with ENOENT, ENOTTY (the first is of
- * another kind; of the second that is ENOENT) and ENOMEM. SYNC_IOC_MERGE. */
+ * Its name is cut at 31 bytes; without one it is named after its fences. Fails with ENOSPC, ENOENT, ENOTTY (the first is
+ * of another kind; of the second that is ENOENT) and ENOMEM. SYNC_IOC_MERGE. */
 int bim_device_merge(bim_device *device, uint64_t a, uint64_t b, const char *name, uint64_t *file);
 
 /* Stores a file's status (a bim_status): that of its first fence that is pending or has an error, else
@@ -365,12 +366,12 @@ int bim_device_info(bim_device *device, uint64_t file, bim_device_file_info *inf
  * signals by it, ENOMEM. The close(2) of the last descriptor. */
 int bim_device_release(bim_device *device, uint64_t object, uint64_t now);
 
-/* Makes a buffer, and stores its number. Its exports have that time while nothing is pending. Fails with ENOMEM. A
- * dma-buf's reservation, dma_resv_init. */
+/* Makes a buffer, and stores its number. Its exports have that time while nothing is pending. Fails with ENOSPC and
+ * ENOMEM. A dma-buf's reservation, dma_resv_init. */
 int bim_device_buffer(bim_device *device, uint64_t now, uint64_t *buffer);
 
 /* Makes a file of what an access to a buffer has to wait for (flags are a bim_sync), and stores its number. Fails with
- * ENOENT, ENOTTY, EINVAL and ENOMEM. DMA_BUF_IOCTL_EXPORT_SYNC_FILE. */
+ * ENOSPC, ENOENT, ENOTTY, EINVAL and ENOMEM. DMA_BUF_IOCTL_EXPORT_SYNC_FILE. */
 int bim_device_export(bim_device *device, uint64_t buffer, uint32_t flags, uint64_t *file);
 
 /* Adds a file's pending fences to a buffer, for the accesses that the flags say (a bim_sync). Fails with ENOENT,

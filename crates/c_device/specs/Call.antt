@@ -1,7 +1,7 @@
 -- What a call from C comes to: an answer, its number, and what it stores.
 use Rattle.std.specs.Prelude.{◌≡◌, ◌⊎◌, ℕ, ℤ, pos, Bool, true, false, List, [], length, drop, min, Option, None, Some, Result, Ok, Err}
 use Rattle.device_core.specs.declared.refusal.Refusal.{Refusal}
-use Rattle.device_core.specs.declared.refusal.Refusal.TheVariants.{NoEntry, NoMemory, Invalid, WrongKind, Overflow}
+use Rattle.device_core.specs.declared.refusal.Refusal.TheVariants.{NoEntry, NoMemory, Invalid, WrongKind, NoNumber, Overflow}
 use Rattle.device_core.specs.declared.request.Request.{Request}
 use Rattle.device_core.specs.declared.request.Answer.{Answer}
 use Rattle.device_core.specs.State.{nothing}
@@ -20,6 +20,7 @@ errno_of NoEntry = pos 2
 errno_of NoMemory = pos 12
 errno_of Invalid = pos 22
 errno_of WrongKind = pos 25
+errno_of NoNumber = pos 28
 errno_of Overflow = pos 75
 
 -- 0 if the request was accepted, else why it was refused: a closed handle with EBADF

@@ -28,7 +28,7 @@ use Rattle.device_core.proofs.Histories.{world_from-push}
 use Rattle.device_core.proofs.Sound.{with_at-same, with_at-other, fence-reached}
 use Rattle.device_core.proofs.Pending.{exported-pending, fence-above}
 use Rattle.device_core.proofs.Reporting.{HasSums, HasSums-after, HasSums-empty, HasSums-history, sum-push}
-use Rattle.device_core.proofs.Stepping.{same_Some, None≢Some, no_cause, IsSound-after, IsSound-empty, IsSound-history}
+use Rattle.device_core.proofs.Stepping.{same_Some, None≢Some, no_cause, numbered, IsSound-after, IsSound-empty, IsSound-history}
 
 -- the first of two times
 abbrev or_time : Option ℕ → Option ℕ → Option ℕ
@@ -333,7 +333,8 @@ HasSignals-after : (before : List Request) (w : World) (r : Request) → w ≡ w
 HasSignals-after before w (request.Open name) is sound none sums h later = HasSignals-same before w (request.Open name) is later (omega arith) refl (λ t. refl) h
 HasSignals-after before w (request.Fence t point now) is sound none sums h later =
     let r = request.Fence t point now in
-    let there = no_cause (w.objects.timelines t) (overflow (unwrapped (value_in (w.objects.timelines t)) point)) (missing_timeline w.objects t) none in
+    let cause = overflow (unwrapped (value_in (w.objects.timelines t)) point) in
+    let there = no_cause (w.objects.timelines t) cause (missing_timeline w.objects t) (numbered w.objects (cond (is_some (w.objects.timelines t)) cause (Some (missing_timeline w.objects t))) none) in
     HasSignals-new before w r (option_map (λ j. one_fence_file t j point now) (w.objects.timelines t)) is later refl (λ n. refl) (λ q. refl) h
     (λ f made its. one-told before w t point now f is there.0 there.1 sums h made its (later.fences w.objects.next f made).each)
 HasSignals-after before w (request.Inc t n now) is sound none sums h later =

@@ -12,13 +12,13 @@ use Rattle.device_core.specs.declared.fence.Text.{Text}
 use Rattle.device_core.specs.declared.fence.Signal.{Signal}
 use Rattle.device_core.specs.declared.fence.Timeline.{Timeline}
 use Rattle.device_core.specs.declared.refusal.Refusal.{Refusal}
-use Rattle.device_core.specs.declared.refusal.Refusal.TheVariants.{Invalid, Overflow}
+use Rattle.device_core.specs.declared.refusal.Refusal.TheVariants.{Invalid, NoNumber, Overflow}
 use Rattle.device_core.specs.declared.request.Request.{Request}
 use Rattle.device_core.specs.declared.request.Request.TheVariants as request
 use Rattle.device_core.specs.Wrapping.{unwrapped}
 use Rattle.device_core.specs.Fences.{signal_at, all_signalled_by, merged, entries_in}
 use Rattle.device_core.specs.State.{FileState, Objects, new_timeline, raised, fence_at, one_fence_file, merged_files, file_signalled, missing_timeline, missing_buffer, export_of, import_of}
-use Rattle.device_core.specs.Request.{with_at, value_in, opened, with_file, with_signals, closed_timeline, dropped, closed, with_new_buffer, with_buffer, overflow, cause_after, cause_of}
+use Rattle.device_core.specs.Request.{with_at, value_in, opened, with_file, with_signals, closed_timeline, dropped, closed, with_new_buffer, with_buffer, overflow, cause_after, cause_if_numbered, cause_of}
 use Rattle.device_core.specs.History.{World, asked, put_by_export, put_by_import, world_after, world_from, world_of, empty_world, AreAccepted, reach_of, reached_by}
 use Rattle.device_core.specs.Buffers.{BufferState, at_usage, empty_buffer, entries_of, export_usage, exported, import_into, import_usage}
 use Rattle.device_core.specs.BufferWorld.{AreBufferFences, HasGivenTimelines, IsBufferFence, put_with}
@@ -343,6 +343,12 @@ pub no_cause : {X : Type 0} (o : Option X) (c : Option Refusal) (e : Refusal) �
 no_cause None c e is = None≢Some e (sym is)
 no_cause (Some x) c e is = (x, refl, is)
 
+pub numbered : (d : Objects) (cause : Option Refusal) → cause_if_numbered d cause ≡ None → cause ≡ None
+numbered d cause is = elim (cases_lt d.next GREATEST) [
+  | inl low ↦ sym (ap (λ b. cond b (Some NoNumber) cause) (lt-leb GREATEST d.next low)) ∙ is
+  | inr past ↦ None≢Some NoNumber (sym is ∙ ap (λ b. cond b (Some NoNumber) cause) (le-leb GREATEST d.next past))
+]
+
 pub fits-overflow : (value : ℕ) → overflow value ≡ None → value ≤ GREATEST
 fits-overflow value is = elim (cases_lt value (2 ^ 64)) [
   | inl low ↦ omega arith
@@ -426,7 +432,8 @@ above_closed b x low = sym (ap (λ c. b && not c) (le-leb x GREATEST low) ∙ an
 pub IsSound-after : (w : World) (r : Request) → IsSound w → cause_of w.objects r ≡ None → IsSound (world_after w r)
 IsSound-after w (request.Open name) h none = IsSound-opened w name h
 IsSound-after w (request.Fence t point now) h none =
-    let there = no_cause (w.objects.timelines t) (overflow (unwrapped (value_in (w.objects.timelines t)) point)) (missing_timeline w.objects t) none in
+    let cause = overflow (unwrapped (value_in (w.objects.timelines t)) point) in
+    let there = no_cause (w.objects.timelines t) cause (missing_timeline w.objects t) (numbered w.objects (cond (is_some (w.objects.timelines t)) cause (Some (missing_timeline w.objects t))) none) in
     let k = there.0 in
     let fits : unwrapped k.value point ≤ GREATEST = fits-overflow (unwrapped k.value point) (sym (ap (λ o. overflow (unwrapped (value_in o) point)) there.1) ∙ there.2) in
     IsSound-with_file w (option_map (λ k. one_fence_file t k point now) (w.objects.timelines t)) (asked t (w.objects.timelines t) point) h

@@ -8,7 +8,7 @@ use Rattle.device_core.specs.declared.fence.Text.{Text}
 use Rattle.device_core.specs.declared.fence.Signal.{Signal}
 use Rattle.device_core.specs.declared.fence.Timeline.{Timeline}
 use Rattle.device_core.specs.declared.refusal.Refusal.{Refusal}
-use Rattle.device_core.specs.declared.refusal.Refusal.TheVariants.{NoEntry, NoMemory, Invalid, Overflow}
+use Rattle.device_core.specs.declared.refusal.Refusal.TheVariants.{NoEntry, NoMemory, NoNumber, Invalid, Overflow}
 use Rattle.device_core.specs.declared.request.Request.{Request}
 use Rattle.device_core.specs.declared.request.Request.TheVariants as request
 use Rattle.device_core.specs.declared.request.Answer.{Answer}
@@ -107,19 +107,26 @@ cause_after (Err refusal) cause = Some refusal
 abbrev pub is_there : Objects → ℕ → Bool
 is_there d number = is_some (d.timelines number) || (is_some (d.files number) || is_some (d.buffers number))
 
+-- the cause at what makes an object, once there is a number for it
+abbrev pub cause_if_numbered : Objects → Option Refusal → Option Refusal
+cause_if_numbered d cause = if nat_le GREATEST d.next then Some NoNumber else cause
+
 -- the first cause to refuse a request, but for memory
 abbrev pub cause_of : Objects → Request → Option Refusal
-cause_of d (request.Open name) = None
+cause_of d (request.Open name) = cause_if_numbered d None
 cause_of d (request.Fence timeline point now) =
-    cause_at_timeline d timeline (overflow (unwrapped (value_in (d.timelines timeline)) point))
+    cause_if_numbered d
+    (cause_at_timeline d timeline (overflow (unwrapped (value_in (d.timelines timeline)) point)))
 cause_of d (request.Inc timeline n now) = cause_at_timeline d timeline (overflow (value_in (d.timelines timeline) + n))
-cause_of d (request.Merge a b name) = cause_at_file d a (if is_some (d.files b) then None else Some NoEntry)
+cause_of d (request.Merge a b name) =
+    cause_if_numbered d (cause_at_file d a (if is_some (d.files b) then None else Some NoEntry))
 cause_of d (request.Status file) = cause_at_file d file None
 cause_of d (request.IsSignalled file) = cause_at_file d file None
 cause_of d (request.Info file) = cause_at_file d file None
 cause_of d (request.Close number now) = if is_there d number then None else Some NoEntry
-cause_of d (request.Buffer now) = None
-cause_of d (request.Export buffer flags) = cause_at_buffer d buffer (cause_after (export_usage flags) None)
+cause_of d (request.Buffer now) = cause_if_numbered d None
+cause_of d (request.Export buffer flags) =
+    cause_if_numbered d (cause_at_buffer d buffer (cause_after (export_usage flags) None))
 cause_of d (request.Import buffer file flags) =
     cause_at_buffer d buffer (cause_after (import_usage flags) (if is_some (d.files file) then None else Some Invalid))
 cause_of d (request.Test buffer usage) = cause_at_buffer d buffer None

@@ -1,7 +1,7 @@
 // The device.
 ghost use Rattle.std.specs.Prelude.{◌≡◌, ◌⊎◌, ℕ, ◌+◌, ◌^◌, ◌≤◌, nat_eq, if◌then◌else◌, Some, None, is_some, option_map, ◌||◌, IsSome, IfSome, IfNone, OnOk, OnErr, IfOk, IfErr, MatchOption, Ok, Err, true, false, ◌<◌, ◌↔◌, Contains, length};
 ghost use Rattle.std.specs.List.Sorted.{IsStrictlyIncreasing};
-ghost use Rattle.device_core.specs.declared.refusal.Refusal.TheVariants.{NoEntry, NoMemory, Overflow};
+ghost use Rattle.device_core.specs.declared.refusal.Refusal.TheVariants.{NoEntry, NoMemory, NoNumber, Overflow};
 ghost use Rattle.device_core.specs.declared.fence.Text.{Text as Name};
 ghost use Rattle.point_core.specs.Reach.{GREATEST};
 ghost use Rattle.device_core.specs.Fences.{are_signalled, signal_at, status_of};
@@ -72,20 +72,19 @@ impl Device {
 
     /// Opens a timeline at 0, as opening `sync/sw_sync` does; the name is that of the task.
     ///
-    /// Fails only with `NoMemory`; nothing is opened then.
+    /// Fails with `NoNumber`, then with `NoMemory`; nothing is opened then.
     pub fn open(&mut self, name: Text) -> Result<u64, Refusal>
         ensures number { IfOk result (λ n. (n ≡ self.old.next) × (self.new.next ≡ n + 1)) }
         ensures opened { IfOk result (λ n. (q : ℕ) →
             timeline_at self.new q ≡ (if nat_eq n q then Some (new_timeline name) else timeline_at self.old q)) }
         ensures files { self.new.files ≡ self.old.files }
         ensures buffers { self.new.buffers ≡ self.old.buffers }
-        ensures memory { IfErr result (λ e. e ≡ NoMemory) }
+        ensures known { OnOk result (cause_of (objects_of self.old) (request.Open name) ≡ None) }
+        ensures refused { IfErr result (λ e.
+            IsCause (cause_of (objects_of self.old) (request.Open name)) true e) }
         ensures unchanged { OnErr result (self.new ≡ self.old) }
     {
-        let number = self.next;
-        if number == u64::MAX {
-            return Err(Refusal::NoMemory);
-        }
+        let number = self.next_number()?;
         let timeline = Timeline { name, value: 0 };
         match self.timelines.insert(number, timeline) {
             Ok(_) => {
@@ -99,24 +98,22 @@ impl Device {
     /// Makes a file of one fence, as `SW_SYNC_IOC_CREATE_FENCE` does. A point that the timeline has reached is signalled
     /// now.
     ///
-    /// Fails with `NoEntry`, or with `WrongKind` at a file or a buffer, then with `Overflow`, then with `NoMemory`;
-    /// nothing is made then.
+    /// Fails with `NoNumber`, then with `NoEntry`, or with `WrongKind` at a file or a buffer, then with `Overflow`, then
+    /// with `NoMemory`; nothing is made then.
     pub fn fence(&mut self, timeline: u64, point: u32, now: u64) -> Result<u64, Refusal>
-        ensures known { OnOk result (IsSome (timeline_at self.old timeline)) }
+        ensures known { OnOk result
+            (cause_of (objects_of self.old) (request.Fence timeline point now) ≡ None) }
         ensures number { IfOk result (λ n. (n ≡ self.old.next) × (self.new.next ≡ n + 1)) }
         ensures made { IfOk result (λ n. IfSome (timeline_at self.old timeline) (λ t. (q : ℕ) →
             file_at self.new q
             ≡ (if nat_eq n q then Some (one_fence_file timeline t point now) else file_at self.old q))) }
         ensures timelines { self.new.timelines ≡ self.old.timelines }
         ensures buffers { self.new.buffers ≡ self.old.buffers }
-        ensures refused { IfNone (timeline_at self.old timeline)
-            (result ≡ Err (missing_timeline (objects_of self.old) timeline)) }
-        ensures last { IfSome (timeline_at self.old timeline) (λ t. IfErr result (λ e.
-            ((e ≡ NoMemory) × (unwrapped_of t.value point < 2 ^ 64))
-            ⊎ ((e ≡ Overflow) × (2 ^ 64 ≤ unwrapped_of t.value point)))) }
-        ensures fits { OnOk result (IfSome (timeline_at self.old timeline) (λ t. unwrapped_of t.value point < 2 ^ 64)) }
+        ensures refused { IfErr result (λ e.
+            IsCause (cause_of (objects_of self.old) (request.Fence timeline point now)) true e) }
         ensures unchanged { OnErr result (self.new ≡ self.old) }
     {
+        let _number = self.next_number()?;
         let known = self.timeline(timeline)?;
         let fence = Fence::at(timeline, &known, point, now)?;
         let fences = one_fence(self.alloc, fence)?;
@@ -258,21 +255,20 @@ impl Device {
     /// Merges two files, which both stay, as `SYNC_IOC_MERGE` does: the latest pending fence of each timeline. If
     /// nothing is pending, the file is a stub, with the latest time at which any of them signalled.
     ///
-    /// Fails with `NoEntry`, or with `WrongKind` at a timeline or a buffer in place of the first, then with `NoEntry` if
-    /// the second is no file, then with `NoMemory`; nothing is made then.
+    /// Fails with `NoNumber`, then with `NoEntry`, or with `WrongKind` at a timeline or a buffer in place of the first,
+    /// then with `NoEntry` if the second is no file, then with `NoMemory`; nothing is made then.
     pub fn merge(&mut self, a: u64, b: u64, name: Text) -> Result<u64, Refusal>
         ensures number { IfOk result (λ n. (n ≡ self.old.next) × (self.new.next ≡ n + 1)) }
         ensures made { IfOk result (λ n. (q : ℕ) → file_at self.new q ≡
             (if nat_eq n q then merged_files name (file_at self.old a) (file_at self.old b) else file_at self.old q)) }
-        ensures known { OnOk result (IsSome (file_at self.old a) × IsSome (file_at self.old b)) }
+        ensures known { OnOk result (cause_of (objects_of self.old) (request.Merge a b name) ≡ None) }
         ensures timelines { self.new.timelines ≡ self.old.timelines }
         ensures buffers { self.new.buffers ≡ self.old.buffers }
-        ensures first { IfNone (file_at self.old a) (result ≡ Err (missing_file (objects_of self.old) a)) }
-        ensures second { IfSome (file_at self.old a) (λ _. IfNone (file_at self.old b) (result ≡ Err NoEntry)) }
-        ensures memory { IfSome (file_at self.old a) (λ _. IfSome (file_at self.old b) (λ _.
-            IfErr result (λ e. e ≡ NoMemory))) }
+        ensures refused { IfErr result (λ e.
+            IsCause (cause_of (objects_of self.old) (request.Merge a b name)) true e) }
         ensures unchanged { OnErr result (self.new ≡ self.old) }
     {
+        let _number = self.next_number()?;
         let (fences, stub_at) = self.merge_of(a, b)?;
         self.add_file(name, fences, stub_at)
     }
@@ -444,8 +440,20 @@ impl Device {
         }
     }
 
+    // The number of what is made next. Fails only with `NoNumber`, once each has been given.
+    fn next_number(&self) -> Result<u64, Refusal>
+        ensures next { IfOk result (λ n. (n ≡ self.now.next) × (n < GREATEST)) }
+        ensures none { IfErr result (λ e. (e ≡ NoNumber) × (GREATEST ≤ self.now.next)) }
+    {
+        if self.next == u64::MAX {
+            return Err(Refusal::NoNumber);
+        }
+        Ok(self.next)
+    }
+
     // Makes a file of fences that rise by timeline.
     fn add_file(&mut self, name: Text, fences: Vec<Fence>, stub_at: u64) -> Result<u64, Refusal>
+        requires left { self.old.next < GREATEST }
         ensures number { IfOk result (λ n. (n ≡ self.old.next) × (self.new.next ≡ n + 1)) }
         ensures made { IfOk result (λ n. (q : ℕ) →
             file_at self.new q
@@ -456,9 +464,6 @@ impl Device {
         ensures unchanged { OnErr result (self.new ≡ self.old) }
     {
         let number = self.next;
-        if number == u64::MAX {
-            return Err(Refusal::NoMemory);
-        }
         self.timelines.put_all(number, fences.as_slice())?;
         let file = File {
             name,

@@ -12,6 +12,8 @@ pub enum Refusal {
     Invalid = 22,
     #[error("the object is of another kind")]
     WrongKind = 25,
+    #[error("no number is left")]
+    NoNumber = 28,
     #[error("an increment past the greatest value")]
     Overflow = 75,
 }

@@ -4,7 +4,7 @@ ghost use Rattle.device_core.specs.declared.refusal.Refusal.TheVariants.{NoMemor
 ghost use Rattle.device_core.specs.Buffers.{empty_buffer, export_usage as export_usage_of, import_usage as import_usage_of, import_into as imported_into, none_waits};
 ghost use Rattle.device_core.specs.State.{at, timeline_at, file_at, buffer_at, file_of, empty_text, missing_buffer, export_of, import_of, objects_of};
 ghost use Rattle.device_core.specs.declared.request.Request.TheVariants as request;
-ghost use Rattle.device_core.specs.Request.{IsCause, cause_of};
+ghost use Rattle.device_core.specs.Request.{IsCause, cause_after, cause_at_buffer, cause_of};
 
 use super::Device;
 use crate::buffer::Buffer;
@@ -18,20 +18,19 @@ use std::collections::HashMap;
 impl Device {
     /// Makes a buffer without fences, whose exports are stubs of that time.
     ///
-    /// Fails only with `NoMemory`; nothing is made then.
+    /// Fails with `NoNumber`, then with `NoMemory`; nothing is made then.
     pub fn buffer(&mut self, now: u64) -> Result<u64, Refusal>
         ensures number { IfOk result (λ n. (n ≡ self.old.next) × (self.new.next ≡ n + 1)) }
         ensures made { IfOk result (λ n. (q : ℕ) →
             buffer_at self.new q ≡ (if nat_eq n q then Some (empty_buffer now) else buffer_at self.old q)) }
         ensures timelines { self.new.timelines ≡ self.old.timelines }
         ensures files { self.new.files ≡ self.old.files }
-        ensures memory { IfErr result (λ e. e ≡ NoMemory) }
+        ensures known { OnOk result (cause_of (objects_of self.old) (request.Buffer now) ≡ None) }
+        ensures refused { IfErr result (λ e.
+            IsCause (cause_of (objects_of self.old) (request.Buffer now)) true e) }
         ensures unchanged { OnErr result (self.new ≡ self.old) }
     {
-        let number = self.next;
-        if number == u64::MAX {
-            return Err(Refusal::NoMemory);
-        }
+        let number = self.next_number()?;
         match self.buffers.insert(number, Buffer::new(self.alloc, now)) {
             Ok(_) => {
                 self.next = number + 1;
@@ -45,8 +44,8 @@ impl Device {
     /// the latest pending fence of each timeline. If nothing is pending, the file is a stub, with the time at which the
     /// buffer was made.
     ///
-    /// Fails with `NoEntry`, or with `WrongKind` at a timeline or a file, then with `Invalid` for flags that are none,
-    /// then with `NoMemory`; nothing is made then.
+    /// Fails with `NoNumber`, then with `NoEntry`, or with `WrongKind` at a timeline or a file, then with `Invalid` for
+    /// flags that are none, then with `NoMemory`; nothing is made then.
     pub fn export(&mut self, buffer: u64, flags: u32) -> Result<u64, Refusal>
         ensures number { IfOk result (λ n. (n ≡ self.old.next) × (self.new.next ≡ n + 1)) }
         ensures made { IfOk result (λ n. (q : ℕ) → file_at self.new q ≡
@@ -60,6 +59,7 @@ impl Device {
             IsCause (cause_of (objects_of self.old) (request.Export buffer flags)) true e) }
         ensures unchanged { OnErr result (self.new ≡ self.old) }
     {
+        let _number = self.next_number()?;
         let (fences, stub_at) = self.export_of(buffer, flags)?;
         self.add_file(Text::EMPTY, fences, stub_at)
     }
@@ -67,9 +67,10 @@ impl Device {
     fn export_of(&self, buffer: u64, flags: u32) -> Result<(Vec<Fence>, u64), Refusal>
         ensures exported { IfOk result (λ r. Some (file_of empty_text r.0.items r.1)
             ≡ export_of (timeline_at self.now) (export_usage_of flags) (buffer_at self.now buffer)) }
-        ensures known { OnOk result (cause_of (objects_of self.now) (request.Export buffer flags) ≡ None) }
+        ensures known { OnOk result
+            (cause_at_buffer (objects_of self.now) buffer (cause_after (export_usage_of flags) None) ≡ None) }
         ensures refused { IfErr result (λ e.
-            IsCause (cause_of (objects_of self.now) (request.Export buffer flags)) true e) }
+            IsCause (cause_at_buffer (objects_of self.now) buffer (cause_after (export_usage_of flags) None)) true e) }
     {
         let Some(known) = self.buffers.get(&buffer) else {
             return Err(self.unknown_buffer(buffer));
