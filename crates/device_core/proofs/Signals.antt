@@ -22,10 +22,11 @@ use Rattle.device_core.specs.Request.{cause_of, closed, closed_timeline, dropped
 use Rattle.device_core.specs.History.{AreAccepted, HasHistory, World, added_by, empty_world, reach_of, reached_by, sum_of, world_after, world_from, world_of}
 use Rattle.device_core.specs.Sound.{IsFence, IsSound, is_above}
 use Rattle.device_core.specs.Signals.{first_status, has_reached, point_status, reached_from, time_in}
-use Rattle.device_core.specs.Headline.{ReportsSignals}
+use Rattle.device_core.specs.Headline.{ReportsFences}
 use Rattle.device_core.proofs.Placed.{fold-All}
 use Rattle.device_core.proofs.Histories.{world_from-push}
 use Rattle.device_core.proofs.Sound.{with_at-same, with_at-other, fence-reached}
+use Rattle.device_core.proofs.Named.{names-history}
 use Rattle.device_core.proofs.Pending.{exported-pending, fence-above}
 use Rattle.device_core.proofs.Reporting.{HasSums, HasSums-after, HasSums-empty, HasSums-history, sum-push}
 use Rattle.device_core.proofs.Stepping.{same_Some, None≢Some, no_cause, numbered, IsSound-after, IsSound-empty, IsSound-history}
@@ -424,8 +425,8 @@ file-status told (g ∷ gs) all =
     ∙ sym (first-of g.signal (map told gs))
     ∙ ap (λ s. first_status (s ∷ map told gs)) (All-head P g gs all)
 
-pub ReportsSignals-stands : (d : DeviceState) (history : List Request) → HasHistory d history → ReportsSignals d history
-ReportsSignals-stands d history had =
+pub ReportsFences-stands : (d : DeviceState) (history : List Request) → HasHistory d history → ReportsFences d history
+ReportsFences-stands d history had =
     let w = world_of history in
     let sound = IsSound-history history had.accepted in
     let sums = HasSums-history history had.accepted in
@@ -439,4 +440,5 @@ ReportsSignals-stands d history had =
       fences = fences;
       files = λ n f is. file-status (λ (g : Fence). point_status (timeline_at d) history (point_in g)) f.fences (fences n f is);
       times = λ n f is. All-weaker (IsTold history n) (λ (g : Fence). option_map (λ (s : Signal). s.at) g.signal ≡ reached_from n (point_in g) empty_world history) (λ g its. its.time) f.fences (told.files n f (there n f is));
+      names = λ n f is. names-history history n f (there n f is);
     }

@@ -19,7 +19,7 @@ use Rattle.device_core.specs.Listing.{pending_points}
 use Rattle.device_core.specs.Request.{is_waiting}
 use Rattle.device_core.specs.Times.{numbers_given, times_woken, times_begun, times_dropped, one_if}
 use Rattle.device_core.specs.History.{empty_world, world_of, reach_of, sum_of}
-use Rattle.device_core.specs.Signals.{first_status, point_status, reached_from}
+use Rattle.device_core.specs.Signals.{first_status, opened_as, point_status, reached_from}
 
 -- both have the same entries, in whatever order and however often
 pub record HasSameEntries (es fs : List Entry) : Type 0 where
@@ -84,8 +84,8 @@ pub record ReportsBuffers (d : DeviceState) (history : List Request) : Type 0 wh
       AgreesAbove (reach_after history) (entries_in (exported (timeline_at d) usage b.fences))
       (at_usage usage (put_into history n))
 
--- the fences of a file signal when its points are reached, and are cancelled if they never are
-pub record ReportsSignals (d : DeviceState) (history : List Request) : Type 0 where
+-- each fence of a file has its timeline's name, and signals when its point is reached, or is cancelled if it never is
+pub record ReportsFences (d : DeviceState) (history : List Request) : Type 0 where
   -- each fence has the status of its point
   pub fences : (n : ℕ) (f : FileState) → file_at d n ≡ Some f →
       All (λ (g : Fence). status_before g.signal Signalled ≡ point_status (timeline_at d) history (point_in g)) f.fences
@@ -96,6 +96,9 @@ pub record ReportsSignals (d : DeviceState) (history : List Request) : Type 0 wh
   pub times : (n : ℕ) (f : FileState) → file_at d n ≡ Some f →
       All (λ (g : Fence). option_map (λ (s : Signal). s.at) g.signal ≡ reached_from n (point_in g) empty_world history)
       f.fences
+  -- a fence has the name with which its timeline was opened
+  pub names : (n : ℕ) (f : FileState) → file_at d n ≡ Some f →
+      All (λ (g : Fence). opened_as g.timeline empty_world history ≡ Some g.name) f.fences
 
 -- an open timeline is at the sum of its increments
 pub record ReportsSums (d : DeviceState) (history : List Request) : Type 0 where

@@ -1,9 +1,10 @@
--- When the point of a fence was reached along a history, and the status that it then has.
-use Rattle.std.specs.Prelude.{ℕ, Bool, ◌&&◌, nat_le, if◌then◌else◌, List, [], ◌∷◌, Option, None, Some, is_some}
+-- What a history says of a fence: when its point was reached, which status it then has, and its name.
+use Rattle.std.specs.Prelude.{ℕ, Bool, ◌&&◌, nat_eq, nat_le, if◌then◌else◌, List, [], ◌∷◌, Option, None, Some, is_some}
 use Rattle.point_core.specs.declared.entry.Point.{Point}
 use Rattle.point_core.specs.declared.status.Status.{Status}
 use Rattle.point_core.specs.declared.status.Status.TheVariants.{Active, Signalled, Cancelled}
 use Rattle.point_core.specs.Reach.{is_reached}
+use Rattle.device_core.specs.declared.fence.Text.{Text}
 use Rattle.device_core.specs.declared.fence.Timeline.{Timeline}
 use Rattle.device_core.specs.declared.request.Request.{Request}
 use Rattle.device_core.specs.declared.request.Request.TheVariants as request
@@ -48,3 +49,27 @@ first_status [] = Signalled
 first_status (Signalled ∷ others) = first_status others
 first_status (Active ∷ others) = Active
 first_status (Cancelled ∷ others) = Cancelled
+
+-- the name with which a request opens the timeline of that number
+abbrev pub name_in : ℕ → World → Request → Option Text
+name_in number w (request.Open name) = if nat_eq w.objects.next number then Some name else None
+name_in number w (request.Fence timeline point now) = None
+name_in number w (request.Inc timeline n now) = None
+name_in number w (request.Merge a b name) = None
+name_in number w (request.Status file) = None
+name_in number w (request.IsSignalled file) = None
+name_in number w (request.Info file) = None
+name_in number w (request.Close other now) = None
+name_in number w (request.Buffer now) = None
+name_in number w (request.Export buffer flags) = None
+name_in number w (request.Import buffer file flags) = None
+name_in number w (request.Test buffer usage) = None
+
+abbrev pub first_name : Option Text → Option Text → Option Text
+first_name None later = later
+first_name (Some name) later = Some name
+
+-- the name with which the timeline of that number was opened
+abbrev pub opened_as : ℕ → World → List Request → Option Text
+opened_as number w [] = None
+opened_as number w (r ∷ rs) = first_name (name_in number w r) (opened_as number (world_after w r) rs)

@@ -3,7 +3,7 @@ ghost use Rattle.std.specs.Prelude.{◌≡◌, [], IfOk, IfErr};
 ghost use Rattle.device_core.specs.declared.refusal.Refusal.TheVariants.{NoMemory};
 ghost use Rattle.device_core.specs.History.{AreAnswers, HasHistory, history_of};
 ghost use Rattle.device_core.specs.Memory.{AreTrimmed, KeepsWhatIsAlive};
-ghost use Rattle.device_core.specs.Headline.{ReportsSums, ReportsWhatWasPut, ReportsBuffers, ReportsSignals, ReportsNumbers, ReportsEachWaking};
+ghost use Rattle.device_core.specs.Headline.{ReportsSums, ReportsWhatWasPut, ReportsBuffers, ReportsFences, ReportsNumbers, ReportsEachWaking};
 
 use crate::device::Device;
 use crate::refusal::Refusal;
@@ -22,7 +22,7 @@ pub fn run(
     ensures sums { IfOk result (λ r. ReportsSums r.0 (history_of [] requests.now r.1.items)) }
     ensures files { IfOk result (λ r. ReportsWhatWasPut r.0 (history_of [] requests.now r.1.items)) }
     ensures buffers { IfOk result (λ r. ReportsBuffers r.0 (history_of [] requests.now r.1.items)) }
-    ensures signals { IfOk result (λ r. ReportsSignals r.0 (history_of [] requests.now r.1.items)) }
+    ensures fences { IfOk result (λ r. ReportsFences r.0 (history_of [] requests.now r.1.items)) }
     ensures numbers { IfOk result (λ r. ReportsNumbers r.0 r.1.items) }
     ensures wakings { IfOk result (λ r. ReportsEachWaking r.0 (history_of [] requests.now r.1.items) r.1.items) }
     ensures kept { IfOk result (λ r. KeepsWhatIsAlive r.0) }

@@ -5,7 +5,7 @@ use Rattle.device_core.proofs.Histories.{HasRun-push}
 use Rattle.device_core.proofs.Tables.{AreTrimmed-stands}
 use Rattle.device_core.proofs.Counting.{ReportsNumbers-run, ReportsEachWaking-run}
 use Rattle.device_core.proofs.Reporting.{ReportsSums-stands, ReportsWhatWasPut-stands, ReportsBuffers-stands}
-use Rattle.device_core.proofs.Signals.{ReportsSignals-stands}
+use Rattle.device_core.proofs.Signals.{ReportsFences-stands}
 use Rattle.device_core.proofs.runs.run.Goals as goal
 
 pub returns-clause-sums : goal.returns-clause-sums
@@ -23,10 +23,10 @@ returns-clause-buffers c =
     let all = take_all c.loop-request.request-index c.args.requests.now c.loop-request-test.false in
     ReportsBuffers-stands _ _ (rw all at c.loop-request.invariant.0.stands)
 
-pub returns-clause-signals : goal.returns-clause-signals
-returns-clause-signals c =
+pub returns-clause-fences : goal.returns-clause-fences
+returns-clause-fences c =
     let all = take_all c.loop-request.request-index c.args.requests.now c.loop-request-test.false in
-    ReportsSignals-stands _ _ (rw all at c.loop-request.invariant.0.stands)
+    ReportsFences-stands _ _ (rw all at c.loop-request.invariant.0.stands)
 
 pub loop-request-preserved : goal.loop-request-preserved
 loop-request-preserved c =
