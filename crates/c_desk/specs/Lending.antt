@@ -11,7 +11,7 @@ use Rattle.c_desk.specs.contracts.handle.DeskHandle.{the_row}
 abbrev pub with_service : DeskHandle → ServiceState → DeskHandle
 with_service h w = record h { service = w }
 
--- the same fields, and back
+-- the handle with these fields, and back
 abbrev pub as_handle : DeskHandle → Handle ServiceState
 as_handle h = record { at = h.at; alloc = h.alloc; held = h.service }
 

@@ -24,7 +24,7 @@ pub record HasExported (old new : MemberModel) (buffer : ℕ) (usage : Usage) (l
 abbrev pub listed_file : Listing → File
 listed_file listing = file_of file_name listing.points listing.floor
 
--- the same, of the listing that the file is of
+-- the file was made of the listing that was exported
 pub record HasExportedFile (old new : MemberModel) (buffer : ℕ) (usage : Usage) (f : File) : Type 0 where
   pub listing : Listing
   pub file : f ≡ listed_file listing

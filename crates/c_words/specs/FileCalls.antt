@@ -37,7 +37,7 @@ pub record FindsForeign (old new : MemberModel) (f : File) : Type 0 where
   pub loaded : HasLoadedClocks old.seat new.seat (clocks_seen new.seat)
   pub foreign : ¬ IsBorneOut new.seat f
 
--- polls, so many at most, found the file active, and the last no more
+-- polls, at most `tries`, found the file active, and the last one no longer
 pub record HasWaited (old new : MemberModel) (f : File) (tries : ℕ) : Type 0 where
   pub looked : HasLooked old new
   pub polled : HasPolled f tries old.seat new.seat

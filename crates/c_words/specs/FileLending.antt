@@ -8,7 +8,7 @@ use Rattle.c_words.specs.Files.{with_file}
 use Rattle.c_words.specs.declared.file_handle.FileHandle.{FileHandle}
 use Rattle.c_words.specs.contracts.file_handle.FileHandle.{the_row}
 
--- the same fields, and back
+-- the handle with these fields, and back
 abbrev pub as_handle : FileHandle → Handle File
 as_handle h = record { at = h.at; alloc = h.alloc; held = h.held }
 

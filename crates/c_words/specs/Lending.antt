@@ -8,7 +8,7 @@ use Rattle.c_words.specs.Seats.{with_held}
 use Rattle.c_words.specs.declared.seat_handle.SeatHandle.{SeatHandle}
 use Rattle.c_words.specs.contracts.seat_handle.SeatHandle.{the_row}
 
--- the same fields, and back
+-- the handle with these fields, and back
 abbrev pub as_handle : SeatHandle → Handle MemberModel
 as_handle h = record { at = h.at; alloc = h.alloc; held = h.held }
 

@@ -72,7 +72,7 @@ pub record IsDriving (old new : MemberModel) (context : ℕ) : Type 0 where
 abbrev pub come_back : SeatModel → SeatModel
 come_back seat = record seat { start = seat.start ++ (seat.start ++ seat.trace) }
 
--- the same, if these parts have lost the claim of the context
+-- the seat that came back, if these parts have lost the claim of the context
 abbrev pub after_loss : SeatModel → ℕ → SeatModel
 after_loss seat context = with_step (come_back seat) (lost (claim_word context))
 

@@ -5,7 +5,7 @@ pub const LEAST_PARTS: u32 = 2;
 
 const _: () = prove!(LEAST_PARTS == 2);
 
-/// A seat gives one part of so many to the next.
+/// A seat gives one in this many of its parts to the next.
 pub const SHARE: u32 = 1_024;
 
 const _: () = prove!(SHARE == 1_024);

@@ -254,9 +254,9 @@ impl Member {
         file.poll(&self.words, &mut self.seat)
     }
 
-    /// Polls a file until it is no longer active, so many times at most, as `SyncFile::wait_for`.
+    /// Polls a file until it is no longer active, at most `tries` times, as `SyncFile::wait_for`.
     ///
-    /// Fails with `TimedOut` after so many polls, and with `Foreign` if the words do not bear the file out.
+    /// Fails with `TimedOut` after `tries` polls, and with `Foreign` if the words do not bear the file out.
     pub fn wait(&mut self, file: &SyncFile, tries: u32) -> Result<(), Refusal>
         ensures waited { OnOk result (HasWaited self.old self.new file.now tries) }
         ensures refused { IfErr result (λ e. ((e ≡ refusal.TimedOut) × HasTimedOut self.old self.new file.now tries)

@@ -61,7 +61,7 @@ impl SeatHandle {
         self.handle().close(alloc);
     }
 
-    // The same fields, as a handle of Rattle's.
+    // The fields as a handle that Rattle code takes.
     fn handle(&mut self) -> &mut Handle<Member>
         ensures* writes_back { sem 𝓛 (LendsHandle self.entry result) }
         ensures value { result.now ≡ as_handle self.old }

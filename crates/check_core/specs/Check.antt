@@ -73,7 +73,7 @@ pub record IsFresh (c : Checker) : Type 0 where
   pub text : c.text.items ≡ []
   pub stage : c.stage ≡ Unasked
 
--- how many differences were found so far, with that of the last answer
+-- how many differences were found so far, with the last answer's
 abbrev pub differences_of : Checker → ℕ
 differences_of c = c.tally.differing + one_if (is_different c.stage)
 

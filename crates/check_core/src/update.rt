@@ -40,7 +40,7 @@ fn rewrite(alloc: Global, script: &[u8], text: &mut ScriptText) -> Result<(), Re
     rewritten
 }
 
-/// Writes the new script to an empty text. Its last line lacks its line feed if that of the script does.
+/// Writes the new script to an empty text. Its last line lacks its line feed if the script's last line does.
 fn rewrite_lines(
     rewriter: &mut Rewriter,
     script: &[u8],

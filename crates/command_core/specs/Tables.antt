@@ -15,6 +15,6 @@ pub record Tables : Type 0 where
 abbrev pub rows_beside : BufferRows → ℕ
 rows_beside b = length b.rows + 1
 
--- a row for each timeline, file and buffer, and those of each buffer
+-- a row for each timeline, file and buffer, and the rows of each buffer
 abbrev pub row_count : Tables → ℕ
 row_count t = length t.timelines + length t.files + sum_by rows_beside t.buffers

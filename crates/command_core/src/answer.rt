@@ -78,7 +78,7 @@ impl Model for Report {
 }
 
 impl Report {
-    /// How many rows it has: one for each timeline, file and buffer, and those of each buffer.
+    /// How many rows it has: one for each timeline, file and buffer, and the rows of each buffer's table.
     pub fn row_count(&self) -> u128
         ensures { result ≡ row_count self.now }
     {

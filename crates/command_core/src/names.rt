@@ -55,7 +55,7 @@ impl Command {
         }
     }
 
-    /// The name that it closes if it is accepted. That of a file is free again, that of a timeline stays taken.
+    /// The name that it closes if it is accepted. A file's name is free again; a timeline's name stays taken.
     pub fn closed(&self) -> Option<(Space, Name)>
         ensures { result ≡ closed_by self.now }
     {

@@ -79,8 +79,8 @@ impl Buffers {
 
     /// Adds one fence to a buffer, as Linux's `dma_resv_add_fence` after a `dma_resv_reserve_fences` of one.
     ///
-    /// Fails with `NoEntry`, then with `Memory`, and then leaves every table as it was. Memory is taken by the first fence of
-    /// a buffer alone.
+    /// Fails with `NoEntry`, then with `Memory`, and then leaves every table as it was. Only a buffer's first fence takes
+    /// memory.
     pub fn add(
         &mut self,
         name: &Name,
@@ -130,8 +130,9 @@ impl Buffers {
     }
 
     /// The fences that an access with those flags has to wait for, as a listing to make a sync file of, as Linux's
-    /// `DMA_BUF_IOCTL_EXPORT_SYNC_FILE`: with reading alone the kernel's and the writers', else the readers' too. Those
-    /// that are signalled are not listed, and the floor is the reach. If nothing is pending nothing is listed; the
+    /// `DMA_BUF_IOCTL_EXPORT_SYNC_FILE`: an access that only reads waits for the kernel's and the writers' fences, any other
+    /// for the readers' too. Signalled fences are not listed, and the floor is the reach. If nothing is pending nothing is
+    /// listed; the
     /// kernel gives a file of its stub.
     ///
     /// Fails with `NoEntry`, then with `Flags` for any number but 1, 2 and 3, then with `Memory`.

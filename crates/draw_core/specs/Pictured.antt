@@ -14,7 +14,7 @@ use Rattle.draw_core.specs.declared.window.Window.{Window}
 use Rattle.draw_core.specs.Columns.{drawn_lines, lines_drawn}
 use Rattle.draw_core.specs.Shown.{ShowsRun, status_in, world_shown}
 
--- a file that is there is seen as one fill, that of its status
+-- a file that is there is seen as one fill, the fill of its status
 abbrev pub fills_of_status : Option Status → List Fill
 fills_of_status None = []
 fills_of_status (Some s) = fill_of s ∷ []

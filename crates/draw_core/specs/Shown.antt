@@ -70,7 +70,7 @@ pub record ShowFiles (w : World) (column : ℕ) (bars : List Bar) : Type 0 where
   pub names : names_there column bars ≡ file_names w
   pub each : All (IsShown w column) bars
 
--- what is waited for is a point that is active, and its value less that of its timeline is to go
+-- what is waited for is an active point; its value less the value of its timeline is to go
 pub record IsPending (ts : List Timeline) (point : Point) (waiting : Waiting) : Type 0 where
   pub timeline : name_at ts point.ctx ≡ Some waiting.timeline
   pub active : status_at (clocks_of ts) point ≡ Active

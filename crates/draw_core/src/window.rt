@@ -28,7 +28,7 @@ impl Window {
         }
     }
 
-    /// Reads `A..B`, two numbers of lines of which the first is not above the second.
+    /// Reads `A..B`, two numbers of lines, the first not above the second.
     pub fn read(text: &str) -> Option<Window>
         ensures { IfSome result (λ window. (1 ≤ window.first) × (window.first ≤ window.last)) }
     {

@@ -58,7 +58,7 @@ pub record WritesScriptPrefix (input old new : Option (List ℕ)) : Type 0 where
   pub is : IsInput input script
   pub written : WritesObjectsPrefix (lines_of (take SCRIPT_BYTES script)) (script_of script) old new
 
--- a script begins with `lines`, and `said` are those of them that have an answer
+-- a script begins with `lines`, and `said` are the lines that have an answer
 pub record BeginsScript (input : Option (List ℕ)) (lines : List (List ℕ)) (said : List Line) : Type 0 where
   pub script : List ℕ
   pub is : IsInput input script

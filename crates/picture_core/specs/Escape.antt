@@ -53,8 +53,8 @@ hex_value c = if nat_lt c 58 then c - 48 else c - 87
 abbrev pub number_in : List ℕ → ℕ
 number_in bytes = 10 * (get_or bytes 1 0 - 48) + (get_or bytes 2 0 - 48)
 
--- a reader of so many bytes at most: an ampersand begins a reference, and that of a backslash stands before `x` and two digits
--- of a byte
+-- a reader of at most this many bytes: an ampersand begins a reference, and the reference of a backslash comes before `x` and
+-- the two digits of a byte
 abbrev pub read : ℕ → List ℕ → List ℕ
 read zero bytes = []
 read (suc n) [] = []

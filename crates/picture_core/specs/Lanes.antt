@@ -32,7 +32,7 @@ timeline_lane l name = option_map lane.Timeline (timeline_place l.timelines.item
 abbrev pub buffer_lane : Lanes → List ℕ → Option Lane
 buffer_lane l name = option_map lane.Buffer (buffer_place l.buffers.items name)
 
--- the lane of the file of a name, which is that of its open bar
+-- the lane of the file with a name: the lane of its open bar
 abbrev pub bar_place : List Bar → List ℕ → Option ℕ
 bar_place bars name = position_from (is_open_of name) 0 bars
 

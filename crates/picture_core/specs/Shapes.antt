@@ -129,7 +129,7 @@ abbrev pub edge_of : ℕ → ℕ → ℕ → Bar → Shape
 edge_of left right y b =
     shape.Edge (record { x = left; y = y }) (right - left) (HALF_BAR * 2) (goes_on b)
 
--- the shapes of a bar, from the middle of the column that made it to its end; `height` is that of its middle
+-- the shapes of a bar, from the middle of the column that made it to its end; `height` is the height of its middle
 abbrev pub shapes_of : (ℕ → ℕ) → ℕ → ℕ → Bar → List Shape
 shapes_of middle right height b =
     let left = middle b.made in

@@ -56,7 +56,7 @@ pub record AreLanes (h : History) (tops : List ℕ) (bottom : ℕ) : Type 0 wher
   pub apart : AreApart BAR tops
   pub low : All (λ top. top ≤ bottom) tops
 
--- below so many lanes that begin there, where that is a place
+-- below this many lanes that begin there, if that is a place
 abbrev pub end_of_lanes : ℕ → ℕ → ℕ → ℕ
 end_of_lanes first count size = min (first + count * size) (2 ^ 64 - 1)
 

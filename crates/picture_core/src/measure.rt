@@ -24,7 +24,7 @@ pub(crate) fn waiting_length(waiting: &Waiting) -> u64 {
         .saturating_add(9)
 }
 
-/// The width of so many characters.
+/// The width of this many characters.
 pub(crate) fn text_width(length: u64) -> u64 {
     length.saturating_mul(CHARACTER)
 }

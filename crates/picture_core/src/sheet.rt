@@ -170,7 +170,7 @@ fn below(top: u64, place: usize, height: u64) -> u64
     top.saturating_add((place as u64).saturating_mul(height))
 }
 
-/// The top of the first of so many lanes, and what lies under them all.
+/// The top of the first of `count` lanes, and what lies under them all.
 fn lanes(top: u64, count: usize, height: u64) -> (u64, u64)
     ensures first { top ≤ result.0 }
     ensures end { end_of_lanes result.0 count height ≤ result.1 }
@@ -310,7 +310,7 @@ fn widen_one(widths: &mut [u64], column: usize, width: u64)
 
 /// The width of the names of lanes.
 fn names_width(history: &History) -> u64 {
-    // that of a heading
+    // the length of a heading
     let mut length = 10;
     for lane in &history.lanes.timelines {
         length = name_length(&lane.name).max(length);

@@ -22,7 +22,7 @@ new_clock = open_clock 0
 abbrev pub clock_at : List Clock → ℕ → Clock
 clock_at clocks ctx = get_or clocks (ctx - 1) new_clock
 
--- the clocks with that of such a context changed
+-- the clocks with the clock of one context replaced
 abbrev pub with_clock : List Clock → ℕ → Clock → List Clock
 with_clock clocks ctx clock = set clocks (ctx - 1) clock
 

@@ -20,7 +20,7 @@ has_named name_of xs name = list_any (is_named name_of name) xs
 abbrev pub named : {X : Type 0} → (X → List ℕ) → List X → List ℕ → Option X
 named name_of xs name = find (is_named name_of name) xs
 
--- all but those of that name
+-- all elements but those with that name
 abbrev pub without_named : {X : Type 0} → (X → List ℕ) → List X → List ℕ → List X
 without_named name_of xs name = filter (λ x. not (is_named name_of name x)) xs
 

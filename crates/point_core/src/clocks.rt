@@ -151,8 +151,8 @@ impl Clocks {
     }
 
     /// The status of points together: active while one is, else cancelled if one is, else signalled. Of no points it is
-    /// signalled. Linux's `sync_file_ioctl_fence_info` gives that of the first fence that is pending or has an error; that
-    /// an error comes after every pending one is our own rule.
+    /// signalled. Linux's `sync_file_ioctl_fence_info` gives the status of the first fence that is pending or has an error;
+    /// that an error comes after every pending fence is our own rule.
     pub fn common_status(&self, points: &[Point]) -> Status
         ensures { result ≡ common_status self.now points.now }
     {

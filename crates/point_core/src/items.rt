@@ -31,7 +31,7 @@ impl<T> Items<T> {
         self.items.as_slice()
     }
 
-    /// Exchanges the list for that of a `Vec`. Takes no memory.
+    /// Exchanges the list for the items of a `Vec`. Takes no memory.
     pub fn exchange(&mut self, items: &mut Vec<T>)
         ensures taken { self.new ≡ items.old.items }
         ensures given { items.new.items ≡ self.old }

@@ -9,7 +9,7 @@ use std::simd::prelude::*;
 /// How many lanes there are: one more than a name has bytes.
 pub(crate) const LANES: usize = NAME_BYTES + 1;
 
-/// The most bytes that are one number: those of a `u64`.
+/// The most bytes that fit one number, a `u64`.
 pub const NUMBER_BYTES: usize = 8;
 
 const _: () = prove!(NUMBER_BYTES == 8);
@@ -50,7 +50,7 @@ fn two_words(first: u64, second: u64) -> u8x32
     u64x4::from_array([first, second, 0, 0]).to_le_bytes()
 }
 
-/// The bytes as one number, of which the first byte is the lowest.
+/// The bytes as one number, the first byte being the lowest.
 #[inline(always)]
 pub fn number_of_few(bytes: &[u8]) -> u64
     requires { length bytes.now ≤ NUMBER_BYTES }

@@ -10,8 +10,8 @@ use crate::reach::Reach;
 use crate::refusal::Refusal;
 use std::alloc::Global;
 
-/// The pending points of two lists by rising context, as `canon` gives them of both together: the cost is that of the
-/// points, however many contexts there can be.
+/// The pending points of two lists by rising context, as `canon` gives them of both together. The cost grows with the
+/// points, not with the contexts that there can be.
 pub fn merged(
     alloc: Global,
     left: &[Point],

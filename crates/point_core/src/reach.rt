@@ -43,7 +43,7 @@ impl Reach {
         }
     }
 
-    /// Makes every value 0 again. What it costs follows the contexts in use, as that of `copy_from` does.
+    /// Makes every value 0 again. The cost grows with the contexts in use, as with `copy_from`.
     pub fn clear(&mut self)
         ensures zero { self.new ≡ replicate CONTEXTS 0 }
     {

@@ -23,7 +23,7 @@ pub struct Book {
     files: HashMap<Name, u32>,
     buffers: HashMap<Name, u32>,
     cookies: HashMap<u64, u32>,
-    // With so many cookies, the book first takes out those without a watch.
+    // At this many cookies, the book first takes out those without a watch.
     room: usize,
 }
 

@@ -8,7 +8,7 @@ spaces count = replicate count 32
 abbrev pub left : ℕ → List ℕ → List ℕ
 left width text = text ++ spaces (width - length text)
 
--- the same, and a space that parts it from the next column
+-- a column, and a space that parts it from the next
 abbrev pub column : ℕ → List ℕ → List ℕ
 column width text = left width text ++ 32 ∷ []
 

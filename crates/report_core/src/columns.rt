@@ -45,7 +45,7 @@ pub(crate) fn push_columns(
     Ok(())
 }
 
-/// Appends the same columns to `out`, with a text on the right of the third.
+/// Appends the columns to `out`, with a text on the right of the third.
 ///
 /// Fails only with Memory, and then leaves `out` as it was.
 pub(crate) fn push_text_columns(
@@ -145,7 +145,7 @@ pub(crate) fn push_count(out: &mut Vec<u8>, count: u64) -> Result<(), Refusal>
     Ok(())
 }
 
-/// Appends the same to `out`, which has room for it.
+/// Appends the count column to `out`, which has room for it.
 #[inline(always)]
 fn push_count_in_room(out: &mut Vec<u8>, count: u64)
     requires room { vec_len out.old + COUNT_BYTES ≤ vec_capacity out.old }

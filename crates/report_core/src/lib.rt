@@ -1,6 +1,6 @@
 //! Tables as text: rows of fixed columns, as `show`, `report` and runs of clients print them.
 //!
-//! What a row's text is stands in `specs/`, by its columns.
+//! `specs/` defines the text of a row by its columns.
 #![tactic(auto)]
 
 mod columns;

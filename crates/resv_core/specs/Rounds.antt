@@ -16,7 +16,7 @@ in_round number (Look into usage) = Look into usage
 abbrev pub round_of : List Act → ℕ → List Act
 round_of acts number = map (in_round number) acts
 
--- the acts of so many rounds
+-- the acts of this number of rounds
 abbrev pub rounds_of : List Act → ℕ → List Act
 rounds_of acts times = flat_map (round_of acts) (range_with_len 1 times)
 
@@ -30,7 +30,7 @@ is_in_range number (Inc n) = true
 is_in_range number (Put into point usage) = nat_lt (point.value * number) (2 ^ 64)
 is_in_range number (Look into usage) = true
 
--- the acts can be made in so many rounds: each point, and the number of all acts, is at most the greatest u64
+-- the acts can be made in this number of rounds: each point, and the number of all acts, is at most the greatest u64
 abbrev pub is_repeatable : List Act → ℕ → Bool
 is_repeatable acts times = nat_lt (length acts * times) (2 ^ 64) && list_all (is_in_range times) acts
 
@@ -38,7 +38,7 @@ is_repeatable acts times = nat_lt (length acts * times) (2 ^ 64) && list_all (is
 abbrev pub IsInRange : ℕ → Act → Type 0
 IsInRange number act = (number ≤ 1) ⊎ IsTrue (is_in_range number act)
 
--- what is known of acts that are made in so many rounds
+-- what is known of acts that can be made in this number of rounds
 pub record IsRepeatable (acts : List Act) (times : ℕ) : Type 0 where
   pub points : All (IsInRange times) acts
   pub count : length acts * times < 2 ^ 64

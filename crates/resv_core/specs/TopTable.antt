@@ -14,7 +14,7 @@ use Rattle.resv_core.specs.Tops.{IsRising, entries_at}
 abbrev pub entries_of : Tops → List Entry
 entries_of tops = flat_map (entries_at tops []) contexts
 
--- the tables of a buffer, of which there are none before its first fence
+-- the tables of a buffer, which has none before its first fence
 abbrev pub reservation_of : Option Tops → Reservation
 reservation_of None = record { entries = []; room = 0 }
 reservation_of (Some tops) = record { entries = entries_of tops; room = 0 }

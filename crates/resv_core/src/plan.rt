@@ -83,8 +83,8 @@ impl Plan {
         Plan { acts, times: 1 }
     }
 
-    /// The acts of so many rounds, in which each point that is put is multiplied by the number of its round, from 1. Takes
-    /// no memory.
+    /// Repeats the acts in `times` rounds. A point that is put is multiplied by the number of its round, from 1. Takes no
+    /// memory.
     ///
     /// Fails only with `Overflow`, if one of these points or the number of all acts is past the greatest u64.
     pub fn repeated(acts: Vec<Act>, times: u32) -> Result<Plan, Refusal>
@@ -124,7 +124,7 @@ impl Plan {
     }
 }
 
-/// Whether the acts can be made in so many rounds.
+/// Whether the acts can be made in `times` rounds.
 fn is_repeatable(acts: &[Act], times: u32) -> bool
     ensures { result ≡ is_repeatable acts.now times }
 {

@@ -18,7 +18,7 @@ use std::marker::Model;
 ///
 /// The kernel keeps a list of fences, in which a new one takes the place of an earlier one of its context. Here a new fence
 /// raises the points of its usage and of the weaker ones, so nothing is searched for, and no call has to make room. As a list
-/// it has an entry for each usage whose point is later than that of the stronger ones.
+/// it has an entry for each usage whose point is later than the points of the stronger usages.
 #[derive(Debug, Drop)]
 pub struct TopTable {
     // none before the first fence

@@ -1,4 +1,4 @@
-//! A script's run and its exit status, and what faults print: what `fencectl run` does, and `script_runner`.
+//! A script's run and its exit status, and what faults print. `fencectl run` and `script_runner` call it.
 #![tactic(auto)]
 
 mod fault;

@@ -23,7 +23,7 @@ history_along history [] given = history
 history_along history (l ∷ ls) [] = history
 history_along history (l ∷ ls) (a ∷ rest) = history_along (history_after_line history l.body a) ls rest
 
--- the lines `done` are answered: their texts are written but for those that stand in `out`
+-- the lines `done` are answered: their texts are written, but for the texts in `out`
 pub record Progress (done : List Line) (desk : DeskState) (out : List ℕ) (totals : Totals)
     (old new : Option (List ℕ)) : Type 0 where
   pub given : List Answer
@@ -55,7 +55,7 @@ pub record AnswersLine (l : Line) (refused : Option Refusal) (before after : Ans
   pub passed : PassesOn before.out after.out (text_of l.number given) old new
   pub refusal : refusal_of given ≡ refused
 
--- the lines were answered, and so many answers were written
+-- the lines were answered, and the totals count them
 pub record AnswersLines (lines : List Line) (totals : Totals) (old new : Option (List ℕ)) : Type 0 where
   pub given : List Answer
   pub answers : WritesAnswers lines given old new

@@ -1,6 +1,6 @@
 //! The engine, which turns a script's bytes into answers and these into bytes.
 //!
-//! The texts of answers are given as functions of the answers (`specs/`). Lines are those of `line_core`.
+//! `specs/` defines the text of each answer. `line_core` reads the lines.
 #![tactic(auto)]
 
 mod answerer;

@@ -72,7 +72,7 @@ fn pass_report<W: Write>(report: &Report, out: &mut Vec<u8>, writer: &mut W) -> 
     Ok(())
 }
 
-/// The number of the report's rows, and those of its timelines.
+/// The number of the report's rows, and its rows of timelines.
 fn pass_timelines<W: Write>(
     report: &Report,
     out: &mut Vec<u8>,

@@ -19,7 +19,7 @@ use report_core::{
     timelines_text,
 };
 
-/// The most bytes of a driver's name, those of `sw_sync`.
+/// The most bytes of a driver's name, `sw_sync`.
 const DRIVER_BYTES: usize = 7;
 
 /// The bytes of the answer that is done, with its line feed.
@@ -84,7 +84,7 @@ fn push_answer(line: u32, answer: &Answer, out: &mut Vec<u8>) -> Result<(), Refu
     }
 }
 
-/// The same of an answer by value, which then need not be in memory as a whole.
+/// Appends the text of an answer that is given by value, which then need not be in memory as a whole.
 ///
 /// Fails only with Memory. `out` then begins with what it was.
 #[inline(always)]
@@ -241,7 +241,7 @@ fn push_report(report: &Report, out: &mut Vec<u8>) -> Result<(), Refusal>
     Ok(())
 }
 
-/// Appends the number of a report's rows, and those of its timelines, to `out`.
+/// Appends the number of a report's rows, and its rows of timelines, to `out`.
 ///
 /// Fails only with Memory. `out` then begins with what it was.
 #[inline(never)]

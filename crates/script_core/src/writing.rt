@@ -8,7 +8,7 @@ use point_core::Refusal;
 use report_core::write_whole;
 use std::io::Write;
 
-/// Texts are gathered up to so many bytes before they are written.
+/// Texts are gathered up to this many bytes before they are written.
 const WRITE_BYTES: usize = 8192;
 
 /// Writes the texts if they are many, and takes them out.

@@ -1,5 +1,5 @@
-//! `script_runner`: runs the script of a file, or that of standard input, as `fencectl run` does. It is built first, and the
-//! launcher uses it until `fencectl` is there.
+//! `script_runner`: runs the script of a file, or of standard input, as `fencectl run` does. The launcher runs its trial build
+//! until `fencectl` is built, since it compiles in less than half the time.
 #![tactic(auto)]
 
 use point_core::Refusal;

@@ -42,7 +42,7 @@ StandsForUnion inputs f = (sets : List (List Entry)) → AllZip StandsFor inputs
 abbrev pub HaveFloors : ℕ → List File → Type 0
 HaveFloors n inputs = All (λ (f : File). length f.floor ≡ n) inputs
 
--- the table has the latest point of each context among the reach and the files' points, and the floor is that of their merge
+-- the table has the latest point of each context among the reach and the files' points, and the floor of their merge
 pub record IsGathered (table least reach : List ℕ) (inputs : List File) : Type 0 where
   pub latest : IsLatest table reach (as_entries (points_of inputs)) 0
   pub floor : least ≡ floor_of reach inputs

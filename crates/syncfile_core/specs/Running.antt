@@ -13,7 +13,7 @@ use Rattle.words_core.specs.Seat.{SeatModel}
 use Rattle.syncfile_core.specs.declared.running.Found.{Found}
 use Rattle.syncfile_core.specs.SyncFile.{File}
 
--- words of so many contexts that have these values bear the file out: its floor is nowhere above them, and they have each
+-- words of `made` contexts that have these values bear the file out: its floor is nowhere above them, and they have each
 -- point's context
 pub record IsBorneOutAt (reach : List ℕ) (made : ℕ) (f : File) : Type 0 where
   pub floor : IsAtLeast reach f.floor
@@ -29,12 +29,12 @@ pub record IsActivePoll (f : File) (before after : SeatModel) : Type 0 where
   pub borne_out : IsBorneOut after f
   pub active : common_status (clocks_seen after) f.points ≡ Active
 
--- so many polls one after another, each of them Active, and no other step
+-- this number of polls one after another, each of them Active, and no other step
 abbrev pub HasRunOut : File → ℕ → SeatModel → SeatModel → Type 0
 HasRunOut f zero before after = after ≡ before
 HasRunOut f (suc n) before after = (seat : SeatModel) × HasRunOut f n before seat × IsActivePoll f seat after
 
--- some polls that were Active, fewer than so many, and then one poll more, and no other step
+-- some polls that were Active, fewer than `tries`, and then one more poll, and no other step
 pub record HasPolled (f : File) (tries : ℕ) (before after : SeatModel) : Type 0 where
   pub count : ℕ
   pub within : count < tries
@@ -52,7 +52,7 @@ pub record HasPassedTo (clocks : List Clock) (points : List Point) (n : ℕ) (st
   pub rising : HasRisingContexts rest
   pub together : status ≡ common_status clocks passed
 
--- the same of a file's points, and whether its floor is nowhere above the first n of these clocks
+-- what was found of a file's points, and whether its floor is nowhere above the first n of these clocks
 pub record HasFoundTo (clocks : List Clock) (f : File) (n : ℕ) (found : Found) : Type 0 where
   pub floor : IsTrue found.borne_out
       ↔ ((ctx : ℕ) → 1 ≤ ctx → ctx ≤ n → value_at f.floor ctx ≤ reached_by (clock_at clocks ctx))

@@ -1,4 +1,4 @@
--- What is told of a file by the clocks.
+-- What the clocks say of a file.
 use Rattle.std.specs.Prelude.{◌≢◌, ◌↔◌, List, [], ◌∷◌, map, None, Some}
 use Rattle.point_core.specs.declared.entry.Point.{Point}
 use Rattle.point_core.specs.Reach.{IsAtLeast}

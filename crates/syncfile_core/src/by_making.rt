@@ -223,7 +223,7 @@ impl Made {
     }
 }
 
-/// Makes sure that there is a place after so many files.
+/// Makes sure that there is a place after this many files.
 ///
 /// Nothing has changed if memory for that is refused.
 fn add_place(

@@ -86,10 +86,10 @@ impl SyncFile {
         found.status_of(self, contexts)
     }
 
-    /// Polls until a poll is not Active, so many times at most: Ok once each point is signalled or cancelled, as Linux's
+    /// Polls until a poll is not Active, at most `tries` times: Ok once each point is signalled or cancelled, as Linux's
     /// `sync_wait` answers a fence that has an error. There is no time, and nobody is woken.
     ///
-    /// Fails with `TimedOut` after so many polls that were Active, so after none if `tries` is 0; and as
+    /// Fails with `TimedOut` after `tries` polls that were Active, so at once if `tries` is 0; and as
     /// `Foreign` at the first poll that is. Takes no memory.
     pub fn wait_for(&self, words: &Words, seat: &mut Seat, tries: u32) -> Result<(), Refusal>
         requires own { seat.old.words ≡ words.now }
@@ -222,7 +222,7 @@ fn bear_out(file: &SyncFile, made: usize, reach: &Reach) -> Result<(), Refusal>
     }
 }
 
-/// Whether each point's context is one of the first so many.
+/// Whether each point's context is at most `made`.
 fn has_contexts(made: usize, points: &[Point]) -> bool
     ensures exact { IsTrue result ↔ All (λ p. p.ctx ≤ made) points.now }
 {

@@ -58,7 +58,7 @@ pub record HasLoadedAll (before after : SeatModel) (reach : List ℕ) : Type 0 w
   pub later : IsAtLeast reach (reach_seen before)
   pub closings : (ctx : ℕ) → 1 ≤ ctx → ctx ≤ before.words.contexts → KeepsClosing before after ctx
 
--- the same, with the clocks that were found
+-- all clocks were loaded, and these were found
 pub record HasLoadedClocks (before after : SeatModel) (clocks : List Clock) : Type 0 where
   pub all : HasLoadedAll before after (reach_of_clocks clocks)
   pub found : clocks ≡ clocks_seen after

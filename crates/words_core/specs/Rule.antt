@@ -41,7 +41,7 @@ context_trace place v = claimed_trace (value_place place) (claim_place place) v
 abbrev pub mark_trace : ℕ → View → WordTrace
 mark_trace place v = claimed_trace (mark_place place) (claim_place place) v
 
--- on one word alone
+-- on one word only
 abbrev pub word_trace : ℕ → View → WordTrace
 word_trace k v = record { start = on k v.start; made = on k v.trace; claim = [] }
 
@@ -75,11 +75,11 @@ RaisesNoMore n t = raised t.made ≤ n
 abbrev pub HasSums : WordTrace → Type 0
 HasSums t = HasRunningSums 0 t.made
 
--- who has not won the claim has added nothing
+-- a seat that has not won the claim has added nothing
 abbrev pub AddsAsDriver : WordTrace → Type 0
 AddsAsDriver t = wins_in t ≡ 0 → made_in is_add t ≡ 0
 
--- who has not won the claim has not closed the context
+-- a seat that has not won the claim has not closed the context
 abbrev pub ShutsAsDriver : WordTrace → Type 0
 ShutsAsDriver t = wins_in t ≡ 0 → made_in is_shut t ≡ 0
 

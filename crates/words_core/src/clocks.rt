@@ -52,7 +52,7 @@ impl Words {
         reach
     }
 
-    /// The same into a reach that is all 0, which saves the copies of a result.
+    /// Loads all values into a reach that is all 0, which saves the copies of a result.
     pub fn load_all_into(&self, seat: &mut Seat, reach: &mut Reach)
         requires own { seat.old.words ≡ self.now }
         requires zero { reach.old ≡ replicate CONTEXTS 0 }

@@ -44,7 +44,7 @@ pub enum Once {
 }
 
 impl Words {
-    /// Sets a flag, by one test-and-set, as the kernel's `dma_fence_signal` sets that of a fence. It answers `First`
+    /// Sets a flag, by one test-and-set, as the kernel's `dma_fence_signal` sets a fence's flag. It answers `First`
     /// to the call that found it 0, and to all others `Already`, which found it set.
     ///
     /// A seat knows of each test-and-set that it made, and of those that its parent knew of when it was parted. If

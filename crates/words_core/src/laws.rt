@@ -48,7 +48,7 @@ pub fn what_is_known_stays_known()
 {}
 
 /// Points that were signalled by what a seat had seen are signalled by each later load of all clocks, and none of them is
-/// cancelled by one; those of which one was cancelled stay cancelled.
+/// cancelled by one; points with a cancelled one among them stay cancelled.
 pub fn what_is_settled_stays_so()
     ensures { (before after : SeatModel) (reach : List ℕ) (points : List Point) →
         HasLoadedAll before after reach → common_status (clocks_seen before) points ≢ Active →
