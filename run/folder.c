@@ -64,7 +64,7 @@ static int make(char *path, int *lock)
     error = *lock < 0 ? errno : 0;
     if (!error)
         flock(*lock, LOCK_EX);
-    if (access(path, F_OK))
+    if (access(path, F_OK) && errno == ENOENT)
         error = EAGAIN;
     if (!error)
         return 0;
