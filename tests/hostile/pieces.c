@@ -2,9 +2,9 @@
  *
  * PIECES_READ and PIECES_WRITTEN are the most bytes of a read and of a write, where they are set. Once as many bytes were read
  * as PIECES_READABLE says, a read fails, and once as many were written to the file of number PIECES_FILE as PIECES_ROOM says, a
- * write there does: where PIECES_HALTS is set it takes none, and where PIECES_RECOVERS is, those after it are well again. The
- * file COUNTS holds a struct counts, of reads and of writes to the file of that number, and of their bytes. A program that does
- * not end within SECONDS is ended by SIGALRM.
+ * write there does: where PIECES_HALTS is set it takes none, and where PIECES_RECOVERS is, those after it are well again. Where
+ * PIECES_UNSYNCED is set, each fsync fails. The file COUNTS holds a struct counts, of reads and of writes to the file of that
+ * number, and of their bytes. A program that does not end within SECONDS is ended by SIGALRM.
  */
 #define _GNU_SOURCE
 #include <errno.h>
@@ -22,7 +22,7 @@ struct counts {
 static struct counts *counts;
 static size_t readable, room, most_read, most_written;
 static int limited;
-static bool halts, recovers;
+static bool halts, recovers, unsynced;
 
 /* The number that a variable has, or the greatest. */
 static size_t number_of(const char *name)
@@ -49,6 +49,7 @@ __attribute__((constructor)) static void begin(void)
     limited = (int)number_of("PIECES_FILE");
     halts = getenv("PIECES_HALTS") != NULL;
     recovers = getenv("PIECES_RECOVERS") != NULL;
+    unsynced = getenv("PIECES_UNSYNCED") != NULL;
 }
 
 static size_t least(size_t one, size_t other)
@@ -89,4 +90,9 @@ ssize_t write(int file, const void *bytes, size_t size)
     if (count > 0)
         counts->written += count;
     return count;
+}
+
+int fsync(int file)
+{
+    return unsynced ? (int)failing() : (int)syscall(SYS_fsync, file);
 }
