@@ -96,7 +96,10 @@ fn fires(rt: &impl Abort, watches: &mut Watches, fence: &Fence)
     requires new { watches.old.reach ≡ replicate CONTEXTS 0 }
 {
     let (none, five) = (Reach::zero(), reach_of(5, 0));
-    assert!(rt; none.at_least(&none) && five.at_least(&none), "a reach falls");
+    assert!(rt;
+        none.at_least(&none) && five.at_least(&none),
+        "a reach falls"
+    );
     watches.add(7, fence, &none).expect(rt, "a watch");
     let fired = watches.after_rise(&five).expect(rt, "memory");
     holds(rt, fired.as_slice() == [7].as_slice());
