@@ -24,7 +24,7 @@ pending-raised_to value (Some p) = elim (cases_lt value p) [
   | inr below ↦ let is : max value p ≡ value = omega arith in rw (is, le-ltb value value (omega arith), le-ltb value p below) refl
 ]
 
--- also above a higher value
+-- and above a higher value too
 pub raised_to-pending : {value higher : ℕ} → value ≤ higher → (t : Option ℕ) → raised_to higher (pending value t) ≡ raised_to higher t
 raised_to-pending below None = refl
 raised_to-pending {value} {higher} below (Some p) = elim (cases_lt value p) [
@@ -127,7 +127,7 @@ top-cons_true e es usage ctx is = ap (λ b. if b then later e.point.value (top e
 top-cons_false : (e : Entry) (es : List Entry) (usage ctx : ℕ) → applies e usage ctx ≡ false → top (e ∷ es) usage ctx ≡ top es usage ctx
 top-cons_false e es usage ctx is = ap (λ b. if b then later e.point.value (top es usage ctx) else top es usage ctx) is
 
--- what a top says
+-- the characterisation of a top
 abbrev pub IsTop : List Entry → ℕ → ℕ → Option ℕ → Type 0
 IsTop es usage ctx None = NoneApplies es usage ctx
 IsTop es usage ctx (Some p) = IsPut es usage ctx p × NoneIsLater es usage ctx p
@@ -177,7 +177,7 @@ IsTop-top (e ∷ es) usage ctx = elim (cases_Bool (applies e usage ctx)) [
   | inr not ↦ subst (IsTop (e ∷ es) usage ctx) (sym (top-cons_false e es usage ctx not)) (IsTop-kept e es usage ctx (top es usage ctx) not (IsTop-top es usage ctx))
 ]
 
--- what a top says ties it down
+-- the characterisation determines the top
 pub IsTop-unique : (es : List Entry) (usage ctx : ℕ) (s t : Option ℕ) → IsTop es usage ctx s → IsTop es usage ctx t → s ≡ t
 IsTop-unique es usage ctx None None h k = refl
 IsTop-unique es usage ctx None (Some q) h k = let e = k.0.0 in absurd (h e k.0.1 k.0.2)
@@ -190,7 +190,7 @@ IsTop-unique es usage ctx (Some p) (Some q) h k =
     let is : p ≡ q = omega arith in
     ap Some is
 
--- a top is a put point, and none such is later
+-- a top is the point of an entry, and no such entry is later
 pub top-Some : (es : List Entry) (usage ctx p : ℕ) → top es usage ctx ≡ Some p → IsPut es usage ctx p × NoneIsLater es usage ctx p
 top-Some es usage ctx p is = subst (IsTop es usage ctx) is (IsTop-top es usage ctx)
 
@@ -217,7 +217,7 @@ top-same es fs there back usage ctx =
 pub top-permutation : (es fs : List Entry) → IsPermutation es fs → (usage ctx : ℕ) → top es usage ctx ≡ top fs usage ctx
 top-permutation es fs moved = top-same es fs (λ e. Contains-permutation es fs e moved) (λ e. Contains-permutation fs es e (IsPermutation-sym es fs moved))
 
--- an entry that is there already
+-- an entry that is in the list already
 pub top-repeated : (es : List Entry) (e : Entry) → Contains es e → (usage ctx : ℕ) → top (es ++ e ∷ []) usage ctx ≡ top es usage ctx
 top-repeated es e among = top-same (es ++ e ∷ []) es
     (λ f there. elim (Contains-push_cases es e f there) [
@@ -232,13 +232,13 @@ AgreesAbove-same_entries reach es fs there back = record { tops = λ usage ctx. 
 pub AgreesAbove-permutation : (reach : List ℕ) (es fs : List Entry) → IsPermutation es fs → AgreesAbove reach es fs
 AgreesAbove-permutation reach es fs moved = record { tops = λ usage ctx. ap (pending (value_at reach ctx)) (top-permutation es fs moved usage ctx) }
 
--- of a context that there can't be, there is no top
+-- a context out of range has no top
 pub top-outside : (es : List Entry) (usage ctx : ℕ) → HasContexts es → (1 ≤ ctx → ctx ≤ CONTEXTS → ⊥) → top es usage ctx ≡ None
 top-outside es usage ctx within outside = top-is_none es usage ctx (λ e among at.
     let has = All-contains (λ (e : Entry). (1 ≤ e.point.ctx) × (e.point.ctx ≤ CONTEXTS)) es e within among in
     outside (rw at.1 at has.0) (rw at.1 at has.1))
 
--- a list that has at most one point of each context of a range
+-- a list with at most one point of each context of a range
 
 abbrev pub points_over : (ℕ → Option ℕ) → ℕ → ℕ → List Point
 points_over t a n = filter_map (λ ctx. option_map (point_of ctx) (t ctx)) (range_with_len a n)
@@ -280,7 +280,7 @@ top-points_over t a (suc n) usage ctx low high = elim (cases_eq ctx a) [
       ∙ top-points_over t (a + 1) n usage ctx (omega arith) (omega arith)
 ]
 
--- what holds of each point holds of the list
+-- a property of each point holds for the list
 All-points_over : (P : Point → Type 0) (t : ℕ → Option ℕ) (a n : ℕ) → ((ctx p : ℕ) → a ≤ ctx → ctx < a + n → t ctx ≡ Some p → P (point_of ctx p)) → All P (points_over t a n)
 All-points_over P t a zero each = All-nil P
 All-points_over P t a (suc n) each =
@@ -294,7 +294,7 @@ HasRisingContexts-points_over t a (suc n) =
     (All-points_over (λ (p : Point). a < p.ctx) t (a + 1) n (λ ctx p low high is. omega arith))
     (HasRisingContexts-points_over t (a + 1) n)
 
--- the same of every context
+-- a property that holds for the top of every context
 
 top-listing_within : (n : ℕ) → n ≡ CONTEXTS → (es : List Entry) (usage : ℕ) (reach : List ℕ) (at ctx : ℕ) → 1 ≤ ctx → ctx ≤ n → top (as_entries (listing es usage reach)) at ctx ≡ pending_top reach es usage ctx
 top-listing_within n is es usage reach at ctx low high =
@@ -306,7 +306,7 @@ top-listing_without n is es usage reach at ctx outside =
     ap (λ ps. top (as_entries ps) at ctx) (sym (filter_map-contexts (λ c. option_map (point_of c) (pending_top reach es usage c)) n is))
     ∙ top-points_over_outside (λ c. pending_top reach es usage c) 1 n at ctx (λ low high. outside low (omega arith))
 
--- at each usage, a listing's top is what was pending
+-- at each usage, the top of a listing is the pending top
 pub top-listing : (es : List Entry) (usage : ℕ) (reach : List ℕ) (at ctx : ℕ) → 1 ≤ ctx → ctx ≤ CONTEXTS → top (as_entries (listing es usage reach)) at ctx ≡ pending_top reach es usage ctx
 top-listing es usage reach at ctx low high = top-listing_within CONTEXTS refl es usage reach at ctx low high
 
@@ -319,7 +319,7 @@ listing-same_below n is es fs usage at reach other same =
     ∙ filter_map-range_same (λ c. option_map (point_of c) (pending_top reach es usage c)) (λ c. option_map (point_of c) (pending_top other fs at c)) 1 n (λ ctx low high. ap (option_map (point_of ctx)) (same ctx low (omega arith)))
     ∙ filter_map-contexts (λ c. option_map (point_of c) (pending_top other fs at c)) n is
 
--- if the same is pending of each context, the listing is the same
+-- if the pending tops of each context are equal, the listings are equal
 pub listing-same : (es fs : List Entry) (usage at : ℕ) (reach other : List ℕ) → ((ctx : ℕ) → 1 ≤ ctx → ctx ≤ CONTEXTS → pending_top reach es usage ctx ≡ pending_top other fs at ctx) → listing es usage reach ≡ listing fs at other
 listing-same es fs usage at reach other same = listing-same_below CONTEXTS refl es fs usage at reach other same
 
@@ -332,7 +332,7 @@ listing-All_below n is P es usage reach each =
     subst Q (filter_map-contexts (λ c. option_map (point_of c) (pending_top reach es usage c)) n is)
     (All-points_over P (λ c. pending_top reach es usage c) 1 n (λ ctx p low high is. each ctx p low (omega arith) is))
 
--- what holds of each pending top holds of each listed point
+-- a property of each pending top holds for each listed point
 pub listing-All : (P : Point → Type 0) (es : List Entry) (usage : ℕ) (reach : List ℕ) → ((ctx p : ℕ) → 1 ≤ ctx → ctx ≤ CONTEXTS → pending_top reach es usage ctx ≡ Some p → P (point_of ctx p)) → All P (listing es usage reach)
 listing-All P es usage reach each = listing-All_below CONTEXTS refl P es usage reach each
 
@@ -345,7 +345,7 @@ listing-rising_below n is es usage reach =
 pub listing-rising : (es : List Entry) (usage : ℕ) (reach : List ℕ) → HasRisingContexts (listing es usage reach)
 listing-rising es usage reach = listing-rising_below CONTEXTS refl es usage reach
 
--- what is pending above a value lies above it
+-- a point that is pending above a value is greater than the value
 pub pending-above : (value : ℕ) (t : Option ℕ) (p : ℕ) → pending value t ≡ Some p → value < p
 pending-above value None p is = absurd (cc)
 pending-above value (Some q) p is = elim (cases_lt value q) [
@@ -353,7 +353,7 @@ pending-above value (Some q) p is = elim (cases_lt value q) [
   | inr reached ↦ absurd (cc (le-ltb value q reached))
 ]
 
--- a listing is as a file's points must be
+-- a listing has the form of a file's points
 pub listing-contexts : (es : List Entry) (usage : ℕ) (reach : List ℕ) → HasRisingContexts (listing es usage reach) × HasContexts (as_entries (listing es usage reach)) × AllAbove reach (listing es usage reach)
 listing-contexts es usage reach = (
   listing-rising es usage reach,
@@ -361,7 +361,7 @@ listing-contexts es usage reach = (
   listing-All (λ (p : Point). value_at reach p.ctx < p.value) es usage reach (λ ctx p low high is. pending-above (value_at reach ctx) (top es usage ctx) p is),
 )
 
--- a listing absorbs a listing
+-- listing a listing together with more entries lists all of them
 pub listing-merge : {later reach : List ℕ} (es fs : List Entry) (usage : ℕ) → IsAtLeast later reach → listing (as_entries (listing es usage reach) ++ fs) usage later ≡ listing (es ++ fs) usage later
 listing-merge {later} {reach} es fs usage high = listing-same (as_entries (listing es usage reach) ++ fs) (es ++ fs) usage usage later later (λ ctx low up.
     pending-same (value_at later ctx) (top (as_entries (listing es usage reach) ++ fs) usage ctx) (top (es ++ fs) usage ctx)
@@ -391,7 +391,7 @@ pub as_entries-append : (ps qs : List Point) → as_entries (ps ++ qs) ≡ as_en
 as_entries-append [] qs = refl
 as_entries-append (p ∷ ps) qs = ap (λ es. as_entry p ∷ es) (as_entries-append ps qs)
 
--- whether there can be the context
+-- whether the context is in range
 cases_context : (ctx : ℕ) → ((1 ≤ ctx) × (ctx ≤ CONTEXTS)) ⊎ (1 ≤ ctx → ctx ≤ CONTEXTS → ⊥)
 cases_context ctx = elim (cases_lt CONTEXTS ctx) [
   | inl past ↦ inr (λ low high. omega arith)
@@ -467,7 +467,7 @@ listing-empty es usage reach within = (
   λ reached. listing-same es [] usage usage reach reach (λ ctx low high. pending_top-IsReached es usage reach ctx (top es usage ctx) reached refl) ∙ listing-nil usage reach,
 )
 
--- what may be dropped
+-- entries that may be dropped
 
 -- an entry that is signalled
 pub AgreesAbove-signalled : (reach : List ℕ) (e : Entry) (es : List Entry) → e.point.value ≤ value_at reach e.point.ctx → AgreesAbove reach (e ∷ es) es

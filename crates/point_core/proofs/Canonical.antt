@@ -1,4 +1,4 @@
--- A list that is as listings are is its own listing.
+-- A list in normal form is its own listing.
 use Rattle.std.proofs.Common.{◌≡◌, ◌≢◌, ℕ, ◌+◌, ◌<◌, ◌≤◌, zero, suc, refl, sym, ap, ◌∙◌, List, [], ◌∷◌, length, get_or, map, Option, None, Some, option_map, arith, if◌then◌else◌, inl, inr, All}
 use Rattle.std.specs.List.{filter_map, cons_option, range_with_len}
 use Rattle.std.specs.List.Sorted.{IsStrictlyIncreasing}

@@ -1,4 +1,4 @@
--- Tables of values that are kept up to the last that is not 0.
+-- Tables of values that are stored up to the last that is not 0.
 use Rattle.std.proofs.Common.{◌≡◌, ℕ, ◌+◌, ◌-◌, ◌<◌, ◌≤◌, max, refl, ap, sym, ◌∙◌, List, [], ◌∷◌, ◌++◌, length, get_or, replicate, take, arith, zero, suc, inl, inr}
 use Rattle.std.proofs.lemmas.Bool.{cases_lt}
 use Rattle.std.proofs.lemmas.List.{get_or_append_left, get_or-append_right, get_or_past, get_or-replicate, length-append, length-replicate, length-take-le}
@@ -12,7 +12,7 @@ zeros-are : (values : List ℕ) → ((k : ℕ) → get_or values k 0 ≡ 0) → 
 zeros-are [] none = refl
 zeros-are (v ∷ vs) none = ap (λ rest. 0 ∷ rest) (zeros-are vs (λ k. none (suc k))) ∙ ap (λ first. first ∷ vs) (sym (none 0))
 
--- if the values in use were made 0, all are
+-- once the values in use are 0, all values are
 pub cleared : (xs zs : List ℕ) (n : ℕ) → length zs ≡ CONTEXTS → used_of xs ≤ n → ((k : ℕ) → k < n → get_or zs k 0 ≡ 0) → ((k : ℕ) → n ≤ k → get_or zs k 0 ≡ get_or xs k 0) → zs ≡ replicate CONTEXTS 0
 cleared xs zs n full all none others =
     sym (zeros-are zs (λ k. elim (cases_lt k n) [
@@ -65,7 +65,7 @@ get_or-padded values k = elim (cases_lt k (length values)) [
       ∙ sym (get_or_past values k 0 past)
 ]
 
--- a loop over the values in use has met all values
+-- a loop over the values in use covers all values
 pub later_values-in_use : (xs ys zs : List ℕ) (n : ℕ) → length xs ≡ CONTEXTS → length zs ≡ length xs → AreInUse ys → length ys ≤ n → ((k : ℕ) → k < n → get_or zs k 0 ≡ max (get_or xs k 0) (get_or ys k 0)) → ((k : ℕ) → n ≤ k → get_or zs k 0 ≡ get_or xs k 0) → (zs ≡ later_values xs (padded ys)) × (max (used_of xs) (length ys) ≡ used_of zs)
 later_values-in_use xs ys zs n full same h all joined others =
     let greater = greater_values xs (padded ys) zs n (omega (arith, h.1)) (λ k low. joined k low ∙ ap (λ v. max (get_or xs k 0) v) (sym (get_or-padded ys k))) others in (
@@ -79,7 +79,7 @@ IsAtLeast-in_use xs ys n h all before = below_where_used xs (padded ys) n (omega
 pub IsAtLeast-padded : {xs : List ℕ} (ys : List ℕ) → IsAtLeast xs (padded ys) → (k : ℕ) → get_or ys k 0 ≤ get_or xs k 0
 IsAtLeast-padded {xs} ys h k = rw (get_or-padded ys k) at (IsAtLeast-at h k)
 
--- of no values
+-- the greater values of a list and no values
 pub later_values-replicate : (n : ℕ) (values : List ℕ) → length values ≡ n → later_values (replicate n 0) values ≡ values
 later_values-replicate zero [] is = refl
 later_values-replicate zero (v ∷ vs) is = absurd (omega (arith, is))

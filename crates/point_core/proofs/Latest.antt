@@ -1,4 +1,4 @@
--- A table of latest points, as points are put into it one by one.
+-- A table of latest points, as points are put one by one.
 use Rattle.std.proofs.Common.{◌≡◌, ◌≢◌, ℕ, ◌<◌, ◌≤◌, max, refl, sym, ap, subst, ◌∙◌, List, [], ◌∷◌, ◌++◌, length, Option, None, Some, arith, Bool, true, false, nat_le, if◌then◌else◌, inl, inr}
 use Rattle.std.proofs.lemmas.Bool.{cases_eq, eq-eqb, ne_eqb, le-leb, lt-leb}
 use Rattle.std.proofs.Math.Bool.{and-false}
@@ -18,7 +18,7 @@ pub raised_to-max : (p value : ℕ) (t : Option ℕ) → raised_to (max p value)
 raised_to-max p value None = refl
 raised_to-max p value (Some q) = omega arith
 
--- what one more entry does to the value
+-- the effect of one more entry on the value
 abbrev pub put_if : Bool → ℕ → ℕ → ℕ
 put_if true p value = max p value
 put_if false p value = value
@@ -73,17 +73,17 @@ IsLatest-put {latest} {reach} {es} {usage} e h strong low high = record {
   ];
 }
 
--- the same of a point that is an entry's
+-- the same step for an entry's point
 pub IsLatest-put_point : {latest reach : List ℕ} {es : List Entry} {usage : ℕ} (p : Point) (e : Entry) → e.point ≡ p → IsLatest latest reach es usage → usage_number e.usage ≤ usage → 1 ≤ p.ctx → p.ctx ≤ length latest → IsLatest (with_value latest p.ctx (max (value_at latest p.ctx) p.value)) reach (es ++ e ∷ []) usage
 IsLatest-put_point {latest} {reach} {es} {usage} p e is h strong low high =
     subst (λ (q : Point). 1 ≤ q.ctx → q.ctx ≤ length latest → IsLatest (with_value latest q.ctx (max (value_at latest q.ctx) q.value)) reach (es ++ e ∷ []) usage) is (IsLatest-put e h strong) low high
 
--- a weaker entry is passed over
+-- a weaker entry is skipped
 pub IsLatest-weaker : {latest reach : List ℕ} {es : List Entry} {usage : ℕ} (e : Entry) → IsLatest latest reach es usage → usage < usage_number e.usage → IsLatest latest reach (es ++ e ∷ []) usage
 IsLatest-weaker {latest} {reach} {es} {usage} e h weak = record {
   values = λ ctx from to. rw (raised_to-top-last (value_at reach ctx) es e usage ctx, applies-weak e usage ctx weak) (h.values ctx from to);
 }
 
--- nothing was put in yet
+-- no point was put yet
 pub IsLatest-empty : (reach : List ℕ) (usage : ℕ) → IsLatest reach reach [] usage
 IsLatest-empty reach usage = record { values = λ ctx from to. refl }

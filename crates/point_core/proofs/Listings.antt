@@ -1,4 +1,4 @@
--- What is listed, context by context.
+-- Listings, built context by context.
 use Rattle.std.proofs.Common.{◌≡◌, ℕ, ◌+◌, ◌-◌, ◌<◌, ◌≤◌, zero, suc, refl, sym, ap, subst, ◌∙◌, List, [], ◌∷◌, ◌++◌, length, get_or, take, max, Option, None, Some, arith, nat_lt, if◌then◌else◌, inl, inr, append-nil}
 use Rattle.std.specs.Prelude.{option_map}
 use Rattle.std.specs.List.{filter_map, cons_option, range_with_len}
@@ -18,7 +18,7 @@ as_entries-take_more ps i p low is = map_more as_entry ps i p low ∙ ap (λ q. 
 pub HasContexts-nil : HasContexts []
 HasContexts-nil = All-nil (λ (e : Entry). (1 ≤ e.point.ctx) × (e.point.ctx ≤ CONTEXTS))
 
--- one more entry, of a context that there can be
+-- one more entry of a valid context
 pub HasContexts-put : (es : List Entry) (p : Point) → HasContexts es → 1 ≤ p.ctx → p.ctx ≤ CONTEXTS → HasContexts (es ++ as_entry p ∷ [])
 HasContexts-put es p within low high = All-push (λ (e : Entry). (1 ≤ e.point.ctx) × (e.point.ctx ≤ CONTEXTS)) es (as_entry p) within (low, high)
 
@@ -41,7 +41,7 @@ filter_map-range_more h a (suc n) =
     ∙ cons_option-append (h a) (filter_map h (range_with_len (a + 1) n)) (cons_option (h (a + 1 + n)) [])
     ∙ ap (λ k. cons_option (h a) (filter_map h (range_with_len (a + 1) n)) ++ cons_option (h k) []) (omega arith)
 
--- what agrees on the numbers gives the same list
+-- functions that agree on the numbers give equal lists
 pub filter_map-range_same : {X : Type 0} (f h : ℕ → Option X) (a n : ℕ) → ((k : ℕ) → a ≤ k → k < a + n → f k ≡ h k) → filter_map f (range_with_len a n) ≡ filter_map h (range_with_len a n)
 filter_map-range_same f h a zero same = refl
 filter_map-range_same f h a (suc n) same =
@@ -55,7 +55,7 @@ pending_is value ctx (Some p) = elim (cases_lt value p) [
   | inr below ↦ let is : max value p ≡ value = omega arith in rw (is, le-ltb value value (omega arith), le-ltb value p below) refl
 ]
 
--- a table of the latest points holds what is listed
+-- the points above the reach in a table of latest points are the listing
 pub points_above-IsLatest : {latest reach : List ℕ} {es : List Entry} {usage : ℕ} → IsLatest latest reach es usage → points_above latest reach ≡ listing es usage reach
 unfolding contexts
 points_above-IsLatest {latest} {reach} {es} {usage} h =
@@ -90,14 +90,14 @@ skip_above latest reach points n ctx before is reached =
     ∙ ap (λ b. filter_map (point_above latest reach) (range_with_len 1 n) ++ cons_option (if b then Some (point_of ctx (value_at latest ctx)) else None) []) (sym (le-ltb _ _ reached))
     ∙ sym (above_one_more latest reach n ctx is)
 
--- a point of the next context is one more
+-- a pending point of the next context counts as one more
 pub count_above : (latest reach : List ℕ) (n ctx : ℕ) → ctx ≡ n + 1 → value_at reach ctx < value_at latest ctx → length (filter_map (point_above latest reach) (range_with_len 1 n)) + 1 ≡ length (filter_map (point_above latest reach) (range_with_len 1 (n + 1)))
 count_above latest reach n ctx is above =
     let before = filter_map (point_above latest reach) (range_with_len 1 n) in
     sym (length-append before (point_of ctx (value_at latest ctx) ∷ []))
     ∙ ap length (push_above latest reach before n ctx refl is above)
 
--- and one that is reached is not
+-- a point that is reached is not counted
 pub count_skipped : (latest reach : List ℕ) (n ctx : ℕ) → ctx ≡ n + 1 → value_at latest ctx ≤ value_at reach ctx → length (filter_map (point_above latest reach) (range_with_len 1 n)) ≡ length (filter_map (point_above latest reach) (range_with_len 1 (n + 1)))
 count_skipped latest reach n ctx is reached =
     ap length (skip_above latest reach (filter_map (point_above latest reach) (range_with_len 1 n)) n ctx refl is reached)
@@ -110,7 +110,7 @@ skip_unused latest reach n (suc more) past =
     skip_above latest reach (filter_map (point_above latest reach) (range_with_len 1 n)) (more + n) (more + n + 1) (skip_unused latest reach n more past) refl (omega arith)
     ∙ ap (λ k. filter_map (point_above latest reach) (range_with_len 1 k)) next
 
--- after the last context that is used nothing is listed
+-- no point is listed after the last context in use
 pub points_above-used : (latest reach : List ℕ) (n : ℕ) → n ≤ CONTEXTS → ((ctx : ℕ) → n < ctx → value_at latest ctx ≡ 0) → filter_map (point_above latest reach) (range_with_len 1 n) ≡ points_above latest reach
 points_above-used latest reach n few past =
     skip_unused latest reach n (CONTEXTS - n) past

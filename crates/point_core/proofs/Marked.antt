@@ -1,4 +1,4 @@
--- The marks of lanes, a bit for each that is an allowed byte, tell a name.
+-- The marks of the lanes, one bit for each allowed byte, decide whether bytes are a name.
 use Rattle.std.proofs.Common.{◌≡◌, ℕ, zero, suc, ◌+◌, ◌-◌, ◌%◌, ◌^◌, ◌<◌, ◌≤◌, Bool, true, false, ◌&&◌, cond, eqb, leb, List, [], ◌∷◌, length, get_or, map, replicate, inl, inr, refl, sym, ap, subst, ◌∙◌, arith, w8, w64, Fits}
 use Rattle.std.specs.Int.{bit_at, trailing_ones}
 use Rattle.std.specs.List.{list_all, range_with_len}
@@ -12,7 +12,7 @@ use lib.Bits.{bit_or}
 use Rattle.point_core.specs.Name.{is_name_byte, padded}
 use Rattle.point_core.proofs.Padded.{length-padded}
 
--- a lane of each comparison
+-- the result of a comparison in one lane
 abbrev at_most : ℕ → ℕ → ℕ
 at_most a b = cond (leb a b) 255 0
 
@@ -28,7 +28,7 @@ is_between low more b = at_most (minus b low) more
 abbrev name_lane : ℕ → ℕ
 name_lane b = bit_or (bit_or (bit_or (is_between 97 25 (bit_or b 32)) (is_between 48 9 b)) (is_between 45 1 b)) (equal b 95)
 
--- held against the definition at each of the 256 bytes, by computing
+-- compared with the definition at each of the 256 bytes, by computation
 each_byte : map (λ b. top 7 (name_lane b)) (range_with_len 0 256) ≡ map is_name_byte (range_with_len 0 256)
 each_byte = refl
 

@@ -21,7 +21,7 @@ AgreesAbove-points_comm reach ps qs =
 pub merged-comm : (reach : List ℕ) (ps qs : List Point) → merged reach ps qs ≡ merged reach qs ps
 merged-comm reach ps qs = listing-AgreesAbove 0 (AgreesAbove-points_comm reach ps qs)
 
--- a merge of a merge lists all that went in
+-- a merge with a merge lists all three lists
 pub merged-merged : (reach : List ℕ) (ps qs rs : List Point) → merged reach (merged reach ps qs) rs ≡ listing (as_entries ((ps ++ qs) ++ rs)) 0 reach
 merged-merged reach ps qs rs =
     ap (λ es. listing es 0 reach) (as_entries-append (merged reach ps qs) rs)
@@ -43,7 +43,7 @@ AgreesAbove-merged reach ps qs left right = AgreesAbove-trans (AgreesAbove-listi
 pub AgreesAbove-merged_idem : (reach : List ℕ) (ps : List Point) → HasContexts (as_entries ps) → AgreesAbove reach (as_entries (merged reach ps ps)) (as_entries ps)
 AgreesAbove-merged_idem reach ps within = AgreesAbove-trans (AgreesAbove-merged reach ps ps within within) (AgreesAbove-idem reach (as_entries ps))
 
--- a merge of a listing with itself lists the same
+-- merging a listing with itself lists the same points
 pub merged-idem : (reach : List ℕ) (ps : List Point) → HasRisingContexts ps → HasContexts (as_entries ps) → AllAbove reach ps → merged reach ps ps ≡ ps
 merged-idem reach ps rising within high =
     listing-AgreesAbove 0 (AgreesAbove-trans (AgreesAbove-same reach (as_entries-append ps ps)) (AgreesAbove-idem reach (as_entries ps)))

@@ -22,7 +22,7 @@ found-All : {X : Type 0} (P : X → Type 0) (b : Bool) (x y : X) (rest : Option 
 found-All P true x y rest is here later = subst P (same_Some x y is) here
 found-All P false x y rest is here later = later is
 
--- what holds of each element holds of the one that is found
+-- a property of each element holds for the element that is found
 pub find-All : {X : Type 0} (P : X → Type 0) (test : X → Bool) (xs : List X) (x : X) → All P xs → find test xs ≡ Some x → P x
 find-All P test [] x all is = absurd (cc)
 find-All P test (y ∷ ys) x all is = found-All P (test y) y x (find test ys) is (All-head P y ys all) (λ rest. find-All P test ys x (All-tail P y ys all) rest)
@@ -31,7 +31,7 @@ find-test : {X : Type 0} (test : X → Bool) (b : Bool) (y x : X) (rest : Option
 find-test test true y x rest passes later is = ap test (sym (same_Some y x is)) ∙ passes
 find-test test false y x rest fails later is = later is
 
--- what is found passes the test
+-- the element that is found passes the test
 pub find-passes : {X : Type 0} (test : X → Bool) (xs : List X) (x : X) → find test xs ≡ Some x → test x ≡ true
 find-passes test [] x is = absurd (cc)
 find-passes test (y ∷ ys) x is = find-test test (test y) y x (find test ys) refl (find-passes test ys x) is
@@ -50,27 +50,27 @@ module _ {X : Type 0} (name_of : X → List ℕ) where
   pub has_named-None : (xs : List X) (name : List ℕ) → named name_of xs name ≡ None → has_named name_of xs name ≡ false
   has_named-None xs name absent = sym (is_some-named xs name) ∙ ap is_some absent
 
-  -- what is found has the name
+  -- the element that is found has the name
   pub name_of-named : (xs : List X) (name : List ℕ) (x : X) → named name_of xs name ≡ Some x → name_of x ≡ name
   name_of-named xs name x found = same_text (name_of x) name (sym (find-passes (is_named name_of name) xs x found))
 
-  -- what holds of each holds of the one of that name
+  -- a property of each element holds for the one with that name
   pub named-All : (P : X → Type 0) (xs : List X) (name : List ℕ) (x : X) → All P xs → named name_of xs name ≡ Some x → P x
   named-All P xs name x all is = find-All P (is_named name_of name) xs x all is
 
-  -- the test from the other side, of the names alone
+  -- the test from the other side, over only the names
   pub has_named-names : (xs : List X) (name : List ℕ) → list_any (same_name name) (map name_of xs) ≡ has_named name_of xs name
   has_named-names [] name = refl
   has_named-names (x ∷ xs) name =
       ap (λ b. b || list_any (same_name name) (map name_of xs)) (nat_list_eq_equiv.symm name (name_of x))
       ∙ ap (λ b. is_named name_of name x || b) (has_named-names xs name)
 
-  -- if there is none of that name, none is left out
+  -- without an element of that name, nothing is removed
   pub without_named-absent : (xs : List X) (name : List ℕ) → has_named name_of xs name ≡ false → without_named name_of xs name ≡ xs
   without_named-absent [] name absent = refl
   without_named-absent (x ∷ xs) name absent = kept-if (is_named name_of name x) (has_named name_of xs name) x xs (without_named name_of xs name) absent (λ rest. without_named-absent xs name rest)
 
--- two lists that have the same names, one after another
+-- two lists whose elements have equal names, one by one
 module _ {X Y : Type 0} (f : X → List ℕ) (g : Y → List ℕ) where
   pub has_named-same_names : (xs : List X) (ys : List Y) (name : List ℕ) → map f xs ≡ map g ys → has_named f xs name ≡ has_named g ys name
   has_named-same_names [] [] name is = refl
@@ -90,7 +90,7 @@ module _ {X Y : Type 0} (f : X → List ℕ) (g : Y → List ℕ) where
     map-cond true x y xs ys same rest = rest
     map-cond false x y xs ys same rest = cc
 
-    -- what they have in common, they have in common without those of a name
+    -- the lists still correspond after elements of one name are removed from both
     pub map-without_named : (xs : List X) (ys : List Y) (name : List ℕ) → map f xs ≡ map g ys → map h xs ≡ map k ys → map h (without_named f xs name) ≡ map k (without_named g ys name)
     map-without_named [] [] name is also = refl
     map-without_named [] (y ∷ ys) name is also = absurd (cc)
@@ -107,7 +107,7 @@ module _ {X Y : Type 0} (f : X → List ℕ) (g : Y → List ℕ) where
     option_map-cond true x y o p same rest = ap Some same
     option_map-cond false x y o p same rest = rest
 
-    -- and so has what is found by a name
+    -- the elements that are found by one name correspond
     pub option_map-named : (xs : List X) (ys : List Y) (name : List ℕ) → map f xs ≡ map g ys → map h xs ≡ map k ys → option_map h (named f xs name) ≡ option_map k (named g ys name)
     option_map-named [] [] name is also = refl
     option_map-named [] (y ∷ ys) name is also = absurd (cc)

@@ -67,7 +67,7 @@ same_names a b x y p q s t =
       λ e. eq-eqb _ _ (omega (arith, mask, power, same-ones a b ((bytes_decides a b).1 (sym s.1 ∙ ap lanes_of (p ∙ e ∙ sym q) ∙ t.1)))),
     ) (bytes_decides x y)
 
--- a space for a zero
+-- a space in place of a zero
 abbrev blank : ℕ → ℕ
 blank b = cond (eqb b 0) 32 b
 
@@ -105,7 +105,7 @@ column_lanes-blank lanes is =
 pub length-column_lanes : (lanes : List ℕ) → IsStored lanes → length (sel_l (map (top 7) (zip2 (λ a b. cond (eqb a b) 255 0) lanes (replicate 32 0))) (replicate 32 32) lanes) ≡ 32
 length-column_lanes lanes is = ap length (column_lanes-blank lanes is) ∙ length-map lanes blank ∙ stored_long lanes is
 
--- spaces after a name, for its zeros, and without its length
+-- the bytes of a name with spaces in place of its zeros, and without its length
 pub name-column : (lanes name : List ℕ) → bytes_of lanes ≡ name → IsStored lanes
     → take 31 (sel_l (map (top 7) (zip2 (λ a b. cond (eqb a b) 255 0) lanes (replicate 32 0))) (replicate 32 32) lanes) ≡ name ++ replicate (31 - length name) 32
 name-column lanes name named is =

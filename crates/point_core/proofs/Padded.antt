@@ -48,7 +48,7 @@ number-below : (xs : List ℕ) → Each1 (Fits w8) xs → number_l 256 xs < 2 ^ 
 number-below [] fit = omega arith
 number-below (x ∷ xs) fit = omega (arith, power-more (length xs), number-below xs fit.1, fit.0.fits)
 
--- lanes of which one wider lane is made
+-- narrow lanes that make up one wide lane
 pub number-of_lanes : (n : ℕ) (xs : List ℕ) → length xs ≡ n → Each1 (Fits w8) xs → number_l 256 xs % 2 ^ (8 * n) ≡ number_l 256 xs
 number-of_lanes n xs long fit = mod-eq_of_lt (subst (λ k. number_l 256 xs < 2 ^ (8 * k)) long (number-below xs fit))
 
@@ -61,7 +61,8 @@ number-split (suc n) (x ∷ xs) =
     ap (λ p. x + 256 * first + p * rest) (power-more n) ∙ ap (λ m. x + 256 * first + m) (mul_assoc 256 (2 ^ (8 * n)) rest)
     ∙ omega (arith, number-split n xs)
 
--- the number of the first n bytes and that of the last n, of which those that are among the first are taken out
+-- the number of the first n bytes joined with the number of the last n, from which the bytes that are among the first
+-- are removed
 pub number-joined : (n : ℕ) (xs : List ℕ) → AreBytes xs → n ≤ length xs → length xs ≤ n + n
     → number_l 256 (chunk 0 n xs) + 2 ^ (8 * n) * (number_l 256 (chunk (length xs - n) n xs) / 2 ^ (8 * (2 * n - length xs))) ≡ number_l 256 xs
 number-joined n xs bytes least most =
@@ -79,7 +80,7 @@ or-joined low high p q =
     let whole : high * 2 ^ 32 % 2 ^ 64 ≡ high * 2 ^ 32 = omega arith in
     ap (λ m. bit_or m low) whole ∙ or_shifted high 32 low p ∙ omega arith
 
--- at most three bytes
+-- the number of at most three bytes
 pub number-of_three : (xs : List ℕ) → length xs ≤ 3 → number_l 256 (get_or xs 0 0 ∷ get_or xs 1 0 ∷ get_or xs 2 0 ∷ 0 ∷ []) ≡ number_l 256 xs
 number-of_three [] few = omega arith
 number-of_three (x ∷ []) few = omega arith
@@ -98,7 +99,7 @@ padded-zeros xs = ap (λ zeros. xs ++ zeros) (drop-replicate (length xs) LANES 0
 pub digits-padded : (xs : List ℕ) (n : ℕ) → n ≡ number_l 256 xs → AreBytes xs → length xs ≤ 32 → digits_l 256 32 n ≡ padded xs
 digits-padded xs n is bytes few = ap (digits_l 256 32) is ∙ digits-number 32 xs few bytes
 
--- as many digits as there are bytes are the bytes
+-- the digits of a number, as many as it has bytes, are the bytes
 pub digits-same : (xs : List ℕ) → AreBytes xs → digits_l 256 (length xs) (number_l 256 xs) ≡ xs
 digits-same [] bytes = refl
 digits-same (x ∷ xs) bytes =

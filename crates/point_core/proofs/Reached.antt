@@ -1,4 +1,4 @@
--- Entries that are reached, and those that cover others.
+-- Entries that are reached, and entries that cover others.
 use Rattle.std.proofs.Common.{◌≡◌, ℕ, ◌≤◌, ◌↔◌, Bool, true, false, ◌||◌, refl, sym, ◌∙◌, List, [], ◌∷◌, Option, None, Some, arith, All, Contains, ◌==◌, nat_le, not, ◌&&◌, inl, inr}
 use Rattle.std.specs.Prelude.{IsTrue}
 use Rattle.std.specs.List.{list_all}
@@ -13,7 +13,7 @@ use Rattle.point_core.specs.Agreement.{top, AgreesAbove, as_entry, as_entries, c
 use Rattle.point_core.specs.Latest.{raised_to}
 use Rattle.point_core.proofs.Agreement.{AgreesAbove-raised, raised_to-top-above, top-Some}
 
--- if all is reached, no top lifts the value
+-- if all entries are reached, no top raises the value
 raised_to-IsReached : (es : List Entry) (usage ctx : ℕ) (reach : List ℕ) (t : Option ℕ) → top es usage ctx ≡ t → IsReached es usage reach → raised_to (value_at reach ctx) t ≤ value_at reach ctx
 raised_to-IsReached es usage ctx reach None is reached = omega arith
 raised_to-IsReached es usage ctx reach (Some p) is reached =
@@ -23,7 +23,7 @@ raised_to-IsReached es usage ctx reach (Some p) is reached =
     let value = put.3 in
     omega arith
 
--- entries that agree above a reach are reached alike
+-- entries that agree above a reach are reached together
 pub IsReached-AgreesAbove : {reach : List ℕ} {es fs : List Entry} (usage : ℕ) → AgreesAbove reach es fs → IsReached es usage reach → IsReached fs usage reach
 IsReached-AgreesAbove {reach} {es} {fs} usage agrees reached = λ e among strong.
     let above = raised_to-top-above fs usage e.point.ctx (value_at reach e.point.ctx) e among (strong, refl) in
@@ -31,7 +31,7 @@ IsReached-AgreesAbove {reach} {es} {fs} usage agrees reached = λ e among strong
     let below = raised_to-IsReached es usage e.point.ctx reach (top es usage e.point.ctx) refl reached in
     omega arith
 
--- tests and facts
+-- tests and propositions
 
 abbrev passes : List ℕ → ℕ → Entry → Bool
 passes reach usage e = not (nat_le (usage_number e.usage) usage) || is_reached reach e.point
@@ -59,7 +59,7 @@ all_reached-IsReached reach usage es = (
   λ h. All-list_all (passes reach usage) es (All-weaker (Contains es) (λ (e : Entry). passes reach usage e ≡ true) (λ e among. reached-passes reach usage e (h e among)) es (All-contains_itself es)),
 )
 
--- of a file's points
+-- all points of a file are reached
 pub all_reached-points : (reach : List ℕ) (ps : List Point) → all_reached reach 0 (as_entries ps) ≡ list_all (is_reached reach) ps
 all_reached-points reach ps = list_all-map (passes reach 0) as_entry ps
 
@@ -68,7 +68,7 @@ same_Bool true b there back = sym (there refl)
 same_Bool false true there back = back refl
 same_Bool false false there back = refl
 
--- entries that agree above a reach pass the test alike
+-- entries that agree above a reach give the test the same result
 pub all_reached-AgreesAbove : {reach : List ℕ} {es fs : List Entry} (usage : ℕ) → AgreesAbove reach es fs → AgreesAbove reach fs es → all_reached reach usage es ≡ all_reached reach usage fs
 all_reached-AgreesAbove {reach} {es} {fs} usage there back =
     let left = all_reached-IsReached reach usage es in
@@ -90,7 +90,7 @@ list_all-IsReached points reach =
     let both = all_reached-IsReached reach 0 (as_entries points) in
     (λ is. both.0 (all_reached-points reach points ∙ is), λ reached. sym (all_reached-points reach points) ∙ both.1 reached)
 
--- a test with this meaning is the comparison
+-- a test with this meaning equals the comparison
 pub is_nat_le : (b : Bool) (m n : ℕ) → (IsTrue b ↔ (m ≤ n)) → b ≡ nat_le m n
 is_nat_le true m n h = sym (le-leb m n (h.0 refl))
 is_nat_le false m n h = elim (cases_Bool (nat_le m n)) [

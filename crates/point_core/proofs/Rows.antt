@@ -1,4 +1,4 @@
--- Rows that people worked out: the definitions compute them.
+-- Examples that were worked out by hand: the definitions compute them.
 use Rattle.std.proofs.Common.{◌≡◌, refl, List, [], ◌∷◌, None, Some}
 use Rattle.point_core.specs.declared.entry.Point.{Point}
 use Rattle.point_core.specs.declared.entry.Entry.{Entry}
@@ -13,12 +13,12 @@ listing-of_three : listing (as_entries three_points) 0 [] ≡ point_of 1 5 ∷ p
 unfolding three_points contexts
 listing-of_three = refl
 
--- what the reach has signalled is not listed
+-- points that the reach has signalled are not listed
 listing-of_three_at_five : listing (as_entries three_points) 0 (5 ∷ []) ≡ point_of 2 2 ∷ []
 unfolding three_points contexts
 listing-of_three_at_five = refl
 
--- nothing was put
+-- the listing of nothing
 listing-of_nothing : listing [] 0 [] ≡ []
 unfolding contexts
 listing-of_nothing = refl
@@ -45,7 +45,7 @@ listing-for_readers_at_nine : listing reader_and_kernel 2 (9 ∷ []) ≡ []
 unfolding reader_and_kernel contexts
 listing-for_readers_at_nine = refl
 
--- a later write beside a read
+-- a later write fence beside a read fence
 top-of_a_later_write : top (record { point = point_of 1 4; usage = Read } ∷ record { point = point_of 1 7; usage = Write } ∷ []) 2 1 ≡ Some 7
 top-of_a_later_write = refl
 

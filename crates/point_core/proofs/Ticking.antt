@@ -1,4 +1,4 @@
--- What clocks reach.
+-- The reach of clocks.
 use Rattle.std.proofs.Common.{◌≡◌, ◌≢◌, ◌↔◌, ℕ, ◌+◌, ◌-◌, ◌<◌, ◌≤◌, suc, max, refl, sym, ap, ◌∙◌, Bool, true, false, ◌&&◌, ◌||◌, nat_le, if◌then◌else◌, List, [], ◌∷◌, ◌++◌, length, take, map, get_or, set, arith, get_or-set_same, get_or-set_other, inl, inr}
 use Rattle.std.proofs.lemmas.Bool.{cases_lt, false≢true}
 use Rattle.std.proofs.Math.ListN.{get_or-map}
@@ -13,7 +13,7 @@ use Rattle.point_core.specs.Status.{is_signalled, status_with}
 use Rattle.point_core.specs.Reach.{is_reached, GREATEST, value_at, reaching, shut_value}
 use Rattle.point_core.specs.Clocks.{clock_of, open_clock, new_clock, status_of, status_at, is_cancelled, some_cancelled, common_status, clock_at, reached_by, reach_of_clocks, closed_clock}
 
--- the value that the reach has for a context
+-- the reach's value of a context
 pub value_at-reach_of_clocks : (clocks : List Clock) (ctx : ℕ) → value_at (reach_of_clocks clocks) ctx ≡ reached_by (clock_at clocks ctx)
 value_at-reach_of_clocks clocks ctx = get_or-map reached_by clocks (ctx - 1) new_clock
 
@@ -39,7 +39,7 @@ reach_of_clocks-raised clocks i p at is_open low =
     ∙ ap (set (reach_of_clocks clocks) i) later
     ∙ ap (λ j. set (reach_of_clocks clocks) j (max (value_at (reach_of_clocks clocks) p.ctx) p.value)) (sym place)
 
--- if the value is there already, nothing changes
+-- if the value is at the point already, nothing changes
 pub reaching-reached : (clocks : List Clock) (i : ℕ) (p : Point) → i + 1 ≡ p.ctx → (clock_at clocks p.ctx).closed ≡ false → p.value ≤ (get_or clocks i new_clock).value → value_at (reach_of_clocks clocks) p.ctx ≡ max (value_at (reach_of_clocks clocks) p.ctx) p.value
 reaching-reached clocks i p at is_open low =
     let place : p.ctx - 1 ≡ i = omega arith in
@@ -49,7 +49,7 @@ reaching-reached clocks i p at is_open low =
     ∙ ap (λ b. if b then GREATEST else (get_or clocks i new_clock).value) still in
     omega arith
 
--- one clock more that is opened
+-- one more clock is opened
 pub opened-more : (clocks : List Clock) (values : List ℕ) (i : ℕ) → i < length clocks → ((k : ℕ) → k < i → get_or clocks k new_clock ≡ open_clock (get_or values k 0)) → (k : ℕ) → k < i + 1 → get_or (set clocks i (open_clock (get_or values i 0))) k new_clock ≡ open_clock (get_or values k 0)
 opened-more clocks values i low before k within = elim (cases_lt k i) [
   | inl less ↦ (let apart : k ≢ i = omega arith in get_or-set_other clocks i k (open_clock (get_or values i 0)) new_clock apart) ∙ before k less
@@ -102,7 +102,7 @@ list_any-push test (y ∷ xs) x = ap (λ b. test y || b) (list_any-push test xs 
     or_assoc true b c = refl
     or_assoc false b c = refl
 
--- one point more
+-- the status of one more point
 pub common_status-push : (clocks : List Clock) (ps : List Point) (p : Point) → common_status clocks (ps ++ p ∷ []) ≡ status_with (common_status clocks ps) (status_at clocks p)
 common_status-push clocks ps p =
     ap (λ b. status_of b (some_cancelled clocks (ps ++ p ∷ []))) (list_all-push (is_reached (reach_of_clocks clocks)) ps p)
@@ -121,13 +121,13 @@ common_status-take_more {next} clocks ps i p status low is before told =
     ∙ ap (common_status clocks) (sym (take-suc ps i p low))
     ∙ ap (λ n. common_status clocks (take n ps)) more
 
--- what is not active is signalled, in part cancelled or not
+-- points that are not active are signalled or in part cancelled
 pub status_of-not_active : {P : Type 0} (signalled cancelled : Bool) → ((signalled ≡ true) ↔ P) → ((status_of signalled cancelled ≢ Active) ↔ P)
 status_of-not_active true true told = (λ _. told.0 refl, λ _ is. absurd (cc))
 status_of-not_active true false told = (λ _. told.0 refl, λ _ is. absurd (cc))
 status_of-not_active false cancelled told = (λ isnt. absurd (isnt refl), λ is _. false≢true (told.1 is))
 
--- whatever is cancelled of it
+-- points are signalled whether or not some are cancelled
 pub is_signalled-of : (signalled cancelled : Bool) → is_signalled (status_of signalled cancelled) ≡ signalled
 is_signalled-of true true = refl
 is_signalled-of true false = refl

@@ -17,14 +17,14 @@ has_context e = (1 ≤ e.point.ctx) × (e.point.ctx ≤ CONTEXTS)
 HasRisingContexts-rest : (p : Point) (ps : List Point) → HasRisingContexts (p ∷ ps) → HasRisingContexts ps
 HasRisingContexts-rest p ps rising = IsStrictlyIncreasing-tail p.ctx (map (λ (q : Point). q.ctx) ps) rising
 
--- what is after the first of a rising list
+-- the rest of a rising list starts at a later context
 AllFrom-rest : (p : Point) (ps : List Point) → HasRisingContexts (p ∷ ps) → AllFrom (p.ctx + 1) ps
 AllFrom-rest p ps rising = All-weaker (λ (q : Point). p.ctx < q.ctx) (λ (q : Point). p.ctx + 1 ≤ q.ctx) (λ q above. omega arith) ps (above-first p ps rising)
 
 pub AllFrom-nil : (ctx : ℕ) → AllFrom ctx []
 AllFrom-nil ctx = All-nil (λ (q : Point). ctx ≤ q.ctx)
 
--- a list that begins later
+-- a list that starts at a later context
 pub AllFrom-later : (ctx : ℕ) (q : Point) (qs : List Point) → ctx < q.ctx → HasRisingContexts (q ∷ qs) → AllFrom (ctx + 1) (q ∷ qs)
 AllFrom-later ctx q qs above rising =
     All-cons (λ (r : Point). ctx + 1 ≤ r.ctx) q qs (omega arith)
@@ -41,7 +41,7 @@ IsFirstOf-left p ps qs has above = record {
   shorter = omega arith;
 }
 
--- the lists change places
+-- the lists exchanged
 IsFirstOf-turned : {p : Point} {left right ps qs : List Point} → IsFirstOf p left right ps qs → IsFirstOf p right left qs ps
 IsFirstOf-turned {p} {left} {right} {ps} {qs} h = record {
   agrees = λ reach.
@@ -83,7 +83,7 @@ HasRisingContexts-push (q ∷ ps) p from rising below high =
     IsStrictlyIncreasing-cons q.ctx (map (λ (r : Point). r.ctx) (ps ++ p ∷ [])) (All-map (λ y. q.ctx < y) (λ (r : Point). r.ctx) (ps ++ p ∷ []) over)
     (HasRisingContexts-push ps p from (HasRisingContexts-rest q ps rising) (All-tail (λ (r : Point). r.ctx < from) q ps below) high)
 
--- the points so far, by rising context below the next, are what is pending of all but what is left
+-- the points so far, whose contexts rise and are below the next, are the pending points of all but the rests
 pub record HasMerged (reach : List ℕ) (all others points left right : List Point) : Type 0 where
   pub agrees : AgreesAbove reach (as_entries points ++ (as_entries left ++ as_entries right)) (as_entries all ++ as_entries others)
   pub rising : HasRisingContexts points
@@ -165,7 +165,7 @@ module _ {reach : List ℕ} {all others points left right : List Point} (p : Poi
         room = omega (arith, before.room, first.shorter);
       }
 
--- nothing is left
+-- both lists are empty
 pub merged-HasMerged : {reach : List ℕ} {all others points : List Point} → HasMerged reach all others points [] [] → points ≡ merged reach all others
 merged-HasMerged {reach} {all} {others} {points} h =
     sym (listing-itself reach points h.rising h.within h.high)

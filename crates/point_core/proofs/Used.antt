@@ -1,4 +1,4 @@
--- How far tables of values go.
+-- The part of tables of values that is in use.
 use Rattle.std.proofs.Common.{◌≡◌, ◌≢◌, ℕ, ◌+◌, ◌-◌, ◌<◌, ◌≤◌, max, refl, ◌∙◌, List, [], ◌∷◌, length, get_or, set, replicate, arith, get_or-set_same, get_or-set_other, zero, suc, inl, inr}
 use Rattle.std.proofs.lemmas.Bool.{cases_lt}
 use Rattle.std.proofs.lemmas.List.{get_or_past, get_or-replicate, length-replicate}
@@ -29,14 +29,14 @@ used_with-rest value (suc used) k low = let is : used_with value (suc used) ≡ 
 used_with-rest zero zero k low = omega arith
 used_with-rest (suc value) zero k low = omega arith
 
--- after what is used every value is 0
+-- every value past those in use is 0
 pub used_of-past : (values : List ℕ) (k : ℕ) → used_of values ≤ k → get_or values k 0 ≡ 0
 unfolding used_of
 used_of-past [] k low = refl
 used_of-past (v ∷ vs) zero low = used_with-first v (used_of vs) low
 used_of-past (v ∷ vs) (suc k) low = used_of-past vs k (used_with-rest v (used_of vs) k low)
 
--- and the last that is used is not
+-- the last value in use is not 0
 last_with : (v : ℕ) (vs : List ℕ) (used : ℕ) → used ≡ used_of vs → (0 < used → 0 < get_or vs (used - 1) 0) → 0 < used_with v used → 0 < get_or (v ∷ vs) (used_with v used - 1) 0
 unfolding used_with
 last_with v vs (suc used) is h some =
@@ -52,7 +52,7 @@ unfolding used_of
 used_of-last [] some = absurd (omega arith)
 used_of-last (v ∷ vs) some = last_with v vs (used_of vs) refl (used_of-last vs) some
 
--- which gives how many are used
+-- these two facts determine the number in use
 pub used_of-is : (values : List ℕ) (n : ℕ) → ((k : ℕ) → n ≤ k → get_or values k 0 ≡ 0) → (0 < n → 0 < get_or values (n - 1) 0) → n ≡ used_of values
 used_of-is values n past last = elim (cases_lt n (used_of values)) [
   | inl more ↦
@@ -77,7 +77,7 @@ zeros n k low = elim (cases_lt k n) [
 pub used_of-replicate : (n : ℕ) → 0 ≡ used_of (replicate n 0)
 used_of-replicate n = used_of-is (replicate n 0) 0 (zeros n) (λ none. absurd (omega arith))
 
--- of no values
+-- no values
 pub AreInUse-nil : AreInUse []
 AreInUse-nil = (omega arith, used_of-replicate CONTEXTS)
 
@@ -94,7 +94,7 @@ set_last values i v within some = elim (cases_lt (i + 1) (used_of values)) [
       rw (last, get_or-set_same values i v 0 within) some
 ]
 
--- a value that rises
+-- a value is raised
 pub used_of-set : (values : List ℕ) (i v : ℕ) → i < length values → 0 < v → max (used_of values) (i + 1) ≡ used_of (set values i v)
 used_of-set values i v within some = used_of-is (set values i v) (max (used_of values) (i + 1))
     (λ k low. let apart : k ≢ i = omega arith in get_or-set_other values i k v 0 apart ∙ used_of-past values k (omega arith))
@@ -124,7 +124,7 @@ used_of-greater xs ys zs h = used_of-is zs (max (used_of xs) (used_of ys))
     omega arith)
     (λ some. greater_last xs ys zs h some)
 
--- a loop over what the other table uses has met all of its values
+-- a loop over the other table's values in use covers all of its values
 pub greater_values : (xs ys zs : List ℕ) (n : ℕ) → used_of ys ≤ n → ((k : ℕ) → k < n → get_or zs k 0 ≡ max (get_or xs k 0) (get_or ys k 0)) → ((k : ℕ) → n ≤ k → get_or zs k 0 ≡ get_or xs k 0) → (k : ℕ) → get_or zs k 0 ≡ max (get_or xs k 0) (get_or ys k 0)
 greater_values xs ys zs n all before behind k = elim (cases_lt k n) [
   | inl low ↦ before k low

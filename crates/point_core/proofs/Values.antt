@@ -59,7 +59,7 @@ length-zip_same (x ∷ xs) (y ∷ ys) same = let rest = length-zip_same xs ys (o
 pub length-later_values : (reach other : List ℕ) → length reach ≡ length other → length (later_values reach other) ≡ length reach
 length-later_values reach other same = length-map (zip reach other) _ ∙ length-zip_same reach other same
 
--- a context's value that rises leaves no value lower
+-- raising one context's value lowers no value
 pub IsAtLeast-with_value : (reach : List ℕ) (ctx value : ℕ) → value_at reach ctx ≤ value → IsAtLeast (with_value reach ctx value) reach
 IsAtLeast-with_value reach ctx value low = record { values = λ other. get_or-set_at_least reach (ctx - 1) value (other - 1) low }
 
@@ -83,6 +83,6 @@ IsAtLeast-later_values_right reach other e = record { values = λ ctx. let is = 
 pub later_values-at_least : (reach other : List ℕ) → length reach ≡ length other → IsAtLeast reach other → later_values reach other ≡ reach
 later_values-at_least reach other e h = sym (later_values-is reach other reach e refl (λ k low. let at = IsAtLeast-at h k in omega arith))
 
--- and no reach below it is at least both
+-- and no lower reach is at least both
 pub IsAtLeast-later_values : {reach other higher : List ℕ} → length reach ≡ length other → IsAtLeast higher reach → IsAtLeast higher other → IsAtLeast higher (later_values reach other)
 IsAtLeast-later_values {reach} {other} {higher} e h k = record { values = λ ctx. let is = value_at-later_values reach other ctx e in let left = h.values ctx in let right = k.values ctx in omega arith }

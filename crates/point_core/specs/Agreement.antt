@@ -1,4 +1,5 @@
--- What a set of entries says of each context, and when two sets say the same above a reach.
+-- The latest point of each context in a set of entries, and agreement: two sets of entries are equivalent modulo
+-- signalled fences.
 use Rattle.std.specs.Prelude.{◌≡◌, ℕ, ◌==◌, ◌<◌, ◌≤◌, Bool, not, ◌&&◌, ◌||◌, nat_lt, nat_le, max, if◌then◌else◌, List, [], ◌∷◌, ◌++◌, Option, None, Some, option_map, map, All, Contains}
 use Rattle.std.specs.List.{filter_map, list_all, range_with_len}
 use Rattle.std.specs.List.Sorted.{IsStrictlyIncreasing}
@@ -23,7 +24,7 @@ abbrev pub top : List Entry → ℕ → ℕ → Option ℕ
 top [] usage ctx = None
 top (e ∷ es) usage ctx = if applies e usage ctx then later e.point.value (top es usage ctx) else top es usage ctx
 
--- that it applies, as a fact
+-- `applies` as a proposition
 abbrev pub AppliesAt : Entry → ℕ → ℕ → Type 0
 AppliesAt e usage ctx = (usage_number e.usage ≤ usage) × (e.point.ctx ≡ ctx)
 
@@ -48,7 +49,7 @@ pending value (Some p) = if nat_lt value p then Some p else None
 abbrev pub pending_top : List ℕ → List Entry → ℕ → ℕ → Option ℕ
 pending_top reach es usage ctx = pending (value_at reach ctx) (top es usage ctx)
 
--- at each usage both have the same latest pending point of each context
+-- at each usage both have the same latest pending point of each context (equivalence modulo signalled fences)
 pub record AgreesAbove (reach : List ℕ) (es fs : List Entry) : Type 0 where
   pub tops : (usage ctx : ℕ) → pending_top reach es usage ctx ≡ pending_top reach fs usage ctx
 
@@ -56,7 +57,7 @@ pub record AgreesAbove (reach : List ℕ) (es fs : List Entry) : Type 0 where
 abbrev pub as_entry : Point → Entry
 as_entry p = record { point = p; usage = Kernel }
 
--- so are the points of a file
+-- the points of a file, each read so
 abbrev pub as_entries : List Point → List Entry
 as_entries ps = map as_entry ps
 
@@ -68,22 +69,22 @@ contexts = range_with_len 1 CONTEXTS
 abbrev pub point_of : ℕ → ℕ → Point
 point_of ctx value = record { ctx = ctx; value = value }
 
--- the latest pending point of each context, by rising context
+-- the latest pending point of each context, by rising context (the normal form)
 abbrev pub listing : List Entry → ℕ → List ℕ → List Point
 listing es usage reach = filter_map (λ ctx. option_map (point_of ctx) (pending_top reach es usage ctx)) contexts
 
--- what a merge of two files' points lists above a reach
+-- the listing of two files' points together above a reach
 abbrev pub merged : List ℕ → List Point → List Point → List Point
 merged reach ps qs = listing (as_entries (ps ++ qs)) 0 reach
 
--- the first entry makes the second needless
+-- the first entry supersedes the second
 abbrev pub Covers : Entry → Entry → Type 0
 Covers by other =
     (by.point.ctx ≡ other.point.ctx)
     × (usage_number by.usage ≤ usage_number other.usage)
     × (other.point.value ≤ by.point.value)
 
--- that it does, as a test
+-- `Covers` as a test
 abbrev pub covers : Entry → Entry → Bool
 covers by other =
     (by.point.ctx == other.point.ctx)
@@ -94,7 +95,7 @@ covers by other =
 abbrev pub HasContexts : List Entry → Type 0
 HasContexts es = All (λ e. (1 ≤ e.point.ctx) × (e.point.ctx ≤ CONTEXTS)) es
 
--- no context comes twice, and their numbers rise
+-- the contexts are distinct, and their numbers rise
 abbrev pub HasRisingContexts : List Point → Type 0
 HasRisingContexts ps = IsStrictlyIncreasing (map (λ (p : Point). p.ctx) ps)
 
@@ -106,6 +107,6 @@ AllAbove reach ps = All (λ p. value_at reach p.ctx < p.value) ps
 abbrev pub IsReached : List Entry → ℕ → List ℕ → Type 0
 IsReached es usage reach = (e : Entry) → Contains es e → usage_number e.usage ≤ usage → e.point.value ≤ value_at reach e.point.ctx
 
--- that each is, as a test
+-- `IsReached` as a test, over all entries
 abbrev pub all_reached : List ℕ → ℕ → List Entry → Bool
 all_reached reach usage es = list_all (λ e. not (nat_le (usage_number e.usage) usage) || is_reached reach e.point) es

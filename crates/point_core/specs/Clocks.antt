@@ -18,7 +18,7 @@ open_clock value = clock_of value false
 abbrev pub new_clock : Clock
 new_clock = open_clock 0
 
--- the clock of a context that there can be; past them a new one
+-- the clock of a context from 1 to CONTEXTS; a new clock for any other
 abbrev pub clock_at : List Clock → ℕ → Clock
 clock_at clocks ctx = get_or clocks (ctx - 1) new_clock
 
@@ -41,19 +41,19 @@ raised_clock clock value = clock_of (max clock.value value) clock.closed
 abbrev pub closed_clock : Clock → Clock
 closed_clock clock = clock_of clock.value true
 
--- the value lies past the one that the clock was closed at
+-- the value is past the one at which the clock was closed
 abbrev pub is_past_closing : Clock → ℕ → Bool
 is_past_closing clock value = clock.closed && not (nat_le value clock.value)
 
--- the point lies past the value that its context had when it was closed
+-- the point is past the value at which its context was closed
 abbrev pub is_cancelled : List Clock → Point → Bool
 is_cancelled clocks p = is_past_closing (clock_at clocks p.ctx) p.value
 
--- the status of what is signalled, or not, and in part cancelled
+-- a status by two facts: all points are signalled or cancelled, and some point is cancelled
 abbrev pub status_of : Bool → Bool → Status
 status_of signalled cancelled = if signalled then (if cancelled then Cancelled else Signalled) else Active
 
--- a point at a value is cancelled if its context closed before the value was there
+-- a point at a value is cancelled if its context closed below the value
 abbrev pub status_by : Clock → ℕ → Status
 status_by clock value = status_of (nat_le value (reached_by clock)) (is_past_closing clock value)
 
@@ -68,6 +68,6 @@ some_cancelled clocks ps = list_any (is_cancelled clocks) ps
 abbrev pub common_status : List Clock → List Point → Status
 common_status clocks ps = status_of (list_all (is_reached (reach_of_clocks clocks)) ps) (some_cancelled clocks ps)
 
--- a clock for each context, and what they reach
+-- a clock for each context, and the reach of the clocks
 abbrev pub AreClocks : List Clock → List ℕ → Type 0
 AreClocks clocks reach = (length clocks ≡ CONTEXTS) × (reach ≡ reach_of_clocks clocks)

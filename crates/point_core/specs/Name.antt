@@ -23,7 +23,7 @@ padded bytes = bytes ++ replicate (LANES - length bytes) 0
 abbrev pub lanes_of : List ℕ → List ℕ
 lanes_of bytes = slice_set (padded bytes) NAME_BYTES (length bytes)
 
--- as many of the lanes as the last says
+-- the first lanes, as many as the last lane says
 abbrev pub bytes_of : List ℕ → List ℕ
 bytes_of lanes = take (get_or lanes NAME_BYTES 0) lanes
 

@@ -1,4 +1,4 @@
--- Things that have a name, in order of making: which of them is meant by a name.
+-- Look-up by name: the element of a list with a given name, in order of making.
 use Rattle.std.specs.Prelude.{◌≡◌, ℕ, Bool, not, nat_eq, List, map, filter, find, Option}
 use Rattle.std.specs.List.{list_any, IsDistinct}
 use Rattle.std.specs.Map.{keys_of, values_of}
@@ -8,15 +8,15 @@ use lib.Pointwise.{pointwise}
 abbrev pub same_name : List ℕ → List ℕ → Bool
 same_name = pointwise nat_eq
 
--- whether the thing has that name
+-- whether x has that name
 abbrev pub is_named : {X : Type 0} → (X → List ℕ) → List ℕ → X → Bool
 is_named name_of name x = same_name (name_of x) name
 
--- whether there is one of that name
+-- whether an element has that name
 abbrev pub has_named : {X : Type 0} → (X → List ℕ) → List X → List ℕ → Bool
 has_named name_of xs name = list_any (is_named name_of name) xs
 
--- the first of that name
+-- the first element with that name
 abbrev pub named : {X : Type 0} → (X → List ℕ) → List X → List ℕ → Option X
 named name_of xs name = find (is_named name_of name) xs
 

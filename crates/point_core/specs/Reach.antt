@@ -1,14 +1,14 @@
--- The value of each context, and which points it has reached.
+-- The value of each context, and the points that it has reached.
 use Rattle.std.specs.Prelude.{ℕ, ◌-◌, ◌^◌, ◌≤◌, Bool, nat_le, max, map, List, slice_index, slice_set}
 use Rattle.std.specs.List.{zip}
 use Rattle.point_core.specs.declared.entry.Point.{Point}
 
--- The value of a context that there can be. They are numbered from 1 to CONTEXTS: past them this is 0, and 0, which is no
--- context, would have the value of context 1.
+-- The value of a context from 1 to CONTEXTS. Past them this is 0, and 0, which is no context, would have the value of
+-- context 1.
 abbrev pub value_at : List ℕ → ℕ → ℕ
 value_at reach ctx = slice_index reach (ctx - 1)
 
--- the reach with the value of such a context changed
+-- the reach with the value of one context changed
 abbrev pub with_value : List ℕ → ℕ → ℕ → List ℕ
 with_value reach ctx value = slice_set reach (ctx - 1) value
 
@@ -16,7 +16,7 @@ with_value reach ctx value = slice_set reach (ctx - 1) value
 abbrev pub GREATEST : ℕ
 GREATEST = 2 ^ 64 - 1
 
--- the reach once such a context is closed: every point of it is reached
+-- the reach once the context is closed: every point of it is reached
 abbrev pub shut_value : List ℕ → ℕ → List ℕ
 shut_value reach ctx = with_value reach ctx GREATEST
 

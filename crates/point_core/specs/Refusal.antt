@@ -1,4 +1,4 @@
--- The table of refusals: number, name, and the word of a limit. What a call that may be refused answers.
+-- The table of errors: number, name, and the word of a limit; and the answer of a call that may be refused.
 use Rattle.std.specs.Prelude.{◌≡◌, ℕ, List, codes, Option, None, Some, Result, Ok, Err, ⊤}
 use Rattle.point_core.specs.declared.refusal.LimitKind.{LimitKind}
 use Rattle.point_core.specs.declared.refusal.LimitKind.TheVariants.{Timelines, Buffers, Files, Watches, Flags as FlagsKind, Clients, Plan, Script}
@@ -51,7 +51,7 @@ limit_word Clients = codes "clients"
 limit_word Plan = codes "plan"
 limit_word Script = codes "script"
 
--- the call is refused for the cause, and if there is none only for want of memory
+-- the call is refused for the cause, and without a cause only with Memory
 abbrev pub IsRefusedFor : {T : Type 0} → Option Refusal → Result T Refusal → Type 0
 IsRefusedFor (Some cause) result = result ≡ Err cause
 IsRefusedFor None (Ok value) = ⊤

@@ -1,4 +1,4 @@
--- How clocks are stored: with what they reach beside them.
+-- How clocks are stored: with their reach beside them.
 use Rattle.std.specs.Prelude.{◌≡◌, List}
 use Rattle.std.proofs.Common.{ap, sym}
 use Rattle.point_core.specs.declared.clocks.Clock.{Clock}

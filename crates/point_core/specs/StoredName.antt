@@ -1,4 +1,4 @@
--- A name is got back from its bytes.
+-- A name is determined by its bytes.
 use Rattle.std.specs.Prelude.{◌≡◌, ℕ, List}
 use Rattle.std.proofs.Common.{ap}
 use Rattle.point_core.specs.declared.name.Name.TheInside.{Inside}

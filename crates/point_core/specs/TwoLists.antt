@@ -1,4 +1,4 @@
--- How two lists of points by rising context are read as one.
+-- Two lists of points by rising context, read as one.
 use Rattle.std.specs.Prelude.{◌≡◌, ℕ, ◌+◌, ◌<◌, ◌≤◌, List, ◌∷◌, ◌++◌, length, All}
 use Rattle.point_core.specs.declared.context.TheConstants.{CONTEXTS}
 use Rattle.point_core.specs.declared.entry.Point.{Point}
@@ -8,12 +8,12 @@ use Rattle.point_core.specs.Agreement.{AgreesAbove, as_entry, as_entries, HasCon
 abbrev pub AllFrom : ℕ → List Point → Type 0
 AllFrom ctx ps = All (λ (p : Point). ctx ≤ p.ctx) ps
 
--- the first point, of a context that there can be, and the others
+-- the first point, of a valid context, and the rest
 pub record IsPartedAt (p : Point) (rest ps : List Point) : Type 0 where
   pub parts : ps ≡ p ∷ rest
   pub context : (1 ≤ p.ctx) × (p.ctx ≤ CONTEXTS)
 
--- a point of the first context of both lists: it and what is left of them say what both said
+-- p is a point of the lowest context in both lists: p and the rests agree with the whole lists
 pub record IsFirstOf (p : Point) (left right ps qs : List Point) : Type 0 where
   pub agrees : (reach : List ℕ) →
       AgreesAbove reach (as_entry p ∷ (as_entries left ++ as_entries right)) (as_entries ps ++ as_entries qs)

@@ -1,16 +1,16 @@
--- How far a table of values goes.
+-- The part of a table of values that is in use.
 use Rattle.std.specs.Prelude.{◌≡◌, ◌≤◌, ◌-◌, ℕ, List, [], ◌∷◌, ◌++◌, zero, suc, length, replicate}
 use Rattle.std.proofs.Common.{ap, sym}
 use Rattle.point_core.specs.declared.context.TheConstants.{CONTEXTS}
 use Rattle.point_core.specs.declared.context_values.ContextValues.TheInside.{Inside}
 
--- with one value more in front
+-- the number of values in use, with one value more in front
 unfoldable pub used_with : ℕ → ℕ → ℕ
 used_with value (suc later) = suc (suc later)
 used_with zero zero = 0
 used_with (suc value) zero = 1
 
--- how many values there are up to the last that is not 0
+-- the number of values up to the last that is not 0
 unfoldable pub used_of : List ℕ → ℕ
 used_of [] = 0
 used_of (value ∷ values) = used_with value (used_of values)

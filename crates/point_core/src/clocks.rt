@@ -1,4 +1,5 @@
-// The value of each timeline, and which of them are closed.
+//! `Clocks`: the clock of each context, with their reach kept beside them. `timeline_core` advances and closes the
+//! clocks; files and watches read them.
 ghost use Rattle.std.specs.Prelude.{◌≡◌, ℕ, ◌<◌, ◌≤◌, length, false};
 ghost use Rattle.point_core.specs.declared.context.TheConstants.{CONTEXTS};
 
@@ -8,7 +9,7 @@ use crate::reach::Reach;
 use crate::status::Status;
 use std::marker::Model;
 
-/// A timeline's value, and whether it is closed. A closed one stays at its value, and its pending points are cancelled.
+/// A timeline's value, and whether it is closed. Closing keeps the value and cancels the pending points.
 #[derive(Clone, Copy, Debug, PartialEq, Eq, Hash)]
 pub struct Clock {
     pub value: u64,
@@ -18,15 +19,16 @@ pub struct Clock {
 impl Clock {
     ghost use Rattle.point_core.specs.Clocks.{reached_by, status_by};
 
-    /// What the timeline has reached: its value while it is open, and every value once it is closed.
+    /// The last value that counts as reached: the timeline's value while it is open, and the greatest one once it is
+    /// closed.
     pub fn reached(self) -> u64
         ensures { result ≡ reached_by self }
     {
         if self.closed { u64::MAX } else { self.value }
     }
 
-    /// The status of a point of the timeline at a value: reached, cancelled if the timeline was closed before that, else
-    /// active.
+    /// The status of this timeline's point at `value`: signalled if the value is reached, cancelled if the timeline
+    /// closed before it, else active.
     pub fn status(self, value: u64) -> Status
         ensures { result ≡ status_by self value }
     {
@@ -40,14 +42,14 @@ impl Clock {
     }
 }
 
-/// The clock of each context. A context that was not made has the value 0, and is open.
+/// The clock of each context. A context without a timeline has the value 0, and is open.
 ///
-/// Closing a timeline signals its pending points, as Linux's close of a sw_sync timeline does with `ENOENT`: the reach of
-/// a closed context is the greatest value, and its points past the value are cancelled.
+/// Closing a timeline signals its pending points, as Linux's close of a sw_sync timeline does with `ENOENT`: the reach
+/// of a closed context is the greatest value, and its points past the value are cancelled.
 #[derive(Clone, Copy, Debug, PartialEq, Eq)]
 pub struct Clocks {
     clocks: [Clock; CONTEXTS],
-    // what the clocks reach
+    // the reach of `clocks`
     reach: Reach,
 }
 
@@ -87,8 +89,7 @@ impl Clocks {
         }
     }
 
-    /// The values of a reach, with every context open.
-    /// Users of the library call it; no program here does.
+    /// The values of a reach, with every context open. For users of the library; no program here calls it.
     pub fn open(reach: &Reach) -> Clocks
         ensures clocks { result ≡ map open_clock reach.now }
     {
@@ -106,7 +107,7 @@ impl Clocks {
         }
     }
 
-    /// What the clocks reach: the value of an open context, and the greatest value of a closed one.
+    /// The reach of the clocks: the value of an open context, and the greatest value of a closed one.
     pub fn reach(&self) -> Reach
         ensures { result ≡ reach_of_clocks self.now }
     {
@@ -129,7 +130,7 @@ impl Clocks {
         self.clocks[ctx.index()]
     }
 
-    /// The value of a context, which its closing leaves.
+    /// The value of a context, open or closed.
     pub fn value(&self, ctx: Context) -> u64
         ensures { result ≡ (clock_at self.now ctx).value }
     {
@@ -150,9 +151,9 @@ impl Clocks {
         self.clock(point.ctx).status(point.value)
     }
 
-    /// The status of points together: active while one is, else cancelled if one is, else signalled. Of no points it is
-    /// signalled. Linux's `sync_file_ioctl_fence_info` gives the status of the first fence that is pending or has an error;
-    /// that an error comes after every pending fence is our own rule.
+    /// The status of points together: active while one is, else cancelled if one is, else signalled. An empty list is
+    /// signalled. Linux's `sync_file_ioctl_fence_info` gives the status of the first fence that is pending or has an
+    /// error; that an error comes after every pending fence is our own rule.
     pub fn common_status(&self, points: &[Point]) -> Status
         ensures { result ≡ common_status self.now points.now }
     {

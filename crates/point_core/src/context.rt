@@ -1,4 +1,4 @@
-// The number of a timeline.
+//! `Context`: a timeline's number. It is always from 1 to `CONTEXTS`, so an index by context needs no check.
 ghost use Rattle.std.specs.Prelude.{◌≡◌, ℕ, ◌+◌, ◌<◌, ◌≤◌, ◌↔◌, IsSome, IfSome};
 ghost use Rattle.point_core.specs.declared.context.TheConstants.{CONTEXTS};
 
@@ -9,10 +9,10 @@ pub const CONTEXTS: usize = 256;
 
 const _: () = prove!(CONTEXTS == 256);
 
-/// The number of a timeline, from 1 to `CONTEXTS`, given out in order of making.
+/// The number of a timeline, from 1 to `CONTEXTS`, in order of making.
 ///
-/// The kernel's fence contexts are 64-bit numbers that never come again; these are few, so a table by context is
-/// an array.
+/// The kernel's fence contexts are 64-bit numbers that are never used again; here there are few, so a table by context
+/// is an array.
 #[derive(Clone, Copy, Debug, PartialEq, Eq, Hash, PartialOrd, Ord)]
 pub struct Context {
     number: u16,
@@ -29,7 +29,7 @@ impl Model for Context {
 }
 
 impl Context {
-    /// The context of that number, or none if it is not one of 1 to `CONTEXTS`.
+    /// The context with this number, if it is from 1 to `CONTEXTS`.
     pub fn new(number: u16) -> Option<Self>
         ensures valid { IsSome result ↔ ((1 ≤ number) × (number ≤ CONTEXTS)) }
         ensures value { IfSome result (λ c. c ≡ number) }
@@ -41,7 +41,7 @@ impl Context {
         }
     }
 
-    /// The context at a place of a table by context, from 0.
+    /// The context at an index of a table by context.
     pub fn at(index: usize) -> Context
         requires { index < CONTEXTS }
         ensures { result ≡ index + 1 }
@@ -59,7 +59,7 @@ impl Context {
         self.number
     }
 
-    /// Its place in a table by context, from 0.
+    /// Its index in a table by context, from 0.
     pub fn index(self) -> usize
         ensures value { result + 1 ≡ self }
         ensures within { result < CONTEXTS }

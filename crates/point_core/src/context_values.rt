@@ -1,16 +1,17 @@
-// A value for each context.
+//! `ContextValues`: a value for each context, and how many of them are in use. `Reach` and `LatestPoints` are made of
+//! it.
 ghost use Rattle.std.specs.Prelude.{◌≡◌, ℕ, ◌<◌, ◌≤◌, ◌↔◌, length, max, slice_index, IsTrue};
 ghost use Rattle.point_core.specs.declared.context.TheConstants.{CONTEXTS};
 
 use crate::context::CONTEXTS;
 use std::marker::Model;
 
-/// A value for each context, by place from 0. What it costs to go through them follows the contexts in use, and not how many
-/// there may be.
+/// A value for each context, by index. A loop over the values costs as much as there are contexts in use, not
+/// `CONTEXTS`.
 #[derive(Clone, Copy, Debug, PartialEq, Eq)]
 pub(crate) struct ContextValues {
     values: [u64; CONTEXTS],
-    // how many there are up to the last that is not 0
+    // the number of values up to the last that is not 0
     used: usize,
 }
 
@@ -44,7 +45,7 @@ impl ContextValues {
         }
     }
 
-    /// The value at a place.
+    /// The value at an index.
     pub(crate) fn get(&self, index: usize) -> u64
         requires within { index < CONTEXTS }
         ensures value { result ≡ slice_index self.now index }
@@ -53,7 +54,7 @@ impl ContextValues {
         self.values[index]
     }
 
-    /// How many values there are up to the last that is not 0.
+    /// The number of values up to the last that is not 0.
     pub(crate) fn used(&self) -> usize
         ensures last { result ≡ used_of self.now }
         ensures within { result ≤ CONTEXTS }
@@ -62,7 +63,7 @@ impl ContextValues {
         self.used
     }
 
-    /// Raises the value at a place, if it is lower.
+    /// Raises the value at an index, if it is lower.
     pub(crate) fn raise(&mut self, index: usize, value: u64)
         requires within { index < CONTEXTS }
         ensures value { self.new ≡ slice_set self.old index (max (slice_index self.old index) value) }
@@ -70,7 +71,7 @@ impl ContextValues {
     {
         if self.values[index] < value {
             self.values[index] = value;
-            // A branch, since the greater of both would be written and read back at each value.
+            // A branch, since a `max` would be written and read back at each value.
             if self.used <= index {
                 self.used = index + 1;
             }
@@ -96,7 +97,7 @@ impl ContextValues {
         self.used = 0;
     }
 
-    /// Takes the other's values in place of its own.
+    /// Replaces its values by the other's.
     pub(crate) fn copy_from(&mut self, other: &[u64])
         requires in_use { AreInUse other.now }
         ensures values { self.new ≡ padded other.now }
@@ -122,7 +123,7 @@ impl ContextValues {
         requires in_use { AreInUse other.now }
         ensures { IsTrue result ↔ IsAtLeast self.now (padded other.now) }
     {
-        // Without a way out of the loop, so that several values are compared at once.
+        // The loop has no early exit, so that it compares several values at once.
         let mut all = true;
         for index in 0..other.len() {
             all &= self.values[index] >= other[index];

@@ -1,19 +1,20 @@
-// A point of a timeline, and a point with the usage that it was added for.
+//! `Point` and `Entry`: a fence by its timeline and value, and a fence in a reservation, with its usage.
 ghost use Rattle.std.specs.Prelude.{◌≡◌, ◌↔◌, IsTrue};
 ghost use Rattle.point_core.specs.Agreement.{Covers};
 ghost use Rattle.point_core.specs.Usage.{usage_number};
 
 use crate::context::Context;
 
-/// The kernel's sequence number of a fence in its context: it is signalled once the context's value has reached it.
+/// A fence by its context and sequence number, as the kernel's `dma_fence` has them: it is signalled once the context's
+/// value has reached its own.
 #[derive(Clone, Copy, Debug, PartialEq, Eq, Hash)]
 pub struct Point {
     pub ctx: Context,
     pub value: u64,
 }
 
-/// What a fence in a reservation is for, as Linux's `enum dma_resv_usage`: a lower number is the stronger usage,
-/// and asking for a usage gives all stronger ones too.
+/// What a fence in a reservation is for, as Linux's `enum dma_resv_usage`: a lower number is the stronger usage, and
+/// asking for a usage gives all stronger ones too.
 #[derive(Clone, Copy, Debug, PartialEq, Eq, Hash)]
 pub enum Usage {
     Kernel,
@@ -43,8 +44,7 @@ impl Usage {
     }
 }
 
-/// Whether the first entry makes the second needless: the same context, a usage at least as strong, a point at
-/// least as late.
+/// Whether `by` supersedes `other`: the same context, a usage at least as strong, and a point at least as late.
 pub fn covers(by: Entry, other: Entry) -> bool
     ensures { IsTrue result ↔ Covers by other }
 {

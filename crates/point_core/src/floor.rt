@@ -1,4 +1,5 @@
-// `Floor`: a compact, long-lived copy of a `Reach`.
+//! `Floor`: a compact, long-lived copy of a `Reach`. A sync file keeps one, the reach above which its points were
+//! listed.
 ghost use Rattle.std.specs.Prelude.{◌≡◌, ℕ, ◌<◌, ◌≤◌, length, OnOk, IfOk, IfErr};
 ghost use Rattle.point_core.specs.declared.context.TheConstants.{CONTEXTS};
 ghost use Rattle.point_core.specs.Reach.{value_at};
@@ -10,10 +11,10 @@ use crate::refusal::Refusal;
 use std::alloc::Global;
 use std::marker::Model;
 
-/// A reach that is kept for long: its memory follows the contexts in use, and not how many there may be.
+/// A copy of a reach whose memory grows with the contexts in use, not with `CONTEXTS`.
 #[derive(Debug, Drop)]
 pub struct Floor {
-    // up to the last that is not 0
+    // the values up to the last that is not 0
     values: Vec<u64>,
 }
 
@@ -31,7 +32,7 @@ impl Model for Floor {
 impl Floor {
     ghost use Rattle.std.specs.Prelude.{replicate};
 
-    /// Every value is 0. Takes no memory.
+    /// Every value is 0. Does not allocate.
     pub fn zero(alloc: Global) -> Floor
         ensures { result ≡ replicate CONTEXTS 0 }
     {
@@ -50,14 +51,14 @@ impl Floor {
         })
     }
 
-    /// Makes every value 0. The memory is kept.
+    /// Makes every value 0, and keeps the memory.
     pub fn clear(&mut self)
         ensures zero { self.new ≡ replicate CONTEXTS 0 }
     {
         self.values.clear();
     }
 
-    /// Takes the values of a reach in place of its own, in the same memory if that is enough.
+    /// Replaces its values by those of a reach; allocates only to grow.
     pub fn copy_from(&mut self, reach: &Reach) -> Result<(), Refusal>
         ensures floor { OnOk result (self.new ≡ reach.now) }
         ensures memory { IfErr result (λ e. e ≡ Refusal.Memory) }
@@ -82,7 +83,7 @@ impl Floor {
         }
     }
 
-    /// How many contexts there are up to the last whose value is not 0.
+    /// The number of contexts up to the last whose value is not 0.
     pub fn used(&self) -> usize
         ensures last { result ≡ used_of self.now }
         ensures past { (ctx : ℕ) → result < ctx → value_at self.now ctx ≡ 0 }

@@ -1,10 +1,10 @@
-// A list that is only read.
+//! `Items`: a list that callers can read but not change, for fields of public types.
 ghost use Rattle.std.specs.Prelude.{◌≡◌};
 
 use std::marker::Model;
 use std::mem::swap;
 
-/// A list of a public type's field. It is made of a `Vec`, whose memory it keeps.
+/// A list that is only read. It is made of a `Vec`, and gives it back; contracts see it as a list.
 #[derive(Debug, Drop)]
 pub struct Items<T> {
     items: Vec<T>,
@@ -31,7 +31,7 @@ impl<T> Items<T> {
         self.items.as_slice()
     }
 
-    /// Exchanges the list for the items of a `Vec`. Takes no memory.
+    /// Exchanges the list for the items of a `Vec`. Does not allocate.
     pub fn exchange(&mut self, items: &mut Vec<T>)
         ensures taken { self.new ≡ items.old.items }
         ensures given { items.new.items ≡ self.old }

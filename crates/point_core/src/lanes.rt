@@ -1,4 +1,5 @@
-// Bytes in the lanes of a vector, with zeros after them.
+//! Loads bytes into the lanes of a vector, with zeros after them. `Name` keeps its bytes so, and `line_core` compares
+//! words as numbers.
 ghost use Rattle.std.specs.Prelude.{◌≡◌, ◌+◌, ◌*◌, ◌^◌, ◌<◌, ◌≤◌, length, get_or};
 ghost use Rattle.std.specs.Simd.Lanes.{chunk, digits_l, number_l};
 ghost use Rattle.point_core.specs.Name.{padded};
@@ -6,7 +7,7 @@ ghost use Rattle.point_core.specs.Name.{padded};
 use crate::name::NAME_BYTES;
 use std::simd::prelude::*;
 
-/// How many lanes there are: one more than a name has bytes.
+/// The number of lanes: one more than a name has bytes.
 pub(crate) const LANES: usize = NAME_BYTES + 1;
 
 /// The most bytes that fit one number, a `u64`.
@@ -50,7 +51,7 @@ fn two_words(first: u64, second: u64) -> u8x32
     u64x4::from_array([first, second, 0, 0]).to_le_bytes()
 }
 
-/// The bytes as one number, the first byte being the lowest.
+/// The bytes as one number, least significant byte first.
 #[inline(always)]
 pub fn number_of_few(bytes: &[u8]) -> u64
     requires { length bytes.now ≤ NUMBER_BYTES }
@@ -66,7 +67,7 @@ pub fn number_of_few(bytes: &[u8]) -> u64
     }
 }
 
-/// The byte at a place, or 0 past the end.
+/// The byte at an index, or 0 past the end.
 #[inline(always)]
 fn byte_at(bytes: &[u8], place: usize) -> u8
     ensures { result ≡ get_or bytes.now place 0 }

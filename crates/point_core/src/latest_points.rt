@@ -1,4 +1,5 @@
-// The latest point of each context.
+//! `LatestPoints`: the latest point of each context. Exports and merges collect points in one, and list those above a
+//! reach.
 ghost use Rattle.std.specs.Prelude.{◌≡◌, ℕ, ◌<◌, ◌≤◌, List, [], ◌∷◌, ◌++◌, length, max, IfOk, IfErr, OnOk};
 ghost use Rattle.point_core.specs.declared.context.TheConstants.{CONTEXTS};
 ghost use Rattle.point_core.specs.declared.entry.Entry.{Entry};
@@ -16,8 +17,8 @@ use crate::refusal::Refusal;
 use std::alloc::Global;
 use std::marker::Model;
 
-/// A table of the latest point of each context, among a reach and the points that were put. It is no reach: a point
-/// need not be reached to be put.
+/// For each context, the latest of the points that were put and of the value of a reach. It is no reach itself: a point
+/// may be put before it is reached.
 #[derive(Clone, Copy, Debug)]
 pub struct LatestPoints {
     values: ContextValues,
@@ -37,7 +38,7 @@ impl Model for LatestPoints {
 }
 
 impl LatestPoints {
-    /// No point yet: what the reach has.
+    /// A table without points, at the values of the reach.
     pub fn above(reach: &Reach) -> LatestPoints
         ensures value { result ≡ reach.now }
         ensures empty { (usage : ℕ) → IsLatest result reach.now [] usage }
@@ -47,7 +48,7 @@ impl LatestPoints {
         }
     }
 
-    /// Begins again, as `above` does.
+    /// Clears the table to the values of the reach, as `above` makes one.
     pub fn restart(&mut self, reach: &Reach)
         ensures value { self.new ≡ reach.now }
         ensures empty { (usage : ℕ) → IsLatest self.new reach.now [] usage }
@@ -63,7 +64,7 @@ impl LatestPoints {
         self.values.get(ctx.index())
     }
 
-    /// How many contexts there are up to the last that has a point or a value.
+    /// The number of contexts up to the last that has a point or a value.
     pub fn used(&self) -> usize
         ensures last { result ≡ used_of self.now }
         ensures within { result ≤ CONTEXTS }
@@ -72,12 +73,12 @@ impl LatestPoints {
         self.values.used()
     }
 
-    /// One more point.
+    /// Puts one point.
     pub fn put(&mut self, point: Point)
         ensures value { self.new ≡ with_value self.old point.ctx (max (value_at self.old point.ctx) point.value) }
         ensures context { (1 ≤ point.ctx) × (point.ctx ≤ CONTEXTS) }
 
-        // Of an entry at the usage or a stronger one: the table has it too.
+        // The entry has the usage or a stronger one: the table has it too.
         ensures latest { (reach : List ℕ) (es : List Entry) (e : Entry) (usage : ℕ) →
             e.point ≡ point → usage_number e.usage ≤ usage →
             IsLatest self.old reach es usage → IsLatest self.new reach (es ++ e ∷ []) usage }
@@ -85,7 +86,7 @@ impl LatestPoints {
         self.values.raise(point.ctx.index(), point.value);
     }
 
-    /// More points.
+    /// Puts each of the points.
     pub fn put_all(&mut self, points: &[Point])
         ensures latest { (reach : List ℕ) (es : List Entry) →
             IsLatest self.old reach es 0 → IsLatest self.new reach (es ++ as_entries points.now) 0 }
@@ -124,7 +125,7 @@ impl LatestPoints {
         Ok(())
     }
 
-    /// How many of the latest points are above the reach.
+    /// The number of contexts whose latest point is above the reach.
     fn number_above(&self, reach: &Reach) -> usize
         ensures { result ≡ length (points_above self.now reach.now) }
     {

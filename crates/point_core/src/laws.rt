@@ -1,11 +1,11 @@
-//! What holds of all entries, points and reaches: each law is the contract of a function with an empty body.
+//! Theorems about all entries, points and reaches: each law is the contract of a function with an empty body.
 ghost use Rattle.std.specs.Prelude.{◌≡◌, ℕ, ◌+◌, ◌≤◌, ◌↔◌, List, [], ◌∷◌, ◌++◌, length, sum, Some, None, Contains, IsPermutation};
 ghost use Rattle.point_core.specs.declared.entry.Point.{Point};
 ghost use Rattle.point_core.specs.declared.entry.Entry.{Entry};
 ghost use Rattle.point_core.specs.Agreement.{top, IsPut, NoneIsLater, NoneApplies, AgreesAbove, as_entries, listing, merged, Covers, HasContexts, HasRisingContexts, AllAbove, IsReached};
 ghost use Rattle.point_core.specs.Reach.{value_at, with_value, later_values, IsAtLeast};
 
-/// A top is the point of a put entry of that context, at that usage or a stronger one, and none such is later.
+/// A top is the point of an entry of that context, at that usage or a stronger one, and no such entry is later.
 pub fn top_is_the_latest_put()
     ensures put { (es : List Entry) (usage ctx p : ℕ) → top es usage ctx ≡ Some p → IsPut es usage ctx p }
     ensures none_later { (es : List Entry) (usage ctx p : ℕ) → top es usage ctx ≡ Some p → NoneIsLater es usage ctx p }
@@ -14,7 +14,7 @@ pub fn top_is_the_latest_put()
     ensures none { (es : List Entry) (usage ctx : ℕ) → ((top es usage ctx ≡ None) ↔ NoneApplies es usage ctx) }
 {}
 
-/// Neither the order of puts matters nor their repetition: the same entries have the same tops.
+/// The order of puts doesn't matter, and neither does repetition: equal sets of entries have equal tops.
 pub fn order_and_repetition_of_puts_do_not_matter()
     ensures order { (es fs : List Entry) (usage ctx : ℕ) →
         IsPermutation es fs → top es usage ctx ≡ top fs usage ctx }
@@ -52,7 +52,7 @@ pub fn agreement_is_an_equivalence()
         AgreesAbove reach es fs → AgreesAbove reach fs gs → AgreesAbove reach es gs }
 {}
 
-/// What agrees may be put beside what agrees, in either order, and twice.
+/// Entries that agree may be put beside entries that agree, in either order, and twice.
 pub fn union_keeps_agreement()
     ensures kept { (reach : List ℕ) (es fs gs hs : List Entry) →
         AgreesAbove reach es fs → AgreesAbove reach gs hs → AgreesAbove reach (es ++ gs) (fs ++ hs) }
@@ -68,14 +68,14 @@ pub fn signalled_and_covered_entries_may_be_dropped()
         Contains es by → Covers by other → AgreesAbove reach (other ∷ es) es }
 {}
 
-/// What agrees above a reach agrees above every reach that is at least as high.
+/// Entries that agree above a reach agree above every later reach.
 pub fn agreement_lasts_as_the_reach_rises()
     ensures { (reach later : List ℕ) (es fs : List Entry) →
         IsAtLeast later reach → AgreesAbove reach es fs → AgreesAbove later es fs }
 {}
 
-/// The points of a listing are pending, and their contexts rise. Nothing is listed exactly when each entry at
-/// that usage or a stronger one is reached, and a list that is as listings are is its own listing.
+/// The points of a listing are pending, and their contexts rise. A listing is empty exactly when each entry at that
+/// usage or a stronger one is reached. A list in normal form is its own listing.
 pub fn a_listing_is_what_is_pending()
     ensures rising { (es : List Entry) (usage : ℕ) (reach : List ℕ) → HasRisingContexts (listing es usage reach) }
     ensures contexts { (es : List Entry) (usage : ℕ) (reach : List ℕ) →
@@ -88,8 +88,7 @@ pub fn a_listing_is_what_is_pending()
         listing (as_entries ps) 0 reach ≡ ps }
 {}
 
-/// Listings show agreement, and nothing else: entries agree above a reach exactly when they list the same at every
-/// usage.
+/// Two sets of entries agree above a reach exactly when their listings are equal at every usage.
 pub fn listings_show_agreement()
     ensures same { (reach : List ℕ) (es fs : List Entry) (usage : ℕ) →
         AgreesAbove reach es fs → listing es usage reach ≡ listing fs usage reach }
@@ -101,16 +100,16 @@ pub fn listings_show_agreement()
         AgreesAbove reach (as_entries (listing (as_entries ps) 0 reach)) (as_entries ps) }
 {}
 
-/// A listing stands for what it was made of: to list it again with more, at a reach that is at least as high, is to
-/// list all of it.
+/// A listing replaces the entries that it was made of: listing it together with more entries, at a later reach, equals
+/// listing all entries.
 pub fn a_listing_absorbs_a_listing()
     ensures { (reach later : List ℕ) (es fs : List Entry) (usage : ℕ) →
         IsAtLeast later reach →
         listing (as_entries (listing es usage reach) ++ fs) usage later ≡ listing (es ++ fs) usage later }
 {}
 
-/// So a merge depends neither on the order of the files nor on how they are grouped, a file merged with itself agrees
-/// with itself (and lists the same, if it is as listings are), and a merge agrees with both files together.
+/// So a merge depends neither on the order of the files nor on how they are grouped. A file merged with itself agrees
+/// with itself, and lists the same points if its own are in normal form. A merge agrees with both files together.
 pub fn merge_is_a_union()
     ensures commutative { (reach : List ℕ) (ps qs : List Point) → merged reach ps qs ≡ merged reach qs ps }
     ensures associative { (reach : List ℕ) (ps qs rs : List Point) →

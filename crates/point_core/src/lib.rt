@@ -1,8 +1,8 @@
-//! Points of timelines, usages, reaches, and what a set of fences says above a reach.
+//! Points of timelines, usages, reaches, and listings: the pending fences of a set, one for each context, which are its
+//! normal form above a reach.
 //!
-//! Everything above this crate speaks in its words: a `Point` of a `Context`, an `Entry` of a reservation, the
-//! `Reach` of all timelines, the listing of what is pending, and the one list of refusals. `laws` says what holds of
-//! them.
+//! All crates above share these types: a `Point` of a `Context`, an `Entry` of a reservation, the `Reach` of all
+//! timelines, a `Listing` of pending points, and `Refusal`, the one list of errors. `laws` has the theorems about them.
 #![tactic(auto)]
 
 mod clocks;

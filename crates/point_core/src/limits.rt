@@ -1,6 +1,6 @@
-// Limits that several crates keep.
+//! Limits that several crates share.
 
-/// How many buffers there can be. A buffer is never unmade.
+/// The most buffers. A buffer is never removed.
 pub const BUFFERS: usize = 64;
 
 const _: () = prove!(BUFFERS == 64);

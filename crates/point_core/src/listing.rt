@@ -1,4 +1,5 @@
-// What is pending: the latest point of each context above a reach.
+//! `Listing` and `canon`: the pending points of a set of fences, one for each context, by rising context. This is the
+//! normal form that a sync file keeps.
 ghost use Rattle.std.specs.Prelude.{◌≡◌, IfOk, IfErr};
 ghost use Rattle.point_core.specs.Agreement.{as_entries, listing, HasContexts};
 
@@ -10,8 +11,8 @@ use crate::reach::Reach;
 use crate::refusal::Refusal;
 use std::alloc::Global;
 
-/// What a reservation or a merge hands to a new file: the pending points by rising context, and the reach that they
-/// were taken above.
+/// The pending points that a reservation or a merge hands to a new file, by rising context, and the reach above which
+/// they were listed.
 #[derive(Debug, PartialEq, Eq, Drop)]
 pub struct Listing {
     pub points: Items<Point>,
@@ -44,12 +45,12 @@ pub struct TopRow {
 /// The pending points by rising context: the greatest of each context, if it is above the reach. Linux's
 /// `sync_file_merge` drops the same points, and keeps the latest of each context.
 ///
-/// Users of the library call it; no program here does.
+/// For users of the library; no program here calls it.
 pub fn canon(alloc: Global, points: &[Point], reach: &Reach) -> Result<Vec<Point>, Refusal>
     ensures listing { IfOk result (λ ps. ps.items ≡ listing (as_entries points.now) 0 reach.now) }
     ensures memory { IfErr result (λ e. e ≡ Refusal.Memory) }
 
-    // What the type of a context says of each point.
+    // The type of a context implies it for each point.
     ensures contexts { HasContexts (as_entries points.now) }
 {
     let mut latest = LatestPoints::above(reach);

@@ -1,4 +1,4 @@
-// A merge of two lists of points in one pass over both.
+//! Merges two listings in one pass, as Linux's `sync_file_merge` does. `syncfile_core` makes its merged files with it.
 ghost use Rattle.std.specs.Prelude.{◌≡◌, ◌+◌, ◌≤◌, min, [], length, vec_capacity, OnOk, IfOk, IfErr, MatchOption};
 ghost use Rattle.point_core.specs.declared.context.TheConstants.{CONTEXTS};
 ghost use Rattle.point_core.specs.Agreement.{as_entries, merged as merge_of, HasContexts, HasRisingContexts};
@@ -10,8 +10,8 @@ use crate::reach::Reach;
 use crate::refusal::Refusal;
 use std::alloc::Global;
 
-/// The pending points of two lists by rising context, as `canon` gives them of both together. The cost grows with the
-/// points, not with the contexts that there can be.
+/// The pending points of two lists by rising context, as `canon` gives them for both together. The cost grows with the
+/// points, not with `CONTEXTS`.
 pub fn merged(
     alloc: Global,
     left: &[Point],
@@ -22,7 +22,7 @@ pub fn merged(
     ensures merged { IfOk result (λ ps. ps.items ≡ merge_of reach.now left.now right.now) }
     ensures memory { IfErr result (λ e. e ≡ Refusal.Memory) }
 
-    // What the type of a context says of each point.
+    // The type of a context implies it for each point.
     ensures contexts { IfOk result (λ ps. HasContexts (as_entries left.now) × HasContexts (as_entries right.now)) }
 {
     let count = most_merged(left, right);
@@ -31,7 +31,7 @@ pub fn merged(
     Ok(points)
 }
 
-/// Like `merged`, but clears and reuses a list; allocates only if the points may need more room than it has.
+/// Like `merged`, but clears and reuses a list; allocates only if the points may need more room than the list has.
 pub fn merge_into(
     points: &mut Vec<Point>,
     left: &[Point],
@@ -42,7 +42,7 @@ pub fn merge_into(
     ensures merged { OnOk result (points.new.items ≡ merge_of reach.now left.now right.now) }
     ensures memory { IfErr result (λ e. e ≡ Refusal.Memory) }
 
-    // What the type of a context says of each point.
+    // The type of a context implies it for each point.
     ensures contexts { OnOk result (HasContexts (as_entries left.now) × HasContexts (as_entries right.now)) }
 {
     points.clear();
@@ -51,14 +51,14 @@ pub fn merge_into(
     Ok(())
 }
 
-/// How many points a merge of the lists has at most.
+/// An upper bound on the points of a merge.
 fn most_merged(left: &[Point], right: &[Point]) -> usize
     ensures { result ≡ min (length left.now + length right.now) CONTEXTS }
 {
     left.len().saturating_add(right.len()).min(CONTEXTS)
 }
 
-/// Puts the pending points of two lists into an empty one that has room for them.
+/// Pushes the pending points of two lists into an empty list that has room for them.
 fn push_pending(points: &mut Vec<Point>, left: &[Point], right: &[Point], reach: &Reach)
     requires empty { points.old.items ≡ [] }
     requires room { min (length left.now + length right.now) CONTEXTS ≤ vec_capacity points.old }
@@ -75,7 +75,7 @@ fn push_pending(points: &mut Vec<Point>, left: &[Point], right: &[Point], reach:
     }
 }
 
-/// The latest point of the first context of both lists, and what is left of them.
+/// The latest point of the lowest context in both lists, and the rest of each list.
 fn first_of<'a>(left: &'a [Point], right: &'a [Point]) -> Option<(Point, &'a [Point], &'a [Point])>
     ensures first { MatchOption result
         ((left.now ≡ []) × (right.now ≡ []))
@@ -101,7 +101,7 @@ fn first_of<'a>(left: &'a [Point], right: &'a [Point]) -> Option<(Point, &'a [Po
     }
 }
 
-/// The first point, and the others.
+/// The first point, and the rest.
 fn parted(points: &[Point]) -> Option<(Point, &[Point])>
     ensures parts { MatchOption result (points.now ≡ []) (λ (p, ps). IsPartedAt p ps.now points.now) }
 {

@@ -1,4 +1,5 @@
-// A name of a timeline, a file or a buffer.
+//! `Name`: a valid name of a timeline, a file or a buffer, in one vector of 32 bytes, so that it is compared and hashed
+//! as a whole.
 ghost use Rattle.std.specs.Prelude.{◌≡◌, ◌≤◌, ◌-◌, ◌++◌, ◌↔◌, IsSome, IfSome, length, map, replicate, slice_set};
 ghost use Rattle.std.specs.List.{list_all};
 ghost use Rattle.std.specs.Simd.Lanes.{mask_l};
@@ -9,15 +10,15 @@ use std::hash::{Hash, Hasher};
 use std::marker::Model;
 use std::simd::prelude::*;
 
-/// The most bytes of a name: the kernel's 32 of a sync file's name, less the closing zero.
+/// The most bytes of a name: the kernel's 32 of a sync file's name, less the terminating NUL.
 pub const NAME_BYTES: usize = 31;
 
 const _: () = prove!(NAME_BYTES == 31);
 
-/// A name: 1 to `NAME_BYTES` letters, digits, `_`, `.` or `-`, held without memory.
+/// A name: 1 to `NAME_BYTES` letters, digits, `_`, `.` or `-`. It owns no memory.
 #[derive(Clone, Copy, Debug)]
 pub struct Name {
-    // The bytes, zeros after them, and the length last.
+    // the bytes, zeros after them, and the length last
     lanes: u8x32,
 }
 
@@ -38,7 +39,7 @@ impl Model for Name {
 }
 
 impl Name {
-    /// The name of those bytes, or none if they are not 1 to `NAME_BYTES` allowed bytes.
+    /// The name with these bytes, if they are 1 to `NAME_BYTES` allowed ones.
     #[inline(always)]
     pub fn read(bytes: &[u8]) -> Option<Name>
         ensures valid { IsSome result ↔ IsName bytes.now }
@@ -56,7 +57,7 @@ impl Name {
         })
     }
 
-    /// Its bytes, and spaces after them.
+    /// Its bytes, padded with spaces for a column of a report.
     #[inline(always)]
     pub fn in_column(&self) -> [u8; NAME_BYTES]
         ensures { result ≡ self.now ++ replicate (NAME_BYTES - length self.now) 32 }
@@ -78,7 +79,7 @@ impl Name {
     }
 }
 
-/// The lanes of the bytes of a name, with the length of the name in the last.
+/// The lanes of the bytes of a name, with its length in the last.
 #[inline(always)]
 fn with_length(lanes: u8x32, length: usize) -> u8x32
     requires length { length ≤ NAME_BYTES }
@@ -89,7 +90,7 @@ fn with_length(lanes: u8x32, length: usize) -> u8x32
     u8x32::from_array(lanes)
 }
 
-/// Whether each of the bytes is allowed. The lanes hold them.
+/// Whether each of the bytes, which the lanes hold, is allowed.
 #[inline(always)]
 fn are_name_bytes(bytes: &[u8], lanes: u8x32) -> bool
     requires most { length bytes.now ≤ NAME_BYTES }
@@ -99,7 +100,7 @@ fn are_name_bytes(bytes: &[u8], lanes: u8x32) -> bool
     name_marks(lanes).trailing_ones() as usize >= bytes.len()
 }
 
-/// A number with a bit for each lane, which is set if the lane is an allowed byte.
+/// One bit for each lane, set if the lane is an allowed byte.
 #[inline(always)]
 fn name_marks(lanes: u8x32) -> u64
     ensures { result ≡ mask_l (map is_name_byte lanes) }
@@ -144,7 +145,7 @@ impl Hash for Name {
 
     ghost respects_eq = { λ x y same. ap (λ name. lanes_of name ∷ []) (same_text x y (sym same)) };
 
-    // As one piece of a fixed length, since a slice would be written byte by byte.
+    // A copy of fixed length, since a slice would be written byte by byte.
     #[inline(always)]
     fn hash<H: Hasher>(&self, state: &mut H) {
         state.write(self.lanes.as_array());

@@ -1,4 +1,4 @@
-// The value of each timeline.
+//! `Reach`: the signalled value of each timeline. Every question of what is pending is asked above one.
 ghost use Rattle.std.specs.Prelude.{◌≡◌, ℕ, ◌+◌, ◌^◌, ◌<◌, ◌≤◌, ◌↔◌, length, slice_index, IsTrue, IsSome, IfSome};
 ghost use Rattle.point_core.specs.declared.context.TheConstants.{CONTEXTS};
 ghost use Rattle.point_core.specs.Reach.{value_at};
@@ -9,8 +9,8 @@ use crate::entry::Point;
 use crate::floor::Floor;
 use std::marker::Model;
 
-/// The value of each context: a point is signalled once the value has reached it. A context that was not made has
-/// the value 0.
+/// The value of each context, which is a vector of signalled sequence numbers: a point is signalled once its context's
+/// value has reached it. A context without a timeline has the value 0.
 #[derive(Clone, Copy, Debug, PartialEq, Eq)]
 pub struct Reach {
     values: ContextValues,
@@ -50,7 +50,7 @@ impl Reach {
         self.values.clear();
     }
 
-    /// Takes the other's values in place of its own.
+    /// Replaces its values by the other's.
     pub fn copy_from(&mut self, other: &Reach)
         ensures values { self.new ≡ other.now }
     {
@@ -66,7 +66,7 @@ impl Reach {
         self.values.get(ctx.index())
     }
 
-    /// The value of the context at a place, from 0.
+    /// The value of the context at an index, from 0.
     pub fn at(&self, index: usize) -> u64
         requires within { index < CONTEXTS }
         ensures value { result ≡ value_at self.now (index + 1) }
@@ -75,8 +75,8 @@ impl Reach {
         self.values.get(index)
     }
 
-    /// The reach after the context advances by n, or none if its value would pass the greatest u64.
-    /// Users of the library call it; no program here does.
+    /// The reach after the context advances by n, or none if its value would pass the greatest u64. For users of the
+    /// library; no program here calls it.
     pub fn raised(&self, ctx: Context, n: u64) -> Option<Reach>
         ensures fits { IsSome result ↔ (value_at self.now ctx + n < 2 ^ 64) }
         ensures value { IfSome result (λ r. r ≡ with_value self.now ctx (value_at self.now ctx + n)) }
@@ -87,7 +87,7 @@ impl Reach {
         Some(raised)
     }
 
-    /// Raises the context's value to the point, if it is not there yet.
+    /// Raises the context's value to the point, if it is lower.
     pub fn raise_to(&mut self, point: Point)
         ensures value { self.new ≡ reaching self.old point }
         ensures full { length self.old ≡ CONTEXTS }
@@ -105,7 +105,7 @@ impl Reach {
         self.values.raise(ctx.index(), u64::MAX);
     }
 
-    /// How many contexts there are up to the last whose value is not 0. A loop over what is reached can end there.
+    /// The number of contexts up to the last whose value is not 0. A loop over reached contexts can end there.
     pub fn used(&self) -> usize
         ensures last { result ≡ used_of self.now }
         ensures within { result ≤ CONTEXTS }

@@ -1,4 +1,4 @@
-// Why a command or a call was refused.
+//! `Refusal`: every error of the service, with the number, name and word that answers print for it.
 ghost use Rattle.std.specs.Prelude.{◌≡◌};
 ghost use Rattle.point_core.specs.Refusal.{refusal_number, refusal_name, limit_word};
 
@@ -6,7 +6,7 @@ use std::alloc::AllocError;
 use std::fmt;
 use thiserror::Error;
 
-/// Which limit was met.
+/// The limit that was met.
 #[derive(Clone, Copy, Debug, PartialEq, Eq, Hash)]
 pub enum LimitKind {
     Timelines,
@@ -19,11 +19,11 @@ pub enum LimitKind {
     Script,
 }
 
-/// Every refusal of the service. A refused command changes nothing.
+/// Every error of the service. A refused command changes nothing.
 ///
-/// `NoEntry` is the kernel's `ENOENT`, `Flags` its `EINVAL` of `DMA_BUF_IOCTL_EXPORT_SYNC_FILE`, `Signalled` the
-/// `ENOENT` of its `dma_fence_add_callback`, and `TimedOut` its `ETIME`. `Memory` is answered only when a growth was
-/// really refused.
+/// `NoEntry` is the kernel's `ENOENT`, `Flags` its `EINVAL` from `DMA_BUF_IOCTL_EXPORT_SYNC_FILE`, `Signalled` the
+/// `ENOENT` of its `dma_fence_add_callback`, and `TimedOut` its `ETIME`. `Memory` is answered only if an allocation
+/// really failed.
 #[derive(Clone, Copy, Debug, PartialEq, Eq, Hash, Error)]
 pub enum Refusal {
     #[error("the line is no command")]

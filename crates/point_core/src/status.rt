@@ -1,21 +1,21 @@
-// Whether a fence is signalled.
+//! `Status`: active, signalled or cancelled, for a point, a sync file or a fence.
 ghost use Rattle.std.specs.Prelude.{◌≡◌};
 ghost use Rattle.point_core.specs.Status.{status_number, status_with, is_signalled};
 
-/// The status of a point or a sync file, as Linux's `dma_fence_get_status` gives it. A timeline that is closed
-/// before a point is reached leaves the point with the error `-ENOENT`, as Linux's `sw_sync_debugfs_release` does.
+/// The status of a point or a sync file, as Linux's `dma_fence_get_status` gives it. A timeline that is closed before a
+/// point is reached leaves the point with the error `-ENOENT`, as Linux's `sw_sync_debugfs_release` does.
 #[derive(Clone, Copy, Debug, PartialEq, Eq, Hash)]
 pub enum Status {
     /// Some point is not reached.
     Active,
     /// Every point is reached.
     Signalled,
-    /// No point is pending any more, and the timeline of some was closed before it was reached.
+    /// No point is pending, and the timeline of at least one was closed before it was reached.
     Cancelled,
 }
 
 impl Status {
-    /// Whether nothing is pending any more, as Linux's `dma_fence_is_signaled`: signalled or cancelled.
+    /// Whether nothing is pending, as Linux's `dma_fence_is_signaled`: signalled or cancelled.
     pub fn is_signalled(self) -> bool
         ensures { result ≡ is_signalled self }
     {
@@ -36,8 +36,8 @@ impl Status {
         }
     }
 
-    /// The number that file information shows: 0 while active, 1 once signalled, and -2, which is the kernel's
-    /// `-ENOENT`, if it is cancelled.
+    /// The number in file information: 0 while active, 1 once signalled, and -2, the kernel's `-ENOENT`, if it is
+    /// cancelled.
     pub fn number(self) -> i32
         ensures { result ≡ status_number self }
     {

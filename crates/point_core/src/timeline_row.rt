@@ -1,4 +1,4 @@
-// A timeline in a report.
+//! `TimelineRow`: a timeline's row in a report. `timeline_core` fills it, and every printer shows it.
 
 use crate::name::Name;
 
