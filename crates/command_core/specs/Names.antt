@@ -5,7 +5,7 @@ use Rattle.command_core.specs.declared.command.Command.TheVariants as command
 use Rattle.command_core.specs.declared.names.Space.{Space}
 use Rattle.command_core.specs.declared.names.Space.TheVariants.{Timeline, File, Buffer}
 
--- the word that its line in a script begins with
+-- the first word of its line in a script
 abbrev pub word_of : Command → List ℕ
 word_of (command.Timeline t) = codes "timeline"
 word_of (command.Inc t n) = codes "inc"
@@ -51,7 +51,7 @@ only space name = Some (space, name) ∷ None ∷ []
 abbrev pub both : Space × List ℕ → Space × List ℕ → List (Option (Space × List ℕ))
 both first second = Some first ∷ Some second ∷ []
 
--- the names that it looks up, two at most, in the order in which they are reported as missing
+-- the names that it looks up, at most two, in the order in which they are reported as missing
 abbrev pub looked_up_by : Command → List (Option (Space × List ℕ))
 looked_up_by (command.Timeline t) = none
 looked_up_by (command.Inc t n) = only Timeline t
@@ -73,7 +73,7 @@ looked_up_by (command.Unwatch cookie) = none
 looked_up_by (command.Show b) = only Buffer b
 looked_up_by command.Report = none
 
--- the timeline that has to be open for it; no other command needs one
+-- the timeline that must be open for it; no other command needs one
 abbrev pub needed_open_by : Command → Option (List ℕ)
 needed_open_by (command.Inc t n) = Some t
 needed_open_by (command.Shut t) = Some t

@@ -1,4 +1,4 @@
--- What a report has.
+-- The contents of a report.
 use Rattle.std.specs.Prelude.{ℕ, ◌+◌, List, length}
 use Rattle.std.specs.List.{sum_by}
 use Rattle.point_core.specs.declared.timeline_row.TimelineRow.{TimelineRow}
@@ -11,7 +11,7 @@ pub record Tables : Type 0 where
   pub files : List FileRow
   pub buffers : List BufferRows
 
--- a row for the buffer, and its own
+-- the buffer's row, and the rows of its table
 abbrev pub rows_beside : BufferRows → ℕ
 rows_beside b = length b.rows + 1
 

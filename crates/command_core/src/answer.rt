@@ -1,4 +1,4 @@
-// What a command is answered.
+//! `Answer`: the result of a command. The desk makes it, and each printer (text, JSON, C rows) shows it.
 ghost use Rattle.std.specs.Prelude.{◌≡◌, ◌≤◌, ◌^◌};
 ghost use Rattle.command_core.specs.Tables.{row_count, rows_beside};
 
@@ -8,16 +8,17 @@ use std::marker::Model;
 /// The answer of one command.
 #[derive(Debug, Drop, PartialEq, Eq)]
 pub enum Answer {
-    /// The command did what it says.
+    /// The command took effect, and has nothing to report.
     Done,
-    /// The number that it asked for: a context, a timeline's value, or 1 for yes and 0 for no.
+    /// The number that was asked for: a context, a timeline's value, or 1 for yes and 0 for no.
     Value(u64),
-    /// The timeline's value after an increment or its closing, and the cookies of the callbacks that this fires, by registration.
+    /// The timeline's value after an increment or its closing, and the cookies of the callbacks that fired, in order of
+    /// registration.
     Raised(u64, Items<u64>),
     /// File information.
     Info(Info),
-    /// The table of a buffer: for each usage from the strongest and each rising context, the pending top of all that was
-    /// ever put in.
+    /// The table of a buffer: for each usage from the strongest and each rising context, the pending top of all fences
+    /// that were ever added.
     Show(Items<ShowRow>),
     /// Everything that the desk holds.
     Report(Report),
@@ -30,11 +31,11 @@ pub enum Answer {
 pub struct Info {
     pub name: Name,
     pub status: Status,
-    /// One row a fence, by rising context. A file without points is shown as one fence, the stub.
+    /// One row for each fence, by rising context. A file without points has one row, the stub.
     pub fences: Items<FenceRow>,
 }
 
-/// A fence of a file. Its timeline's name and its driver's stay the same once it is signalled.
+/// A fence of a file. The names of its timeline and driver don't change once it is signalled.
 #[derive(Clone, Copy, Debug, PartialEq, Eq)]
 pub struct FenceRow {
     pub timeline: Name,
@@ -78,7 +79,7 @@ impl Model for Report {
 }
 
 impl Report {
-    /// How many rows it has: one for each timeline, file and buffer, and the rows of each buffer's table.
+    /// The number of rows: one for each timeline, file and buffer, and the rows of each buffer's table.
     pub fn row_count(&self) -> u128
         ensures { result ≡ row_count self.now }
     {
@@ -92,7 +93,7 @@ impl Report {
     }
 }
 
-/// A row for the buffer, and its own.
+/// The buffer's row, and the rows of its table.
 fn rows_beside(buffer: &BufferRows) -> u128
     ensures rows { result ≡ rows_beside buffer.now }
     ensures within { result ≤ 2 ^ 64 }
@@ -100,7 +101,7 @@ fn rows_beside(buffer: &BufferRows) -> u128
     buffer.rows.as_slice().len() as u128 + 1
 }
 
-/// A sync file: how many fences file information shows of it, and whether they are signalled.
+/// A sync file: how many fences file information shows, and whether they are signalled.
 #[derive(Clone, Copy, Debug, PartialEq, Eq)]
 pub struct FileRow {
     pub name: Name,

@@ -1,11 +1,12 @@
-// The word of a command, and its names.
+//! The first word of a command's line, and the names that the command makes, closes and looks up. `reason_core`
+//! explains refusals with them.
 ghost use Rattle.std.specs.Prelude.{◌≡◌};
 ghost use Rattle.command_core.specs.Names.{closed_by, looked_up_by, made_by, needed_open_by, word_of};
 
 use crate::command::Command;
 use point_core::Name;
 
-/// What a name stands for: each has a name space of its own.
+/// The kind of object that a name is for: each kind has its own name space.
 #[derive(Clone, Copy, Debug, PartialEq, Eq)]
 pub enum Space {
     Timeline,
@@ -14,7 +15,7 @@ pub enum Space {
 }
 
 impl Command {
-    /// The word that its line in a script begins with.
+    /// The first word of its line in a script.
     pub fn word(&self) -> &'static str
         ensures { result.now ≡ word_of self.now }
     {
@@ -41,7 +42,7 @@ impl Command {
         }
     }
 
-    /// The name that it makes if it is accepted.
+    /// The name that it makes, if it is accepted.
     pub fn made(&self) -> Option<(Space, Name)>
         ensures { result ≡ made_by self.now }
     {
@@ -55,7 +56,7 @@ impl Command {
         }
     }
 
-    /// The name that it closes if it is accepted. A file's name is free again; a timeline's name stays taken.
+    /// The name that it closes, if it is accepted. A file's name is free again; a timeline keeps its name.
     pub fn closed(&self) -> Option<(Space, Name)>
         ensures { result ≡ closed_by self.now }
     {
@@ -100,7 +101,7 @@ impl Command {
         }
     }
 
-    /// The timeline that it is refused for if that is closed.
+    /// The timeline that must be open for it.
     pub fn needs_open(&self) -> Option<Name>
         ensures { result ≡ needed_open_by self.now }
     {
