@@ -12,14 +12,14 @@ use Rattle.line_core.specs.Marks.{HasMarks}
 use Rattle.line_core.specs.Scan.{IsScanOf}
 use Rattle.line_core.specs.ScriptLines.{LinesState, line_bytes, gone_on, ended_at, IsLaidOut, IsScanned}
 
--- of two bounds the smaller counts
+-- the smaller of two bounds counts
 pub take-both : (m n : ℕ) (xs : List ℕ) → take m (take n xs) ≡ take (min n m) xs
 take-both m n xs = elim (cases_lt m n) [
   | inl h ↦ (let least : m ≡ min n m = omega arith in take-take m n xs (omega arith) ∙ ap (λ k. take k xs) least)
   | inr h ↦ (let least : n ≡ min n m = omega arith in take_all m (take n xs) (omega (arith, length-take n xs)) ∙ ap (λ k. take k xs) least)
 ]
 
--- the block is another one, and none of it is of the line
+-- the block is another one, and no byte of it belongs to the line
 pub line-kept : (held block block' : List ℕ) (start len : ℕ) → (length held ≡ 0 → len ≡ 0) → line_bytes held block' start len ≡ line_bytes held block start len
 line-kept held block block' start len none = kept (length held == 0) refl
   where
@@ -29,7 +29,7 @@ line-kept held block block' start len none = kept (length held == 0) refl
         ap (λ n. take n (drop start block')) nothing ∙ sym (ap (λ n. take n (drop start block)) nothing)
     kept false e = refl
 
--- the line ends in the block, if none of it was held
+-- the line ends in the block, and no byte of it was held
 pub line-ends : (held block : List ℕ) (start next filled len place : ℕ) → (length held == 0) ≡ true → len ≡ 0 → place ≤ filled - next
     → line_bytes held block next (len + place) ≡ cut (line_bytes held block start len ++ take place (take (filled - next) (drop next block)))
 line-ends held block start next filled len place empty zero within =
@@ -80,7 +80,7 @@ none_from n e = grind (arith, nat_tests)
 pub some_from : (n : ℕ) → (n == 0) ≡ false → 0 < n
 some_from n e = grind (arith, nat_tests)
 
--- what was held stays so
+-- a line that was held stays held
 pub held-some : (held piece : List ℕ) → 0 < length held → 0 < length (cut (held ++ piece))
 held-some held piece some = omega (arith, length-take HELD_BYTES (held ++ piece), length-append held piece)
 

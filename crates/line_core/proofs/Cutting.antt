@@ -1,4 +1,4 @@
--- The bytes that are held of a line.
+-- The bytes of a line that are kept.
 use Rattle.std.proofs.Common.{◌≡◌, ℕ, ◌+◌, ◌-◌, ◌≤◌, inl, inr, min, List, [], ◌++◌, length, take, sym, ap, ◌∙◌, append-nil, length-take, arith}
 use borrow.Rule.Slice.PartMut.{put_mid}
 use Rattle.std.proofs.Math.Seq.{take-append-add}
@@ -32,7 +32,7 @@ take-nothing n = take_all n no_bytes (omega arith)
 pub cut-none : cut no_bytes ≡ no_bytes
 cut-none = take-nothing HELD_BYTES
 
--- what is held with more bytes
+-- the kept bytes with more bytes
 pub cut-more : (xs ys : List ℕ) → cut (cut xs ++ ys) ≡ cut (xs ++ ys)
 cut-more xs ys = take-take_append HELD_BYTES xs ys
 

@@ -1,4 +1,4 @@
--- Lines whose line feed was read, and those of the whole script.
+-- Lines whose line feed was read, and the lines of the whole script.
 use Rattle.std.proofs.Common.{◌≡◌, ℕ, ◌+◌, ◌-◌, ◌<◌, ◌≤◌, inl, inr, cond, List, [], ◌∷◌, ◌++◌, length, take, Option, Some, refl, sym, ap, ◌∙◌, length-append, length-take, arith}
 use Rattle.std.proofs.lemmas.Bool.{cases_lt, lt-ltb}
 use Rattle.std.proofs.lemmas.List.{take_all}
@@ -22,7 +22,7 @@ use Rattle.line_core.proofs.Fronts.{answered-append, some_lines}
 use Rattle.line_core.proofs.Inputs.{input_from}
 use Rattle.line_core.proofs.LineLemmas.{numbered-cons}
 
--- a line says what the bytes that are held of it say
+-- the kept bytes of a line have the same body as the line
 pub body_of-cut : (line : List ℕ) → body_of (cut line) ≡ body_of line
 body_of-cut line = elim (cases_lt LINE_BYTES (length line)) [
   | inl h ↦ ap (λ b. cond b (Some (Bad LongLine)) (body_from (words_of (cut line)))) (lt-ltb LINE_BYTES (length (cut line)) (omega (arith, length-take HELD_BYTES line))) ∙ sym (ap (λ b. cond b (Some (Bad LongLine)) (body_from (words_of line))) (lt-ltb LINE_BYTES (length line) h))
@@ -55,7 +55,7 @@ numbered-given end number (x ∷ given) tail some =
     let same : number + 1 + length given ≡ number + length (x ∷ given) = omega arith in
     numbered-cons end number x (given ++ tail) (omega (arith, length-append given tail)) ∙ ap (answered number (body_of x)) (numbered-given end (number + 1) given tail some) ∙ answered-append number (body_of x) (ended_lines (number + 1) given) (numbered end (number + 1 + length given) tail) ∙ ap (λ n. ended_lines number (x ∷ given) ++ numbered end n tail) same
 
--- one line more that was given
+-- one more line was returned
 pub line-answered : (given : List (List ℕ)) (line bytes : List ℕ) (number : ℕ) (body : Option Body) → number ≡ length given + 1 → bytes ≡ cut line → body ≡ body_of bytes → ended_lines 1 given ++ answered number body [] ≡ ended_lines 1 (given ++ line ∷ [])
 line-answered given line bytes number body n held is =
     let place : number ≡ 1 + length given = omega arith in
@@ -68,7 +68,7 @@ last-answered before now s end given e bytes number body n held is =
     let place : number ≡ 1 + length given = omega (arith, e.number) in
     ap (λ b. ended_lines 1 given ++ answered number b []) (is ∙ ap (last_body end) (held ∙ e.is.held) ∙ last_body-cut end e.last) ∙ ap (λ k. ended_lines 1 given ++ answered k (last_body end e.last) []) place ∙ sym (ap (numbered end 1) e.split ∙ numbered-given end 1 given (e.last ∷ []) (omega arith))
 
--- the lines that were given come first among the script's
+-- the lines that were returned come first among the script's
 pub given-first : (before now : Option (List ℕ)) (s : LinesState) (given : List (List ℕ)) → HasGiven before now s given → (script : List ℕ) × IsInput before script × (rest : List Line) × (script_of script ≡ ended_lines 1 given ++ rest)
 given-first before now s given p =
     let input = input_from before now p.bytes p.consumed in

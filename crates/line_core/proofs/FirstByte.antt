@@ -1,4 +1,4 @@
--- The first of a byte, as a search gives it.
+-- The first occurrence of a byte, as a search finds it.
 use Rattle.std.proofs.Common.{◌≡◌, ℕ, Bool, cond, nat_lt, List, length, get_or, Option, None, Some, sym, ap, ◌∙◌, arith}
 use Rattle.std.specs.List.{position_or_len, position}
 use Rattle.std.proofs.lemmas.Bool.{lt-ltb, le-ltb, false_from_ne_true}

@@ -47,7 +47,7 @@ is_some-four (Some a) (Some b) None d = refl
 is_some-four (Some a) (Some b) (Some c) None = refl
 is_some-four (Some a) (Some b) (Some c) (Some d) = refl
 
--- what reads a word for an operand
+-- a function that reads a word for an operand
 abbrev Reads : {A : Type 0} → Operand → (List ℕ → Option A) → Type 0
 Reads operand read = (word : List ℕ) → is_some (read word) ≡ matches operand word
 

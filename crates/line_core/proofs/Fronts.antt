@@ -1,4 +1,4 @@
--- The lines of a front of a script, and those of the whole of it.
+-- The lines of a prefix of a script, and the lines of the whole script.
 use Rattle.std.proofs.Common.{◌≡◌, ℕ, ◌+◌, ◌<◌, Bool, true, false, cond, List, [], ◌∷◌, ◌++◌, length, Option, None, Some, refl, ap, ◌∙◌, arith}
 use Rattle.std.specs.List.{onto_first}
 use Rattle.std.proofs.lemmas.List.Splits.{length-slice_split}
@@ -10,7 +10,7 @@ use Rattle.line_core.specs.Line.{body_of}
 use Rattle.line_core.specs.Script.{is_line_feed, lines_of, answered, numbered, lines_until}
 use Rattle.line_core.proofs.LineLemmas.{numbered-cons}
 
--- the last of the first pieces goes on with the first of the second
+-- the last of the first pieces is joined to the first of the second
 abbrev pub glue : List (List ℕ) → List (List ℕ) → List (List ℕ)
 glue [] qs = qs
 glue (p ∷ []) [] = p ∷ []
@@ -52,7 +52,7 @@ length-glue (p ∷ []) [] h = omega arith
 length-glue (p ∷ []) (q ∷ qs) h = omega arith
 length-glue (p ∷ r ∷ ps) qs h = omega arith
 
--- the lines whose line feed was read come first, however the script goes on
+-- the lines whose line feed was read come first, whatever follows them
 numbered-front : (end : Ending) (number : ℕ) (ps qs : List (List ℕ)) → 0 < length ps → (rest : List Line) × (numbered end number (glue ps qs) ≡ numbered ending.Failed number ps ++ rest)
 numbered-front end number [] qs h = absurd (omega arith)
 numbered-front end number (p ∷ []) qs h = (numbered end number (glue (p ∷ []) qs), refl)

@@ -1,4 +1,4 @@
--- Lines that a reader gives, one after another.
+-- Lines that a reader returns, one after another.
 use Rattle.std.proofs.Common.{◌≡◌, ℕ, ◌+◌, ◌-◌, ◌<◌, ◌≤◌, Bool, true, false, cond, List, [], ◌∷◌, ◌++◌, length, take, drop, Option, refl, sym, ap, subst, ◌∙◌, append_assoc, append-nil, length-append, length-take, length-drop, arith}
 use Rattle.std.specs.Io.KnownBytes.{Consumes}
 use Rattle.std.proofs.KnownBytes.{Consumes-nil, Consumes-trans}
@@ -13,7 +13,7 @@ use Rattle.line_core.proofs.Cutting.{cut-more, cut-none, take-nothing, take-appe
 use Rattle.line_core.proofs.Runs.{slice_split-some, slice_split-none, position-below}
 use Rattle.line_core.proofs.Fronts.{glue, glue-cons, some_lines, lines_of-append}
 
--- a front without a line feed, and what goes on with it
+-- a prefix without a line feed, and the bytes after it
 lines_of-front : (front more line : List ℕ) (rest : List (List ℕ)) → lines_of front ≡ front ∷ [] → lines_of more ≡ line ∷ rest → lines_of (front ++ more) ≡ (front ++ line) ∷ rest
 lines_of-front front more line rest alone e =
     lines_of-append front more ∙ ap (λ ls. glue ls (lines_of more)) alone ∙ ap (λ ls. glue (front ∷ []) ls) e
@@ -64,7 +64,7 @@ module _ (before now : Option (List ℕ)) (s : LinesState) (given : List (List �
         };
       }
 
-  -- no line ends in what is ready
+  -- no line ends among the ready bytes
   pub Given-all : lines_of s.ready ≡ s.ready ∷ [] → HasGiven before now (all_held (gone_on s)) given × IsDrained (all_held (gone_on s))
   Given-all e = (
     record {
@@ -115,7 +115,7 @@ module _ (before now : Option (List ℕ)) (s : LinesState) (given : List (List �
     split = ap lines_of (sym (append-nil (take SCRIPT_BYTES p.bytes))) ∙ p.split [] ∙ ap (λ xs. given ++ lines_of (p.front ++ (xs ++ []))) drained.1 ∙ ap (λ xs. given ++ lines_of xs) (append-nil p.front) ∙ ap (λ ls. given ++ ls) p.alone;
   }
 
--- of the state only the line counts
+-- only the line of the state matters
 pub Ended-same : (before now : Option (List ℕ)) (s s' : LinesState) (end : Ending) (given : List (List ℕ)) → HasEnded before now s end given → s'.number ≡ s.number → s'.line ≡ s.line → s'.length ≡ s.length → HasEnded before now s' end given
 Ended-same before now s s' end given e number line len = record {
   bytes = e.bytes;
@@ -126,7 +126,7 @@ Ended-same before now s s' end given e number line len = record {
   split = e.split;
 }
 
--- ---- one line more, or all of what is ready
+-- ---- one more line, or all ready bytes
 
 pub Advances-next : (before now : Option (List ℕ)) (s s' : LinesState) (given : List (List ℕ)) → HasGiven before now s given → (more : Bool) → Advances s more s' → GoesOn before now given more s'
 Advances-next before now s s' given p true w =

@@ -1,4 +1,4 @@
--- What was read of a script, and the script as a whole.
+-- The part of a script that was read, and the whole script.
 use Rattle.std.proofs.Common.{◌≡◌, ◌⊎◌, inl, inr, ℕ, ◌+◌, ◌-◌, ◌<◌, ◌≤◌, cond, List, [], ◌++◌, length, take, Option, None, Some, IfSome, refl, sym, ap, ◌∙◌, subst, append-nil, length-append, arith}
 use Rattle.std.specs.Io.KnownBytes.{Consumes, IsAtEnd}
 use Rattle.std.proofs.Math.Seq.{take-append-add, take-append_seam}
@@ -17,7 +17,7 @@ take-front limit xs ys h =
     let split : limit ≡ length xs + (limit - length xs) = omega arith in
     ap (λ n. take n (xs ++ ys)) split ∙ take-append-add xs ys (limit - length xs)
 
--- the bytes that were read are the front of a script, which is what the reader had
+-- the bytes that were read are a prefix of the script, which is what the reader had
 pub record IsFrontOfInput (known new : Option (List ℕ)) (bytes script : List ℕ) : Type 0 where
   pub input : IsInput known script
   pub more : List ℕ
@@ -56,13 +56,13 @@ module _ (known new : Option (List ℕ)) (bytes script : List ℕ) (p : IsFrontO
 pub lines_until-short : (end : Ending) (bytes : List ℕ) → length bytes ≤ SCRIPT_BYTES → lines_until end (take SCRIPT_BYTES bytes) ≡ lines_until end bytes
 lines_until-short end bytes h = ap (lines_until end) (take_all SCRIPT_BYTES bytes h)
 
--- the lines of what was read come first among the script's
+-- the lines of the bytes that were read come first among the script's
 pub first_lines : (known new : Option (List ℕ)) (bytes script : List ℕ) (end : Ending) → IsFrontOfInput known new bytes script → EndsSo new bytes end → (rest : List Line) × (script_of script ≡ lines_until end (take SCRIPT_BYTES bytes) ++ rest)
 first_lines known new bytes script ending.Whole p e = ([], script_of-whole known new bytes script p e ∙ sym (append-nil (lines_until ending.Whole (take SCRIPT_BYTES bytes))))
 first_lines known new bytes script ending.TooLong p e = ([], script_of-too_long known new bytes script p e ∙ sym (append-nil (lines_until ending.TooLong (take SCRIPT_BYTES bytes))))
 first_lines known new bytes script ending.Failed p e = script_of-failed known new bytes script p e
 
--- what was read is all that the reader had, up to the byte after the limit
+-- the bytes that were read are all that the reader had, up to the byte after the limit
 pub reads_front : (known left : Option (List ℕ)) (bytes : List ℕ) (end : Ending) → WasRead known left bytes end → (end ≡ ending.Whole) ⊎ (end ≡ ending.TooLong) → IfSome known (λ input. Consumes known left (take (SCRIPT_BYTES + 1) input))
 reads_front None left bytes end read ends = tt
 reads_front (Some input) None bytes end read ends = absurd read.consumed

@@ -20,7 +20,7 @@ numbered-cons end number line (next ∷ more) h = refl
 pub numbered-line : (end : Ending) (number : ℕ) (bytes line rest : List ℕ) → lines_of bytes ≡ line ∷ lines_of rest → numbered end number (lines_of bytes) ≡ answered number (body_of line) (numbered end (number + 1) (lines_of rest))
 numbered-line end number bytes line rest e = ap (numbered end number) e ∙ numbered-cons end number line (lines_of rest) (omega (arith, length-slice_split is_line_feed rest))
 
--- a line that ends at a line feed, of the lines that are to come
+-- a line that ends at a line feed, of the lines to come
 pub lines_before-line : (o : Option Ending) (end : Ending) (number : ℕ) (bytes line rest : List ℕ) (body : Option Body) → o ≡ Some end → lines_of bytes ≡ line ∷ lines_of rest → body ≡ body_of line → lines_before o number bytes ≡ answered number body (lines_before o (number + 1) rest)
 lines_before-line o end number bytes line rest body s e f = rw (s, f) (numbered-line end number bytes line rest e)
 

@@ -1,4 +1,4 @@
--- What the lowest bits of marks say of the bytes, and how marks are put together.
+-- The lowest bits of marks, and how marks are joined.
 use Rattle.std.proofs.Common.{◌≡◌, ℕ, ◌+◌, ◌-◌, ◌*◌, ◌/◌, ◌%◌, ◌^◌, ◌<◌, ◌≤◌, Bool, true, false, not, cond, nat_lt, List, length, get_or, take, drop, map, None, Some, unwrap_or, inl, inr, refl, sym, ap, ◌∙◌, arith, w64, pow_mono, length-take, length-drop, take_all, drop-drop}
 use Rattle.std.specs.Int.{bit_at, trailing_zeros, trailing_ones}
 use Rattle.std.specs.List.{position, position_or_len}

@@ -1,4 +1,4 @@
--- Masks of bytes: a bit for each, from the lowest on, that is set if the byte passes a test.
+-- Bit masks: one bit for each byte, from the lowest on, set if the byte passes a test.
 use Rattle.std.proofs.Common.{◌≡◌, ℕ, zero, suc, ◌+◌, ◌*◌, ◌/◌, ◌%◌, ◌^◌, ◌<◌, ◌≤◌, Bool, true, false, cond, nat_lt, List, [], ◌∷◌, length, take, drop, map, None, Some, inl, inr, sym, ap, subst, ◌∙◌, arith, w64, pow_mono, length-take, get_or-take}
 use Rattle.std.specs.Int.{bit_at, trailing_zeros}
 use Rattle.std.specs.List.{position, position_or_len}

@@ -51,7 +51,7 @@ digits_value-more word i value h e digit = digits_value_more 10 word i h ∙ ap 
 pub AllDigits-more : (word : List ℕ) (i : ℕ) → i < length word → AllDigits 10 (take i word) → IsInRange 48 57 (get_or word i 0) → AllDigits 10 (take (i + 1) word)
 AllDigits-more word i h all digit = digits_more 10 word i h all (omega (arith, value-digit (get_or word i 0) digit, digit.0, digit.1))
 
--- in a word of fewer than DIGITS bytes, one digit more makes no number past 64 bits
+-- in a word of fewer than DIGITS bytes, one more digit makes no number past 64 bits
 pub digit-fits : (word : List ℕ) (i value : ℕ) → i < length word → length word < DIGITS → AllDigits 10 (take i word) → value ≡ digits_value 10 (take i word) → IsInRange 48 57 (get_or word i 0) → value * 10 + (get_or word i 0 - 48) < 2 ^ 64
 digit-fits word i value h few all e digit =
     let short = digits_value_short (numerals_by_value (AllDigits 10) tells_digits) (take (i + 1) word) 19 (AllDigits-more word i h all digit) (omega (arith, length-take (i + 1) word)) in

@@ -1,4 +1,4 @@
--- Rows of the table: what holds of each holds of the row that a line's word finds.
+-- Rows of the table: a property of each row holds for the row that a line's word finds.
 use Rattle.std.proofs.Common.{◌≡◌, ℕ, ◌<◌, nat_le, Bool, true, false, cond, is_some, List, [], ◌∷◌, length, map, Option, None, Some, option_map, refl, sym, ap, ◌∙◌, codes, arith}
 use Rattle.std.specs.List.{AllByRecursion, list_all}
 use Rattle.std.specs.Option.{option_and_then}
@@ -18,7 +18,7 @@ use Rattle.line_core.specs.Table.{Form, Row, row, table, forms, form_at, row_at,
 use Rattle.line_core.specs.Words.{are_none}
 use Rattle.line_core.proofs.Fitting.{by-one_name, by-one_number, by-name_and_number, by-two_names_and_number, by-three_names, by-two_names_number_and_usage, by-two_names_and_flags, by-name_and_usage, fit-none}
 
--- words make a command just when they fit the row, and the command has the row's word
+-- words make a command exactly if they fit the row, and the command has the row's word
 pub record IsRow (row : Row) : Type 0 where
   pub fits : (words : List (List ℕ)) → is_some (row.made words) ≡ fit row.form.operands words
   pub own : (words : List (List ℕ)) (c : Command) → row.made words ≡ Some c → word_of c ≡ row.form.word

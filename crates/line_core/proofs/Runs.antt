@@ -1,4 +1,4 @@
--- The runs of elements between those that pass a test, from the front of a list.
+-- The runs of elements between the elements that pass a test, from the front of a list.
 use Rattle.std.proofs.Common.{◌≡◌, ℕ, ◌+◌, ◌<◌, ◌≤◌, zero, suc, Bool, true, false, not, cond, nat_lt, List, [], ◌∷◌, length, get_or, take, drop, filter, None, Some, unwrap_or, refl, sym, ap, subst, ◌∙◌, arith, rules, drop-cons, add-one, one-add, add-zero, get_or-drop, length-take, length-drop}
 use Rattle.std.proofs.Math.Seq.{drop-length, take-length}
 use Rattle.std.specs.List.{slice_split, position_or_len, position, after_first}

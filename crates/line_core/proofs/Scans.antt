@@ -1,4 +1,4 @@
--- What a scan says of the bytes.
+-- The bytes, by the bits of a scan.
 use Rattle.std.proofs.Common.{◌≡◌, ℕ, ◌+◌, ◌-◌, ◌/◌, ◌%◌, ◌^◌, ◌<◌, ◌≤◌, List, length, take, drop, Some, sym, ap, ◌∙◌, arith, w64, length-take}
 use Rattle.std.specs.Int.{trailing_zeros}
 use Rattle.std.specs.List.{position}

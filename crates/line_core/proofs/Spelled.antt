@@ -15,7 +15,7 @@ length-bytes (suc n) number = ap suc (length-bytes n (number / 256))
 pub spelled : (xs : List ℕ) (number : ℕ) → AreBytes xs → number ≡ number_l 256 xs → bytes_of (length xs) number ≡ xs
 spelled xs number bytes is = ap (bytes_of (length xs)) is ∙ digits-same xs bytes
 
--- a word that has not as many bytes as a text is not that text
+-- a word of another length than a text is not that text
 pub other_length : (word text : List ℕ) → (length word ≡ length text → ⊥) → bytes_eq word text ≡ false
 other_length word text other = false_from_ne_true _ (λ h. other (ap length ((bytes_eq-Decides word text).0 h)))
 
@@ -27,7 +27,7 @@ same_answer false false there back = refl
 eqb-refl : (a b : ℕ) → a ≡ b → nat_eq a b ≡ true
 eqb-refl a b e = grind (arith, nat_tests)
 
--- a word has a text's length and number just when it is the text
+-- a word has a text's length and number exactly if it is the text
 pub same-both : (n number : ℕ) (text : List ℕ) (other : ℕ) → AreBytes text → number_l 256 (bytes_of n number) ≡ number → other ≡ number_l 256 text → (nat_eq number other && nat_eq n (length text)) ≡ bytes_eq (bytes_of n number) text
 same-both n number text other bytes own is = same_answer _ _ there back
   where
@@ -45,7 +45,7 @@ same-both n number text other bytes own is = same_answer _ _ there back
         (eqb-refl number other (sym own ∙ ap (number_l 256) same ∙ sym is))
         (eqb-refl n (length text) (sym (length-bytes n number) ∙ ap length same))
 
--- no word of at most eight bytes is a text of more
+-- no word of at most eight bytes is a longer text
 pub same-long : (n number : ℕ) (text : List ℕ) → n ≤ 8 → 8 < length text → nat_le (length text) 8 ≡ bytes_eq (bytes_of n number) text
 same-long n number text few more =
     let no : nat_le (length text) 8 ≡ false = grind (arith, nat_tests) in

@@ -5,12 +5,12 @@ use Rattle.command_core.specs.declared.command.Command.{Command}
 use Rattle.line_core.specs.Line.{command_or_syntax}
 use Rattle.line_core.specs.Takes.{TakesCommand, TakesIfSome, HasTaken}
 
--- nothing was given, so there was no command, and nothing happened
+-- nothing was returned, so there was no command, and nothing happened
 pub TakesCommand-none : {S G : Type 0} (takes : S → Body → G → S → Type 0) (old mid : S) (command : Option Command) → TakesCommand takes old command None mid → (command ≡ None) × (mid ≡ old)
 TakesCommand-none takes old mid None h = (refl, h)
 TakesCommand-none takes old mid (Some c) h = absurd h
 
--- something was given, so there was a command
+-- something was returned, so there was a command
 pub TakesCommand-some : {S G : Type 0} (takes : S → Body → G → S → Type 0) (old new : S) (command : Option Command) (given : G) → TakesCommand takes old command (Some given) new → TakesIfSome takes old (Some (command_or_syntax command)) (Some given) new
 TakesCommand-some takes old new None given h = absurd h
 TakesCommand-some takes old new (Some c) given h = h

@@ -1,4 +1,4 @@
--- Operands: the words after a line's first word, exactly as many as a command has, each of its kind.
+-- Operands: the words after a line's first word, one for each operand of the command, each of its kind.
 use Rattle.std.specs.Prelude.{ℕ, nat_le, Bool, ◌&&◌, if◌then◌else◌, List, length, Option, None, Some}
 use Rattle.std.specs.Option.{option_and_then}
 use Rattle.std.specs.List.{list_all}

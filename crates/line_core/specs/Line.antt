@@ -1,4 +1,4 @@
--- The check of one line, in its order.
+-- The checks of one line, in order.
 use Rattle.std.specs.Prelude.{ℕ, nat_lt, nat_eq, Bool, if◌then◌else◌, List, [], ◌∷◌, length, Option, None, Some, codes}
 use Rattle.std.specs.List.{starts_with}
 use Rattle.point_core.specs.declared.refusal.Refusal.TheVariants.{Syntax, LongLine}

@@ -12,6 +12,6 @@ lines_before (Some end) number rest = numbered end number (lines_of rest)
 abbrev pub lines_left : Lines → List Line
 lines_left l = lines_before l.ending l.number l.rest.now
 
--- a bound on how many lines are to be looked at
+-- an upper bound on the lines that are to be looked at
 abbrev pub turns_left : Lines → ℕ
 turns_left l = length l.rest.now + (if is_some l.ending then 1 else 0)

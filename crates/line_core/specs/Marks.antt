@@ -13,13 +13,13 @@ pub record HasMarks (bytes : List ℕ) (marks : ℕ) : Type 0 where
   pub few : length bytes ≤ MARKED_BYTES
   pub marked : marks ≡ marks_of bytes
 
--- it has one proof at most
+-- two proofs of it are equal
 pub HasMarks-prop : (bytes : List ℕ) (marks : ℕ) → IsProp (HasMarks bytes marks)
 HasMarks-prop bytes marks p q =
     let few : IsProp (length bytes ≤ MARKED_BYTES) = Prim.hlevel props in
     let marked : IsProp (marks ≡ marks_of bytes) = Prim.hlevel props in
     λ i. record { few = few p.few q.few i; marked = marked p.marked q.marked i }
 
--- if there are marks, they are those of the bytes
+-- if there are marks, they are the marks of the bytes
 abbrev pub MayHaveMarks : List ℕ → Option ℕ → Type 0
 MayHaveMarks bytes marks = IfSome marks (λ m. HasMarks bytes m)

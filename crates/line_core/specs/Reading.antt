@@ -1,4 +1,4 @@
--- The bytes that are read of a script.
+-- The bytes of a script that were read.
 use Rattle.std.specs.Prelude.{◌≡◌, ℕ, ◌+◌, ◌≤◌, List, length, take, Option, IfSome}
 use Rattle.std.specs.Io.KnownBytes.{Consumes, IsAtEnd}
 use Rattle.line_core.specs.declared.script.Ending.{Ending}
@@ -9,7 +9,7 @@ use Rattle.line_core.specs.declared.script.TheConstants.{SCRIPT_BYTES}
 abbrev pub IsInput : Option (List ℕ) → List ℕ → Type 0
 IsInput known script = IfSome known (λ input. script ≡ input)
 
--- the bytes that were read end at the reader's end, one past the limit, or at a failed read
+-- the bytes that were read end at the reader's end, one byte past the limit, or at a failed read
 abbrev pub EndsSo : Option (List ℕ) → List ℕ → Ending → Type 0
 EndsSo left bytes ending.Whole = (length bytes ≤ SCRIPT_BYTES) × IsAtEnd left
 EndsSo left bytes ending.TooLong = length bytes ≡ SCRIPT_BYTES + 1

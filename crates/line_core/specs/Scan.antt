@@ -1,4 +1,4 @@
--- What is known of the next bytes of a script.
+-- The scan of the next bytes of a script.
 use Rattle.std.specs.Prelude.{◌≡◌, ℕ, ◌≤◌, List, map, take}
 use Rattle.std.specs.Simd.Lanes.{mask_l}
 use Rattle.line_core.specs.declared.marks.TheConstants.{MARKED_BYTES}
@@ -10,7 +10,7 @@ use Rattle.line_core.specs.Script.{is_line_feed}
 abbrev pub feeds_of : List ℕ → ℕ
 feeds_of bytes = mask_l (map is_line_feed bytes)
 
--- the bits are those of the first `known` bytes
+-- the bits belong to the first `known` bytes
 pub record IsScanOf (bytes : List ℕ) (s : Scan) : Type 0 where
   pub known : ℕ
   pub few : known ≤ MARKED_BYTES

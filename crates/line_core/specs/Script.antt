@@ -15,18 +15,18 @@ use Rattle.line_core.specs.Line.{body_of}
 abbrev pub is_line_feed : ℕ → Bool
 is_line_feed b = b == 10
 
--- each line ends at a line feed, and the last holds what follows them all
+-- each line ends at a line feed, and the last is what follows the last line feed
 abbrev pub lines_of : List ℕ → List (List ℕ)
 lines_of bytes = slice_split is_line_feed bytes
 
--- The last line may lack its line feed, if the script is at its end. In its place a limit is reported if the script
--- goes on, and nothing if a read failed.
+-- The last line needs no line feed if the script is at its end. If the script goes on past its limit, a limit is
+-- reported in place of the line, and if a read failed, nothing.
 abbrev pub last_body : Ending → List ℕ → Option Body
 last_body ending.Whole last = body_of last
 last_body ending.TooLong last = Some (Bad (Limit Script))
 last_body ending.Failed last = None
 
--- a line with its number, if it has an answer
+-- a numbered line, if it has an answer
 abbrev pub answered : ℕ → Option Body → List Line → List Line
 answered number None more = more
 answered number (Some body) more = record { number = number; body = body } ∷ more
@@ -36,7 +36,7 @@ numbered end number [] = []
 numbered end number (last ∷ []) = answered number (last_body end last) []
 numbered end number (line ∷ next ∷ more) = answered number (body_of line) (numbered end (number + 1) (next ∷ more))
 
--- the lines that have an answer, of bytes that end so
+-- the lines that have an answer, of a script that ends so
 abbrev pub lines_until : Ending → List ℕ → List Line
 lines_until end bytes = numbered end 1 (lines_of bytes)
 

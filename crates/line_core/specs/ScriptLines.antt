@@ -12,19 +12,19 @@ use Rattle.line_core.specs.Marks.{MayHaveMarks}
 use Rattle.line_core.specs.Scan.{IsScanOf}
 use Rattle.line_core.specs.Script.{is_line_feed, lines_of}
 
--- how far a script was read, and which of its lines were given
+-- how far a script was read, and the line that was returned last
 pub record LinesState : Type 0 where
   -- how many bytes were read
   pub read : ℕ
-  -- the line: its number, whether its line feed was read, those of its bytes that are held, and how many it has so far
+  -- the line: its number, whether its line feed was read, the bytes that are kept of it, and its length so far
   pub number : ℕ
   pub ended : Bool
   pub line : List ℕ
   pub length : ℕ
-  -- what was read after it
+  -- the bytes that were read after it
   pub ready : List ℕ
 
--- the bytes so far of the line after the lines that were given
+-- the bytes so far of the line after the lines that were returned
 abbrev pub open_line : LinesState → List ℕ
 open_line s = if s.ended then [] else s.line
 
@@ -34,7 +34,7 @@ open_length s = if s.ended then 0 else s.length
 abbrev pub open_number : LinesState → ℕ
 open_number s = if s.ended then s.number + 1 else s.number
 
--- The lines `given` were given, of all that was read so far: `front` has the bytes so far of the next line.
+-- The lines `given` were returned, of all bytes that were read: `front` has the bytes so far of the next line.
 pub record HasGiven (before now : Option (List ℕ)) (s : LinesState) (given : List (List ℕ)) : Type 0 where
   pub bytes : List ℕ
   pub consumed : Consumes before now bytes
@@ -52,18 +52,18 @@ pub record IsLineOf (s : LinesState) (line : List ℕ) : Type 0 where
   pub held : s.line ≡ cut line
   pub long : s.length ≡ length line
 
--- one line more was given
+-- one more line was returned
 pub record GivesLine (before now : Option (List ℕ)) (given : List (List ℕ)) (s : LinesState) : Type 0 where
   pub line : List ℕ
   pub is : IsLineOf s line
   pub number : s.number ≡ length given + 1
   pub more : HasGiven before now s (given ++ line ∷ [])
 
--- each line whose line feed was read was given
+-- each line whose line feed was read was returned
 abbrev pub IsDrained : LinesState → Type 0
 IsDrained s = (s.ended ≡ false) × (s.ready ≡ [])
 
--- a line more was given, if there is one
+-- one more line was returned, if there is one
 abbrev pub GoesOn : Option (List ℕ) → Option (List ℕ) → List (List ℕ) → Bool → LinesState → Type 0
 GoesOn before now given true s = GivesLine before now given s
 GoesOn before now given false s = HasGiven before now s given × IsDrained s
@@ -77,13 +77,13 @@ pub record HasEnded (before now : Option (List ℕ)) (s : LinesState) (end : End
   pub number : s.number ≡ length given + 1
   pub split : lines_of (take SCRIPT_BYTES bytes) ≡ given ++ last ∷ []
 
--- a bound on how many lines can be given, and reads be made
+-- an upper bound on the lines that are returned and the reads that are made
 abbrev pub turns_to_come : LinesState → ℕ
 turns_to_come s = 2 * (SCRIPT_BYTES + 1 - s.read) + length s.ready
 
 -- ---- the steps
 
--- without the line that was given last
+-- the state without the line that was returned last
 abbrev pub gone_on : LinesState → LinesState
 gone_on s = record {
   read = s.read;
@@ -94,7 +94,7 @@ gone_on s = record {
   ready = s.ready;
 }
 
--- the line ends at that place of what is ready
+-- the line ends at that place of the ready bytes
 abbrev pub ended_at : LinesState → ℕ → LinesState
 ended_at s place = record {
   read = s.read;
@@ -105,7 +105,7 @@ ended_at s place = record {
   ready = drop (place + 1) s.ready;
 }
 
--- all that is ready is of the line
+-- all ready bytes belong to the line
 abbrev pub all_held : LinesState → LinesState
 all_held s = record {
   read = s.read;
@@ -127,24 +127,24 @@ filled_with s bytes = record {
   ready = take (SCRIPT_BYTES - s.read) bytes;
 }
 
--- the next line ends at its line feed, the first in what is ready
+-- the next line ends at its line feed, the first among the ready bytes
 pub record EndsLine (old new : LinesState) : Type 0 where
   pub place : ℕ
   pub found : position is_line_feed old.ready ≡ Some place
   pub is : new ≡ ended_at (gone_on old) place
 
--- the next line ends, or all that is ready is of it
+-- the next line ends, or all ready bytes belong to it
 abbrev pub Advances : LinesState → Bool → LinesState → Type 0
 Advances old true new = EndsLine old new
 Advances old false new = (position is_line_feed old.ready ≡ None) × (new ≡ all_held (gone_on old))
 
--- ---- how they are kept
+-- ---- how they are stored
 
--- The bytes of the line: if no front of it is held, they are in the block.
+-- The bytes of the line: the front that is held, or bytes of the block if no front is held.
 abbrev pub line_bytes : List ℕ → List ℕ → ℕ → ℕ → List ℕ
 line_bytes held block start len = if length held == 0 then take (min len HELD_BYTES) (drop start block) else held
 
--- the places lie within the block, and the counts within what was read
+-- the places are within the block, and the counts within the bytes that were read
 pub record IsLaidOut (next filled start len read num : ℕ) (ended : Bool) (held : List ℕ) : Type 0 where
   pub within : next ≤ filled
   pub block : filled ≤ BLOCK_BYTES
@@ -155,7 +155,7 @@ pub record IsLaidOut (next filled start len read num : ℕ) (ended : Bool) (held
   pub long : len + (filled - next) ≤ read
   pub numbers : num + (if ended then 1 else 0) + (filled - next) ≤ read + 1
 
--- The marks are those of the line, if they are known, and the scan is of what follows the line, once it has ended.
+-- The marks are the line's, if they are known, and the scan is of the bytes after the line, once it has ended.
 pub record IsScanned (line ready : List ℕ) (ended : Bool) (marks : Option ℕ) (s : Scan) : Type 0 where
   pub of_line : MayHaveMarks line marks
   pub of_ready : IsScanOf ready s

@@ -6,6 +6,6 @@ use Rattle.point_core.specs.declared.lanes.TheConstants.{NUMBER_BYTES}
 abbrev pub bytes_of : ℕ → ℕ → List ℕ
 bytes_of length number = digits_l 256 length number
 
--- the number is that of the bytes, so there is nothing past them
+-- the number has the word's bytes as digits, so no byte follows them
 abbrev pub IsSpelling : ℕ → ℕ → Type 0
 IsSpelling length number = (length ≤ NUMBER_BYTES) × (number_l 256 (bytes_of length number) ≡ number)

@@ -56,7 +56,7 @@ table =
     ∷ row (codes "report") [] (λ words. if are_none words then Some command.Report else None)
     ∷ []
 
--- a row as the code has it
+-- a row as the code stores it
 abbrev pub form_of : CommandForm → Form
 form_of row = form row.word.now row.operands.now
 
@@ -64,11 +64,11 @@ form_of row = form row.word.now row.operands.now
 abbrev pub forms : List Form
 forms = map (λ (row : Row). row.form) table
 
--- the form of that word
+-- the form with that word
 abbrev pub form_at : List Form → List ℕ → Option Form
 form_at forms word = find (λ (form : Form). bytes_eq word form.word) forms
 
--- the row of that word
+-- the row with that word
 abbrev pub row_at : List Row → List ℕ → Option Row
 row_at rows word = find (λ (row : Row). bytes_eq word row.form.word) rows
 
@@ -79,7 +79,7 @@ matches Number word = is_number word
 matches Usage word = is_some (usage_of word)
 matches Flags word = is_some (flags_of word)
 
--- whether there is just one word for each operand, and it matches
+-- whether there is exactly one word for each operand, and it matches
 abbrev pub fit : List Operand → List (List ℕ) → Bool
 fit [] [] = true
 fit [] (word ∷ words) = false

@@ -1,4 +1,4 @@
-// Parses a command line: one `take_*` function per command.
+//! Parses a command line: one `take_*` function per command.
 ghost use Rattle.std.specs.Prelude.{◌≡◌, None, Some, if◌then◌else◌, option_map};
 ghost use Rattle.line_core.specs.Following.{one_name, one_number, name_and_number, two_names_and_number};
 ghost use Rattle.line_core.specs.Following.{three_names, two_names_number_and_usage, two_names_and_flags, name_and_usage};
@@ -16,8 +16,8 @@ use crate::words::{Words, are_none, four, one, three, two};
 use command_core::Command;
 use point_core::Name;
 
-/// Passes on the command of a line, by its first word and the bytes after it, if they fit a row of the table. What is
-/// frequent in scripts is compared first.
+/// Passes on the command of a line, given its first word and the bytes after it, if they fit a row of the table. The
+/// commands that are most frequent in scripts are compared first.
 #[inline(always)]
 pub(crate) fn take_command<V: Takes>(word: &[u8], rest: &Words<'_>, to: &mut V) -> Option<V::Given>
     requires ready { V.can_take to.old }

@@ -1,15 +1,16 @@
-// A script's lines, byte by byte.
+//! `LineCutter`: cuts a script into lines as its bytes arrive, in constant memory. `ScriptLines` keeps in it the line
+//! that spans two blocks; callers feed it byte by byte.
 ghost use Rattle.std.specs.Prelude.{◌≡◌, ◌+◌, ◌^◌, ◌<◌, ◌≤◌, ◌==◌, [], length};
 
 use crate::line::{LINE_BYTES, Line};
 use crate::takes::body_of;
 use std::marker::Model;
 
-/// How many bytes are held of a line: as many as a line may have, and one that shows that it has more.
+/// The number of bytes of a line that are kept: one more than a line may have, so that an over-long line shows.
 pub(crate) const HELD_BYTES: usize = LINE_BYTES + 1;
 
-/// Cuts a script into its lines, byte by byte. It holds the number of its line, from 1, and the line's bytes so far, or
-/// that they are more than `LINE_BYTES`.
+/// Cuts a script into its lines, byte by byte. It holds the number of the present line, from 1, and the line's first
+/// bytes, up to `LINE_BYTES` and one.
 #[derive(Debug, Drop)]
 pub struct LineCutter {
     number: u32,
@@ -33,7 +34,7 @@ impl LineCutter {
     ghost use Rattle.line_core.specs.declared.script.TheConstants.{SCRIPT_BYTES};
     ghost use Rattle.line_core.specs.Cutting.{line_of, line_at, line_after, next_line, with_bytes};
 
-    /// A cutter at line 1, with no bytes of it.
+    /// A cutter at the start of line 1.
     pub fn new() -> LineCutter
         ensures number { result.number ≡ 1 }
         ensures bytes { result.bytes ≡ [] }
@@ -52,8 +53,8 @@ impl LineCutter {
         self.number
     }
 
-    /// Takes one byte of the script. A line feed gives the line that was held, or none if it has no answer, and begins
-    /// the next one. Any other byte is one more of the line, and gives none.
+    /// Takes one byte of the script. A line feed returns the line that was held, or none if it has no answer, and
+    /// begins the next line. Any other byte is appended to the line, and returns none.
     pub fn feed(&mut self, byte: u8) -> Option<Line>
         requires few { self.old.number ≤ SCRIPT_BYTES }
         ensures line { result ≡ line_at self.old byte }
@@ -68,7 +69,7 @@ impl LineCutter {
         line
     }
 
-    /// The script ends: gives the line that was held, or none if it has no answer.
+    /// Ends the script: returns the line that was held, or none if it has no answer.
     pub fn end(self) -> Option<Line>
         ensures line { result ≡ line_of self }
     {
@@ -83,21 +84,21 @@ impl LineCutter {
         Some(Line { number, body })
     }
 
-    /// The bytes that are held of the line, the first `HELD_BYTES` of an over-long one.
+    /// The bytes of the line so far; only the first `HELD_BYTES` of an over-long one.
     pub(crate) fn bytes(&self) -> &[u8]
         ensures bytes { result.now ≡ self.now.bytes }
     {
         &self.held[..self.length]
     }
 
-    /// Whether no byte is held of the line.
+    /// Whether the line has no bytes so far.
     pub(crate) fn is_empty(&self) -> bool
         ensures empty { result ≡ (length self.now.bytes == 0) }
     {
         self.length == 0
     }
 
-    /// Adds bytes to the line that is held.
+    /// Appends bytes to the line.
     pub(crate) fn add(&mut self, bytes: &[u8])
         ensures added { self.new ≡ with_bytes self.old bytes.now }
     {

@@ -1,6 +1,6 @@
-//! The lines of a script: its bytes to commands, from a slice, byte by byte, or from a reader.
+//! Parses the lines of a script into commands, from a slice, byte by byte, or from a reader.
 //!
-//! Lines, words, names and numbers are given as functions of the bytes (`specs/`).
+//! `specs/` defines lines, words, names and numbers as functions of the bytes.
 #![tactic(auto)]
 
 mod command;

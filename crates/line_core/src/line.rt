@@ -1,4 +1,4 @@
-// One line of a script.
+//! `Line` and `Body`: a parsed line of a script, which is a command or an error.
 ghost use Rattle.std.specs.Prelude.{◌≡◌, IsTrue, None};
 ghost use Rattle.line_core.specs.Line.{body_from};
 ghost use Rattle.line_core.specs.Words.{words_of};
@@ -19,16 +19,16 @@ pub struct Line {
     pub body: Body,
 }
 
-/// What a line says.
+/// The content of a line.
 #[derive(Clone, Copy, Debug)]
 pub enum Body {
     /// A command.
     Cmd(Command),
-    /// The line itself is refused.
+    /// The line itself is in error.
     Bad(Refusal),
 }
 
-/// Whether the line begins with `#`, as most notes do. Then its words need not be found.
+/// Whether the line begins with `#`, as most comments do. Then its words need not be found.
 pub(crate) fn begins_as_note(line: &[u8]) -> bool
     ensures note { IsTrue result → body_from (words_of line.now) ≡ None }
 {

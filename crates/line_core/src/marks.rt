@@ -1,12 +1,12 @@
-// Marks of bytes: a number with a bit for each byte that says whether the byte is of a word. With them words are found
-// without a look at each byte.
+//! Marks: a bit mask with one bit for each byte of a line, set if the byte belongs to a word. Words are then found by
+//! counting zeros instead of looking at each byte.
 ghost use Rattle.std.specs.Prelude.{◌≡◌, ◌+◌, ◌*◌, ◌≤◌, not, drop, take, length, position, unwrap_or, IfSome};
 ghost use Rattle.line_core.specs.Marks.{HasMarks, MayHaveMarks, marks_of};
 ghost use Rattle.line_core.specs.Words.{is_space};
 
 use std::simd::prelude::*;
 
-/// How many bytes are compared at once, by the number of bytes that there are.
+/// The number of bytes that one comparison covers; the length of the line chooses the width.
 const HALF_LANES: usize = 8;
 
 pub(crate) const LANES: usize = 16;
@@ -16,7 +16,7 @@ pub(crate) const WIDE_LANES: usize = 32;
 /// The most bytes that have marks: one bit of 64 stays clear, and ends the last word.
 pub(crate) const MARKED_BYTES: usize = 63;
 
-/// The marks of the bytes, or none if these are fewer than half the lanes or more than `MARKED_BYTES`.
+/// The marks of the bytes, unless these are fewer than half the lanes or more than `MARKED_BYTES`.
 pub(crate) fn marks(bytes: &[u8]) -> Option<u64>
     ensures marks { MayHaveMarks bytes.now result }
 {
@@ -30,7 +30,7 @@ pub(crate) fn marks(bytes: &[u8]) -> Option<u64>
     }
 }
 
-/// The marks of a line that is shorter or longer than most, out of the way of other lines.
+/// The marks of a line that is shorter or longer than most; never inlined, so that other lines don't pay for it.
 #[inline(never)]
 fn marks_of_rare(bytes: &[u8]) -> Option<u64>
     ensures marks { MayHaveMarks bytes.now result }
@@ -53,7 +53,7 @@ fn marks_of_wide_lanes(bytes: &[u8]) -> u64
     (more << WIDE_LANES) | wide_lane_marks(bytes, 0)
 }
 
-/// The marks of bytes, by the first `LANES` and the last `LANES`, which may overlap.
+/// The marks of the bytes, from the first `LANES` and the last `LANES`, which may overlap.
 fn marks_of_lanes(bytes: &[u8]) -> u64
     requires least { LANES ≤ length bytes.now }
     requires most { length bytes.now ≤ 2 * LANES }
@@ -101,7 +101,7 @@ fn half_lane_marks(bytes: &[u8], start: usize) -> u64
         .to_bitmask()
 }
 
-/// Where the first word begins. Only the contract uses the bytes, here and below.
+/// The start of the first word. Only the contract uses `bytes`, here and below.
 pub(crate) fn marked_start(bytes: &[u8], marks: u64) -> Option<usize>
     requires marks { HasMarks bytes.now marks }
     ensures place { result ≡ position (λ b. not (is_space b)) bytes.now }
@@ -114,7 +114,7 @@ pub(crate) fn marked_start(bytes: &[u8], marks: u64) -> Option<usize>
     }
 }
 
-/// Where the word ends that the bytes begin with.
+/// The end of the word with which the bytes begin.
 pub(crate) fn marked_end(bytes: &[u8], marks: u64) -> usize
     requires marks { HasMarks bytes.now marks }
     ensures place { unwrap_or (position is_space bytes.now) (length bytes.now) ≡ result }
@@ -123,7 +123,7 @@ pub(crate) fn marked_end(bytes: &[u8], marks: u64) -> usize
     marks.trailing_ones() as usize
 }
 
-/// The marks of the bytes from a place on.
+/// The marks of the bytes from `start` on.
 pub(crate) fn marks_from(bytes: &[u8], marks: u64, start: usize) -> u64
     requires marks { HasMarks bytes.now marks }
     requires within { start ≤ length bytes.now }

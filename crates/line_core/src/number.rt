@@ -1,4 +1,4 @@
-// Numbers of a line.
+//! Decimal numbers: 1 to `DIGITS` digits, of at most 64 bits.
 ghost use Rattle.std.specs.Prelude.{◌≡◌, is_some, length};
 ghost use Rattle.line_core.specs.declared.number.TheConstants.{DIGITS};
 ghost use Rattle.line_core.specs.Number.{number_of};
@@ -8,7 +8,7 @@ pub const DIGITS: usize = 20;
 
 const _: () = prove!(DIGITS == 20);
 
-/// The number that the word spells: 1 to `DIGITS` decimal digits, leading zeros allowed, of at most 64 bits.
+/// The number that a word of 1 to `DIGITS` decimal digits spells, if it has at most 64 bits. Leading zeros are allowed.
 pub(crate) fn number(word: &[u8]) -> Option<u64>
     ensures value { result ≡ number_of word.now }
 {
@@ -28,7 +28,7 @@ pub(crate) fn number(word: &[u8]) -> Option<u64>
     Some(value)
 }
 
-/// The number that a word of `DIGITS` bytes spells, if it has at most 64 bits.
+/// The number that a word of `DIGITS` bytes spells, if it has at most 64 bits. The only number that can overflow.
 #[inline(never)]
 fn great_number(word: &[u8]) -> Option<u64>
     requires length { length word.now ≡ DIGITS }

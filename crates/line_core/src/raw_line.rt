@@ -1,24 +1,24 @@
-// `RawLine`: a line of a script before it is parsed.
+//! `RawLine`: a line of a script before it is parsed.
 ghost use Rattle.std.specs.Prelude.{◌≡◌};
 ghost use Rattle.std.proofs.Props.{props};
 ghost use Rattle.line_core.specs.Marks.{MayHaveMarks, HasMarks-prop};
 
-/// A line of a script as bytes.
+/// A line of a script as bytes, with the marks of its words if a scan has found them.
 #[derive(Clone, Copy, Debug)]
 pub struct RawLine<'a> {
     /// Lines are numbered from 1.
     pub number: u32,
     /// An over-long line keeps its first 257 bytes.
     pub bytes: &'a [u8],
-    /// How many bytes the line has, without its line feed.
+    /// The number of bytes of the line, without its line feed.
     pub length: usize,
-    // a bit for each byte that is set if the byte is of a word, if they are known
+    // the marks of `bytes`, if they are known
     pub(crate) marks: Option<u64>,
     ghost marked: { MayHaveMarks bytes.now marks } by { Prim.hlevel (props, HasMarks-prop) },
 }
 
 impl<'a> RawLine<'a> {
-    /// The line of that number and length; `bytes` are those that are kept of it.
+    /// The line with this number and length; `bytes` are the ones that are kept of it.
     pub fn new(number: u32, bytes: &'a [u8], length: usize) -> RawLine<'a>
         ensures number { result.number ≡ number }
         ensures bytes { result.bytes.now ≡ bytes.now }

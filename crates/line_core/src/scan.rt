@@ -1,4 +1,4 @@
-// The next bytes of a script, all compared at once: where lines end among them, and which of them are of words.
+//! `Scan`: finds line feeds and words in 64 bytes of a script at once. One scan serves all lines that end in it.
 ghost use Rattle.std.specs.Prelude.{◌≡◌, ◌+◌, ◌/◌, ◌%◌, ◌^◌, ◌<◌, ◌≤◌, List, ℕ, Some, drop, take, length, position, IfSome};
 ghost use Rattle.line_core.specs.Marks.{HasMarks, marks_of};
 ghost use Rattle.line_core.specs.Scan.{IsScanOf, feeds_of};
@@ -7,17 +7,17 @@ ghost use Rattle.line_core.specs.Script.{is_line_feed};
 use crate::marks::{MARKED_BYTES, WIDE_LANES, wide_lane_marks};
 use std::simd::prelude::*;
 
-/// How many bytes are compared at once. All but the last have marks.
+/// The number of bytes that are compared at once. All but the last have marks.
 pub(crate) const SCAN_BYTES: usize = 2 * WIDE_LANES;
 
-/// Two bits for each byte: one is set at a line feed, the other at a byte of a word.
+/// Two bit masks with one bit for each byte: set at a line feed, and set at a byte of a word.
 #[derive(Clone, Copy)]
 pub(crate) struct Scan {
     feeds: u64,
     marks: u64,
 }
 
-/// A line whose line feed was seen: how many bytes it has, their marks, and what is known of the bytes after it.
+/// A line whose line feed is in the scan: its length, its marks, and the scan of the bytes after it.
 #[derive(Clone, Copy)]
 pub(crate) struct ScannedLine {
     pub(crate) end: usize,
@@ -25,7 +25,7 @@ pub(crate) struct ScannedLine {
     pub(crate) rest: Scan,
 }
 
-/// A scan that knows nothing of the bytes.
+/// The scan of no bytes.
 pub(crate) fn no_scan() -> Scan
     ensures none { (bytes : List ℕ) → IsScanOf bytes result }
     ensures feeds { result.feeds ≡ 0 }
@@ -67,7 +67,7 @@ fn wide_lane_feeds(bytes: &[u8], start: usize) -> u64
         .to_bitmask()
 }
 
-/// The first line, if its line feed was seen. Only the contract uses the bytes, here and below.
+/// The first line, if its line feed is in the scan. Only the contract uses the bytes, here and below.
 #[inline(always)]
 pub(crate) fn first_scanned(bytes: &[u8], scan: &Scan) -> Option<ScannedLine>
     requires scanned { IsScanOf bytes.now scan.now }

@@ -1,4 +1,4 @@
-// The lines of a script.
+//! Reads a whole script from memory. `lines_of` and `script_of` in `specs/` say what the lines of a script are.
 ghost use Rattle.std.specs.Prelude.{◌≡◌, ◌+◌, ◌^◌, ◌<◌, ◌∷◌, ◌++◌, [], length, take, option_to_list, MatchOption, IfSome, position, IfOk, IfErr};
 ghost use Rattle.point_core.specs.declared.refusal.Refusal.TheVariants.{Memory};
 ghost use Rattle.line_core.specs.Script.{is_line_feed, lines_of, lines_until, script_of, ending_of, last_body, answered};
@@ -16,8 +16,8 @@ const _: () = prove!(SCRIPT_BYTES == 1_048_576);
 
 /// The lines of a script that have an answer, in order.
 ///
-/// Of a script of more than `SCRIPT_BYTES` bytes, the lines whose line feed is within that limit, and after them the
-/// line that the limit cuts, as `Bad(Limit(Script))`.
+/// If the script has more than `SCRIPT_BYTES` bytes, these are the lines whose line feed is within the limit, and then
+/// the line at the limit, as `Bad(Limit(Script))`.
 ///
 /// Fails only with Memory.
 pub fn read_script(alloc: Global, bytes: &[u8]) -> Result<Vec<Line>, Refusal>
@@ -27,23 +27,23 @@ pub fn read_script(alloc: Global, bytes: &[u8]) -> Result<Vec<Line>, Refusal>
     Ok(Lines::of(bytes).collect(alloc)?)
 }
 
-/// What follows the last line feed of some bytes.
+/// How a script ends after its last line feed.
 #[derive(Clone, Copy, Debug)]
 pub enum Ending {
     /// The script's last line, which lacks its line feed.
     Whole,
-    /// A line that the script's limit cuts.
+    /// A line that is cut at the script's limit.
     TooLong,
-    /// A line in whose middle the reader failed.
+    /// A line in which the reader failed.
     Failed,
 }
 
-/// The lines of some bytes that have an answer, one after another.
+/// An iterator over the lines that have an answer.
 #[derive(Drop)]
 pub(crate) struct Lines<'a> {
     rest: &'a [u8],
     number: u32,
-    // none once the last line was looked at
+    // none once the last line was taken
     ending: Option<Ending>,
     ghost fits: { number + length rest.now < 2 ^ 32 },
 }
@@ -51,7 +51,7 @@ pub(crate) struct Lines<'a> {
 impl<'a> Lines<'a> {
     ghost use Rattle.line_core.specs.Lines.{lines_left, turns_left};
 
-    /// The lines of the first `SCRIPT_BYTES` bytes, of which the last ends as `ending` says.
+    /// The lines of the first `SCRIPT_BYTES` bytes; `ending` says how the last one ends.
     fn new(bytes: &'a [u8], ending: Ending) -> Self
         ensures lines { lines_left result ≡ lines_until ending (take SCRIPT_BYTES bytes.now) }
     {
@@ -69,7 +69,7 @@ impl<'a> Lines<'a> {
         Lines::new(bytes, ending_of(bytes))
     }
 
-    /// Goes on by one line, and gives it if it has an answer.
+    /// Takes the next line, and returns it if it has an answer.
     fn take_line(&mut self, ending: Ending) -> Option<Line>
         requires { self.old.ending ≡ Some ending }
         ensures lines { lines_left self.old ≡ option_to_list result ++ lines_left self.new }
@@ -109,8 +109,8 @@ fn ending_of(script: &[u8]) -> Ending
     }
 }
 
-/// What follows a script's last line feed says, by how the script ends: a line if it was read whole, which may have no
-/// answer; the refusal of a script that is too long; nothing if a read failed.
+/// The content of the last line, by how the script ends: a line if all was read, which may have no answer; an error if
+/// the script is too long; nothing if a read failed.
 pub fn last_body(ending: Ending, last: &[u8]) -> Option<Body>
     ensures body { result ≡ last_body ending last.now }
 {

@@ -1,4 +1,5 @@
-// The lines of a script from a reader, one after another.
+//! `ScriptLines`: the lines of a script from a reader. It keeps one block, and lines that lie within the block are not
+//! copied.
 ghost use Rattle.std.specs.Prelude.{◌≡◌, ◌+◌, ◌<◌, ◌≤◌, true, false, List, ℕ, [], length, take, drop, Option, None, IfSome, if◌then◌else◌};
 ghost use Rattle.line_core.specs.Cutting.{with_bytes};
 ghost use Rattle.line_core.specs.declared.script.TheConstants.{SCRIPT_BYTES};
@@ -14,23 +15,23 @@ use std::marker::Model;
 /// The most bytes of one read.
 pub(crate) const BLOCK_BYTES: usize = 16384;
 
-/// The lines of a script from a reader, one after another. It keeps one block of the script, and of a line that began
-/// before that block no more than its first bytes.
+/// The lines of a script from a reader, one after another. It keeps one block of the script, and the first bytes of a
+/// line that began before that block.
 #[derive(Drop)]
 pub struct ScriptLines {
     block: [u8; BLOCK_BYTES],
-    // how much of the block was read, and how much of that was searched
+    // the bytes of the block that were read, and how many of these were searched
     filled: usize,
     next: usize,
-    // how many bytes of the script were read
+    // the bytes of the script that were read
     read: usize,
-    // the line's number, and its bytes if it began in an earlier block; else it is in the block, from `start`
+    // the line's number, and its bytes if it began in an earlier block; else the line is in the block, from `start`
     cutter: LineCutter,
     start: usize,
     length: usize,
     // whether the line's line feed was read
     ended: bool,
-    // the marks of the line's bytes, if they are known, and what is known of the bytes after it
+    // the marks of the line's bytes, if they are known, and the scan of the bytes after it
     marks: Option<u64>,
     scan: Scan,
 }
@@ -60,7 +61,7 @@ impl ScriptLines {
     ghost use Rattle.line_core.specs.ScriptLines.{HasGiven, GoesOn, HasEnded, IsDrained, turns_to_come};
     ghost use Rattle.line_core.specs.ScriptLines.{gone_on, ended_at, all_held, filled_with, Advances, EndsLine};
 
-    /// Nothing was read, and no line was given.
+    /// No read was made, and no line returned.
     pub fn new() -> ScriptLines
         ensures none { (known : Option (List ℕ)) → HasGiven known known result [] }
         ensures drained { IsDrained result }
@@ -79,7 +80,8 @@ impl ScriptLines {
         }
     }
 
-    /// The line that was given last, or, once the script has ended, what follows its last line feed.
+    /// The present line: the one that `advance` found last, or, once the script has ended, the bytes after its last
+    /// line feed.
     pub fn line(&self) -> RawLine<'_>
         ensures number { result.number ≡ self.now.number }
         ensures bytes { result.bytes.now ≡ self.now.line }
@@ -104,7 +106,7 @@ impl ScriptLines {
         }
     }
 
-    /// Goes on to the next line whose line feed was read, or says that there is none.
+    /// Advances to the next line, if its line feed was read; else returns false.
     pub fn advance(&mut self) -> bool
         ensures next { (before now : Option (List ℕ)) → (given : List (List ℕ)) →
             HasGiven before now self.old given → GoesOn before now given result self.new }
@@ -124,7 +126,7 @@ impl ScriptLines {
         self.advance_unscanned()
     }
 
-    /// Goes on to the next line, if its line feed is known.
+    /// Advances to the next line, if its line feed is in the scan.
     #[inline(always)]
     fn end_scanned(&mut self) -> bool
         ensures ended { result ≡ true → EndsLine self.old self.new }
@@ -143,7 +145,7 @@ impl ScriptLines {
         true
     }
 
-    /// Goes on to the next line by another scan, or by a search in what is ready.
+    /// Advances to the next line by another scan, or by a search of the bytes that were read.
     #[inline(never)]
     fn advance_unscanned(&mut self) -> bool
         ensures advanced { Advances self.old result self.new }
@@ -165,7 +167,8 @@ impl ScriptLines {
         }
     }
 
-    /// Scans what is ready, if the line before it has ended and was short, as the next is then likely to be.
+    /// Scans the bytes that are ready, if the line before has ended and was short, since the next line is then likely
+    /// to be short too.
     fn scan_on(&mut self)
         ensures same { self.new ≡ self.old }
     {
@@ -174,8 +177,8 @@ impl ScriptLines {
         }
     }
 
-    /// Reads once, up to a block's bytes; none if some were read, else how the script ends. An interrupted read counts
-    /// as failed. No byte is read past the one after the limit of a script.
+    /// Reads once, at most a block; returns none if bytes were read, else how the script ends. An interrupted read
+    /// counts as failed. At most one byte past the limit of a script is read.
     pub fn read<R: Read>(&mut self, reader: &mut R) -> Option<Ending>
         requires drained { IsDrained self.old }
         ensures more { result ≡ None → (before : Option (List ℕ)) → (given : List (List ℕ)) →
@@ -210,7 +213,7 @@ impl ScriptLines {
         &self.block[self.next..self.filled]
     }
 
-    /// Drops the line that was given last.
+    /// Drops the present line.
     fn go_on(&mut self)
         ensures gone { self.new ≡ gone_on self.old }
     {
@@ -253,7 +256,7 @@ impl ScriptLines {
     }
 }
 
-/// Adds `count` bytes of the block to the line, those from `start`.
+/// Appends `count` bytes of the block, from `start`, to the line.
 fn add_part(cutter: &mut LineCutter, block: &[u8], start: usize, count: usize)
     requires within { start + count ≤ length block.now }
     ensures added { cutter.new ≡ with_bytes cutter.old (take count (drop start block.now)) }

@@ -1,4 +1,4 @@
-// Words of a few bytes, each as one number.
+//! `Spelling`: a word of at most eight bytes as one number, so that a command's word is compared in one instruction.
 ghost use Rattle.std.specs.Prelude.{◌≡◌, ◌<◌, MatchOption, length};
 ghost use Rattle.std.specs.Str.{bytes_eq};
 ghost use Rattle.point_core.specs.declared.lanes.TheConstants.{NUMBER_BYTES};
@@ -10,7 +10,7 @@ use std::marker::Model;
 #[derive(Drop)]
 pub(crate) struct Spelling {
     length: usize,
-    // Its bytes, of which the first is the lowest.
+    // Its bytes, least significant first.
     number: u64,
 }
 
@@ -40,8 +40,8 @@ impl Spelling {
         })
     }
 
-    /// Whether the word is that text. Both compares are made, since LLVM turns a chain of these into a table of jumps
-    /// if the second follows the first.
+    /// Whether the word is `text`. Both comparisons are always made (`&`), since LLVM turns a chain of `&&` into a jump
+    /// table.
     #[inline]
     pub(crate) fn is(&self, text: &str) -> bool
         ensures same { result ≡ bytes_eq self.now text.now }

@@ -1,4 +1,4 @@
-// `Takes`: the visitor that receives a parsed line.
+//! `Takes`: the visitor that receives a parsed line.
 ghost use Rattle.std.specs.Prelude.{◌≡◌};
 ghost use Rattle.line_core.specs.Line.{body_of, body_from};
 ghost use Rattle.line_core.specs.Marks.{MayHaveMarks};
@@ -35,7 +35,7 @@ pub fn take_raw_line<V: Takes>(line: &RawLine<'_>, to: &mut V) -> Option<V::Give
     take_by_cases(line.bytes, line.marks, to)
 }
 
-/// Passes on what the line's bytes say; their marks are given if they are known.
+/// Passes on the body of a line; `marks` are given if they are known.
 #[inline(always)]
 fn take_by_cases<V: Takes>(line: &[u8], marks: Option<u64>, to: &mut V) -> Option<V::Given>
     requires ready { V.can_take to.old }
@@ -91,7 +91,7 @@ impl Takes for Kept {
     }
 }
 
-/// What the line says, in this order: LongLine; none for a line without words or whose first word begins with `#`;
+/// The body of a line, in this order: LongLine; none for a line without words or whose first word begins with `#`;
 /// Syntax if the words fit no row of the table; else the command.
 pub fn body_of(line: &[u8]) -> Option<Body>
     ensures body { result ≡ body_of line.now }

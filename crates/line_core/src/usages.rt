@@ -1,4 +1,4 @@
-// The words of a line that name usages and sync flags.
+//! Words that name usages and sync flags, with Linux's numbers.
 ghost use Rattle.std.specs.Prelude.{◌≡◌, is_some};
 ghost use Rattle.line_core.specs.Usages.{usage_of, flags_of};
 

@@ -1,4 +1,5 @@
-// Words of a line: runs of bytes other than the space.
+//! `Words`: an iterator over the words of a line, which are runs of bytes other than the space. It works with and
+//! without marks.
 ghost use Rattle.std.specs.Prelude.{◌≡◌, ◌∷◌, [], option_map, MatchOption, length, ◌≤◌, position, not, IfSome};
 ghost use Rattle.std.specs.List.{prefix_len, position_or_len};
 ghost use Rattle.std.specs.Str.{bytes_eq};
@@ -13,7 +14,7 @@ use std::marker::Model;
 #[derive(Drop)]
 pub(crate) struct Words<'a> {
     bytes: &'a [u8],
-    // a bit for each byte that is set if the byte is of a word, if they are known
+    // the marks of `bytes`, if they are known
     marks: Option<u64>,
 }
 
@@ -206,7 +207,7 @@ pub(crate) fn four<'a>(words: &Words<'a>) -> Option<(&'a [u8], &'a [u8], &'a [u8
     Some((first, second, third, fourth))
 }
 
-/// Whether the word is the text.
+/// Whether the word is `text`.
 pub(crate) fn is(word: &[u8], text: &str) -> bool
     ensures same { result ≡ bytes_eq word.now text.now }
 {
