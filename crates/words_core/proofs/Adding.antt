@@ -17,7 +17,7 @@ use Rattle.words_core.proofs.MarkSteps.{IsMark-valued}
 use Rattle.words_core.proofs.Frames.{IsKept-value}
 use Rattle.words_core.proofs.Joining.{few_wins}
 
--- all that was added to a context, its driver added
+-- the sum of a context was added by its driver
 pub value_is_driven : (z : Sizes) (words : List ℕ) (views : List View) (id c : ℕ) (v : View) → c < z.contexts → get_elem? views id ≡ some v → IsKept z words views → 0 < wins_of (claim_place c) v.trace
     → slice_index words (value_place c) ≡ added (on (value_place c) v.trace)
 value_is_driven z words views id c v low at h won =

@@ -42,12 +42,12 @@ IsKept-set z words views id k v is live at h =
     IsKept-set_once z words views id k (bit_or n 1) v s is live at (set_once_step-word k n) (subst (λ (w : ℕ). total (wins_on w) views + is_win s ≤ 1) (sym (set_once_step-word k n)) here) h
     (IsSetOnce-set k n (map (word_trace k) views) id (word_trace k v) (at_map (word_trace k) views id v at) (omega arith) (h.set_once k is))
 
--- who has won nothing has added nothing
+-- a seat that has won nothing has added nothing
 added_unclaimed : (z : Sizes) (words : List ℕ) (views : List View) (id c : ℕ) (v : View) → c < z.contexts → get_elem? views id ≡ some v → IsKept z words views → wins_of (claim_place c) v.trace ≡ 0 → added (on (value_place c) v.trace) ≡ 0
 added_unclaimed z words views id c v low at h idle =
     added_none (on (value_place c) v.trace) (Each-at AddsAsDriver (map (context_trace c) views) id (context_trace c v) (h.values c low).driven (at_map (context_trace c) views id v at) idle)
 
--- nor has it closed anything
+-- and has closed nothing
 unshut_unclaimed : (z : Sizes) (words : List ℕ) (views : List View) (id c : ℕ) (v : View) → c < z.contexts → get_elem? views id ≡ some v → IsKept z words views → wins_of (claim_place c) v.trace ≡ 0 → shuts_of (mark_place c) v.trace ≡ 0
 unshut_unclaimed z words views id c v low at h idle = Each-at ShutsAsDriver (map (mark_trace c) views) id (mark_trace c v) (h.marks c low).driven (at_map (mark_trace c) views id v at) idle
 
@@ -61,7 +61,7 @@ tests_by_one views id k v at =
     let one : total is_test (on k v.start) + total is_test (on k v.trace) ≤ total (known_in is_test) (map (word_trace k) views) = total_at (known_in is_test) (map (word_trace k) views) id (word_trace k v) (at_map (word_trace k) views id v at) in
     omega arith
 
--- of a word that is 0 nobody knows that it was won or lost
+-- no one knows that a word that is 0 was won or lost
 untested : (z : Sizes) (words : List ℕ) (views : List View) (id k : ℕ) (v : View) → IsClaimOrFlag z k → get_elem? views id ≡ some v → IsKept z words views → slice_index words k ≡ 0 → (tests_by k v ≡ 0) × (wins_of k v.trace ≡ 0)
 untested z words views id k v is at h free =
     let fits = h.set_once k is in

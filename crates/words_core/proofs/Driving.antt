@@ -1,4 +1,4 @@
--- What a seat has won and added, after its steps.
+-- What a seat has won and added, after each of its steps.
 use Rattle.std.proofs.Common.{◌≡◌, ◌≢◌, ℕ, ◌+◌, ◌-◌, ◌<◌, ◌≤◌, ◌==◌, nat_lt, inl, inr, true, false, cond, List, [], ◌∷◌, ◌++◌, sym, refl, ap, ◌∙◌, subst, arith}
 use Rattle.std.proofs.lemmas.Bool.{lt-ltb, false≢true}
 use Rattle.std.proofs.lemmas.List.{append_assoc}

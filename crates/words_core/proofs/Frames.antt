@@ -1,4 +1,4 @@
--- A step on one word leaves what the rule says of the others.
+-- A step on one word keeps the rule for all other words.
 use Rattle.std.proofs.Common.{◌≡◌, ◌≢◌, ℕ, ◌+◌, ◌<◌, ◌≤◌, List, [], ◌∷◌, map, length, set, get_or, sym, refl, ap, ◌∙◌, subst, arith}
 use mathlib.Core.Option.{some}
 use mathlib.Core.Logic.{dite}
@@ -68,13 +68,13 @@ won_once-view_with views id v s at here h k =
     let c : total (wins_on k) views + is_win s ≤ 1 = subst (λ (w : ℕ). total (wins_on w) views + is_win s ≤ 1) same here in omega arith)
     (λ other. let b : wins_on k (view_with v s) ≡ wins_on k v = ap (total is_win) (on-append_other k v.trace s other) in omega arith)
 
--- a word of one trace that is not the one of the step
+-- a word of one trace, other than the step's
 other_word : (P : ℕ → List WordTrace → Type 0) (words : List ℕ) (views : List View) (id j k m : ℕ) (v : View) (s : Step) → get_elem? views id ≡ some v → s.word ≡ k → j ≢ k
     → P (get_or words j 0) (map (word_trace j) views) → P (get_or (set words k m) j 0) (map (word_trace j) (set views id (view_with v s)))
 other_word P words views id j k m v s at on_k ne h = same_word P _ (get_or words j 0) _ _ (get_or-set_other words k j m 0 ne)
     (map-set_same (word_trace j) views id v (view_with v s) at (word_trace-other j v s (λ bad. ne (sym bad ∙ on_k)))) h
 
--- the one of the step
+-- the step's word
 this_word : (P : ℕ → List WordTrace → Type 0) (words : List ℕ) (views : List View) (id j k m : ℕ) (v : View) (s : Step) → k < length words → s.word ≡ k → j ≡ k
     → P m (set (map (word_trace k) views) id (grown (word_trace k v) s)) → P (get_or (set words k m) j 0) (map (word_trace j) (set views id (view_with v s)))
 this_word P words views id j k m v s long on_k e fits = let w : View = view_with v s in subst (λ (y : ℕ). P (get_or (set words k m) y 0) (map (word_trace y) (set views id w))) (sym e)
@@ -90,7 +90,7 @@ word_other words j k m ne = get_or-set_other words k j m 0 (λ bad. ne (sym bad)
 same_mark : (p q n m : ℕ) (xs ys : List WordTrace) → p ≡ q → n ≡ m → xs ≡ ys → IsMark q m ys → IsMark p n xs
 same_mark p q n m xs ys e f g h = let Q : ℕ × ℕ × List WordTrace → Type 0 = λ u. IsMark u.0 u.1 u.2 in subst Q (λ i. (sym e i, sym f i, sym g i)) h
 
--- the value of a context, after a step on the word k, which is that value or another
+-- the value of a context, after a step on the word k, which is that value or another word
 value_kept : (words : List ℕ) (views : List View) (id c k m : ℕ) (v : View) (s : Step) → k < length words → get_elem? views id ≡ some v → s.word ≡ k
     → (k ≡ value_place c → IsValue m (set (map (context_trace c) views) id (grown (context_trace c v) s)))
     → IsValue (get_or words (value_place c) 0) (map (context_trace c) views)
@@ -126,7 +126,7 @@ mark_kept words views id c k m v s long at on_k valued here was =
     (λ e. same_mark _ m _ n _ _ (word_here words value k m long e) (word_other words w k m ne) same (valued e))
     (λ no_value. same_mark _ p _ n _ _ (word_other words value k m no_value) (word_other words w k m ne) same was)))
 
--- what a step on the word k, which leaves m of it, has to keep of that word, whatever its kind
+-- what a step on the word k that leaves m there has to keep for that word, whatever its kind
 record Keeps (z : Sizes) (words : List ℕ) (views : List View) (id k m : ℕ) (v : View) (s : Step) : Type 0 where
   value : (c : ℕ) → c < z.contexts → k ≡ value_place c → IsValue m (set (map (context_trace c) views) id (grown (context_trace c v) s))
   valued : (c : ℕ) → c < z.contexts → k ≡ value_place c → IsMark m (get_or words (mark_place c) 0) (map (mark_trace c) views)

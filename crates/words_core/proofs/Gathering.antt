@@ -24,7 +24,7 @@ use Rattle.words_core.proofs.Frames.{IsKept-value, IsKept-mark, IsKept-set_once,
 use Rattle.words_core.proofs.Loading.{seen_by_le, mark_known}
 use Rattle.words_core.proofs.Claiming.{tests_by-is, tests_by_one}
 
--- a total over all traces, which is 0 of an empty one, is that of the whole seat
+-- a total over all traces, which is 0 for an empty one, is the whole seat's
 pub total_whole : (z : Sizes) (words : List ℕ) (views : List View) (id : ℕ) (v : View) (g : List Step → ℕ) → g [] ≡ 0 → get_elem? views id ≡ some v → IsKept z words views → v.parts ≡ PARTS
     → total (λ (u : View). g u.trace) views ≡ g v.trace
 total_whole z words views id v g empty at h all =
@@ -33,12 +33,12 @@ total_whole z words views id v g empty at h all =
     (Each-weaker IsEmptyIfSpent (λ (u : View). u.parts ≡ 0 → g u.trace ≡ 0) views (λ u spent idle. ap g (spent idle).1 ∙ empty) h.spent)
     (omega arith)
 
--- what the traces have on one word, the whole seat has
+-- the whole seat has all steps on one word
 total-word_trace_whole : (z : Sizes) (words : List ℕ) (views : List View) (id k : ℕ) (v : View) (f : Step → ℕ) → get_elem? views id ≡ some v → IsKept z words views → v.parts ≡ PARTS
     → total (made_in f) (map (word_trace k) views) ≡ total f (on k v.trace)
 total-word_trace_whole z words views id k v f at h all = total-map (made_in f) (word_trace k) views ∙ total_whole z words views id v (λ steps. total f (on k steps)) refl at h all
 
--- what it has won and lost of a claim or a flag
+-- the whole seat's wins and losses of a claim or a flag
 pub IsDecided-whole : (z : Sizes) (words : List ℕ) (views : List View) (id k : ℕ) (v : View) → IsClaimOrFlag z k → get_elem? views id ≡ some v → IsKept z words views → v.parts ≡ PARTS → IsDecided k v.trace × (slice_index words k ≡ total is_win (on k v.trace))
 IsDecided-whole z words views id k v is at h all =
     let fits = h.set_once k is in
@@ -70,7 +70,7 @@ loads_total-allowed z slots id c me low all s h homes at small =
       ),
     )
 
--- of the mark it has made the closing
+-- the whole seat has made the closing of the mark
 pub loads_total_mark-allowed : (z : Sizes) (slots id c : ℕ) (me : Holder) → c < z.contexts → me.0.parts ≡ PARTS → Allows (λ s. IsKept z s.words s.views) slots id me (mark_place c) (λ n. n) (loads_total_mark (step slots (mark_place c) 0 0 none) me)
 loads_total_mark-allowed z slots id c me low all s h homes at small =
     let v : View = me.0 in let w : ℕ = mark_place c in let n : ℕ = slice_index s.words w in let views : List View = s.views in let traces : List WordTrace = map (mark_trace c) views in

@@ -21,7 +21,7 @@ use Rattle.words_core.proofs.Frames.{IsKept-value, IsKept-mark}
 pub seen_by_le : (w n : ℕ) (v : View) → greatest (on w v.start) ≤ n → greatest (on w v.trace) ≤ n → seen_by w v ≤ n
 seen_by_le w n v a b = subst (λ (steps : List Step). greatest steps ≤ n) (sym (on-append w v.start v.trace)) (greatest-append_le (on w v.start) (on w v.trace) n a b)
 
--- what is known of a mark is 0 or the mark
+-- a known value of a mark is 0 or the mark
 pub mark_known : (z : Sizes) (words : List ℕ) (views : List View) (id c : ℕ) (v : View) → c < z.contexts → get_elem? views id ≡ some v → IsKept z words views
     → (seen_by (mark_place c) v ≡ 0) ⊎ (seen_by (mark_place c) v ≡ slice_index words (mark_place c))
 mark_known z words views id c v low at h =

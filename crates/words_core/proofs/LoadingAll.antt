@@ -22,7 +22,7 @@ use Rattle.words_core.specs.Loads.{clock_marked, clock_seen, known_clock, clocks
 use Rattle.words_core.proofs.Traces.{on-append_other}
 use Rattle.words_core.proofs.Seen.{seen-with_steps, seen_stays}
 
--- the loads of one context leave what is seen of the others
+-- the loads of one context don't affect the others
 
 max_zero : (n : ℕ) → max n 0 ≡ n
 max_zero n = grind arith
@@ -53,7 +53,7 @@ clock_marked-closed m v set = ap (λ (b : Bool). cond b (open_clock v) (clock_of
 pub seen_mark-loaded : (seat : SeatModel) (ctx v : ℕ) → seen (with_steps seat (load (value_word ctx) v ∷ [])) (mark_word ctx) ≡ seen seat (mark_word ctx)
 seen_mark-loaded seat ctx v = seen_unloaded seat (mark_word ctx) (load (value_word ctx) v ∷ []) (on-append_other (mark_word ctx) [] (load (value_word ctx) v) (λ bad. absurd (omega arith)))
 
--- what a seat has seen a context reach
+-- the value that a seat has seen a context reach
 abbrev pub reached_seen : SeatModel → ℕ → ℕ
 reached_seen seat ctx = reached_by (clock_seen seat ctx)
 
@@ -83,7 +83,7 @@ HasLoaded-none seat = record {
   closings = λ c low high. absurd (omega arith);
 }
 
--- the same of a seat whose clock of the context is the same
+-- a later seat that has seen the same clock of the context
 KeepsClosing-later : (first seat after : SeatModel) (c : ℕ) → clock_seen after c ≡ clock_seen seat c → KeepsClosing first seat c → KeepsClosing first after c
 KeepsClosing-later first seat after c same h = record {
   stays = λ closed. same ∙ h.stays closed;
@@ -101,7 +101,7 @@ KeepsClosing-loaded first seat after ctx clock unloaded more found stays last = 
       subst (λ (k : Clock). seen first (value_word ctx) ≤ k.value) found all;
 }
 
--- what a load of one clock says of it
+-- the effect of loading one clock
 pub KeepsClosing-clock : (seat after : SeatModel) (ctx : ℕ) (clock : Clock) → clock ≡ clock_seen after ctx → (clock.closed ≡ true → seen seat (value_word ctx) ≤ clock.value) → ((clock_seen seat ctx).closed ≡ true → clock ≡ clock_seen seat ctx) → KeepsClosing seat after ctx
 KeepsClosing-clock seat after ctx clock found last stays = KeepsClosing-loaded seat seat after ctx clock refl (omega arith) found stays last
 
@@ -162,7 +162,7 @@ HasFound-more {A} f g d x n ctx xs is fits h same new = record {
   full = length-set xs (ctx - 1) x ∙ h.full;
 }
 
--- what is known of all contexts, as a list
+-- the known clocks of all contexts, as a list
 
 module _ {A : Type 0} where
   map-contexts : (f : ℕ → A) (n : ℕ) → n ≡ CONTEXTS → map f (range_with_len 1 n) ≡ map f contexts
@@ -194,7 +194,7 @@ known_clock-within seat c le = rw (le-leb c seat.words.contexts le) refl
 pub known_clock-past : (seat : SeatModel) (c : ℕ) → seat.words.contexts < c → known_clock seat c ≡ new_clock
 known_clock-past seat c lt = rw (lt-leb c seat.words.contexts lt) refl
 
--- of a context of the words, and of one past them
+-- a context of the words, and a context past them
 pub clock_at-seen : (seat : SeatModel) (c : ℕ) → 1 ≤ c → c ≤ seat.words.contexts → seat.words.contexts ≤ CONTEXTS → clock_at (clocks_seen seat) c ≡ clock_seen seat c
 clock_at-seen seat c low high few =
     let back : c - 1 + 1 ≡ c = omega arith in
@@ -208,7 +208,7 @@ clock_at-past seat c past = elim (cases_lt (c - 1) CONTEXTS) [
   | inr beyond ↦ get_or_past (clocks_seen seat) (c - 1) new_clock (let l = length-contexts (known_clock seat) CONTEXTS refl in omega arith)
 ]
 
--- what the clocks reach that a seat has seen
+-- the reach of the clocks that a seat has seen
 pub reach_seen-is : (seat : SeatModel) → reach_of_clocks (clocks_seen seat) ≡ reach_seen seat
 reach_seen-is seat = map-map reached_by (known_clock seat) contexts
 
@@ -241,7 +241,7 @@ HasLoadedAll-loaded before after n reach all loaded found =
       closings = (subst (HasLoaded before after) all loaded).closings;
     }
 
--- once each context was loaded, all were
+-- after the load of each context, all are loaded
 pub HasLoadedClocks-all : (before after : SeatModel) (n : ℕ) → n ≡ before.words.contexts → HasLoaded before after n → HasLoadedClocks before after (clocks_seen after)
 HasLoadedClocks-all before after n all loaded =
     let own : after.words ≡ before.words = ap (λ (s : SeatModel). s.words) loaded.entered in

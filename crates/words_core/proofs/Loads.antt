@@ -1,4 +1,4 @@
--- What follows from a load of all contexts.
+-- Consequences of loading all contexts.
 use Rattle.std.proofs.Common.{◌≡◌, ℕ, List, sym, ap, ◌∙◌, subst}
 use Rattle.words_core.specs.Loads.{reach_seen, HasLoadedAll}
 use Rattle.words_core.specs.Seat.{SeatModel}
@@ -8,7 +8,7 @@ use Rattle.words_core.specs.Words.{WordsModel}
 pub HasLoadedAll-seen : {before after : SeatModel} {reach : List ℕ} → HasLoadedAll before after reach → HasLoadedAll before after (reach_seen after)
 HasLoadedAll-seen {before} {after} h = subst (HasLoadedAll before after) h.found h
 
--- the seat is of the same words, with the same parts
+-- the seat has the same words and the same parts as before
 pub kept-loaded : {before after : SeatModel} {reach : List ℕ} → HasLoadedAll before after reach → (after.words ≡ before.words) × (after.parts ≡ before.parts)
 kept-loaded h = (ap (λ (s : SeatModel). s.words) h.entered, ap (λ (s : SeatModel). s.parts) h.entered)
 

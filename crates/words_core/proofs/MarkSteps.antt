@@ -10,7 +10,7 @@ use Rattle.words_core.specs.Rule.{WordTrace, made_in, wins_in, ShutsAsDriver, Is
 use Rattle.words_core.proofs.Totals.{total-set, total-append, Each-set, Each-at, Each-weaker}
 use Rattle.words_core.proofs.ValueSteps.{grown, claimed, total-grown}
 
--- values of which each is 0 or n
+-- values that are each 0 or n
 
 IsZeroOr-weaker : (n m : ℕ) (xs : List Step) → ((x : ℕ) → (x ≡ 0) ⊎ (x ≡ n) → (x ≡ 0) ⊎ (x ≡ m)) → IsZeroOr n xs → IsZeroOr m xs
 IsZeroOr-weaker n m xs f h = Each-weaker (λ (s : Step). (s.value ≡ 0) ⊎ (s.value ≡ n)) (λ (s : Step). (s.value ≡ 0) ⊎ (s.value ≡ m)) xs (λ s is. f s.value is) h
@@ -25,12 +25,12 @@ max_zero_or a b n (inl p) (inr q) = inr (grind arith)
 max_zero_or a b n (inr p) (inl q) = inr (grind arith)
 max_zero_or a b n (inr p) (inr q) = inr (grind arith)
 
--- so is the greatest
+-- so is the greatest of them
 pub greatest_zero_or : (n : ℕ) (xs : List Step) → IsZeroOr n xs → (greatest xs ≡ 0) ⊎ (greatest xs ≡ n)
 greatest_zero_or n [] h = inl refl
 greatest_zero_or n (x ∷ xs) h = max_zero_or x.value (greatest xs) n h.0 (greatest_zero_or n xs h.1)
 
--- what is no closing leaves nothing
+-- a step that is no closing leaves no mark
 no_mark : (kind : StepKind) (n : ℕ) → if_kind Shut kind 1 ≡ 0 → if_kind Shut kind n ≡ 0
 no_mark Load n h = refl
 no_mark Add n h = refl

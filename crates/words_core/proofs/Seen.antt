@@ -34,7 +34,7 @@ seen-with_step seat s =
     let here : on s.word (s ∷ []) ≡ s ∷ [] = on-append_here s.word [] s refl in
     rw (seen-with_steps seat s.word (s ∷ []), here) (max_right (seen seat s.word) s.value)
 
--- what is no less than what was seen is seen now
+-- a value that is no less than what was seen is seen now
 pub seen-with_step_later : (seat : SeatModel) (s : Step) → seen seat s.word ≤ s.value → seen (with_step seat s) s.word ≡ s.value
 seen-with_step_later seat s later =
     let here : on s.word (s ∷ []) ≡ s ∷ [] = on-append_here s.word [] s refl in
@@ -44,7 +44,7 @@ seen-with_step_later seat s later =
 pub seen-parted : (seat : SeatModel) (n w : ℕ) → seen (parted seat n) w ≡ seen seat w
 seen-parted seat n w = ap (λ (l : List Step). greatest (on w l)) (append-nil (seat.start ++ seat.trace))
 
--- two seats in one have seen what both had
+-- a joined seat has seen what both had
 pub seen-both_of : (seat other : SeatModel) (w : ℕ) → seen (both_of seat other) w ≡ max (seen seat w) (seen other w)
 seen-both_of seat other w =
     let a : List Step = on w seat.start in let b : List Step = on w other.start in let d : List Step = on w seat.trace in let e : List Step = on w other.trace in

@@ -17,14 +17,14 @@ use Rattle.words_core.proofs.Traces.{on-append, greatest-append_le}
 use Rattle.words_core.proofs.MarkSteps.{IsZeroOr-append}
 use Rattle.words_core.proofs.Frames.{same_word}
 
--- what a new seat has on a word
+-- the trace of a new seat on a word
 abbrev pub started : List Step → WordTrace
 started start = record { start = start; made = []; claim = [] }
 
 total-started : (f : Step → ℕ) (traces : List WordTrace) (start : List Step) → total (made_in f) (traces ++ started start ∷ []) ≡ total (made_in f) traces
 total-started f traces start = let a : total (made_in f) (traces ++ started start ∷ []) ≡ total (made_in f) traces + (0 + 0) = total-append (made_in f) traces (started start ∷ []) in omega arith
 
--- a new seat starts with what others know
+-- a new seat starts with steps that others know
 pub IsTraced-started : (leaves finds : ℕ → Step → ℕ) (n : ℕ) (traces : List WordTrace) (start : List Step) → greatest start ≤ n → ((x : ℕ) → total (finds x) start ≤ total (known_in (finds x)) traces)
     → IsTraced leaves finds n traces → IsTraced leaves finds n (traces ++ started start ∷ [])
 IsTraced-started leaves finds n traces start low known h =
@@ -48,7 +48,7 @@ IsValue-started n traces start low known h =
       driven = Each-last AddsAsDriver traces t h.driven (λ _. refl);
     }
 
--- what a seat knows of a word, all traces know
+-- a step that one seat knows, all traces together know
 known_by_one : (f : Step → ℕ) (traces : List WordTrace) (id : ℕ) (t : WordTrace) → get_elem? traces id ≡ some t → total f (t.start ++ t.made) ≤ total (known_in f) traces
 known_by_one f traces id t at =
     let b : total f (t.start ++ t.made) ≡ total f t.start + total f t.made = total-append f t.start t.made in
@@ -99,7 +99,7 @@ IsEntry-parted n traces id t at h =
     let mine = Each-at (IsAtMost n) traces id t h.traced.below at in
     IsEntry-started n traces (t.start ++ t.made) (greatest-append_le t.start t.made n mine.0 mine.1) (λ x. known_by_one (is_sight_of x) traces id t at) h
 
--- what a new seat has on a word and a claim
+-- the trace of a new seat on a word and a claim
 claimed_trace-parted : (k claim n : ℕ) (views : List View) (id : ℕ) (v : View) → get_elem? views id ≡ some v
     → map (claimed_trace k claim) (set views id (parent_view n v) ++ child_view n v ∷ []) ≡ map (claimed_trace k claim) views ++ started (on k v.start ++ on k v.trace) ∷ []
 claimed_trace-parted k claim n views id v at =
@@ -107,7 +107,7 @@ claimed_trace-parted k claim n views id v at =
     map-append (claimed_trace k claim) (set views id l) (child_view n v ∷ [])
     ∙ (λ i. map-set_same (claimed_trace k claim) views id v l at refl i ++ record { start = on-append k v.start v.trace i; made = []; claim = [] } ∷ [])
 
--- what a new seat has on one word
+-- the trace of a new seat on one word
 word_trace-parted : (k n : ℕ) (views : List View) (id : ℕ) (v : View) → get_elem? views id ≡ some v
     → map (word_trace k) (set views id (parent_view n v) ++ child_view n v ∷ []) ≡ map (word_trace k) views ++ started (on k v.start ++ on k v.trace) ∷ []
 word_trace-parted k n views id v at =

@@ -1,4 +1,4 @@
--- Totals over a list, what holds of each element, and both after a change of one element.
+-- Totals over a list, properties of each element, and both after a change of one element.
 use Rattle.std.proofs.Common.{◌≡◌, ◌≢◌, ℕ, zero, suc, ◌+◌, ◌≤◌, List, [], ◌∷◌, ◌++◌, map, set, sym, refl, ap, ◌∙◌, subst, arith}
 use mathlib.Core.Option.{some, some-injective, some-ne-none}
 use lib.ListN.{get_elem?}
@@ -40,11 +40,11 @@ module _ {A : Type 0} where
   Each-weaker P Q [] f h = tt
   Each-weaker P Q (x ∷ xs) f h = (f x h.0, Each-weaker P Q xs f h.1)
 
-  -- an element is replaced by one that f cannot tell from it
+  -- an element is replaced by one with an equal value of f
   pub map-set_same : {B : Type 0} (f : A → B) (xs : List A) (i : ℕ) (x y : A) → get_elem? xs i ≡ some x → f y ≡ f x → map f (set xs i y) ≡ map f xs
   map-set_same {B} f xs i x y at same = map-set f xs i y ∙ ap (λ (b : B). set (map f xs) i b) same ∙ set_again (map f xs) i (f x) (at_map f xs i x at)
 
-  -- one is put together of two, and the other is emptied
+  -- one element is joined from two, and the other is emptied
   pub total-joined : (f : A → ℕ) (xs : List A) (i j : ℕ) (x y both empty : A) → get_elem? xs i ≡ some x → j ≢ i → get_elem? xs j ≡ some y → f both ≡ f x + f y → f empty ≡ 0 → total f (set (set xs i both) j empty) ≡ total f xs
   total-joined f xs i j x y both empty at apart at' sum none =
       let one : total f (set xs i both) + f x ≡ total f xs + f both = total-set f xs i x both at in
@@ -62,7 +62,7 @@ module _ {A : Type 0} where
   total_none f g [] h z = refl
   total_none f g (a ∷ xs) h z = let one : g a ≡ 0 = h.0 (omega arith) in let more : total g xs ≡ 0 = total_none f g xs h.1 (omega arith) in omega arith
 
-  -- if f is of one element alone, and g is 0 whenever f is, g is of that element alone
+  -- if f is 0 at all elements but one, and g is 0 whenever f is, g is 0 at all but that one
   pub total_alone : (f g : A → ℕ) (xs : List A) (i : ℕ) (x : A) → get_elem? xs i ≡ some x → Each (λ u. f u ≡ 0 → g u ≡ 0) xs → total f xs ≤ f x → total g xs ≡ g x
   total_alone f g [] i x at h le = absurd (some-ne-none x (sym at))
   total_alone f g (a ∷ xs) zero x at h le =

@@ -50,7 +50,7 @@ HasRunningSums-append n [] ys h t = let e : n + 0 ≡ n = omega arith in subst (
 HasRunningSums-append n (x ∷ xs) ys h t = let e : n + (amount_of x + added xs) ≡ (n + amount_of x) + added xs = omega arith in
     (h.0, HasRunningSums-append (n + amount_of x) xs ys h.1 (subst (λ (m : ℕ). HasRunningSums m ys) e t))
 
--- what is no addition adds nothing
+-- a step that is no addition adds nothing
 no_amount : (kind : StepKind) (n : ℕ) → if_kind Add kind 1 ≡ 0 → if_kind Add kind n ≡ 0
 no_amount Load n h = refl
 no_amount Add n h = absurd (omega arith)
@@ -74,7 +74,7 @@ pub total-tests : (xs : List Step) → total is_test xs ≡ total is_win xs + to
 total-tests [] = refl
 total-tests (x ∷ xs) = let more : total is_test xs ≡ total is_win xs + total is_loss xs = total-tests xs in omega arith
 
--- the greatest that was raised to
+-- the greatest value to which the word was raised
 
 pub raised-append : (xs ys : List Step) → raised (xs ++ ys) ≡ max (raised xs) (raised ys)
 raised-append [] ys = max_none (raised ys)
@@ -118,7 +118,7 @@ raise_to_le Raise p x h = let e : p ≡ x = same_value p x h in omega arith
 raise_to_le Shown p x h = absurd (omega arith)
 raise_to_le Shut p x h = absurd (omega arith)
 
--- what the word was raised to is at most the greatest
+-- a value to which the word was raised is at most the greatest
 pub raised_le : (x : ℕ) (xs : List Step) → 0 < total (is_raise_to x) xs → x ≤ raised xs
 raised_le x [] h = absurd (omega arith)
 raised_le x (s ∷ xs) h = dite (ℕ_discrete (is_raise_to x s) 0)

@@ -25,7 +25,7 @@ total-grown f traces id t s at =
     let b : total (made_in f) (set traces id (grown t s)) + total f t.made ≡ total (made_in f) traces + total f (t.made ++ s ∷ []) = total-set (made_in f) traces id t (grown t s) at in
     omega arith
 
--- the same of all that is known
+-- the totals of all known steps
 pub total-known_grown : (f : Step → ℕ) (traces : List WordTrace) (id : ℕ) (t : WordTrace) (s : Step) → get_elem? traces id ≡ some t
     → total (known_in f) (set traces id (grown t s)) ≡ total (known_in f) traces + f s
 total-known_grown f traces id t s at =

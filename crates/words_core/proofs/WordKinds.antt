@@ -58,7 +58,7 @@ IsUnused-not_entry z j k entry is e =
 pub IsClaimOrFlag-flag : (z : Sizes) (k flag : ℕ) → k ≡ flags_start z + flag → flag < z.flags → IsClaimOrFlag z k
 IsClaimOrFlag-flag z k flag e low = let lines = lines_of z in record { inside = omega arith; claim = λ before. absurd (omega arith); flag = λ _. omega arith }
 
--- a word of a line that is no value, no claim and no mark
+-- a word of a line that is neither a value nor a claim nor a mark
 entry_or_unused : (z : Sizes) (k : ℕ) → k < flags_start z → (k % LINE_WORDS ≡ 0 → contexts_end z ≤ k) → (k % LINE_WORDS ≡ CLAIM → contexts_end z ≤ k) → (k % LINE_WORDS ≡ MARK → contexts_end z ≤ k)
     → IsBoardWord z k ⊎ IsUnused z k
 entry_or_unused z k to value claim mark = elim (cases_lt k (board_end z)) [

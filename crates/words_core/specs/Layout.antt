@@ -1,5 +1,5 @@
--- Where each word lies: a line for each buffer and context, with an entry for each usage; on those of the first buffer also
--- the context's value, claim and mark; after the lines the flags.
+-- The index of each word: a line for each buffer and context, with an entry for each usage; the first buffer's lines
+-- also have the contexts' values, claims and marks; the flags follow the lines.
 use Rattle.std.specs.Prelude.{◌≡◌, ℕ, ◌+◌, ◌-◌, ◌*◌, ◌%◌, ◌<◌, ◌≤◌, max}
 use Rattle.point_core.specs.declared.entry.Usage.{Usage}
 use Rattle.point_core.specs.Usage.{usage_number}
@@ -31,7 +31,7 @@ contexts_end sizes = LINE_WORDS * sizes.contexts
 abbrev pub board_end : Sizes → ℕ
 board_end sizes = LINE_WORDS * (sizes.buffers * sizes.contexts)
 
--- without a buffer the contexts have their lines, too
+-- without buffers the contexts still have their lines
 abbrev pub flags_start : Sizes → ℕ
 flags_start sizes = LINE_WORDS * (max sizes.buffers 1 * sizes.contexts)
 
@@ -77,7 +77,7 @@ pub record IsBoardWord (sizes : Sizes) (k : ℕ) : Type 0 where
   pub from_entry : 1 ≤ k % LINE_WORDS
   pub to_entry : k % LINE_WORDS ≤ USAGES
 
--- the word k is none of these, and no value and no mark
+-- the word k is neither of these, nor a value or a mark
 pub record IsUnused (sizes : Sizes) (k : ℕ) : Type 0 where
   pub to : k < flags_start sizes
   pub value : k % LINE_WORDS ≡ 0 → contexts_end sizes ≤ k

@@ -9,7 +9,7 @@ use Rattle.words_core.specs.Layout.{value_word, mark_word}
 use Rattle.words_core.specs.Seat.{SeatModel, seen, with_steps}
 use Rattle.words_core.specs.Trace.{load}
 
--- of a context whose mark and whose value were seen: a mark above 0 says that it is closed, at 1 less
+-- the clock of a context whose mark and value were seen: a mark above 0 is the value at its closing, and 1
 abbrev pub clock_marked : ℕ → ℕ → Clock
 clock_marked mark value = if mark == 0 then open_clock value else clock_of (mark - 1) true
 
@@ -17,15 +17,15 @@ clock_marked mark value = if mark == 0 then open_clock value else clock_of (mark
 abbrev pub clock_seen : SeatModel → ℕ → Clock
 clock_seen seat ctx = clock_marked (seen seat (mark_word ctx)) (seen seat (value_word ctx))
 
--- of any context: one past the words is new
+-- the clock of any context: new for one past the words
 abbrev pub known_clock : SeatModel → ℕ → Clock
 known_clock seat ctx = if nat_le ctx seat.words.contexts then clock_seen seat ctx else new_clock
 
--- of each context
+-- the clocks of all contexts
 abbrev pub clocks_seen : SeatModel → List Clock
 clocks_seen seat = map (known_clock seat) contexts
 
--- what it has seen them reach
+-- the value that these clocks reach
 abbrev pub value_seen : SeatModel → ℕ → ℕ
 value_seen seat ctx = reached_by (known_clock seat ctx)
 
@@ -38,20 +38,20 @@ loads_at ctx clock =
     if clock.closed then load (mark_word ctx) (clock.value + 1) ∷ []
     else load (mark_word ctx) 0 ∷ load (value_word ctx) clock.value ∷ []
 
--- those that find the clocks of the first n contexts, by rising number
+-- the loads that find the clocks of the first n contexts, by rising number
 abbrev pub loads_of : (ℕ → Clock) → ℕ → List Step
 loads_of clock zero = []
 loads_of clock (suc n) = loads_of clock n ++ loads_at (suc n) (clock (suc n))
 
--- A context that was seen closed has the same clock now, and one that is closed now has been left at no less than any value
--- that was seen of it before
+-- A context that was seen closed has the same clock now, and the value of one that is closed now is no less than any
+-- that was seen before
 pub record KeepsClosing (before after : SeatModel) (ctx : ℕ) : Type 0 where
   pub stays : (clock_seen before ctx).closed ≡ true → clock_seen after ctx ≡ clock_seen before ctx
   pub last : (clock_seen after ctx).closed ≡ true → seen before (value_word ctx) ≤ (clock_seen after ctx).value
 
--- The loads of each context of the words were entered in the seat's trace, by rising number, and nothing else. The reach is
--- what the clocks that they found reach, which are those that the seat has now seen, and no less than what it had seen before.
--- Of each context a closing stays
+-- The seat's trace has one more load of each context of the words, by rising number, and nothing else. The reach is the
+-- reach of the clocks that were found, which the seat has now seen, and no less than what it had seen before. Each
+-- closed context stays as it is
 pub record HasLoadedAll (before after : SeatModel) (reach : List ℕ) : Type 0 where
   pub entered : after ≡ with_steps before (loads_of (clock_seen after) before.words.contexts)
   pub found : reach ≡ reach_seen after

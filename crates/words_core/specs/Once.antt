@@ -1,9 +1,9 @@
--- What a test-and-set of a flag told.
+-- The result of a test-and-set of a flag.
 use Rattle.words_core.specs.declared.flags.Once.{Once}
 use Rattle.words_core.specs.declared.flags.Once.TheVariants.{First, Already}
 use Rattle.words_core.specs.Won.{WonModel}
 
--- P holds of what the winner has
+-- P holds of the winner's token
 abbrev pub IfFirst : Once → (WonModel → Type 0) → Type 0
 IfFirst (First won) P = P won
 IfFirst Already P = Unit {0}

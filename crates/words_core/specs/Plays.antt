@@ -1,4 +1,4 @@
--- What each kind of step tells its seat, and how views are split and joined.
+-- What each kind of step shows to its seat, and how views are split and joined.
 use Rattle.std.specs.Prelude.{◌≡◌, ℕ, ◌+◌, ◌-◌, ◌<◌, ◌≤◌, max, [], ◌∷◌, ◌++◌}
 use Rattle.atomic_table.specs.Table.{Me, Step as TableStep}
 use Rattle.words_core.specs.declared.seat.TheConstants.{PARTS}
@@ -64,11 +64,11 @@ adds_to_value s me found after =
     (after ≡ (view_with me.0 (add s.word s.first (found + s.first)), me.1))
     × (found ≡ added (on s.word me.0.trace))
 
--- nothing is entered. The seat's parts are seen to be no more than all, and its wins of each word no more than one
+-- nothing is entered. The seat sees that its parts are no more than all, and that it has won each word at most once
 abbrev pub counts_parts : TableStep (Unit {0}) → Holder → ℕ → Holder → Type 0
 counts_parts s me found after = (after ≡ me) × (me.0.parts ≤ PARTS) × ((w : ℕ) → wins_of w me.0.trace ≤ 1)
 
--- a seat with all parts has added all that the word is, and won its claim once at most
+-- a seat with all parts made all additions to the word, and won its claim at most once
 abbrev pub loads_total : TableStep (Unit {0}) → Holder → ℕ → Holder → Type 0
 loads_total s me found after =
     (after ≡ (view_with me.0 (load s.word found), me.1))
@@ -77,7 +77,7 @@ loads_total s me found after =
     × LoadsWereLeft s.word me.0.trace
     × IsDecided (s.word + CLAIM) me.0.trace
 
--- a seat with all parts has set a mark once at most, to 1 more than all that it has added to the value
+-- a seat with all parts has set a mark at most once, to 1 more than the sum of its additions to the value
 abbrev pub loads_total_mark : TableStep (Unit {0}) → Holder → ℕ → Holder → Type 0
 loads_total_mark s me found after =
     (after ≡ (view_with me.0 (load s.word found), me.1))
@@ -87,7 +87,7 @@ loads_total_mark s me found after =
     × (0 < shuts_of s.word me.0.trace → found ≡ added (on (s.word - MARK) me.0.trace) + 1)
     × IsZeroOr found (on s.word me.0.trace)
 
--- a flag is how often a seat with all parts has won it
+-- a flag is the number of times that a seat with all parts has won it
 abbrev pub loads_flag : TableStep (Unit {0}) → Holder → ℕ → Holder → Type 0
 loads_flag s me found after =
     (after ≡ (view_with me.0 (load s.word found), me.1))
@@ -96,7 +96,7 @@ loads_flag s me found after =
     × IsDecided s.word me.0.trace
     × (0 < tests_by s.word me.0 → found ≡ 1)
 
--- what an entry of the board shows is at least what was seen, and what the seat raised it to
+-- the value that an entry of the board shows is at least what was seen, and what the seat raised it to
 abbrev pub loads_entry : TableStep (Unit {0}) → Holder → ℕ → Holder → Type 0
 loads_entry s me found after =
     (after ≡ (view_with me.0 (shown s.word found), me.1))
@@ -121,13 +121,13 @@ loads_top s me found after =
 abbrev pub parent_view : ℕ → View → View
 parent_view n v = view v.sizes (v.parts - n) v.start v.trace
 
--- the child's, which starts with all that was known
+-- the child's view, which starts with all that was known
 abbrev pub child_view : ℕ → View → View
 child_view n v = view v.sizes n (v.start ++ v.trace) []
 
 abbrev pub joined_view : View → View → View
 joined_view v w = view v.sizes (v.parts + w.parts) (v.start ++ w.start) (v.trace ++ w.trace)
 
--- of a seat that was joined to another
+-- the view of a seat after it was joined to another: spent
 abbrev pub joined_from : View
 joined_from = spent_view record { contexts = 0; buffers = 0; flags = 0 }

@@ -1,4 +1,4 @@
--- The rule on the words, which holds between any two steps.
+-- The rule on the words: an invariant of the words and all views, which every step keeps.
 use Rattle.std.specs.Prelude.{◌≡◌, ℕ, ◌+◌, ◌<◌, ◌≤◌, ◌⊎◌, List, [], ◌∷◌, map, length, slice_index}
 use Rattle.words_core.specs.declared.seat.TheConstants.{PARTS}
 use Rattle.words_core.specs.declared.trace.Step.{Step}
@@ -13,7 +13,7 @@ view sizes parts start trace = record { sizes = sizes; parts = parts; start = st
 abbrev pub first_view : Sizes → View
 first_view sizes = view sizes PARTS [] []
 
--- of a seat whose parts went to another
+-- the view of a seat whose parts went to another
 abbrev pub spent_view : Sizes → View
 spent_view sizes = view sizes 0 [] []
 
@@ -22,34 +22,34 @@ abbrev pub Each : {A : Type 0} → (A → Type 0) → List A → Type 0
 Each P [] = Unit {0}
 Each P (x ∷ xs) = P x × Each P xs
 
--- what one seat has on a word: the steps that it started with and those that it made; and those on a second word, the
--- claim of whoever may change the first
+-- what one seat has on a word: the steps that it started with, and the steps that it made; and both for a second word,
+-- the claim of whoever may change the first
 pub record WordTrace : Type 0 where
   pub start : List Step
   pub made : List Step
   pub claim : List Step
 
--- on the word k, which only the winner of a claim may change
+-- the trace on the word k, which only the winner of a claim may change
 abbrev pub claimed_trace : ℕ → ℕ → View → WordTrace
 claimed_trace k claim v = record { start = on k v.start; made = on k v.trace; claim = on claim v.trace }
 
--- on the value of the context at a place
+-- the trace on the value of the context at a place
 abbrev pub context_trace : ℕ → View → WordTrace
 context_trace place v = claimed_trace (value_place place) (claim_place place) v
 
--- on its mark
+-- the trace on its mark
 abbrev pub mark_trace : ℕ → View → WordTrace
 mark_trace place v = claimed_trace (mark_place place) (claim_place place) v
 
--- on one word only
+-- the trace on one word only
 abbrev pub word_trace : ℕ → View → WordTrace
 word_trace k v = record { start = on k v.start; made = on k v.trace; claim = [] }
 
--- f of the steps that were made, added up
+-- the sum of f over the steps that were made
 abbrev pub made_in : (Step → ℕ) → WordTrace → ℕ
 made_in f t = total f t.made
 
--- f of all steps that are known, added up
+-- the sum of f over all steps that are known
 abbrev pub known_in : (Step → ℕ) → WordTrace → ℕ
 known_in f t = total f t.start + total f t.made
 
@@ -63,7 +63,7 @@ wins_on w v = wins_of w v.trace
 abbrev pub parts_of : View → ℕ
 parts_of v = v.parts
 
--- what is known of the word is at most n
+-- every known value of the word is at most n
 abbrev pub IsAtMost : ℕ → WordTrace → Type 0
 IsAtMost n t = (greatest t.start ≤ n) × (greatest t.made ≤ n)
 
@@ -87,7 +87,7 @@ ShutsAsDriver t = wins_in t ≡ 0 → made_in is_shut t ≡ 0
 abbrev pub IsZeroOr : ℕ → List Step → Type 0
 IsZeroOr n steps = Each (λ (s : Step). (s.value ≡ 0) ⊎ (s.value ≡ n)) steps
 
--- so is each that is known of the word
+-- each value that is known of the word is 0 or n
 abbrev pub KnowsZeroOr : ℕ → WordTrace → Type 0
 KnowsZeroOr n t = IsZeroOr n t.start × IsZeroOr n t.made
 
@@ -119,7 +119,7 @@ pub record IsValue (word : ℕ) (traces : List WordTrace) : Type 0 where
 pub record IsMark (value word : ℕ) (traces : List WordTrace) : Type 0 where
   -- each known value is 0 or the word
   pub known : Each (KnowsZeroOr word) traces
-  -- it was set once at most, and is what that left
+  -- it was set at most once, and is what that step left
   pub once : total (made_in is_shut) traces ≤ 1
   pub left : word ≡ total (made_in shut_to) traces
   pub ended : 0 < total (made_in is_shut) traces → word ≡ value + 1
@@ -133,7 +133,7 @@ pub record IsSetOnce (word : ℕ) (traces : List WordTrace) : Type 0 where
   -- if it is known to have been won or lost it is 1
   pub tested : 0 < total (known_in is_test) traces → word ≡ 1
 
--- an entry of the board: the greatest that it was raised to, or 0
+-- an entry of the board: the greatest value to which it was raised, or 0
 pub record IsEntry (word : ℕ) (traces : List WordTrace) : Type 0 where
   pub traced : IsTraced is_raise_to is_sight_of word traces
   pub raises : Each (RaisesNoMore word) traces

@@ -5,7 +5,7 @@ use Rattle.words_core.specs.Layout.{value_word}
 use Rattle.words_core.specs.Trace.{is_test, total, on, greatest, raised, added}
 use Rattle.words_core.specs.Words.{WordsModel}
 
--- the words that it is of, its parts, the steps that its parent knew when it was parted, and its own steps
+-- the set of words, its parts, the steps that its parent knew when it was parted, and its own steps
 pub record SeatModel : Type 0 where
   pub words : WordsModel
   pub parts : ℕ
@@ -40,11 +40,11 @@ with_steps seat steps = record seat { trace = seat.trace ++ steps }
 abbrev pub without_parts : SeatModel → ℕ → SeatModel
 without_parts seat n = record seat { parts = seat.parts - n }
 
--- the seat that they go to
+-- the seat to which they go
 abbrev pub parted : SeatModel → ℕ → SeatModel
 parted seat n = record { words = seat.words; parts = n; start = seat.start ++ seat.trace; trace = [] }
 
--- two seats of the same words in one
+-- two seats of the same words joined
 abbrev pub both_of : SeatModel → SeatModel → SeatModel
 both_of seat other = record {
   words = seat.words;

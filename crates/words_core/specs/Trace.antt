@@ -1,4 +1,4 @@
--- Steps, and what a list of them says of one word.
+-- Steps, and functions of a list of steps on one word.
 use Rattle.std.specs.Prelude.{◌≡◌, ℕ, ◌+◌, ◌<◌, ◌≤◌, ◌==◌, max, if◌then◌else◌, filter, List, [], ◌∷◌}
 use Rattle.words_core.specs.declared.trace.StepKind.{StepKind}
 use Rattle.words_core.specs.declared.trace.StepKind.TheVariants.{Load, Add, Won, Lost, Raise, Shown, Shut}
@@ -36,7 +36,7 @@ shut w m = record { kind = Shut; word = w; operand = m; value = m }
 abbrev pub set_once_step : ℕ → ℕ → Step
 set_once_step w found = if found == 0 then won w else lost w
 
--- n if the kinds are one, and else 0
+-- n if the kinds are equal, and else 0
 abbrev pub if_kind : StepKind → StepKind → ℕ → ℕ
 if_kind Load Load n = n
 if_kind Add Add n = n
@@ -47,7 +47,7 @@ if_kind Shown Shown n = n
 if_kind Shut Shut n = n
 if_kind wanted kind n = 0
 
--- what a step added
+-- the amount that a step added
 abbrev pub amount_of : Step → ℕ
 amount_of s = if_kind Add s.kind s.operand
 
@@ -89,11 +89,11 @@ is_sight_of x s = if_kind Raise s.kind (if s.value == x then 1 else 0) + if_kind
 abbrev pub is_shut : Step → ℕ
 is_shut s = if_kind Shut s.kind 1
 
--- what a closing left of the mark, or 0
+-- the mark that a closing left, or 0
 abbrev pub shut_to : Step → ℕ
 shut_to s = if_kind Shut s.kind s.value
 
--- f of each, added up
+-- the sum of f over a list
 abbrev pub total : {A : Type 0} → (A → ℕ) → List A → ℕ
 total f [] = 0
 total f (x ∷ xs) = f x + total f xs
@@ -107,11 +107,11 @@ abbrev pub greatest : List Step → ℕ
 greatest [] = 0
 greatest (s ∷ steps) = max s.value (greatest steps)
 
--- the sum of what was added
+-- the sum of the additions
 abbrev pub added : List Step → ℕ
 added steps = total amount_of steps
 
--- the greatest that was raised to, or 0
+-- the greatest value to which the word was raised, or 0
 abbrev pub raised : List Step → ℕ
 raised [] = 0
 raised (s ∷ steps) = max (target_of s) (raised steps)
@@ -129,7 +129,7 @@ wins_of w steps = total is_win (on w steps)
 abbrev pub shuts_of : ℕ → List Step → ℕ
 shuts_of w steps = total is_shut (on w steps)
 
--- what that left, or 0
+-- the mark that the closing left, or 0
 abbrev pub mark_of : ℕ → List Step → ℕ
 mark_of w steps = total shut_to (on w steps)
 
@@ -161,7 +161,7 @@ WasRaised w x steps = 0 < total (is_raise_to x) (on w steps)
 abbrev pub SightsWereRaised : ℕ → List Step → Type 0
 SightsWereRaised w steps = (x : ℕ) → 0 < x → WasShown w x steps → WasRaised w x steps
 
--- of a claim or a flag, if the steps are all that were made: it was won once at most, and once if it was lost
+-- for all steps on a claim or a flag: it was won at most once, and exactly once if it was lost
 pub record IsDecided (w : ℕ) (steps : List Step) : Type 0 where
   pub once : wins_of w steps ≤ 1
   pub lost : 0 < losses_of w steps → wins_of w steps ≡ 1

@@ -1,4 +1,4 @@
--- That a flag was won, as contracts see it.
+-- The token of a flag's winner, as contracts see it.
 use Rattle.std.specs.Prelude.{ℕ}
 use Rattle.words_core.specs.Words.{WordsModel}
 

@@ -1,9 +1,9 @@
--- Which set of words it is, as contracts see it.
+-- The identity of a set of words, as contracts see it.
 use Rattle.std.specs.Prelude.{ℕ}
 use Rattle.atomic_table.specs.Seated.{TableId}
 use Rattle.words_core.specs.declared.words.Sizes.{Sizes}
 
--- what no other set of words shares with it, and how many contexts, buffers and flags it has
+-- a value that no other set of words has, and the number of its contexts, buffers and flags
 pub record WordsModel : Type 0 where
   pub table : TableId
   pub contexts : ℕ

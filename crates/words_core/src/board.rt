@@ -1,4 +1,4 @@
-// The board: an entry for each buffer, context and usage, which only rises.
+//! The board: a lock-free table of max-registers, one for each buffer, context and usage.
 ghost use Rattle.std.specs.Prelude.{◌≡◌, ◌<◌, ◌≤◌};
 ghost use Rattle.words_core.specs.declared.seat.TheConstants.{PARTS};
 ghost use Rattle.words_core.specs.Layout.{board_word, IsBoardWord};
@@ -12,8 +12,8 @@ use crate::words::Words;
 use point_core::{Context, Usage};
 
 impl Words {
-    /// Raises a buffer's entry for a context and a usage to a point, if it is less, by one fetch_max. It answers
-    /// the entry after it, which is no less than any value that the seat has seen of it or raised it to.
+    /// Raises a buffer's entry for a context and a usage to a point, if it is less, by one fetch_max. It returns the
+    /// entry after it, which is no less than any value that the seat has seen there or raised it to.
     pub fn raise(
         &self,
         seat: &mut Seat,
@@ -36,7 +36,7 @@ impl Words {
     }
 
     /// A buffer's entry for a context and a usage, by one load. It is no less than any value that the seat has seen
-    /// of it or raised it to.
+    /// there or raised it to.
     pub fn shown(&self, seat: &mut Seat, buffer: usize, ctx: Context, usage: Usage) -> u64
         requires own { seat.old.words ≡ self.now }
         requires buffer { buffer < self.now.buffers }
@@ -50,7 +50,7 @@ impl Words {
         self.shown_at(seat, place)
     }
 
-    // The fetch_max on an entry, and the greater of both, which it leaves.
+    // The fetch_max on an entry; returns the maximum, which it leaves there.
     fn raise_at(&self, seat: &mut Seat, place: usize, point: u64) -> u64
         requires own { seat.old.words ≡ self.now }
         requires entry { IsBoardWord (sizes_of self.now) place }
@@ -76,7 +76,7 @@ impl Words {
         self.table.shared.load::<LoadsEntry>(&mut seat.token, place)
     }
 
-    // The load of a seat with all parts: the greatest point that its trace has raised the entry to.
+    // The load of a seat with all parts: the greatest point to which its trace has raised the entry.
     pub(crate) fn top_at(&self, seat: &mut Seat, place: usize) -> u64
         requires own { seat.old.words ≡ self.now }
         requires entry { IsBoardWord (sizes_of self.now) place }

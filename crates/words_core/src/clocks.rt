@@ -1,4 +1,4 @@
-// The loads that find the clocks of contexts.
+//! Loads of clocks: one of a context's mark, and if it is open one of its value.
 ghost use Rattle.std.specs.Prelude.{◌≡◌, ◌≤◌, true, replicate};
 ghost use Rattle.point_core.specs.Clocks.{reached_by};
 ghost use Rattle.point_core.specs.declared.context.TheConstants.{CONTEXTS};
@@ -11,9 +11,9 @@ use crate::words::Words;
 use point_core::{Clock, Context, Point, Reach};
 
 impl Words {
-    /// The clock of a context, by one load of its mark, which has both if it is closed, and one of its value if it
-    /// is open. It reaches no less than what the seat has seen. A closed one stays as it is, at no less than any value that
-    /// the seat has seen.
+    /// The clock of a context, by one load of its mark, which has both facts if the context is closed, and one of its
+    /// value if it is open. It reaches no less than the seat has seen. The clock of a closed context never changes, and
+    /// its value is no less than any that the seat has seen.
     pub fn clock(&self, seat: &mut Seat, ctx: Context) -> Clock
         requires own { seat.old.words ≡ self.now }
         requires context { ctx ≤ self.now.contexts }
@@ -38,11 +38,11 @@ impl Words {
         }
     }
 
-    /// What the clocks of all contexts reach, by the loads of each, in rising order: no one moment need have had them all.
-    /// That is the value of an open context, and the greatest value of a closed one. Each clock is as `clock` finds it, so a
-    /// point that was signalled or cancelled stays so. Past the last context it is 0.
+    /// The reach of the clocks of all contexts, by loads in rising order: no single moment need have had all of them.
+    /// It has the value of an open context, and the greatest value of a closed one. Each clock is loaded as by `clock`,
+    /// so a point that was signalled or cancelled stays so. Past the last context it is 0.
     ///
-    /// Users of the library call it; no program here does.
+    /// For users of the library; no program here calls it.
     pub fn load_all(&self, seat: &mut Seat) -> Reach
         requires own { seat.old.words ≡ self.now }
         ensures loaded { HasLoadedAll seat.old seat.new result }

@@ -1,4 +1,5 @@
-// A driver: the one that advances a context.
+//! `Driver`: the exclusive writer token of a context. Only one is ever made for each context, so an increment can't
+//! race.
 ghost use Rattle.std.specs.Prelude.{◌≡◌, ◌+◌, ◌^◌, ◌<◌, ◌≤◌, ◌↔◌, IfOk, IfErr, IsErr, OnErr};
 ghost use Rattle.point_core.specs.Reach.{GREATEST};
 ghost use Rattle.point_core.specs.declared.refusal.Refusal.TheVariants as refusal;
@@ -11,7 +12,7 @@ use crate::words::Words;
 use point_core::{Context, Refusal};
 use std::marker::Model;
 
-/// The right to advance one context, with its value. `Words::driver` gives one for each context at most.
+/// The right to advance one context, with its value. `Words::driver` makes at most one for each context.
 #[derive(Drop)]
 pub struct Driver {
     pub(crate) seat: Seat,
@@ -36,7 +37,7 @@ impl Model for Driver {
 }
 
 impl Driver {
-    /// Adds n to the context by one fetch_add, and answers its new value, as sw_sync's increment does; ours does not
+    /// Adds n to the context by one fetch_add, and returns its new value, as sw_sync's increment does; ours does not
     /// wrap.
     ///
     /// Fails only with `Overflow`, if the value would pass the greatest u64. No step is made then.
@@ -60,7 +61,7 @@ impl Driver {
         Ok(self.value)
     }
 
-    /// The value of its context: the sum of all that its seat has added.
+    /// The value of its context: the sum of its seat's additions.
     pub fn value(&self) -> u64
         ensures value { result ≡ self.now.value }
         ensures sum { result ≡ added_to self.now.seat self.now.ctx }
@@ -68,12 +69,11 @@ impl Driver {
         self.value
     }
 
-    /// Closes the context at its value, by one fetch_or on its mark, and gives its seat back. Its pending points are
-    /// cancelled, as those of a sw_sync timeline are by Linux's `sw_sync_debugfs_release`, and nobody advances it or closes
-    /// it again.
+    /// Closes the context at its value, by one fetch_or on its mark, and returns its seat. Its pending points are
+    /// cancelled, as Linux's `sw_sync_debugfs_release` does, and no one advances it or closes it again.
     ///
-    /// Fails only with `Overflow`, at the greatest value, if no point is left to cancel, and hands itself back. No step
-    /// is made then.
+    /// Fails only with `Overflow`, at the greatest value, if no point is left to cancel, and returns the driver. No
+    /// step is made then.
     pub fn close(self, words: &Words) -> Result<Seat, (Refusal, Driver)>
         requires own { self.seat.words ≡ words.now }
         ensures shut { IfOk result (λ seat. seat ≡ with_step self.seat (shut (mark_word self.ctx) (self.value + 1))) }
@@ -91,7 +91,7 @@ impl Driver {
         Ok(seat)
     }
 
-    /// Its seat again, which has won the context's claim. Nobody advances the context afterwards.
+    /// Returns its seat, which has won the context's claim. No one advances the context afterwards.
     pub fn finish(self) -> Seat
         ensures seat { result ≡ self.seat }
         ensures won { 0 < wins_of (claim_word self.ctx) result.trace }

@@ -1,4 +1,4 @@
-// Flags, which are set once.
+//! Flags: ownership bits that are set once, as the kernel's `DMA_FENCE_FLAG_SIGNALED_BIT`.
 ghost use Rattle.std.specs.Prelude.{◌≡◌, ◌+◌, ◌<◌, ◌≤◌};
 ghost use Rattle.words_core.specs.declared.seat.TheConstants.{PARTS};
 ghost use Rattle.words_core.specs.Layout.{flag_word};
@@ -27,8 +27,7 @@ impl Model for Won {
 }
 
 impl Won {
-    /// The flag.
-    /// Users of the library call it; no program here does.
+    /// The number of the flag. For users of the library; no program here calls it.
     pub fn flag(&self) -> usize
         ensures { result ≡ self.now.flag }
     {
@@ -36,7 +35,7 @@ impl Won {
     }
 }
 
-/// Whether a call set the flag.
+/// Whether this call set the flag.
 #[derive(Drop)]
 pub enum Once {
     First(Won),
@@ -44,11 +43,11 @@ pub enum Once {
 }
 
 impl Words {
-    /// Sets a flag, by one test-and-set, as the kernel's `dma_fence_signal` sets a fence's flag. It answers `First`
-    /// to the call that found it 0, and to all others `Already`, which found it set.
+    /// Sets a flag, by one test-and-set, as the kernel's `dma_fence_signal` sets a fence's flag. It returns `First` to
+    /// the call that found it 0, and `Already` to all others.
     ///
-    /// A seat knows of each test-and-set that it made, and of those that its parent knew of when it was parted. If
-    /// it knows of any, the answer is `Already`.
+    /// A seat knows of each test-and-set that it made, and of the ones that its parent knew of when it was parted. If
+    /// it knows of any, the result is `Already`.
     pub fn set_once(&self, seat: &mut Seat, flag: usize) -> Once
         requires own { seat.old.words ≡ self.now }
         requires flag { flag < self.now.flags }
@@ -70,7 +69,7 @@ impl Words {
         }
     }
 
-    // The test-and-set of a flag, with the number that it found.
+    // The test-and-set of a flag; returns the number that it found.
     fn set_flag(&self, seat: &mut Seat, flag: usize) -> u64
         requires own { seat.old.words ≡ self.now }
         requires flag { flag < self.now.flags }

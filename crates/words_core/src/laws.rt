@@ -1,4 +1,4 @@
-//! What holds of all words and seats: each law is the contract of a function with an empty body.
+//! Theorems about all words and seats: each law is the contract of a function with an empty body.
 ghost use Rattle.std.specs.Prelude.{◌≡◌, ◌≢◌, ◌↔◌, ℕ, ◌+◌, ◌/◌, ◌<◌, ◌≤◌, ◌⊎◌, List};
 ghost use Rattle.point_core.specs.Clocks.{common_status};
 ghost use Rattle.point_core.specs.declared.entry.Point.{Point};
@@ -12,8 +12,8 @@ ghost use Rattle.words_core.specs.Loads.{clocks_seen, HasLoadedAll};
 ghost use Rattle.words_core.specs.Seat.{SeatModel, seen, tests_of, with_step, parted, both_of};
 ghost use Rattle.words_core.specs.Words.{WordsModel};
 
-/// No two entries of the board are one word, and those of two buffers or two contexts lie on two lines. An entry is on
-/// the line of a context's value exactly if it is of the first buffer and that context.
+/// No two entries of the board are one word, and entries of two buffers or two contexts are on two lines. An entry is
+/// on the line of a context's value exactly if it belongs to the first buffer and that context.
 pub fn entries_lie_apart()
     ensures words { (words : WordsModel) (buffer ctx other other_ctx : ℕ) (usage other_usage : Usage) →
         1 ≤ ctx → ctx ≤ words.contexts → 1 ≤ other_ctx → other_ctx ≤ words.contexts →
@@ -29,8 +29,8 @@ pub fn entries_lie_apart()
         ((buffer ≡ 0) × (ctx ≡ other_ctx)) }
 {}
 
-/// Each word is the value of a context or its mark, a claim or a flag, an entry of the board, or unused. So the rule says all that
-/// a word can be.
+/// Each word is the value of a context or its mark, a claim or a flag, an entry of the board, or unused. So the rule
+/// covers every word.
 pub fn each_word_has_a_kind()
     ensures { (sizes : Sizes) (k : ℕ) →
         k < word_count sizes →
@@ -38,8 +38,8 @@ pub fn each_word_has_a_kind()
         IsBoardWord sizes k ⊎ IsUnused sizes k }
 {}
 
-/// What a seat has seen, and what it knows to have been won or lost, stays so, goes to each seat that is parted from
-/// it, and is joined.
+/// What a seat has seen, and what it knows to have been won or lost, is never lost: a seat that is parted from it
+/// starts with it, and joining two seats keeps what both know.
 pub fn what_is_known_stays_known()
     ensures seen_later { (seat : SeatModel) (s : Step) (w : ℕ) → seen seat w ≤ seen (with_step seat s) w }
     ensures later { (seat : SeatModel) (s : Step) (w : ℕ) → tests_of seat w ≤ tests_of (with_step seat s) w }
@@ -47,8 +47,8 @@ pub fn what_is_known_stays_known()
     ensures joined { (seat other : SeatModel) (w : ℕ) → tests_of (both_of seat other) w ≡ tests_of seat w + tests_of other w }
 {}
 
-/// Points that were signalled by what a seat had seen are signalled by each later load of all clocks, and none of them is
-/// cancelled by one; points with a cancelled one among them stay cancelled.
+/// Points that were signalled by the values that a seat had seen are signalled by each later load of all clocks, and no
+/// load cancels one; a set of points with a cancelled one stays cancelled.
 pub fn what_is_settled_stays_so()
     ensures { (before after : SeatModel) (reach : List ℕ) (points : List Point) →
         HasLoadedAll before after reach → common_status (clocks_seen before) points ≢ Active →

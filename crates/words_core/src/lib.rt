@@ -1,7 +1,8 @@
-//! Words that threads share, each under one rule, and the seats that step on them.
+//! Words that threads share, each under one rule, and seats, the thread tokens with which threads step on them.
 //!
-//! A thread steps with its own `Seat`, which keeps a trace of its steps. What one seat may conclude of the others'
-//! steps is the rule, which holds between any two steps whatever the schedule. No call waits.
+//! A thread steps with its own `Seat`, a fractional permission that keeps a ghost trace of its steps. The rule
+//! (`plays.rt`) is an invariant of the words and all traces, which each step keeps whatever the schedule; from it a
+//! seat infers what others can have done. No call waits.
 #![tactic(auto)]
 
 mod board;

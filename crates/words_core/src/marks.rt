@@ -1,4 +1,4 @@
-// The steps on the marks of contexts, which say that a context is closed.
+//! Marks: a word for each context that says whether it is closed. Its driver sets it, once.
 ghost use Rattle.std.specs.Prelude.{◌≡◌, ◌+◌, ◌^◌, ◌<◌, ◌≤◌};
 ghost use Rattle.words_core.specs.declared.seat.TheConstants.{PARTS};
 ghost use Rattle.words_core.specs.Layout.{value_word, claim_word, mark_word};
@@ -12,7 +12,7 @@ use crate::words::{LINE_WORDS, MARK, Words};
 use point_core::Context;
 
 impl Words {
-    // The driver's fetch_or: the mark was 0, since nobody else closes the context.
+    // The driver's fetch_or: the mark was 0, since no one else closes the context.
     pub(crate) fn shut(&self, seat: &mut Seat, ctx: Context, mark: u64)
         requires own { seat.old.words ≡ self.now }
         requires context { ctx ≤ self.now.contexts }

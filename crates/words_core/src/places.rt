@@ -1,4 +1,4 @@
-// Where the words lie in the table.
+//! The layout: the index of each word in the table.
 ghost use Rattle.std.specs.Prelude.{◌≡◌, ◌<◌, ◌≤◌};
 ghost use Rattle.words_core.specs.Layout.{board_word, flag_word, word_count, IsBoardWord};
 ghost use Rattle.words_core.specs.Words.{sizes_of};
@@ -7,7 +7,7 @@ use crate::words::{LINE_WORDS, Words};
 use point_core::{Context, Usage};
 
 impl Words {
-    // The place of an entry of the board.
+    // The index of an entry of the board.
     pub(crate) fn entry_place(&self, buffer: usize, ctx: Context, usage: Usage) -> usize
         requires buffer { buffer < self.now.buffers }
         requires context { ctx ≤ self.now.contexts }
@@ -18,7 +18,7 @@ impl Words {
         LINE_WORDS * line + 1 + usize::from(usage.number())
     }
 
-    // The place of a flag.
+    // The index of a flag.
     pub(crate) fn flag_place(&self, flag: usize) -> usize
         requires flag { flag < self.now.flags }
         ensures value { result ≡ flag_word self.now flag }

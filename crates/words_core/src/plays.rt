@@ -1,4 +1,5 @@
-// The rule of the words, what each kind of step shows, and how views are split and joined.
+//! The rule of the words, what each kind of step shows to its seat, and how views are split and joined. Each kind of
+//! step keeps the rule (`proofs/`), and no other kind exists.
 ghost use Rattle.std.specs.Prelude.{ℕ};
 ghost use Rattle.words_core.specs.Rule.{IsKept, first_view};
 ghost use Rattle.words_core.specs.Plays.{loads_value, claims_context, adds_to_value, loads_mark, shuts_mark, counts_parts, loads_total, loads_total_mark, sets_once, loads_flag, loads_entry, raises_entry, loads_top, parent_view, child_view, joined_view, joined_from};
@@ -40,7 +41,7 @@ impl Play<(), View> for CountsParts {
     ghost then = { counts_parts };
 }
 
-// By a seat with all parts.
+// by a seat with all parts
 pub struct LoadsTotal;
 
 impl Play<(), View> for LoadsTotal {
@@ -59,7 +60,7 @@ impl Play<(), View> for ShutsMark {
     ghost then = { shuts_mark };
 }
 
-// By a seat with all parts.
+// by a seat with all parts
 pub struct LoadsTotalMark;
 
 impl Play<(), View> for LoadsTotalMark {
@@ -72,7 +73,7 @@ impl Play<(), View> for SetsOnce {
     ghost then = { sets_once };
 }
 
-// By a seat with all parts.
+// by a seat with all parts
 pub struct LoadsFlag;
 
 impl Play<(), View> for LoadsFlag {
@@ -91,14 +92,14 @@ impl Play<(), View> for RaisesEntry {
     ghost then = { raises_entry };
 }
 
-// By a seat with all parts.
+// by a seat with all parts
 pub struct LoadsTop;
 
 impl Play<(), View> for LoadsTop {
     ghost then = { loads_top };
 }
 
-// The number of parts that go to a new seat, which each call picks.
+// The number of parts that go to a new seat; each call chooses it.
 pub trait PartCount {
     ghost count: { ℕ };
 }

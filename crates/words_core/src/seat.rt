@@ -1,4 +1,4 @@
-// A seat: what a thread steps with.
+//! `Seat`: a thread token with a fractional permission on a set of words.
 ghost use Rattle.std.specs.Prelude.{◌≡◌, ◌≢◌, ◌+◌, ◌≤◌, IfOk, IfErr};
 ghost use Rattle.words_core.specs.declared.seat.TheConstants.{PARTS};
 
@@ -6,13 +6,13 @@ use crate::trace::View;
 use crate::whole::Whole;
 use std::marker::Model;
 
-/// The parts of a set of words, which its seats share. A dropped seat takes its parts with it.
+/// The parts of a set of words, which its seats share (fractions of one permission). Dropping a seat loses its parts.
 pub const PARTS: u32 = 65_536;
 
 const _: () = prove!(PARTS == 65_536);
 
-/// A thread's right to step on a set of words, with a trace of its steps and a start, what its parent had seen when it
-/// was parted. Both are ghost state: at run time a seat is only its number of parts.
+/// A thread's right to step on a set of words, with a trace of its steps and a start: the steps that its parent knew
+/// when it was parted. Both are ghost state; at run time a seat is only its number of parts.
 #[derive(Drop)]
 pub struct Seat {
     pub(crate) token: atomic_table::Seat<(), View>,
@@ -39,7 +39,7 @@ impl Model for Seat {
 }
 
 impl Seat {
-    /// Its number of parts.
+    /// The number of its parts.
     pub fn parts(&self) -> u32
         ensures value { result ≡ self.now.parts }
         ensures within { (1 ≤ result) × (result ≤ PARTS) }
@@ -47,8 +47,8 @@ impl Seat {
         self.parts
     }
 
-    /// A seat with all parts has made every step on the words. Otherwise returns the seat and the number of parts that are
-    /// missing. If a seat was dropped, its parts are missing for good.
+    /// Turns a seat with all parts, which has made every step on the words, into a `Whole`. Otherwise returns the seat
+    /// and the number of parts that are missing. If a seat was dropped, its parts are missing for good.
     pub fn gather(self) -> Result<Whole, (Seat, u32)>
         ensures all { IfOk result (λ whole. (whole ≡ self) × (self.parts ≡ PARTS)) }
         ensures missing { IfErr result (λ e. (e.0 ≡ self) × (self.parts ≢ PARTS) × (e.1 + self.parts ≡ PARTS)) }

@@ -1,22 +1,22 @@
-// What a seat knows. These are words of contracts: only proofs have values of these types.
+//! Steps and views: the ghost history of a seat. Only contracts use these types, and only proofs have values of them.
 use crate::words::Sizes;
 use std::collections::LinkedList;
 
-/// What a step does to its word.
+/// The kind of a step.
 pub enum StepKind {
-    /// Reads it.
+    /// Reads the word.
     Load,
-    /// Adds the operand to it.
+    /// Adds the operand to the word.
     Add,
-    /// Sets it from 0 to 1.
+    /// Sets the word from 0 to 1.
     Won,
-    /// Finds that it was set.
+    /// Finds that the word was set.
     Lost,
-    /// Raises it to the operand, if it is less.
+    /// Raises the word to the operand, if it is less.
     Raise,
-    /// Reads it, of an entry of the board.
+    /// Reads an entry of the board.
     Shown,
-    /// Sets it from 0 to the operand, of the mark of a context.
+    /// Sets the mark of a context from 0 to the operand.
     Shut,
 }
 
@@ -25,13 +25,13 @@ pub struct Step {
     pub kind: StepKind,
     pub word: u64,
     pub operand: u64,
-    /// The value that it found, or for what changes the value, left. It is 0 for a word that is set once.
+    /// The value that a read found, or that a change left. It is 0 for a word that is set once.
     pub value: u64,
 }
 
 /// What a seat knows and has done. A seat with no parts is spent.
 pub struct View {
-    /// How many words of each kind there are.
+    /// The number of words of each kind.
     pub sizes: Sizes,
     pub parts: u64,
     /// The steps that its parent knew when it was parted.

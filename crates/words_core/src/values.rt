@@ -1,4 +1,4 @@
-// The steps on the claims and values of contexts.
+//! Claims and values of contexts: a claim is won once, by the driver, and only the driver adds to the value.
 ghost use Rattle.std.specs.Prelude.{◌≡◌, ◌+◌, ◌^◌, ◌<◌, ◌≤◌, true, replicate, IfOk, IfErr, MatchBool};
 ghost use Rattle.point_core.specs.declared.context.TheConstants.{CONTEXTS};
 ghost use Rattle.point_core.specs.declared.refusal.Refusal.TheVariants as refusal;
@@ -17,8 +17,8 @@ use point_core::{Context, Point, Reach, Refusal};
 impl Words {
     /// The right to advance a context, by one test-and-set of its claim.
     ///
-    /// Fails only with `Exists`, from the second claim on that was ever made on the context, and hands the seat back.
-    /// If it is Ok, neither the seat nor those that it descends from knew of a claim.
+    /// Fails only with `Exists`, if a claim was made on the context before, and returns the seat. If it is Ok, neither
+    /// the seat nor its ancestors knew of a claim.
     pub fn driver(&self, mut seat: Seat, ctx: Context) -> Result<Driver, (Refusal, Seat)>
         requires own { seat.words ≡ self.now }
         requires context { ctx ≤ self.now.contexts }
@@ -38,7 +38,7 @@ impl Words {
         }
     }
 
-    // The test-and-set of a claim: true if it was 0. Then its context's value is 0 too, which a driver starts from.
+    // The test-and-set of a claim: true if it was 0. Then its context's value is 0 too, from which a driver starts.
     fn claim(&self, seat: &mut Seat, ctx: Context) -> bool
         requires own { seat.old.words ≡ self.now }
         requires context { ctx ≤ self.now.contexts }
@@ -55,7 +55,8 @@ impl Words {
             == 0
     }
 
-    // The driver's fetch_add: the word is what the seat has added, since nobody else adds, so the sum does not wrap.
+    // The driver's fetch_add: the word is the sum of the seat's additions, since no one else adds, so the sum does not
+    // wrap.
     pub(crate) fn add(&self, seat: &mut Seat, ctx: Context, n: u64) -> u64
         requires own { seat.old.words ≡ self.now }
         requires context { ctx ≤ self.now.contexts }
@@ -86,7 +87,7 @@ impl Words {
             .load::<LoadsValue>(&mut seat.token, LINE_WORDS * ctx.index())
     }
 
-    // The load of a seat with all parts: the word is all that its trace has added.
+    // The load of a seat with all parts: the word is the sum of its trace's additions.
     pub(crate) fn total(&self, seat: &mut Seat, ctx: Context) -> u64
         requires own { seat.old.words ≡ self.now }
         requires context { ctx ≤ self.now.contexts }

@@ -1,4 +1,4 @@
-// A seat with all parts.
+//! `Whole`: a seat with all parts (full permission), which therefore knows every step.
 ghost use Rattle.std.specs.Prelude.{◌≡◌, ◌+◌, ◌<◌, ◌≤◌, true, if◌then◌else◌};
 ghost use Rattle.words_core.specs.Layout.{value_word, claim_word, mark_word, board_word, flag_word};
 ghost use Rattle.words_core.specs.Rule.{IsZeroOr};
@@ -29,8 +29,8 @@ impl Model for Whole {
 }
 
 impl Whole {
-    /// The value of a context, by one load: the sum of all that was ever added to it. Each value that was loaded from
-    /// it is 0 or was left by an addition, and one driver at most was ever given for it.
+    /// The value of a context, by one load: the sum of all additions ever made to it. Each value that was loaded is 0
+    /// or was left by an addition, and at most one driver was ever made for the context.
     pub fn value(&mut self, words: &Words, ctx: Context) -> u64
         requires own { self.old.words ≡ words.now }
         requires context { ctx ≤ words.now.contexts }
@@ -43,8 +43,8 @@ impl Whole {
         words.total(&mut self.seat, ctx)
     }
 
-    /// Whether a context is closed, by one load of its mark: if its driver has closed it, once, at the value that it had
-    /// left. Each mark that was loaded is 0 or that one.
+    /// Whether a context is closed, by one load of its mark: if its driver has closed it, once, at its last value. Each
+    /// mark that was loaded is 0 or that value and 1.
     pub fn closed(&mut self, words: &Words, ctx: Context) -> bool
         requires own { self.old.words ≡ words.now }
         requires context { ctx ≤ words.now.contexts }
@@ -58,8 +58,8 @@ impl Whole {
         words.total_mark(&mut self.seat, ctx) > 0
     }
 
-    /// A buffer's entry of the board for a context and a usage, by one load: the greatest point that it was ever raised
-    /// to, or 0. Each value that it showed is 0 or such a point.
+    /// A buffer's entry of the board for a context and a usage, by one load: the greatest point to which it was ever
+    /// raised, or 0. Each value that it showed is 0 or such a point.
     pub fn top(&mut self, words: &Words, buffer: usize, ctx: Context, usage: Usage) -> u64
         requires own { self.old.words ≡ words.now }
         requires buffer { buffer < words.now.buffers }
@@ -73,8 +73,8 @@ impl Whole {
         words.top_at(&mut self.seat, place)
     }
 
-    /// Whether a flag is set, by one load: exactly when one step has won it, once.
-    /// Users of the library call it; no program here does.
+    /// Whether a flag is set, by one load: exactly if one step has won it, once. For users of the library; no program
+    /// here calls it.
     pub fn flag(&mut self, words: &Words, flag: usize) -> bool
         requires own { self.old.words ≡ words.now }
         requires flag { flag < words.now.flags }
@@ -87,8 +87,7 @@ impl Whole {
         words.total_flag(&mut self.seat, flag) == 1
     }
 
-    /// The seat again.
-    /// Users of the library call it; no program here does.
+    /// Returns the seat. For users of the library; no program here calls it.
     pub fn seat(self) -> Seat
         ensures { result ≡ self }
     {

@@ -1,4 +1,5 @@
-// A set of words, and its seats.
+//! `Words`: a fixed table of atomic words that threads share by reference: contexts, the board and flags, each with its
+//! own rule.
 ghost use Rattle.std.specs.Prelude.{◌≡◌, ℕ, ◌+◌, ◌<◌, ◌≤◌, ◌⊎◌, [], IfOk, IfErr, max};
 ghost use Rattle.point_core.specs.declared.context.TheConstants.{CONTEXTS};
 ghost use Rattle.point_core.specs.declared.limits.TheConstants.{BUFFERS};
@@ -23,25 +24,25 @@ pub const FLAGS: usize = 65_536;
 
 const _: () = prove!(FLAGS == 65_536);
 
-/// How many words lie on a cache line of 64 bytes. Each buffer has a line for each context, so that no two timelines
-/// share one, and neither do the entries of two buffers. The first buffer's has the context's value, claim and mark too,
-/// so that one line tells of both.
+/// The number of words on a cache line of 64 bytes. Each buffer has a line for each context, so that no two timelines
+/// share a line, and no two buffers do. The first buffer's line also has the context's value, claim and mark, so that
+/// one cache line has all of them.
 pub const LINE_WORDS: usize = 8;
 
 const _: () = prove!(LINE_WORDS * 8 == 64);
 
-/// How many usages there are: a buffer has an entry for each, of each context.
+/// The number of usages: a buffer has an entry for each usage, of each context.
 pub const USAGES: usize = 4;
 
 const _: () = prove!(USAGES == 4);
 
-// Where on its context's line a claim lies: after the value and the first buffer's entries.
+// The offset of a claim on its context's line: after the value and the first buffer's entries.
 pub(crate) const CLAIM: usize = 1 + USAGES;
 
-// Where on its context's line a mark lies: after the claim.
+// The offset of a mark on its context's line: after the claim.
 pub(crate) const MARK: usize = 2 + USAGES;
 
-/// How many contexts, buffers and flags a set of words has.
+/// The number of contexts, buffers and flags of a set of words.
 #[derive(Clone, Copy)]
 pub struct Sizes {
     pub contexts: usize,
@@ -49,7 +50,7 @@ pub struct Sizes {
     pub flags: usize,
 }
 
-/// Words that threads share by reference. Each thread steps with a seat of its own, and no step waits.
+/// Words that threads share by reference. Each thread steps with its own seat, and no step waits.
 #[derive(Drop)]
 pub struct Words {
     pub(crate) table: Table<(), View, Sizes, WordsRule, Global>,
@@ -78,7 +79,8 @@ impl Words {
     /// A set of words that are all 0, and its first seat, which has all parts.
     ///
     /// Fails, in this order, with `Limit(Timelines)` if the contexts are not 1 to `CONTEXTS`, with `Limit(Buffers)` if
-    /// there are more than `BUFFERS` buffers, with `Limit(Flags)` if there are more than `FLAGS` flags, and with `Memory`.
+    /// there are more than `BUFFERS` buffers, with `Limit(Flags)` if there are more than `FLAGS` flags, and with
+    /// `Memory`.
     pub fn new(
         alloc: Global,
         contexts: usize,
@@ -146,7 +148,7 @@ impl Words {
         self.sizes.flags
     }
 
-    /// A new seat with n of the parts, for another thread. It starts with all that this one has seen.
+    /// A new seat with n of the parts, for another thread. It knows all that this one has seen.
     pub fn part(&self, seat: &mut Seat, n: u32) -> Seat
         requires own { seat.old.words ≡ self.now }
         requires parts { (1 ≤ n) × (n < seat.old.parts) }
@@ -174,8 +176,8 @@ impl Words {
         Seat { token, parts: n }
     }
 
-    /// Takes in another seat of the same words: its parts, its start and its trace, which follow this one's. No claim
-    /// and no flag was won by both, so no two drivers of one context ever meet.
+    /// Joins another seat of the same words: its parts, its start and its trace, which follow this one's. No claim and
+    /// no flag was won by both, so two drivers of one context never meet.
     pub fn join(&self, seat: &mut Seat, other: Seat)
         requires own { (seat.old.words ≡ self.now) × (other.words ≡ self.now) }
         ensures both { seat.new ≡ both_of seat.old other }
@@ -185,8 +187,8 @@ impl Words {
         self.absorb(seat, other);
     }
 
-    // The join, and a second load of word 0, which shows that the parts are no more than all and each word won once
-    // at most: a join by itself shows its caller nothing of the rule.
+    // The join, and a second load of word 0, which shows that the parts are no more than all and each word was won at
+    // most once: a join by itself shows its caller nothing of the rule.
     fn absorb(&self, seat: &mut Seat, other: Seat)
         requires own { (seat.old.words ≡ self.now) × (other.words ≡ self.now) }
         ensures both { seat.new ≡ both_of seat.old other }
@@ -200,7 +202,7 @@ impl Words {
         seat.parts += parts;
     }
 
-    /// A name of these words. It reads none of them.
+    /// An identifier of these words. No word is read.
     pub fn id(&self) -> WordsId
         ensures { result ≡ self.now }
     {
@@ -210,7 +212,7 @@ impl Words {
     }
 }
 
-/// Names a set of words, for a value that goes with them. It has no bytes, and no step is made with it.
+/// Identifies a set of words, for a value that belongs to them. It has no bytes, and takes no step.
 #[derive(Drop)]
 pub struct WordsId {
     words: Snapshot<Words>,
