@@ -1,4 +1,4 @@
--- Why a call is refused.
+-- Causes to refuse a call.
 use Rattle.std.proofs.Common.{[], ◌∷◌, ◌&&◌, ◌≡◌, ℕ, ◌<◌, ◌≤◌, Bool, true, false, refl, sym, ap, ◌∙◌, subst, List, length, Option, None, Some, Result, Ok, Err, inl, inr, is_some, nat_lt, if◌then◌else◌}
 use Rattle.std.specs.List.{list_all}
 use Rattle.syncfile_core.specs.Merge.{cause_to_refuse_merge}
@@ -31,7 +31,7 @@ module _ (fs : List File) (name : List ℕ) where
   cause_to_refuse-none new room =
       ap (λ b. cause_of b (nat_lt (length fs) FILES)) new ∙ ap (cause_of false) (lt-ltb (length fs) FILES room)
 
-  -- with no cause, there is no file of that name, and there is room for one more
+  -- without a cause, there is no file of that name, and room for one more
   pub new-by_cause : cause_to_refuse fs name ≡ None → has_file fs name ≡ false
   new-by_cause none = elim (cases_Bool (has_file fs name)) [
     | inl there ↦ let is = cause_to_refuse-there there in cc

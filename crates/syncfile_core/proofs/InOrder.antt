@@ -1,4 +1,4 @@
--- Lists in the order of their numbers: of the same elements there is one alone.
+-- Sorted lists: the elements determine the list.
 use Rattle.std.proofs.Common.{◌≡◌, ◌≢◌, ℕ, zero, suc, ◌<◌, ◌≤◌, Bool, true, false, cond, nat_eq, nat_lt, if◌then◌else◌, refl, sym, ap, ◌∙◌, subst, List, [], ◌∷◌, ◌++◌, length, map, get_or, inl, inr, ◌⊎◌, arith, Contains}
 use Rattle.std.specs.Bool.{⊤}
 use Rattle.std.specs.List.{IsDistinct, AllByRecursion}
@@ -11,7 +11,7 @@ use Rattle.std.proofs.lemmas.Map.Keys.{IsDistinct-IsPermutation, IsDistinct-head
 use Rattle.syncfile_core.specs.Numbered.{put_in, by_number}
 
 module _ {X : Type 0} (number : X → ℕ) where
-  -- each number is above those before it
+  -- each number is greater than those before it
   abbrev pub Rises : List X → Type 0
   Rises [] = ⊤
   Rises (x ∷ xs) = AllByRecursion (λ y. number x < number y) xs × Rises xs
@@ -76,7 +76,7 @@ module _ {X : Type 0} (number : X → ℕ) where
       let apart = IsDistinct-head nat_eq (number x) (map number (by_number number xs)) (IsDistinct-IsPermutation nat_eq nat_eq_equiv.symm (map number (x ∷ xs)) (map number (x ∷ by_number number xs)) (IsPermutation-map number (x ∷ xs) (x ∷ by_number number xs) all) distinct) in
       Rises-put_in x (by_number number xs) (apart-map (number x) (by_number number xs) apart) (Rises-by_number xs rest)
 
-  -- of two lists by rising numbers
+  -- two lists with rising numbers
 
   all-at : (P : X → Type 0) (xs : List X) (k : ℕ) (d : X) → k < length xs → AllByRecursion P xs → P (get_or xs k d)
   all-at P [] k d low all = absurd (omega (arith, low))
@@ -119,11 +119,11 @@ module _ {X : Type 0} (number : X → ℕ) where
       let rest = same_elements xs ys rises.1 rises'.1 (same_rest x xs y ys rises is there) (same_rest y ys x xs rises' (sym is) back) in
       ap (λ z. z ∷ xs) is ∙ ap (λ zs. y ∷ zs) rest
 
-  -- two rising lists of the same elements are the same
+  -- two rising lists of the same elements are equal
   pub same_rising : (xs ys : List X) → Rises xs → Rises ys → IsPermutation xs ys → xs ≡ ys
   same_rising xs ys rises rises' moved = same_elements xs ys rises rises' (λ x. Contains-permutation xs ys x moved) (λ x. Contains-permutation ys xs x (IsPermutation-sym xs ys moved))
 
-  -- however the elements stand, their order is the same
+  -- the sorted list doesn't depend on the order of the elements
   pub by_number-permuted : (xs ys : List X) → IsDistinct nat_eq (map number xs) → IsPermutation xs ys → by_number number xs ≡ by_number number ys
   by_number-permuted xs ys distinct moved =
       let distinct' = IsDistinct-IsPermutation nat_eq nat_eq_equiv.symm (map number xs) (map number ys) (IsPermutation-map number xs ys moved) distinct in
@@ -131,13 +131,13 @@ module _ {X : Type 0} (number : X → ℕ) where
       (IsPermutation-trans (by_number number xs) xs (by_number number ys) (IsPermutation-sym xs (by_number number xs) (IsPermutation-by_number xs))
       (IsPermutation-trans xs ys (by_number number ys) moved (IsPermutation-by_number ys)))
 
-  -- a rising list of the same elements is the order
+  -- a rising list of the same elements is the sorted list
   pub by_number-is : (xs ys : List X) → IsDistinct nat_eq (map number xs) → IsPermutation xs ys → Rises ys → by_number number xs ≡ ys
   by_number-is xs ys distinct moved rises =
       same_rising (by_number number xs) ys (Rises-by_number xs distinct) rises
       (IsPermutation-trans (by_number number xs) xs ys (IsPermutation-sym xs (by_number number xs) (IsPermutation-by_number xs)) moved)
 
-  -- what does not fall, and has no number twice, rises
+  -- a list whose numbers don't fall and are distinct is rising
   above-from : (x : X) (xs : List X) → ((k : ℕ) (d : X) → k < length xs → number x ≤ number (get_or xs k d)) → AllByRecursion (λ y. nat_eq (number x) (number y) ≡ false) xs → AllByRecursion (λ y. number x < number y) xs
   above-from x [] up apart = tt
   above-from x (y ∷ ys) up apart =
@@ -152,7 +152,7 @@ module _ {X : Type 0} (number : X → ℕ) where
     Rises-from xs (λ i j d rises low. up (suc i) (suc j) d (omega (arith, rises)) (omega (arith, low))) (IsDistinct-tail nat_eq (number x) (map number xs) distinct),
   )
 
-  -- a greatest number goes last
+  -- the element with the greatest number goes last
   put_in-last : (x : X) (ys : List X) (last : X) → number x < number last → put_in number x (ys ++ last ∷ []) ≡ put_in number x ys ++ last ∷ []
   put_in-last x [] last low = ap (λ b. if b then x ∷ last ∷ [] else last ∷ x ∷ []) (lt-ltb (number x) (number last) low)
   put_in-last x (y ∷ ys) last low = by (nat_lt (number x) (number y)) (put_in-last x ys last low)
@@ -165,7 +165,7 @@ module _ {X : Type 0} (number : X → ℕ) where
   by_number-last [] last low = refl
   by_number-last (x ∷ xs) last low = ap (put_in number x) (by_number-last xs last low.1) ∙ put_in-last x (by_number number xs) last low.0
 
--- one entry more, and taken out again
+-- an entry is inserted, and removed again
 pub remove_entry-put_in : {K X : Type 0} (number : K × X → ℕ) (test : K → Bool) (e : K × X) (es : List (K × X)) → test e.0 ≡ true → AllByRecursion (λ key. test key ≡ false) (keys_of es) → remove_entry test (put_in number e es) ≡ es
 remove_entry-put_in number test e [] here apart = ap (λ b. cond b [] (e ∷ [])) here
 remove_entry-put_in number test e (d ∷ es) here apart = by (nat_lt (number e) (number d)) (remove_entry-put_in number test e es here apart.1)

@@ -1,4 +1,4 @@
--- Files in a map by name, each with the number of its making: what an insertion and a removal leave.
+-- Files in a map by name, each with its serial number, after an insertion and a removal.
 use Rattle.std.proofs.Common.{◌≡◌, ℕ, ◌+◌, ◌<◌, Bool, true, false, is_some, refl, sym, ap, ◌∙◌, subst, List, [], ◌∷◌, ◌++◌, length, None, Some, arith, ◌&&◌, ◌||◌, get_or, take, zero, suc, cond, map, nat_eq, inl, inr, option_map, position, Option, option_copied, Bor}
 use Rattle.std.specs.List.{list_all, list_any, cons_option, IsDistinct, AllByRecursion}
 use Rattle.std.specs.List.Sorted.{IsPermutation, IsNonDecreasingBy}
@@ -37,7 +37,7 @@ Entries = List (List ℕ × Made)
 abbrev file_in : Made → File
 file_in m = m.file
 
--- the name of an entry, and the number of its making
+-- the name of an entry, and its serial number
 abbrev pub place_in : List ℕ × Made → Place
 place_in e = record { name = e.0; number = e.1.number }
 
@@ -60,7 +60,7 @@ AreKept-none es next is = subst (λ ds. AreKept ds next) (sym is) (record {
   below = All-nil (λ e. number_of e < next);
 })
 
--- of entries in another order
+-- entries in another order
 module _ (es fs : Entries) (next : ℕ) (moved : IsPermutation es fs) (kept : AreKept es next) where
   pub AreKept-permuted : AreKept fs next
   AreKept-permuted = record {
@@ -77,7 +77,7 @@ module _ (es : Entries) (next : ℕ) (kept : AreKept es next) where
   keyed : IsKeyed file_name file_in (by_number number_of es)
   keyed = keyed-from (by_number number_of es) (recursion_from_All IsUnderItsName (by_number number_of es) ordered.keyed)
 
-  -- the list that such entries are seen as
+  -- the list that such entries represent
 
   pub HasDistinctNames-made : HasDistinctNames (files_made es)
   HasDistinctNames-made = subst (IsDistinct same_name) keyed ordered.distinct
@@ -94,7 +94,7 @@ module _ (es : Entries) (next : ℕ) (kept : AreKept es next) where
   pub has_file-made : (name : List ℕ) → has_file (files_made es) name ≡ is_some (lookup (same_name name) es)
   has_file-made name = has_named-things_in file_name file_in name (by_number number_of es) keyed ∙ ap is_some (found-in_order name)
 
-  -- names and numbers, put in order
+  -- names and numbers, sorted
 
   map-keys : (ds : Entries) → map (λ (p : Place). p.name) (map place_in ds) ≡ keys_of ds
   map-keys [] = refl
@@ -161,7 +161,7 @@ module _ (es : Entries) (next : ℕ) (kept : AreKept es next) where
       below = All-push (λ e. number_of e < next + 1) es (x.name, made) (All-weaker (λ e. number_of e < next) (λ e. number_of e < next + 1) (λ e low. omega (arith, low)) es kept.below) (omega arith);
     }
 
-  -- the file of that name is taken out, and moves no other
+  -- the file with that name is removed, and no other one moves
   module _ (name : List ℕ) where
     taken_out : (ds : Entries) (i : ℕ) → position (same_name name) (keys_of ds) ≡ Some i → (entry : List ℕ × Made) × (same_name name entry.0 ≡ true) × IsPermutation ds (entry ∷ swap_remove_entry (same_name name) ds)
     taken_out [] i is = absurd (cc)
@@ -238,7 +238,7 @@ list_all-take_more test xs i x low at before here =
     ∙ list_all-append test (take i xs) (x ∷ [])
     ∙ rw (before, here) refl
 
--- one that fails is enough
+-- one element that fails is enough
 pub list_all-fails : {X : Type 0} (test : X → Bool) (xs : List X) (i : ℕ) (x : X) → i < length xs → x ≡ get_or xs i x → test x ≡ false → list_all test xs ≡ false
 list_all-fails test [] i x low at fails = absurd (omega arith)
 list_all-fails test (y ∷ ys) zero x low at fails = rw (sym (ap test at) ∙ fails) refl

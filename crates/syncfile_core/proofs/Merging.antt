@@ -1,4 +1,4 @@
--- What a merge gathers, input by input.
+-- The table that a merge gathers, input by input.
 use Rattle.std.proofs.Common.{◌≡◌, ℕ, ◌≤◌, refl, sym, ap, ◌∙◌, subst, List, [], ◌∷◌, ◌++◌, length, append-nil}
 use Rattle.std.proofs.lemmas.List.Elements.{All-nil, All-cons, All-push}
 use Rattle.std.proofs.lemmas.Grind.{flat_map-append}
@@ -25,7 +25,7 @@ entries-last inputs f = ap as_entries (points_of-last inputs f) ∙ as_entries-a
 pub IsGathered-none : (reach : List ℕ) → IsGathered reach reach reach []
 IsGathered-none reach = record { latest = IsLatest-empty reach 0; floor = refl; contexts = All-nil (λ (e : Entry). (1 ≤ e.point.ctx) × (e.point.ctx ≤ CONTEXTS)); floors = All-nil (λ (f : File). length f.floor ≡ length reach) }
 
--- one more input
+-- another input
 pub IsGathered-last : {table least more higher reach : List ℕ} (inputs : List File) (f : File) → IsGathered table least reach inputs
     → IsLatest more reach (as_entries (points_of inputs) ++ as_entries f.points) 0 → HasContexts (as_entries f.points) → higher ≡ later_values least f.floor → (length least ≡ CONTEXTS) × (length f.floor ≡ CONTEXTS)
     → IsGathered more higher reach (inputs ++ f ∷ [])
@@ -36,13 +36,13 @@ IsGathered-last {table} {least} {more} {higher} {reach} inputs f before latest w
   floors = All-push (λ (g : File). length g.floor ≡ length reach) inputs f before.floors (full.1 ∙ sym full.0 ∙ ap length before.floor ∙ length-floor_of reach inputs (length reach) refl before.floors);
 }
 
--- what was gathered is listed above the reach
+-- the gathered points above the reach are the merge's
 pub merged-is : {table least : List ℕ} {points : List Point} (name : List ℕ) (inputs : List File) (reach : List ℕ) → IsGathered table least reach inputs → points ≡ points_above table reach → file_of name points least ≡ merged_file name inputs reach
 merged-is {table} {least} {points} name inputs reach gathered is =
     ap (λ ps. file_of name ps least) (is ∙ points_above-IsLatest gathered.latest)
     ∙ ap (file_of name (listing (as_entries (points_of inputs)) 0 reach)) gathered.floor
 
--- of two inputs
+-- two inputs
 entries-two : (f g : File) → as_entries (points_of (f ∷ g ∷ [])) ≡ as_entries f.points ++ as_entries g.points
 entries-two f g = as_entries-append f.points (g.points ++ []) ∙ ap (λ ps. as_entries f.points ++ as_entries ps) (append-nil g.points)
 

@@ -25,7 +25,7 @@ use Rattle.syncfile_core.specs.declared.running.Found.{Found}
 use Rattle.syncfile_core.specs.SyncFile.{File}
 use Rattle.syncfile_core.specs.Running.{IsBorneOutAt, HasPassedTo, HasFoundTo}
 
--- clocks that are the same for these points
+-- clocks that are equal for these points
 
 reached-same : (clocks others : List Clock) (p : Point) → clock_at clocks p.ctx ≡ clock_at others p.ctx → is_reached (reach_of_clocks clocks) p ≡ is_reached (reach_of_clocks others) p
 reached-same clocks others p same = ap (nat_le p.value) (value_at-reach_of_clocks clocks p.ctx ∙ ap reached_by same ∙ sym (value_at-reach_of_clocks others p.ctx))
@@ -50,7 +50,7 @@ some_cancelled-same clocks others (p ∷ ps) same =
 common_status-same : (clocks others : List Clock) (ps : List Point) → All (same_at clocks others) ps → common_status clocks ps ≡ common_status others ps
 common_status-same clocks others ps same = λ i. status_of (all_reached-same clocks others ps same i) (some_cancelled-same clocks others ps same i)
 
--- points of the contexts so far
+-- the points of the contexts so far
 
 abbrev is_first : ℕ → Point → Type 0
 is_first n p = (1 ≤ p.ctx) × (p.ctx ≤ n)
@@ -65,7 +65,7 @@ HasPassedTo-same clocks others points n status rest same h = record {
   together = h.together ∙ common_status-same clocks others h.passed (All-weaker (is_first n) (same_at clocks others) (λ p within. same p.ctx within.0 within.1) h.passed h.first);
 }
 
--- one more, of the next context
+-- a point of the next context
 pub HasPassedTo-more : (clocks : List Clock) (points : List Point) (n ctx value : ℕ) (clock : Clock) (status next : Status) (rest later : List Point) → ctx ≡ n + 1 → clock_at clocks ctx ≡ clock → rest ≡ point_of ctx value ∷ later
     → next ≡ status_with status (status_by clock value) → HasPassedTo clocks points n status rest → HasPassedTo clocks points (n + 1) next later
 HasPassedTo-more clocks points n ctx value clock status next rest later is at parted told h =
@@ -99,7 +99,7 @@ later_from n ctx (p ∷ ps) is none rising from =
     ] in
     AllFrom-later (n + 1) p ps above rising
 
--- none of the next context
+-- no point of the next context
 pub HasPassedTo-by : (clocks : List Clock) (points : List Point) (n ctx : ℕ) (status : Status) (rest : List Point) → ctx ≡ n + 1 → ((p : Point) (ps : List Point) → rest ≡ p ∷ ps → (1 ≤ p.ctx) × (p.ctx ≢ ctx))
     → HasPassedTo clocks points n status rest → HasPassedTo clocks points (n + 1) status rest
 HasPassedTo-by clocks points n ctx status rest is none h = record {
@@ -135,7 +135,7 @@ HasFoundTo-same clocks others f n found same h = record {
   points = HasPassedTo-same clocks others f.points n found.status found.rest.now same h.points;
 }
 
--- the floor's value of the next context was compared
+-- the floor's value for the next context was compared
 pub HasFoundTo-more : (clocks : List Clock) (f : File) (n ctx least : ℕ) (clock : Clock) (before : Found) (after : Found) → ctx ≡ n + 1 → clock_at clocks ctx ≡ clock → least ≡ value_at f.floor ctx
     → after.borne_out ≡ (before.borne_out && nat_le least (reached_by clock)) → HasPassedTo clocks f.points (n + 1) after.status after.rest.now → HasFoundTo clocks f n before → HasFoundTo clocks f (n + 1) after
 HasFoundTo-more clocks f n ctx least clock before after is at value compared passed h =
@@ -156,7 +156,7 @@ HasFoundTo-more clocks f n ctx least clock before after is at value compared pas
       points = passed;
     }
 
--- once all were loaded
+-- once all contexts were scanned
 
 pub common_status-found : (clocks : List Clock) (f : File) (n : ℕ) (found : Found) → HasFoundTo clocks f n found → found.rest.now ≡ [] → found.status ≡ common_status clocks f.points
 common_status-found clocks f n found h none =

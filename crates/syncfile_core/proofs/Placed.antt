@@ -1,4 +1,4 @@
--- Files in places, of which as many are there as there are names.
+-- Files in slots; the first ones are open, as many as there are names.
 use Rattle.std.proofs.Common.{◌≡◌, ℕ, ◌+◌, ◌-◌, ◌<◌, ◌≤◌, ◌||◌, Bool, true, not, cond, if◌then◌else◌, zero, suc, refl, sym, ap, ◌∙◌, subst, List, [], ◌∷◌, ◌++◌, length, map, take, set, get_or, slice_get, swap, swap_remove, position, option_map, Option, None, Some, false, arith, is_some}
 use Rattle.std.specs.List.{list_any}
 use Rattle.std.specs.List.Sorted.{IsPermutation, IsNonDecreasingBy}
@@ -27,7 +27,7 @@ values-entries_of (m ∷ ms) = ap (λ ns. m ∷ ns) (values-entries_of ms)
 pub AreInPlace-none : (names : List (List ℕ)) (made : List Made) → names ≡ [] → AreInPlace names made 0
 AreInPlace-none names made is = subst (λ none. AreInPlace none made 0) (sym is) (record { within = omega arith; named = refl; kept = AreKept-none [] 0 refl })
 
--- other places after those of the files
+-- other slots after the open files
 module _ (names : List (List ℕ)) (made more : List Made) (count : ℕ) (len : count ≡ length names) (same : take count more ≡ take count made) where
   pub entries_in-same : entries_in names more ≡ entries_in names made
   entries_in-same = subst (λ n. entries_of (take n more) ≡ entries_of (take n made)) len (ap entries_of same)
@@ -61,7 +61,7 @@ module _ (names : List (List ℕ)) (made : List Made) (next : ℕ) (placed : Are
   pub length-entries_in : length entries ≡ length names
   length-entries_in = length-map (take (length names) made) entry_of ∙ length-take-le (length names) made placed.within
 
-  -- a name that is found has its file in the same place
+  -- a name that is found has its file at the same index
   module _ (name : List ℕ) where
     there : (at : Option ℕ) → position (same_name name) names ≡ at → position (same_name name) (keys_of entries) ≡ at
     there at is = ap (position (same_name name)) (sym placed.named) ∙ is
@@ -113,7 +113,7 @@ module _ (names : List (List ℕ)) (made : List Made) (next : ℕ) (placed : Are
     pub files_in-put : files_in (names ++ f.name ∷ []) (set made (length names) last) ≡ files_in names made ++ f ∷ []
     files_in-put = ap files_made entries_in-put ∙ files_made-append entries next placed.kept f new
 
--- the same, by what an insertion of the name tells
+-- a new file, by the result of inserting its name into the set
 module _ (names keys : List (List ℕ)) (made : List Made) (next count : ℕ) (placed : AreInPlace names made next) (f : File) (m : Made) (len : count ≡ length names) (room : count < length made)
     (added : true ≡ not (list_any (same_name f.name) names)) (put : keys ≡ insert_key same_name names f.name) (is : m ≡ record { file = f; number = next }) where
   none : list_any (same_name f.name) names ≡ false
@@ -149,7 +149,7 @@ take-set_inside (suc n) [] i x = refl
 take-set_inside (suc n) (y ∷ ys) zero x = refl
 take-set_inside (suc n) (y ∷ ys) (suc i) x = ap (λ zs. y ∷ zs) (take-set_inside n ys i x)
 
--- one of the first n, in whose place the last of them goes
+-- an element of the first n is replaced by the last of them
 take-swap : {X : Type 0} (xs : List X) (i n last : ℕ) (d : X) → last + 1 ≡ n → n ≤ length xs → take last (swap xs i last) ≡ swap_remove (take n xs) i d
 take-swap [] i n last d more within = absurd (omega (arith, more, within))
 take-swap (y ∷ ys) i n last d more within =
@@ -162,7 +162,7 @@ take-swap (y ∷ ys) i n last d more within =
     ∙ ap (λ z. take last (set (take n xs) i z)) (sym (get_or-take n xs last y (omega (arith, more))) ∙ get_or_default (take n xs) last y d low)
     ∙ ap (λ k. take k (set (take n xs) i (get_or (take n xs) k d))) (sym short)
 
--- a file is taken out, and the last goes in its place
+-- a file is removed, and the last takes its slot
 module _ (names left : List (List ℕ)) (made : List Made) (next : ℕ) (placed : AreInPlace names made next) (name : List ℕ) (i last : ℕ) (is : position (same_name name) names ≡ Some i)
     (out : left ≡ swap_remove_by (same_name name) names) (one : length left ≡ last) (more : last + 1 ≡ length names) where
   abbrev before : List (List ℕ × Made)
@@ -189,13 +189,13 @@ module _ (names left : List (List ℕ)) (made : List Made) (next : ℕ) (placed 
   pub files_in-swap : files_in left (swap made i last) ≡ without_file (files_in names made) name
   files_in-swap = ap files_made entries_in-swap ∙ files_made-swap_remove_entry before next placed.kept name
 
--- there is none to take out
+-- no file with that name
 pub files_in-missing : (names : List (List ℕ)) (made : List Made) (next : ℕ) → AreInPlace names made next → (name : List ℕ) → position (same_name name) names ≡ None → files_in names made ≡ without_file (files_in names made) name
 files_in-missing names made next placed name is =
     ap files_made (sym (swap_remove_entry-missing (same_name name) (entries_in names made) (ap (position (same_name name)) (sym placed.named) ∙ is)))
     ∙ files_made-swap_remove_entry (entries_in names made) next placed.kept name
 
--- names and numbers, put in order
+-- names and numbers, sorted
 pub names_of-in_order : (ms : List Made) (next : ℕ) → AreKept (entries_of ms) next → (ps : List Place) → IsPermutation (map place_of ms) ps → IsNonDecreasingBy (λ (p : Place). p.number) ps → map (λ (p : Place). p.name) ps ≡ names_of (files_made (entries_of ms))
 names_of-in_order ms next kept ps moved rising = names_of-places (entries_of ms) next kept ps (subst (λ qs. IsPermutation qs ps) (sym (places ms)) moved) rising
   where

@@ -1,4 +1,4 @@
--- When a file is told to be signalled, by what it stands for.
+-- A file's status, by the set that it abstracts to.
 use Rattle.std.proofs.Common.{List}
 use Rattle.std.specs.List.{list_all}
 use Rattle.point_core.specs.Reach.{is_reached}
@@ -10,7 +10,7 @@ use Rattle.point_core.proofs.Reached.{IsReached-AgreesAbove, list_all-IsReached}
 use Rattle.syncfile_core.specs.SyncFile.{File}
 use Rattle.syncfile_core.specs.Status.{ReportsSetsOf}
 
--- a file is no longer active exactly when each point is reached that it stands for
+-- a file is no longer active exactly if each point of its set is reached
 pub ReportsSetsOf-always : (f : File) (clocks : List Clock) → ReportsSetsOf f clocks
 ReportsSetsOf-always f clocks = λ set stands above.
     let reach = reach_of_clocks clocks in

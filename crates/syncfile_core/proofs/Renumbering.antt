@@ -1,4 +1,4 @@
--- Files that are renumbered stand in the same order.
+-- Renumbering keeps the order of files.
 use Rattle.std.proofs.Common.{◌≡◌, ℕ, ◌+◌, ◌<◌, ◌≤◌, false, nat_eq, zero, suc, refl, sym, ap, ◌∙◌, subst, List, [], ◌∷◌, ◌++◌, length, map, inl, inr, arith, take, drop, set, get_or, if◌then◌else◌}
 use Rattle.std.specs.List.{IsDistinct, AllByRecursion, list_any}
 use Rattle.std.specs.List.Sorted.{IsPermutation, IsNonDecreasingBy}
@@ -31,7 +31,7 @@ IsUnderItsName e = e.0 ≡ e.1.file.name
 
 -- one file after another
 
--- the first k are numbered from n on, the others are as they were
+-- the first k are numbered from n on, the others keep their numbers
 abbrev pub numbered_first : ℕ → ℕ → List Made → List Made
 numbered_first n zero ms = ms
 numbered_first n (suc k) [] = []
@@ -62,7 +62,7 @@ pub numbered_first-all : (n : ℕ) (ms : List Made) → numbered_first n (length
 numbered_first-all n [] = refl
 numbered_first-all n (m ∷ ms) = ap (λ ns. with_number n m ∷ ns) (numbered_first-all (suc n) ms)
 
--- what the numbers leave
+-- renumbering leaves everything but the numbers
 
 pub length-numbered_from : (n : ℕ) (ms : List Made) → length (numbered_from n ms) ≡ length ms
 length-numbered_from n [] = refl
@@ -126,7 +126,7 @@ rising-entries_of ms rising = λ i j d low within.
     number-at (m ∷ ms) zero d low = refl
     number-at (m ∷ ms) (suc k) d low = number-at ms k d (omega (arith, low))
 
--- files that are put in the order of making and renumbered
+-- files that are sorted in order of making and renumbered
 module _ (names : List (List ℕ)) (made new : List Made) (next : ℕ) (placed : AreInPlace names made next) (anew : IsNumberedAnew (take (length names) made) (take (length names) new)) where
   abbrev old : Entries
   old = entries_in names made
@@ -177,7 +177,7 @@ module _ (names : List (List ℕ)) (made new : List Made) (next : ℕ) (placed :
 length-anew : (old new : List Made) → IsNumberedAnew old new → length new ≡ length old
 length-anew old new anew = ap length anew.numbered ∙ length-numbered_from 0 anew.ordered ∙ length_permutation old anew.ordered anew.same
 
--- the same, if the others stay after them
+-- the first files renumbered, with the others after them
 module _ (names ordered : List (List ℕ)) (made first : List Made) (next count : ℕ) (len : count ≡ length names) (placed : AreInPlace names made next) (anew : IsNumberedAnew (take count made) first)
     (are : ordered ≡ names_of (files_made (entries_of (take count made)))) where
   abbrev after : List Made
@@ -210,7 +210,7 @@ module _ (names ordered : List (List ℕ)) (made first : List Made) (next count 
   pub length-renumbered : length ordered ≡ length names
   length-renumbered = length-ordered names made after next placed anew-front ordered are-names
 
--- a set of names that differ has them in their order
+-- a set with the names in another order has them sorted
 
 apart-before : (ks : List (List ℕ)) (k : List ℕ) (rest : List (List ℕ)) → IsDistinct same_name (ks ++ k ∷ rest) → list_any (same_name k) ks ≡ false
 unfolding IsDistinct

@@ -1,4 +1,4 @@
--- What a table of the latest points lists rises by context.
+-- The points in a table of latest points rise by context.
 use Rattle.std.proofs.Common.{◌≡◌, ℕ, ◌+◌, ◌<◌, zero, suc, Bool, true, false, refl, subst, List, map, Option, None, Some, All, if◌then◌else◌, nat_lt, arith}
 use Rattle.std.specs.List.{filter_map, cons_option, range_with_len}
 use Rattle.std.proofs.lemmas.List.Elements.{All-nil, All-cons, All-map}
@@ -11,11 +11,11 @@ use Rattle.point_core.proofs.Agreement.{IsStrictlyIncreasing-cons}
 use Rattle.point_core.proofs.Listings.{filter_map-contexts}
 use Rattle.syncfile_core.specs.Drafts.{pending_of}
 
--- of later contexts
+-- each point is of a later context
 AllLater : ℕ → List Point → Type 0
 AllLater ctx ps = All (λ (p : Point). ctx < p.ctx) ps
 
--- the point of a context, if it is listed, before others
+-- the point of a context, if it is listed, before other points
 abbrev with_point : Bool → ℕ → ℕ → List Point → List Point
 with_point listed ctx value ps = cons_option (if listed then Some (point_of ctx value) else None) ps
 
@@ -31,7 +31,7 @@ HasRisingContexts-with_point true ctx value ps later rising =
 HasRisingContexts-with_point false ctx value ps later rising = rising
 
 module _ (latest reach : List ℕ) where
-  -- the points of n contexts, from one on
+  -- the points of n contexts, from `first` on
   abbrev points_from : ℕ → ℕ → List Point
   points_from first n = filter_map (point_above latest reach) (range_with_len first n)
 

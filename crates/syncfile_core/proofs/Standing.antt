@@ -1,4 +1,4 @@
--- What a new file stands for.
+-- The set that a new file abstracts to.
 use Rattle.std.proofs.Common.{◌≡◌, false, refl, ap, ◌∙◌, List, ℕ, [], ◌∷◌, ◌++◌, Option, Some, None, cond, Ok, Err, Result}
 use Rattle.std.specs.Prelude.{OnOk, IsOk}
 use Rattle.std.proofs.lemmas.Bool.{false≢true}
@@ -22,7 +22,7 @@ file_at-last fs f absent =
     ∙ ap (λ o. option_or o (file_at (f ∷ []) f.name)) (is_none (file_at fs f.name) (is_some-named file_name fs f.name ∙ absent))
     ∙ ap (λ b. cond b (Some f) None) (nat_list_eq_equiv.refl f.name)
 
--- a file of one point that was put last stands for it
+-- a file of one point that was added last abstracts to that point
 pub HasStanding-plain : (fs new : List File) (name : List ℕ) (point : Point) → has_file fs name ≡ false → new ≡ fs ++ plain_file name point ∷ [] → HasStanding new name (as_entry point ∷ [])
 HasStanding-plain fs new name point absent is =
     MatchOption-Some _ (λ f. StandsFor f (as_entry point ∷ [])) (file_at new name) (plain_file name point)
@@ -37,13 +37,13 @@ pub OnOk-two : {T E : Type 0} (r : Result T E) (P Q R : Type 0) → (P → Q →
 OnOk-two (Ok v) P Q R both p q = both p q
 OnOk-two (Err e) P Q R both p q = tt
 
--- what was made of a draft that was drawn
+-- the result of a draft that was drawn
 pub OnOk-drawn : (r drawn : Result (Unit {0}) Refusal) (P Q R : Type 0) → (P → Q → R) → OnOk r (IsOk drawn) → OnOk drawn P → OnOk r Q → OnOk r R
 OnOk-drawn (Ok v) (Ok w) P Q R both ok p q = both p q
 OnOk-drawn (Ok v) (Err e) P Q R both ok p q = absurd (false≢true ok)
 OnOk-drawn (Err e) drawn P Q R both ok p q = tt
 
--- what was accepted had no cause to be refused
+-- a call that succeeded had no cause to be refused
 pub accepted : (o : Option Refusal) (r : Result (Unit {0}) Refusal) → IsRefusedFor o r → OnOk r (o ≡ None)
 accepted None (Ok v) told = refl
 accepted None (Err e) told = tt

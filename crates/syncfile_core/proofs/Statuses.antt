@@ -1,4 +1,4 @@
--- What is told of points.
+-- Status of points.
 use Rattle.std.proofs.Common.{◌≡◌, false, ◌==◌, List, [], ◌∷◌, length, map, refl, sym}
 use Rattle.point_core.specs.declared.clocks.Clock.{Clock}
 use Rattle.point_core.specs.declared.entry.Point.{Point}

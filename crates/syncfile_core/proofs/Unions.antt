@@ -1,4 +1,4 @@
--- What a merged file stands for.
+-- The set that a merged file abstracts to.
 use Rattle.std.proofs.Common.{◌≡◌, ℕ, refl, sym, ◌∙◌, List, [], ◌∷◌, length}
 use Rattle.std.specs.Prelude.{flat_map}
 use Rattle.std.specs.List.{AllZip}
@@ -29,7 +29,7 @@ floor_of-high reach (f ∷ fs) n full floors =
     let rest = floor_of-high (later_values reach f.floor) fs n (length-later_values reach f.floor same ∙ full) (All-tail (has_floor n) f fs floors) in
     IsAtLeast-trans rest (IsAtLeast-later_values_left reach f.floor same)
 
--- above the merge's floor, the inputs' points say what their sets say together
+-- above the merge's floor, the inputs' points agree with the union of their sets
 agrees-union : (high reach : List ℕ) (inputs : List File) (sets : List (List Entry)) (n : ℕ) → length reach ≡ n → HaveFloors n inputs → AllZip StandsFor inputs sets → IsAtLeast high (floor_of reach inputs)
     → AgreesAbove high (as_entries (points_of inputs)) (flat_map (λ set. set) sets)
 agrees-union high reach [] [] n full floors stand above = AgreesAbove-refl high []
@@ -45,7 +45,7 @@ agrees-union high reach (f ∷ fs) (s ∷ ss) n full floors stand above =
     (AgreesAbove-same high (as_entries-append f.points (points_of fs)))
     (AgreesAbove-append (AgreesAbove-later own stand.0) (agrees-union high (later_values reach f.floor) fs ss n next others stand.1 above))
 
--- a merge stands for the union of what its inputs stand for
+-- a merge abstracts to the union of its inputs' sets
 pub StandsForUnion-merged_file : (name : List ℕ) (inputs : List File) (reach : List ℕ) → HasContexts (as_entries (points_of inputs)) → HaveFloors (length reach) inputs → StandsForUnion inputs (merged_file name inputs reach)
 StandsForUnion-merged_file name inputs reach within floors = λ sets stand.
     AgreesAbove-trans

@@ -9,7 +9,7 @@ use Rattle.syncfile_core.specs.SyncFile.{File, file_of}
 abbrev pub drafted : List ℕ → Draft → File
 drafted name d = file_of name d.points.items d.floor
 
--- the points above the reach in a table of the latest of each context; without a table, none
+-- the points above the reach in a table of latest points; without a table, none
 abbrev pub pending_of : Option (List ℕ) → List ℕ → List Point
 pending_of None reach = []
 pending_of (Some latest) reach = points_above latest reach

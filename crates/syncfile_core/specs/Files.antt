@@ -1,4 +1,4 @@
--- The files by name, in the order of making.
+-- The files by name, in order of making.
 use Rattle.std.specs.Prelude.{◌≡◌, ℕ, ◌<◌, ◌≤◌, Bool, nat_eq, nat_lt, if◌then◌else◌, List, All, map, length, take, Option, None, Some, MatchOption}
 use Rattle.std.specs.List.{IsDistinct}
 use Rattle.std.specs.Map.{keys_of}
@@ -34,50 +34,51 @@ names_of fs = map file_name fs
 abbrev pub HasDistinctNames : List File → Type 0
 HasDistinctNames fs = HaveDistinctNames file_name fs
 
--- there is a file of that name, and it stands for the set
+-- there is a file of that name, and it abstracts to the set of entries
 abbrev pub HasStanding : List File → List ℕ → List Entry → Type 0
 HasStanding fs name set = MatchOption (file_at fs name) ⊥ (λ f. StandsFor f set)
 
--- why no file of that name may be made
+-- the cause to refuse to make a file of that name
 abbrev pub cause_to_refuse : List File → List ℕ → Option Refusal
 cause_to_refuse fs name =
     if has_file fs name then Some Exists else if nat_lt (length fs) FILES then None else Some (Limit FilesKind)
 
--- the number of an entry's making
+-- the serial number of an entry
 abbrev pub number_of : List ℕ × Made → ℕ
 number_of e = e.1.number
 
--- the files of such entries, by the order of making
+-- the files of such entries, in order of making
 abbrev pub files_made : List (List ℕ × Made) → List File
 files_made es = things_in (λ m. m.file) (by_number number_of es)
 
--- each file is kept under its own name, no name and no number comes twice, and the next number is above them all
+-- each file is stored under its own name, names and numbers are distinct, and the next number is greater than all of
+-- them
 pub record AreKept (es : List (List ℕ × Made)) (next : ℕ) : Type 0 where
   pub keyed : All (λ e. e.0 ≡ e.1.file.name) es
   pub distinct : IsDistinct same_name (keys_of es)
   pub numbered : IsDistinct nat_eq (map number_of es)
   pub below : All (λ e. number_of e < next) es
 
--- a file that was made, under its name
+-- a file with its serial number, under its name
 abbrev pub entry_of : Made → List ℕ × Made
 entry_of m = (m.file.name, m)
 
 abbrev pub entries_of : List Made → List (List ℕ × Made)
 entries_of made = map entry_of made
 
--- the files that are there: as many of the first as there are names
+-- the open files: the first ones, as many as there are names
 abbrev pub entries_in : List (List ℕ) → List Made → List (List ℕ × Made)
 entries_in names made = entries_of (take (length names) made)
 
 abbrev pub files_in : List (List ℕ) → List Made → List File
 files_in names made = files_made (entries_in names made)
 
--- they stand as their names do, and are kept so
+-- each file is at the index of its name, and the entries are kept so
 pub record AreInPlace (names : List (List ℕ)) (made : List Made) (next : ℕ) : Type 0 where
   pub within : length names ≤ length made
   pub named : names ≡ keys_of (entries_in names made)
   pub kept : AreKept (entries_in names made) next
 
--- the name of a file, and the number of its making
+-- the name of a file, and its serial number
 abbrev pub place_of : Made → Place
 place_of m = record { name = m.file.name; number = m.number }

@@ -3,16 +3,16 @@ use Rattle.std.specs.Prelude.{◌≡◌, ℕ, suc, List, [], ◌∷◌}
 use Rattle.std.specs.List.Sorted.{IsPermutation, IsNonDecreasingBy}
 use Rattle.syncfile_core.specs.declared.by_making.Made.{Made}
 
--- the file, with n as the number of its making
+-- the file with n as its serial number
 abbrev pub with_number : ℕ → Made → Made
 with_number n m = record { file = m.file; number = n }
 
--- the files as they stand, numbered from n on
+-- the files in their present order, numbered from n on
 abbrev pub numbered_from : ℕ → List Made → List Made
 numbered_from n [] = []
 numbered_from n (m ∷ ms) = with_number n m ∷ numbered_from (suc n) ms
 
--- the files, put in the order of making and numbered from 0
+-- the files, sorted in order of making and numbered from 0
 pub record IsNumberedAnew (old new : List Made) : Type 0 where
   pub ordered : List Made
   pub same : IsPermutation old ordered

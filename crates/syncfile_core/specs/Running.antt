@@ -1,4 +1,4 @@
--- Files beside running timelines, whose values a seat loads one after another.
+-- Files beside running timelines, whose clocks a seat loads one after another.
 use Rattle.std.specs.Prelude.{◌≡◌, ◌↔◌, ℕ, zero, suc, ◌+◌, ◌<◌, ◌≤◌, List, ◌++◌, All, IsTrue}
 use Rattle.point_core.specs.declared.clocks.Clock.{Clock}
 use Rattle.point_core.specs.declared.entry.Point.{Point}
@@ -13,28 +13,28 @@ use Rattle.words_core.specs.Seat.{SeatModel}
 use Rattle.syncfile_core.specs.declared.running.Found.{Found}
 use Rattle.syncfile_core.specs.SyncFile.{File}
 
--- words of `made` contexts that have these values bear the file out: its floor is nowhere above them, and they have each
--- point's context
+-- the file is consistent with words of `made` contexts that have these values: no value of its floor is above them, and
+-- each point's context exists
 pub record IsBorneOutAt (reach : List ℕ) (made : ℕ) (f : File) : Type 0 where
   pub floor : IsAtLeast reach f.floor
   pub points : All (λ (p : Point). p.ctx ≤ made) f.points
 
--- the words bear the file out, by what the seat has seen of them
+-- the file is consistent with what the seat has seen of the words
 abbrev pub IsBorneOut : SeatModel → File → Type 0
 IsBorneOut seat f = IsBorneOutAt (reach_seen seat) seat.words.contexts f
 
--- one poll, which loaded all clocks and found the file borne out and Active
+-- one poll, which loaded all clocks and found the file consistent and Active
 pub record IsActivePoll (f : File) (before after : SeatModel) : Type 0 where
   pub loaded : HasLoadedClocks before after (clocks_seen after)
   pub borne_out : IsBorneOut after f
   pub active : common_status (clocks_seen after) f.points ≡ Active
 
--- this number of polls one after another, each of them Active, and no other step
+-- this number of polls one after another, each Active, and no other step
 abbrev pub HasRunOut : File → ℕ → SeatModel → SeatModel → Type 0
 HasRunOut f zero before after = after ≡ before
 HasRunOut f (suc n) before after = (seat : SeatModel) × HasRunOut f n before seat × IsActivePoll f seat after
 
--- some polls that were Active, fewer than `tries`, and then one more poll, and no other step
+-- fewer than `tries` polls that were Active, and then one more poll, and no other step
 pub record HasPolled (f : File) (tries : ℕ) (before after : SeatModel) : Type 0 where
   pub count : ℕ
   pub within : count < tries
@@ -42,8 +42,7 @@ pub record HasPolled (f : File) (tries : ℕ) (before after : SeatModel) : Type 
   pub active : HasRunOut f count before seat
   pub last : HasLoadedClocks seat after (clocks_seen after)
 
--- of a list of points, those of the first n contexts have this status together by these clocks, and these others are of
--- later ones
+-- by these clocks, the points of the first n contexts have this status together; the rest are points of later contexts
 pub record HasPassedTo (clocks : List Clock) (points : List Point) (n : ℕ) (status : Status) (rest : List Point) : Type 0 where
   pub passed : List Point
   pub parts : points ≡ passed ++ rest
@@ -52,7 +51,8 @@ pub record HasPassedTo (clocks : List Clock) (points : List Point) (n : ℕ) (st
   pub rising : HasRisingContexts rest
   pub together : status ≡ common_status clocks passed
 
--- what was found of a file's points, and whether its floor is nowhere above the first n of these clocks
+-- the result of a scan of the first n contexts: the status of their points, and whether no value of the floor is above
+-- these clocks
 pub record HasFoundTo (clocks : List Clock) (f : File) (n : ℕ) (found : Found) : Type 0 where
   pub floor : IsTrue found.borne_out
       ↔ ((ctx : ℕ) → 1 ≤ ctx → ctx ≤ n → value_at f.floor ctx ≤ reached_by (clock_at clocks ctx))

@@ -1,4 +1,4 @@
--- What the clocks say of a file.
+-- A file's status by the clocks.
 use Rattle.std.specs.Prelude.{◌≢◌, ◌↔◌, List, [], ◌∷◌, map, None, Some}
 use Rattle.point_core.specs.declared.entry.Point.{Point}
 use Rattle.point_core.specs.Reach.{IsAtLeast}
@@ -26,8 +26,8 @@ fences_of (p ∷ ps) clocks = map (fence_of clocks) (p ∷ ps)
 abbrev pub info_of : File → List Clock → FileInfo
 info_of f clocks = record { name = f.name; status = common_status clocks f.points; fences = fences_of f.points clocks }
 
--- for a set that the file stands for, with a floor that has been reached: no longer active exactly when each of its points is
--- reached
+-- for each set that the file abstracts to, if its floor was reached: no longer active exactly if each point of the set
+-- is reached
 abbrev pub ReportsSetsOf : File → List Clock → Type 0
 ReportsSetsOf f clocks =
     (set : List Entry) → StandsFor f set → IsAtLeast (reach_of_clocks clocks) f.floor

@@ -4,7 +4,7 @@ use Rattle.point_core.specs.declared.entry.Entry.{Entry}
 use Rattle.point_core.specs.declared.context.TheConstants.{CONTEXTS}
 use Rattle.point_core.specs.Agreement.{as_entries, AgreesAbove}
 
--- a sync file: its name, its points by rising context, and the reach that they were taken above
+-- a sync file: its name, its points by rising context, and the reach above which they were listed
 pub record File : Type 0 where
   pub name : List ℕ
   pub points : List Point
@@ -17,6 +17,6 @@ file_of name points floor = record { name = name; points = points; floor = floor
 abbrev pub plain_file : List ℕ → Point → File
 plain_file name point = file_of name (point ∷ []) (replicate CONTEXTS 0)
 
--- above its floor the file says what the set says
+-- above its floor, the file agrees with the set (it abstracts to the set)
 abbrev pub StandsFor : File → List Entry → Type 0
 StandsFor f set = AgreesAbove f.floor (as_entries f.points) set

@@ -1,4 +1,5 @@
-// Files by name, in order of making.
+//! `ByMaking`: files by name, in order of making, each found, made and closed in constant time. `Files` keeps its files
+//! in one.
 ghost use Rattle.std.specs.Prelude.{◌≡◌, ℕ, ◌+◌, ◌^◌, ◌<◌, ◌≤◌, true, false, [], ◌∷◌, ◌++◌, length, take, map, option_copied, None, Some, Ok, Err, MatchBool, MatchOption, IsOk, IsErr, OnOk, OnErr, IfOk, IfErr};
 ghost use Rattle.point_core.specs.declared.refusal.Refusal.TheVariants.{Memory, NoEntry};
 ghost use Rattle.std.specs.List.{IsDistinct};
@@ -18,29 +19,29 @@ use point_core::{LimitKind, Name, Refusal};
 use std::alloc::{AllocError, Global};
 use std::marker::Model;
 
-/// A file, and the number of its making.
+/// A file, and its serial number.
 #[derive(Drop)]
 pub(crate) struct Made {
     file: SyncFile,
     number: u64,
 }
 
-/// A name, and the number of the making of its file.
+/// A name, and the serial number of its file.
 #[derive(Clone, Copy, Drop)]
 struct Place {
     name: Name,
     number: u64,
 }
 
-/// Files by the order of making. A file is found, made and closed in constant time, however many there are: they stand in no
-/// order, and each has the number of its making, by which they are put in order when they are listed.
+/// Files in order of making. A file is found, made and closed in constant time, however many there are: files are
+/// stored in any order with a serial number each, and sorted by it when they are listed.
 #[derive(Drop)]
 pub(crate) struct ByMaking {
-    // of the files that are there, as these stand in `made`
+    // the names of the open files, at the indexes that these have in `made`
     names: IndexSet<Name>,
-    // those files, and after them closed ones, whose memory the next files take
+    // the open files, and after them closed ones, whose memory the next files reuse
     made: Vec<Made>,
-    // above the number of each file that is there
+    // greater than each open file's number
     next: u64,
 }
 
@@ -57,7 +58,7 @@ impl Model for ByMaking {
 }
 
 impl ByMaking {
-    /// No files. Takes no memory.
+    /// No files. Does not allocate.
     pub(crate) fn new(alloc: Global) -> ByMaking
         ensures empty { result ≡ [] }
     {
@@ -68,7 +69,7 @@ impl ByMaking {
         }
     }
 
-    /// The file of that name.
+    /// The file with that name.
     pub(crate) fn get(&self, name: &Name) -> Option<&SyncFile>
         ensures found { option_copied result ≡ file_at self.now name.now }
     {
@@ -78,7 +79,7 @@ impl ByMaking {
         }
     }
 
-    /// The file of that name.
+    /// The file with that name.
     ///
     /// Fails with `NoEntry`.
     pub(crate) fn known(&self, name: &Name) -> Result<&SyncFile, Refusal>
@@ -89,14 +90,14 @@ impl ByMaking {
         self.get(name).ok_or(Refusal::NoEntry)
     }
 
-    /// How many files there are.
+    /// The number of open files.
     pub(crate) fn count(&self) -> usize
         ensures { result ≡ length self.now }
     {
         self.names.len()
     }
 
-    /// The names, by the order of making.
+    /// The names, in order of making.
     pub(crate) fn names(&self, alloc: Global) -> Result<Vec<Name>, Refusal>
         ensures names { IfOk result (λ names. names.items ≡ names_of self.now) }
         ensures distinct { HasDistinctNames self.now }
@@ -108,7 +109,7 @@ impl ByMaking {
 
     /// Whether a file of that name may be made: `Exists` if there is one, `Limit` if there are `FILES` files.
     ///
-    /// Takes no memory.
+    /// Does not allocate.
     pub(crate) fn free(&self, name: &Name) -> Result<(), Refusal>
         ensures free { MatchOption (cause_to_refuse self.now name.now) (IsOk result) (λ cause. result ≡ Err cause) }
     {
@@ -127,7 +128,7 @@ impl ByMaking {
         self.get(name).is_some()
     }
 
-    /// Makes a file of a draft, the last, if that could be drawn. The name is looked up once.
+    /// Makes a file of a draft, as the last one, if drawing the draft succeeded. The name is looked up once.
     ///
     /// Fails as `free` does, then with `Memory`; nothing is made then.
     pub(crate) fn make(
@@ -152,7 +153,7 @@ impl ByMaking {
         self.refused(&name)
     }
 
-    // Why a file that was not made is refused.
+    // The error for a file that was not made.
     fn refused(&self, name: &Name) -> Result<(), Refusal>
         ensures refused { IsRefusedFor (cause_to_refuse self.now name.now) result }
         ensures always { IsErr result }
@@ -161,8 +162,8 @@ impl ByMaking {
         Err(Refusal::Memory)
     }
 
-    // Puts a file of the draft last. False if there is one of that name, or if memory is refused: nothing has changed
-    // then.
+    // Adds the draft's file as the last one. False if a file has that name, or if memory is refused: nothing has
+    // changed then.
     fn put(&mut self, alloc: Global, name: Name, draft: &mut Draft) -> bool
         requires rising { HasRisingContexts draft.old.points.items }
         ensures new { result ≡ true → has_file self.old name ≡ false }
@@ -188,7 +189,7 @@ impl ByMaking {
         }
     }
 
-    /// Takes the file of that name out. The others keep their order.
+    /// Removes the file with that name. The others keep their order.
     ///
     /// Fails with `NoEntry`; nothing has changed then.
     pub(crate) fn remove(&mut self, name: &Name) -> Result<(), Refusal>
@@ -213,7 +214,7 @@ impl Made {
         }
     }
 
-    // Becomes the file of the draft.
+    // Turns the slot into the draft's file.
     fn take_up(&mut self, name: Name, draft: &mut Draft, number: u64)
         requires rising { HasRisingContexts draft.old.points.items }
         ensures made { self.new ≡ record { file = drafted name draft.old; number = number } }
@@ -223,9 +224,9 @@ impl Made {
     }
 }
 
-/// Makes sure that there is a place after this many files.
+/// Makes sure that there is a slot after this many files.
 ///
-/// Nothing has changed if memory for that is refused.
+/// Nothing has changed if memory for it is refused.
 fn add_place(
     alloc: Global,
     made: &mut Vec<Made>,
@@ -246,7 +247,8 @@ fn add_place(
     }
 }
 
-/// The number of the next file. If `next` is the greatest number, the files are first renumbered, in order of making.
+/// The serial number of the next file. If `next` is the greatest number, the files are first renumbered, in order of
+/// making.
 ///
 /// Nothing has changed if memory for that is refused.
 fn next_number(
@@ -273,7 +275,7 @@ fn next_number(
     Ok(count as u64)
 }
 
-/// Puts the files in the order of making, and numbers them from 0.
+/// Sorts the files in order of making, and numbers them from 0.
 fn number_anew(made: &mut [Made])
     ensures numbered { IsNumberedAnew made.old made.new }
 {
@@ -281,7 +283,7 @@ fn number_anew(made: &mut [Made])
     number_from_0(made);
 }
 
-/// Puts the files in the order of making.
+/// Sorts the files in order of making.
 fn put_in_order(made: &mut [Made])
     ensures same { IsPermutation made.old made.new }
     ensures rising { IsNonDecreasingBy (λ m. m.number) made.new }
@@ -289,7 +291,7 @@ fn put_in_order(made: &mut [Made])
     made.sort_unstable_by_key(|made| made.number);
 }
 
-/// Numbers the files from 0, as they stand.
+/// Numbers the files from 0, in their present order.
 fn number_from_0(made: &mut [Made])
     ensures numbered { made.new ≡ numbered_from 0 made.old }
 {
@@ -298,7 +300,7 @@ fn number_from_0(made: &mut [Made])
     }
 }
 
-/// The names of the files, by the order of making.
+/// The names of the files, in order of making.
 fn names_in_order(alloc: Global, made: &[Made]) -> Result<IndexSet<Name>, AllocError>
     requires kept { (next : ℕ) × AreKept (entries_of made.now) next }
     ensures names { IfOk result (λ names. names.keys ≡ names_of (files_made (entries_of made.now))) }
@@ -308,7 +310,7 @@ fn names_in_order(alloc: Global, made: &[Made]) -> Result<IndexSet<Name>, AllocE
     set_of(alloc, names.as_slice())
 }
 
-/// The set of the names, in their order.
+/// The set of the names, in this order.
 fn set_of(alloc: Global, names: &[Name]) -> Result<IndexSet<Name>, AllocError>
     requires distinct { IsDistinct same_name names.now }
     ensures names { IfOk result (λ set. set.keys ≡ names.now) }
@@ -322,7 +324,7 @@ fn set_of(alloc: Global, names: &[Name]) -> Result<IndexSet<Name>, AllocError>
     Ok(set)
 }
 
-/// The places, by the order of making.
+/// Names and serial numbers, in order of making.
 fn in_order(alloc: Global, made: &[Made]) -> Result<Vec<Place>, AllocError>
     ensures same { IfOk result (λ places. IsPermutation (map place_of made.now) places.items) }
     ensures rising { IfOk result (λ places. IsNonDecreasingBy (λ place. place.number) places.items) }

@@ -1,4 +1,5 @@
-// A file that is being made.
+//! `Draft`: the points and the floor of a file that is being made. `Files` draws each new file in one, and keeps it, so
+//! that a file reuses the memory of one that was closed.
 ghost use Rattle.std.specs.Prelude.{◌≡◌, ℕ, List, OnOk, IfErr, option_copied};
 ghost use Rattle.point_core.specs.declared.refusal.Refusal.TheVariants.{Memory};
 ghost use Rattle.point_core.specs.Agreement.{HasRisingContexts};
@@ -8,7 +9,7 @@ ghost use Rattle.syncfile_core.specs.Drafts.{drafted, pending_of};
 use point_core::{Floor, LatestPoints, Listing, Point, Reach, Refusal};
 use std::alloc::Global;
 
-/// The points and the floor of a file that is being made, in the memory of one that was closed.
+/// The points and the floor of a file that is being made, in reused memory.
 #[derive(Drop)]
 pub(crate) struct Draft {
     pub(crate) points: Vec<Point>,
@@ -16,7 +17,7 @@ pub(crate) struct Draft {
 }
 
 impl Draft {
-    /// Nothing. Takes no memory.
+    /// An empty draft. Does not allocate.
     pub(crate) fn new(alloc: Global) -> Draft {
         Draft {
             points: Vec::new(alloc),
@@ -37,7 +38,7 @@ impl Draft {
         Ok(())
     }
 
-    /// What a listing has, whose memory is taken.
+    /// Takes the points and the floor of a listing, with their memory.
     pub(crate) fn draw_listing(&mut self, listing: Listing) -> Result<(), Refusal>
         requires rising { HasRisingContexts listing.points }
         ensures file { OnOk result ((name : List ℕ) →
@@ -66,7 +67,7 @@ impl Draft {
     }
 }
 
-/// The latest points that are above the reach, into a list that is kept; none if there is no table.
+/// Lists the latest points that are above the reach into a reused list; none if there is no table.
 fn list_latest(
     points: &mut Vec<Point>,
     latest: Option<&LatestPoints>,

@@ -1,4 +1,5 @@
-// The files by name.
+//! `Files`: the open sync files by name. Each has at most one point of each context, and none of them changes once it
+//! is made.
 ghost use Rattle.std.specs.Prelude.{◌≡◌, ◌++◌, [], ◌∷◌, length, OnOk, OnErr, IfOk, IfErr, IsOk, None, option_copied, MatchOption, MatchBool, MatchResult, IfSome, Some, Ok, Err};
 ghost use Rattle.point_core.specs.declared.refusal.Refusal.TheVariants.{Memory, NoEntry};
 ghost use Rattle.syncfile_core.specs.declared.files.TheConstants.{FILES};
@@ -20,12 +21,12 @@ use point_core::{Clocks, Items, LatestPoints, Listing, Name, Point, Reach, Refus
 use std::alloc::Global;
 use std::marker::Model;
 
-/// How many files there can be at a time.
+/// The most files that can be open at a time.
 pub const FILES: usize = 1024;
 
 const _: () = prove!(FILES == 1024);
 
-/// The files that were made and not closed, by the order of making.
+/// The files that are open, in order of making.
 #[derive(Drop)]
 pub struct Files {
     alloc: Global,
@@ -44,7 +45,7 @@ impl Model for Files {
 }
 
 impl Files {
-    /// No files. It takes no memory yet, so it is never refused.
+    /// No files. Never refused, since it does not allocate.
     pub fn new(alloc: Global) -> Result<Files, Refusal>
         ensures empty { result ≡ Ok [] }
     {
@@ -55,14 +56,14 @@ impl Files {
         })
     }
 
-    /// The file of that name.
+    /// The file with that name.
     pub fn get(&self, name: &Name) -> Option<&SyncFile>
         ensures found { option_copied result ≡ file_at self.now name.now }
     {
         self.made.get(name)
     }
 
-    /// The names, by the order of making.
+    /// The names, in order of making.
     pub fn names(&self) -> Result<Vec<Name>, Refusal>
         ensures names { IfOk result (λ names. names.items ≡ names_of self.now) }
         ensures distinct { HasDistinctNames self.now }
@@ -74,7 +75,7 @@ impl Files {
     /// The file's status: active while a point is, else cancelled if one is, else signalled. A file without points is
     /// signalled.
     ///
-    /// Fails with `NoEntry`. Takes no memory.
+    /// Fails with `NoEntry`. Does not allocate.
     pub fn status(&self, name: &Name, clocks: &Clocks) -> Result<Status, Refusal>
         ensures status { MatchOption (file_at self.now name.now)
             (result ≡ Err NoEntry)
@@ -90,7 +91,7 @@ impl Files {
     ///
     /// Fails with `NoEntry`, then with `Memory`.
     ///
-    /// Users of the library call it; no program here does.
+    /// For users of the library; no program here calls it.
     pub fn info(&self, name: &Name, clocks: &Clocks) -> Result<FileInfo, Refusal>
         ensures info { MatchOption (file_at self.now name.now)
             (result ≡ Err NoEntry)
@@ -108,7 +109,7 @@ impl Files {
 
     /// Whether a file of that name may be made: `Exists` if there is one, `Limit` if there are `FILES` files.
     ///
-    /// Takes no memory.
+    /// Does not allocate.
     pub fn free(&self, name: &Name) -> Result<(), Refusal>
         ensures free { MatchOption (cause_to_refuse self.now name.now) (IsOk result) (λ cause. result ≡ Err cause) }
     {
@@ -128,11 +129,10 @@ impl Files {
         self.made.make(self.alloc, name, &mut self.draft, drawn)
     }
 
-    /// Merges two files, which both stay: the latest pending point of each context of either, above a floor that is the
-    /// greatest of the reach and of both floors. Linux's `sync_file_merge` drops and keeps the same points.
+    /// Merges two files, which both stay: the latest pending point of each context in either, above a floor that is the
+    /// maximum of the reach and of both floors. Linux's `sync_file_merge` drops and keeps the same points.
     ///
-    /// Fails with `NoEntry` if a file to be merged is not there, then as `free` does, then with `Memory`; nothing is made
-    /// then.
+    /// Fails with `NoEntry` if an input is not open, then as `free` does, then with `Memory`; nothing is made then.
     pub fn merge(&mut self, name: Name, a: &Name, b: &Name, reach: &Reach) -> Result<(), Refusal>
         ensures refused { IsRefusedFor (cause_to_refuse_merge self.old name (a.now ∷ b.now ∷ [])) result }
         ensures last { OnOk result (self.new ≡ self.old ++ merge_of self.old name (a.now ∷ b.now ∷ []) reach.now ∷ []) }
@@ -147,11 +147,11 @@ impl Files {
         self.made.make(self.alloc, name, &mut self.draft, drawn)
     }
 
-    /// Merges any number of files, as `merge` does two. Of no files, it makes a file without points.
+    /// Merges any number of files, as `merge` does two. A merge of none is a file without points.
     ///
     /// Fails as `merge` does.
     ///
-    /// Users of the library call it; no program here does.
+    /// For users of the library; no program here calls it.
     pub fn merge_many(&mut self, name: Name, inputs: &[Name], reach: &Reach) -> Result<(), Refusal>
         ensures refused { IsRefusedFor (cause_to_refuse_merge self.old name inputs.now) result }
         ensures last { OnOk result (self.new ≡ self.old ++ merge_of self.old name inputs.now reach.now ∷ []) }
@@ -171,7 +171,7 @@ impl Files {
     ///
     /// Fails as `free` does, then with `Memory`; nothing is made then.
     ///
-    /// Users of the library call it; no program here does.
+    /// For users of the library; no program here calls it.
     pub fn adopt(&mut self, name: Name, listing: Listing) -> Result<(), Refusal>
         requires rising { HasRisingContexts listing.points }
         ensures refused { IsRefusedFor (cause_to_refuse self.old name) result }
@@ -183,7 +183,7 @@ impl Files {
     }
 
     /// Makes a file of the latest points that are above the reach, whose floor is the reach; without a table, a file
-    /// without points. It is drawn in memory that is kept: `adopt` of a listing makes the same file.
+    /// without points. It reuses memory: `adopt` of a listing makes an equal file in memory of its own.
     ///
     /// Fails as `free` does, then with `Memory`; nothing is made then.
     pub fn adopt_latest(
@@ -203,7 +203,7 @@ impl Files {
 
     /// Closes a file. The others keep their order.
     ///
-    /// Fails with `NoEntry`; nothing is closed then. Takes no memory.
+    /// Fails with `NoEntry`; nothing is closed then. Does not allocate.
     pub fn close(&mut self, name: &Name) -> Result<(), Refusal>
         ensures known { MatchBool (has_file self.old name.now) (IsOk result) (result ≡ Err NoEntry) }
         ensures without { self.new ≡ without_file self.old name.now }

@@ -1,6 +1,7 @@
 //! Sync files by name, as Linux's `struct sync_file` and its merge.
 //!
-//! A file lists points by rising context, and stands for all that was ever put into it above its floor.
+//! A file lists points by rising context, the normal form of all points that were ever put into it: both agree above
+//! its floor.
 #![tactic(auto)]
 
 mod by_making;

@@ -1,4 +1,4 @@
-// What a merge gathers of its inputs.
+//! Merges: two files in one pass over their points, or any number by a table of latest points.
 ghost use Rattle.std.specs.Prelude.{◌≡◌, ℕ, List, [], ◌∷◌, ◌++◌, length, OnOk, IfErr};
 ghost use Rattle.point_core.specs.declared.entry.Entry.{Entry};
 ghost use Rattle.point_core.specs.declared.refusal.Refusal.TheVariants.{Memory};
@@ -13,7 +13,7 @@ use crate::sync_file::SyncFile;
 use point_core::{Floor, LatestPoints, Reach, Refusal};
 
 impl Draft {
-    /// The merge of two files, whose points are gone through once.
+    /// Draws the merge of two files, in one pass over their points.
     pub(crate) fn draw_merge(
         &mut self,
         left: &SyncFile,
@@ -33,8 +33,7 @@ impl Draft {
     }
 }
 
-/// The greatest value of each context, among the reach and the floors of both files: the reach, if no floor is above
-/// it.
+/// The maximum, for each context, of the reach and both files' floors: the reach, if no floor is above it.
 fn draw_floor(
     floor: &mut Floor,
     left: &SyncFile,
@@ -54,7 +53,7 @@ fn draw_floor(
     floor.copy_from(&greatest)
 }
 
-/// The latest point of each context among a reach and the inputs so far, and the greatest of their floors.
+/// For each context, the latest point of a reach and the inputs so far, and the maximum of their floors.
 #[derive(Drop)]
 pub(crate) struct Gathered {
     latest: LatestPoints,
@@ -72,7 +71,7 @@ impl Gathered {
         }
     }
 
-    /// One more input.
+    /// Adds an input.
     pub(crate) fn add(&mut self, file: &SyncFile)
         ensures more { (reach : List ℕ) (inputs : List File) →
             IsGathered self.old.latest self.old.floor reach inputs →
@@ -83,7 +82,7 @@ impl Gathered {
         self.floor.join_floor(&file.floor);
     }
 
-    /// Draws the file of the points that are above the reach.
+    /// Draws a file of the points that are above the reach.
     pub(crate) fn draw(&self, draft: &mut Draft, reach: &Reach) -> Result<(), Refusal>
         requires gathered { IsGatheredAbove self.now.latest self.now.floor reach.now }
         ensures file { (inputs : List File) →

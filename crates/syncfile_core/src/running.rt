@@ -1,4 +1,5 @@
-// Files beside running timelines: merges, polls and waits by values that a seat loads.
+//! Merges, polls and waits while timelines run: each loads the clocks by a seat, and refuses a file that other words
+//! must have made.
 ghost use Rattle.std.specs.Prelude.{◌≡◌, ◌≢◌, ℕ, ◌+◌, ◌<◌, ◌≤◌, ◌↔◌, ◌⊎◌, ◌&&◌, true, nat_le, List, [], ◌∷◌, ◌++◌, All, IsTrue, IfOk, IfErr, MatchOption, OnOk};
 ghost use Rattle.point_core.specs.declared.entry.Entry.{Entry};
 ghost use Rattle.point_core.specs.declared.refusal.Refusal.TheVariants as refusal;
@@ -19,13 +20,14 @@ use std::alloc::Global;
 use words_core::{Seat, Words};
 
 impl SyncFile {
-    /// Merges two files while timelines run: the latest point of each context of either, if it is above what was loaded:
-    /// the value of an open context, or the greatest value of a closed one. Each clock is loaded once, so no one moment need
-    /// have had all of them; what was loaded is the new file's floor. Linux's `sync_file_merge` asks each fence once too.
+    /// Merges two files while timelines run: the latest point of each context in either, if it is above the loaded
+    /// value: the value of an open context, or the greatest value of a closed one. Each clock is loaded once, so no
+    /// single moment need have had all of these values; they are the new file's floor. Linux's `sync_file_merge` asks
+    /// each fence once too.
     ///
-    /// Fails with `Foreign` if a floor is above what was loaded, or a point's context or a floor above 0
-    /// is past the words' contexts: such a file was made by other words. Then as `Memory`. The loads stand in the
-    /// seat's trace also then.
+    /// Fails with `Foreign` if a floor is above the loaded values, or a point's context or a floor above 0 is past the
+    /// words' contexts: other words made such a file. Then with `Memory`. The seat's trace has the loads even if the
+    /// merge fails.
     pub fn merge_with(
         alloc: Global,
         name: Name,
@@ -59,11 +61,11 @@ impl SyncFile {
     }
 
     /// The file's status, by one load of each clock: active while a point is, else cancelled if the timeline of one was
-    /// closed before it was reached, else signalled. What is no longer Active by what the seat has seen stays as it is: no
-    /// signalled point is cancelled later, and a closed timeline keeps its value. What is Active was so at a load of this
-    /// call. It is the status of Linux's `struct sync_file_info`.
+    /// closed before it was reached, else signalled. Once the seat has seen a file not Active, its status never
+    /// changes: no signalled point is cancelled later, and a closed timeline keeps its value. A point that is Active
+    /// was so at a load of this call. It is the status of Linux's `struct sync_file_info`.
     ///
-    /// Fails with `Foreign`, as `merge_with` does. Takes no memory.
+    /// Fails with `Foreign`, as `merge_with` does. Does not allocate.
     pub fn poll(&self, words: &Words, seat: &mut Seat) -> Result<Status, Refusal>
         requires own { seat.old.words ≡ words.now }
         ensures kept { (seat.new.words ≡ seat.old.words) × (seat.new.parts ≡ seat.old.parts) }
@@ -86,11 +88,11 @@ impl SyncFile {
         found.status_of(self, contexts)
     }
 
-    /// Polls until a poll is not Active, at most `tries` times: Ok once each point is signalled or cancelled, as Linux's
-    /// `sync_wait` answers a fence that has an error. There is no time, and nobody is woken.
+    /// Polls until a poll is not Active, at most `tries` times: Ok once each point is signalled or cancelled, as
+    /// Linux's `sync_wait` answers a fence that has an error. There is no time, and no one is woken.
     ///
-    /// Fails with `TimedOut` after `tries` polls that were Active, so at once if `tries` is 0; and as
-    /// `Foreign` at the first poll that is. Takes no memory.
+    /// Fails with `TimedOut` after `tries` polls that were Active, so at once if `tries` is 0; and with `Foreign` at
+    /// the first poll that fails so. Does not allocate.
     pub fn wait_for(&self, words: &Words, seat: &mut Seat, tries: u32) -> Result<(), Refusal>
         requires own { seat.old.words ≡ words.now }
         ensures kept { (seat.new.words ≡ seat.old.words) × (seat.new.parts ≡ seat.old.parts) }
@@ -113,12 +115,12 @@ impl SyncFile {
     }
 }
 
-/// What a poll has found of a file, by the clocks of the contexts so far.
+/// The result of a poll so far, by the clocks of the first contexts.
 #[derive(Drop)]
 struct Found<'a> {
-    // whether no value of the file's floor is above what was loaded
+    // whether no value of the file's floor is above the loaded one
     borne_out: bool,
-    // of the points of these contexts together
+    // the status of the points of these contexts
     status: Status,
     // the points of later contexts
     rest: &'a [Point],
@@ -145,7 +147,7 @@ impl<'a> Found<'a> {
         self.pass(ctx, clock);
     }
 
-    /// Compares a value of the floor with what was loaded.
+    /// Compares a value of the floor with the loaded one.
     fn compare(&mut self, least: u64, reached: u64)
         ensures compared { self.new.borne_out ≡ self.old.borne_out && nat_le least reached }
         ensures others { (self.new.status ≡ self.old.status) × (self.new.rest.now ≡ self.old.rest.now) }
@@ -155,7 +157,7 @@ impl<'a> Found<'a> {
         }
     }
 
-    /// Passes by the point of a context, if there is one.
+    /// Adds the status of the context's point, if there is one, and drops the point from the rest.
     fn pass(&mut self, ctx: Context, clock: Clock)
         ensures passed { (clocks : List Clock) (points : List Point) (n : ℕ) → ctx ≡ n + 1 → clock_at clocks ctx ≡ clock →
             HasPassedTo clocks points n self.old.status self.old.rest.now →
@@ -170,7 +172,7 @@ impl<'a> Found<'a> {
 
     /// The file's status, once all contexts of the words were loaded.
     ///
-    /// Fails only with `Foreign`, if the words don't bear the file out.
+    /// Fails only with `Foreign`, if the file is not consistent with the words.
     fn status_of(&self, file: &SyncFile, contexts: usize) -> Result<Status, Refusal>
         ensures status { (clocks : List Clock) → HasFoundTo clocks file.now contexts self.now →
             IfOk result (λ status. status ≡ common_status clocks file.now.points) }
@@ -187,7 +189,7 @@ impl<'a> Found<'a> {
         }
     }
 
-    /// Whether the words have each point's context, and the floor is nowhere above them.
+    /// Whether each point's context exists in the words, and no value of the floor is above theirs.
     fn is_borne_out(&self, file: &SyncFile, contexts: usize) -> bool
         ensures { IsTrue result ↔
             ((self.now.borne_out ≡ true) × (self.now.rest.now ≡ []) × (used_of file.now.floor ≤ contexts)) }
@@ -196,7 +198,7 @@ impl<'a> Found<'a> {
     }
 }
 
-/// The point of the context, if the list begins with one, and the others.
+/// The point of the context, if the list begins with one, and the rest.
 fn first_at(points: &[Point], ctx: Context) -> Option<(u64, &[Point])>
     ensures first { MatchOption result
         ((p : Point) (ps : List Point) → points.now ≡ p ∷ ps → (1 ≤ p.ctx) × (p.ctx ≢ ctx))

@@ -1,11 +1,11 @@
-// Whether a file and its fences are signalled.
+//! The rows of file information: the status of a file and of each of its fences.
 ghost use Rattle.std.specs.Prelude.{◌≡◌, IfOk};
 ghost use Rattle.syncfile_core.specs.Status.{fence_of, fences_of, stub};
 
 use point_core::{Clocks, Context, Items, Name, Point, Status};
 use std::alloc::{AllocError, Global};
 
-/// What is reported of a file, as Linux's `struct sync_file_info`.
+/// Information on a file, as Linux's `struct sync_file_info`.
 #[derive(Debug, Drop)]
 pub struct FileInfo {
     pub name: Name,
@@ -13,7 +13,7 @@ pub struct FileInfo {
     pub fences: Items<FenceInfo>,
 }
 
-/// What is reported of a fence, as Linux's `struct sync_fence_info`. The stub, which stands for a file without points, has
+/// Information on a fence, as Linux's `struct sync_fence_info`. The stub, which represents a file without points, has
 /// no context and the point 0.
 #[derive(Clone, Copy, Debug, PartialEq, Eq, Hash)]
 pub struct FenceInfo {

@@ -1,4 +1,4 @@
-// A sync file.
+//! `SyncFile`: a list of points in normal form. A file never changes; polls compare its points with the clocks.
 ghost use Rattle.std.specs.Prelude.{◌≡◌, IfOk, IfErr};
 ghost use Rattle.point_core.specs.declared.refusal.Refusal.TheVariants.{Memory};
 ghost use Rattle.syncfile_core.specs.SyncFile.{plain_file};
@@ -11,8 +11,8 @@ use std::alloc::Global;
 use std::marker::Model;
 use std::mem::swap;
 
-/// A sync file: at most one point of each context, by rising context, and the reach above which they stand for all
-/// that was put into it.
+/// A sync file: at most one point of each context, by rising context, and a floor: the reach above which the points
+/// agree with all that was put into the file.
 #[derive(Debug, Drop)]
 pub struct SyncFile {
     pub name: Name,
@@ -46,7 +46,7 @@ impl SyncFile {
         })
     }
 
-    /// An empty file, in whose place one that is made can be put. Takes no memory.
+    /// An empty file, as a slot for one that is made later. Does not allocate.
     pub(crate) fn blank(alloc: Global, name: Name) -> SyncFile
         ensures named { result.name ≡ name }
     {
@@ -58,7 +58,7 @@ impl SyncFile {
         }
     }
 
-    /// Becomes the file of a draft, which has its memory from then on.
+    /// Becomes the draft's file, and swaps memory with the draft.
     pub(crate) fn take_up(&mut self, name: Name, draft: &mut Draft)
         requires rising { HasRisingContexts draft.old.points.items }
         ensures file { self.new ≡ drafted name draft.old }
