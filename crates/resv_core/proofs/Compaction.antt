@@ -1,4 +1,5 @@
--- The entries that are kept of a table: of each context and usage one, if it is later than what the stronger usages have.
+-- The entries of a table that are kept: one for each context and usage, if it is later than the stronger usages'
+-- points.
 use Rattle.std.proofs.Common.{◌≡◌, ◌≢◌, ℕ, ◌+◌, ◌<◌, ◌≤◌, ◌⊎◌, zero, suc, max, refl, sym, ap, ◌∙◌, subst, List, [], ◌∷◌, ◌++◌, get_or, append_assoc, append-nil, None, arith, Bool, true, false, ◌==◌, nat_le, ◌&&◌, if◌then◌else◌, inl, inr, All}
 use Rattle.std.proofs.lemmas.Bool.{cases_lt, cases_eq, le-ltb, lt-ltb, lt-leb, le-leb, ne_eqb}
 use Rattle.std.proofs.Math.Bool.{and-false}
@@ -31,14 +32,14 @@ raised_to-one_other value e usage ctx is = raised_to-if (applies e usage ctx) va
 raised_to-one : (value : ℕ) (e : Entry) (usage ctx : ℕ) → applies e usage ctx ≡ true → raised_to value (top (e ∷ []) usage ctx) ≡ max e.point.value value
 raised_to-one value e usage ctx is = raised_to-if (applies e usage ctx) value e.point.value None ∙ ap (λ b. put_if b e.point.value value) is
 
--- from what the stronger usages have to the later point
+-- from the stronger usages' point to the later one
 raised_to-entry_above : (stronger p ctx : ℕ) (u : Usage) (usage : ℕ) → stronger ≤ p → usage_number u ≤ usage → raised_to stronger (top (entry_above stronger (point_of ctx p) u) usage ctx) ≡ p
 raised_to-entry_above stronger p ctx u usage low strong = elim (cases_lt stronger p) [
   | inl above ↦ rw (lt-ltb stronger p above) (raised_to-one stronger (entry_of (point_of ctx p) u) usage ctx (applies-true (entry_of (point_of ctx p) u) usage ctx strong refl) ∙ omega arith)
   | inr same ↦ rw (le-ltb stronger p same) (omega arith)
 ]
 
--- a stronger usage doesn't see a weaker one's entry
+-- a stronger usage ignores a weaker one's entry
 raised_to-entry_above_weak : (value stronger p ctx : ℕ) (u : Usage) (usage at : ℕ) → usage < usage_number u → raised_to value (top (entry_above stronger (point_of ctx p) u) usage at) ≡ value
 raised_to-entry_above_weak value stronger p ctx u usage at weak = elim (cases_lt stronger p) [
   | inl above ↦ rw (lt-ltb stronger p above) (raised_to-one_other value (entry_of (point_of ctx p) u) usage at (applies-weak (entry_of (point_of ctx p) u) usage at weak))
@@ -55,7 +56,7 @@ raised_to-entry_above_other value stronger p ctx u usage at apart = elim (cases_
 raised_to-then : (value : ℕ) {between last : ℕ} (es fs : List Entry) (usage ctx : ℕ) → raised_to value (top es usage ctx) ≡ between → raised_to between (top fs usage ctx) ≡ last → raised_to value (top (es ++ fs) usage ctx) ≡ last
 raised_to-then value es fs usage ctx first second = raised_to-top-append value es fs usage ctx ∙ ap (λ v. raised_to v (top fs usage ctx)) first ∙ second
 
--- the table that a usage is looked up in
+-- the table in which a usage is looked up
 abbrev pub table_at : Tops → ℕ → List ℕ
 table_at tops zero = tops.kernel
 table_at tops (suc zero) = tops.write
@@ -81,7 +82,7 @@ raised_to-parts tops reach value ctx usage at k w r b =
     (raised_to-then value (kernel_part tops reach ctx ++ write_part tops ctx) (read_part tops ctx) usage at (raised_to-then value (kernel_part tops reach ctx) (write_part tops ctx) usage at k w) r)
     b
 
--- a context's entries say the same as its tables
+-- a context's entries agree with its tables
 raised_to-entries_at : (tops : Tops) (reach : List ℕ) (ctx usage : ℕ) → IsRising tops reach ctx → raised_to (value_at reach ctx) (top (entries_at tops reach ctx) usage ctx) ≡ value_at (table_at tops usage) ctx
 raised_to-entries_at tops reach ctx zero rising = raised_to-parts tops reach (value_at reach ctx) ctx zero ctx
     (raised_to-entry_above (value_at reach ctx) (value_at tops.kernel ctx) ctx Kernel zero rising.kernel (omega arith))
@@ -104,7 +105,7 @@ raised_to-entries_at tops reach ctx (suc (suc (suc usage))) rising = raised_to-p
     (raised_to-entry_above (value_at tops.write ctx) (value_at tops.read ctx) ctx Read (suc (suc (suc usage))) rising.read (omega arith))
     (raised_to-entry_above (value_at tops.read ctx) (value_at tops.bookkeep ctx) ctx Bookkeep (suc (suc (suc usage))) rising.bookkeep (omega arith))
 
--- and nothing of any other context
+-- and have nothing of any other context
 raised_to-entries_at_other : (tops : Tops) (reach : List ℕ) (ctx usage at value : ℕ) → ctx ≢ at → raised_to value (top (entries_at tops reach ctx) usage at) ≡ value
 raised_to-entries_at_other tops reach ctx usage at value apart = raised_to-parts tops reach value ctx usage at
     (raised_to-entry_above_other value (value_at reach ctx) (value_at tops.kernel ctx) ctx Kernel usage at apart)
@@ -112,7 +113,7 @@ raised_to-entries_at_other tops reach ctx usage at value apart = raised_to-parts
     (raised_to-entry_above_other value (value_at tops.write ctx) (value_at tops.read ctx) ctx Read usage at apart)
     (raised_to-entry_above_other value (value_at tops.read ctx) (value_at tops.bookkeep ctx) ctx Bookkeep usage at apart)
 
--- an entry of an earlier context, or of a stronger usage of this one and not later than what the stronger usages have
+-- an entry of an earlier context, or of a stronger usage of this context and not later than the stronger usages' points
 abbrev pub IsBefore : ℕ → ℕ → ℕ → Entry → Type 0
 IsBefore ctx level stronger e = (e.point.ctx < ctx) ⊎ ((e.point.ctx ≡ ctx) × (usage_number e.usage < level) × (e.point.value ≤ stronger))
 
@@ -128,7 +129,7 @@ covers-not e u ctx level stronger p is above (inr same) =
       rw (weaker, and-false (ctx == e.point.ctx)) refl,
     )
 
--- what is kept up to a usage of a context
+-- the entries that are kept up to a usage of a context
 record IsKept (reach : List ℕ) (ctx level stronger : ℕ) (kept : List Entry) : Type 0 where
   trimmed : IsTrimmed reach kept
   before : All (IsBefore ctx level stronger) kept
@@ -158,7 +159,7 @@ usage_number-weakest Write = omega arith
 usage_number-weakest Read = omega arith
 usage_number-weakest Bookkeep = omega arith
 
--- past the weakest usage there is no more to see
+-- past the weakest usage nothing is added
 top-weakest : (es : List Entry) (usage ctx : ℕ) → 3 ≤ usage → top es usage ctx ≡ top es 3 ctx
 top-weakest [] usage ctx low = refl
 top-weakest (e ∷ es) usage ctx low =
@@ -173,7 +174,7 @@ raised_to-top-stronger value (e ∷ es) usage weaker ctx low =
     rw (raised_to-if (applies e usage ctx) value e.point.value (top es usage ctx), raised_to-if (applies e weaker ctx) value e.point.value (top es weaker ctx))
     (put_if-stronger (applies e usage ctx) (applies e weaker ctx) e.point.value _ _ rest (λ is. let at = AppliesAt-from_true e usage ctx is in applies-true e weaker ctx (omega (arith, at.0)) at.1))
 
--- of any context there can be, each table has the top at its usage
+-- each table has the top at its usage, for every valid context
 pub AreTops-at : {tops : Tops} {reach : List ℕ} {es : List Entry} → AreTops tops reach es → (usage ctx : ℕ) → 1 ≤ ctx → ctx ≤ CONTEXTS → value_at (table_at tops usage) ctx ≡ raised_to (value_at reach ctx) (top es usage ctx)
 AreTops-at h zero ctx low high = h.kernel.values ctx low high
 AreTops-at h (suc zero) ctx low high = h.write.values ctx low high
@@ -188,7 +189,7 @@ AreTops-IsRising {tops} {reach} {es} h ctx low high = record {
   bookkeep = rw (h.read.values ctx low high, h.bookkeep.values ctx low high) (raised_to-top-stronger (value_at reach ctx) es 2 3 ctx (omega arith));
 }
 
--- what is kept of the first n contexts
+-- the entries that are kept of the first n contexts
 pub record IsCompacted (tops : Tops) (reach : List ℕ) (n : ℕ) (kept : List Entry) : Type 0 where
   pub values : (usage ctx : ℕ) → 1 ≤ ctx → ctx ≤ n → raised_to (value_at reach ctx) (top kept usage ctx) ≡ value_at (table_at tops usage) ctx
   pub contexts : All (λ e. (1 ≤ e.point.ctx) × (e.point.ctx ≤ n)) kept
@@ -254,7 +255,7 @@ IsCompacted-more {tops} {reach} {n} {kept} h ctx is rising = record {
   trimmed = IsTrimmed-entries_at tops reach n ctx kept (omega arith) rising h.contexts h.trimmed;
 }
 
--- whether there can be the context
+-- whether the context is in range
 pub cases_context : (n ctx : ℕ) → ((1 ≤ ctx) × (ctx ≤ n)) ⊎ (1 ≤ ctx → ctx ≤ n → ⊥)
 cases_context n ctx = elim (cases_lt n ctx) [
   | inl past ↦ inr (λ low high. omega arith)
@@ -267,14 +268,14 @@ cases_context n ctx = elim (cases_lt n ctx) [
 pub HasContexts-IsCompacted : {tops : Tops} {reach : List ℕ} {n : ℕ} {kept : List Entry} → n ≤ CONTEXTS → IsCompacted tops reach n kept → HasContexts kept
 HasContexts-IsCompacted {tops} {reach} {n} {kept} within h = All-weaker (λ (e : Entry). (1 ≤ e.point.ctx) × (e.point.ctx ≤ n)) (λ (e : Entry). (1 ≤ e.point.ctx) × (e.point.ctx ≤ CONTEXTS)) (λ e has. (has.0, omega (arith, has.1))) kept h.contexts
 
--- if the weakest usage has nothing, no other one has
+-- if the weakest usage has no points, no usage has
 table_at-unused : (tops : Tops) (reach : List ℕ) (usage ctx : ℕ) → IsRising tops reach ctx → value_at tops.bookkeep ctx ≡ 0 → (value_at (table_at tops usage) ctx ≡ 0) × (value_at reach ctx ≡ 0)
 table_at-unused tops reach zero ctx h none = (omega (arith, h.write, h.read, h.bookkeep), omega (arith, h.kernel, h.write, h.read, h.bookkeep))
 table_at-unused tops reach (suc zero) ctx h none = (omega (arith, h.read, h.bookkeep), omega (arith, h.kernel, h.write, h.read, h.bookkeep))
 table_at-unused tops reach (suc (suc zero)) ctx h none = (omega (arith, h.bookkeep), omega (arith, h.kernel, h.write, h.read, h.bookkeep))
 table_at-unused tops reach (suc (suc (suc usage))) ctx h none = (none, omega (arith, h.kernel, h.write, h.read, h.bookkeep))
 
--- of all contexts that are in use, what is kept agrees with the entries
+-- over all contexts in use, the kept entries agree with the entries
 pub AgreesAbove-IsCompacted : {tops : Tops} {reach : List ℕ} {es : List Entry} → AreTops tops reach es → HasContexts es → {n : ℕ} {kept : List Entry} → n ≤ CONTEXTS → ((ctx : ℕ) → n < ctx → ctx ≤ CONTEXTS → value_at tops.bookkeep ctx ≡ 0) → IsCompacted tops reach n kept → AgreesAbove reach es kept
 AgreesAbove-IsCompacted {tops} {reach} {es} tell within {n} {kept} few past h = AgreesAbove-from_raised (λ usage ctx. elim (cases_context CONTEXTS ctx) [
   | inl has ↦ sym (AreTops-at tell usage ctx has.0 has.1) ∙ elim (cases_lt n ctx) [

@@ -1,4 +1,4 @@
--- Entries agree exactly when their tables of latest points are the same.
+-- Entries agree exactly if their tables of latest points are equal.
 use Rattle.std.proofs.Common.{◌≡◌, ℕ, ◌≤◌, zero, suc, sym, ap, ◌∙◌, List, inl, inr}
 use Rattle.point_core.specs.declared.context.TheConstants.{CONTEXTS}
 use Rattle.point_core.specs.declared.entry.Entry.{Entry}

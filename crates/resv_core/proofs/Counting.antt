@@ -1,4 +1,4 @@
--- How many entries a trimmed table has.
+-- The number of entries in a trimmed table.
 use Rattle.std.proofs.Common.{◌≡◌, ◌≢◌, ℕ, ◌+◌, ◌*◌, ◌≤◌, zero, suc, refl, sym, ◌∙◌, List, [], ◌∷◌, length, arith, Bool, true, false, ◌==◌, ◌&&◌, not, inl, inr, All, AllPairs, filter, count_by, cond, get_or}
 use Rattle.std.proofs.lemmas.Bool.{cases_lt, cases_Bool, and_parts, eqb-true, eq-eqb, le-leb}
 use Rattle.std.proofs.lemmas.List.Elements.{All-filter, filter_passes}
@@ -17,7 +17,7 @@ use Rattle.resv_core.specs.Resv.{IsTrimmed, is_at, is_of}
 abbrev Apart : Entry → Entry → Type 0
 Apart e f = (covers e f ≡ false) × (covers f e ≡ false)
 
--- of two entries of a context and usage, the later covers the other
+-- the later of two entries of one context and usage covers the other
 covers-later : (e f : Entry) → e.point.ctx ≡ f.point.ctx → usage_number e.usage ≡ usage_number f.usage → f.point.value ≤ e.point.value → covers e f ≡ true
 covers-later e f ctx usage later =
     rw (eq-eqb e.point.ctx f.point.ctx ctx, le-leb (usage_number e.usage) (usage_number f.usage) (omega arith), le-leb f.point.value e.point.value later) refl
@@ -44,7 +44,7 @@ length-apart usage ctx (e ∷ f ∷ es) same apart =
     let second = is_of-same usage ctx f (same 1 e (omega arith)) in
     absurd (Apart-not e f (first.1 ∙ sym second.1) (first.0 ∙ sym second.0) (apart 0 1 e (omega arith) (omega arith)))
 
--- of a context and usage there is one entry at most
+-- there is at most one entry of a context and usage
 pub count_by-is_of : (reach : List ℕ) (es : List Entry) (usage : Usage) (ctx : ℕ) → IsTrimmed reach es → count_by (is_of usage ctx) es ≤ 1
 count_by-is_of reach es usage ctx trimmed =
     let few = length-apart usage ctx (filter (is_of usage ctx) es) (filter_passes (is_of usage ctx) es) (AllPairs-filter Apart (is_of usage ctx) es trimmed.apart) in
@@ -77,7 +77,7 @@ count_by-is_at (e ∷ es) ctx =
     let rest = count_by-is_at es ctx in
     omega arith
 
--- of a context there are four entries at most
+-- a context has at most four entries
 count_by-is_at-few : (reach : List ℕ) (es : List Entry) (ctx : ℕ) → IsTrimmed reach es → count_by (is_at ctx) es ≤ 4
 count_by-is_at-few reach es ctx trimmed =
     let kernel = count_by-is_of reach es Kernel ctx trimmed in

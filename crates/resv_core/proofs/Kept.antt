@@ -1,4 +1,4 @@
--- Tables that are kept: points that change nothing, and what the tables stand for.
+-- Tables that are kept: points that change nothing, and the entries that the tables represent.
 use Rattle.std.proofs.Common.{◌≡◌, ℕ, ◌+◌, ◌-◌, ◌*◌, ◌<◌, ◌≤◌, zero, suc, max, refl, sym, ap, ◌∙◌, subst, List, [], ◌∷◌, ◌++◌, length, replicate, append_assoc, append-nil, Option, None, Some, arith, Bool, true, false, nat_lt, if◌then◌else◌, inl, inr, All}
 use Rattle.std.specs.Prelude.{option_map}
 use Rattle.std.specs.List.{flat_map, range_with_len}
@@ -28,11 +28,11 @@ use Rattle.resv_core.proofs.Compaction.{IsCompacted, IsCompacted-none, IsCompact
 pub value_at-none : (ctx : ℕ) → value_at [] ctx ≡ 0
 value_at-none ctx = get_or_past [] (ctx - 1) 0 (omega arith)
 
--- every reach is at least none
+-- every reach is at least the empty one
 pub IsAtLeast-none : (reach : List ℕ) → IsAtLeast reach []
 IsAtLeast-none reach = record { values = λ ctx. let none = value_at-none ctx in omega arith }
 
--- ---- a point that is not later than what its usage has
+-- ---- a point that is not later than the usage's
 
 put_if-needless : (b : Bool) (p value : ℕ) → (b ≡ true → p ≤ value) → put_if b p value ≡ value
 put_if-needless true p value low = let is = low refl in omega arith
@@ -60,7 +60,7 @@ AreTops-needless {tops} {reach} {latest} {es} point usage h tell low high below 
       bookkeep = IsLatest-needless (entry_of point usage) h.bookkeep has;
     }
 
--- ---- what is above a reach that is not lower than that of the tables
+-- ---- points above a reach that is at least the tables'
 
 point_above-risen : (reached lower ctx : ℕ) (t : Option ℕ) → lower ≤ reached → (if nat_lt reached (raised_to lower t) then Some (point_of ctx (raised_to lower t)) else None) ≡ option_map (point_of ctx) (pending reached t)
 point_above-risen reached lower ctx None low = rw (le-ltb reached lower low) refl
@@ -75,7 +75,7 @@ points_above-risen {latest} {lower} {reach} {es} {usage} h high =
     filter_map-range_same (point_above latest reach) (λ ctx. option_map (point_of ctx) (pending_top reach es usage ctx)) 1 CONTEXTS
     (λ ctx from to. rw (h.values ctx from (omega arith)) (point_above-risen (value_at reach ctx) (value_at lower ctx) ctx (top es usage ctx) (high.values ctx)))
 
--- ---- whether all is reached
+-- ---- whether all points are reached
 
 raised_to-reached : (es : List Entry) (usage ctx value : ℕ) (t : Option ℕ) (reach : List ℕ) → top es usage ctx ≡ t → IsReached es usage reach → value ≤ value_at reach ctx → raised_to value t ≤ value_at reach ctx
 raised_to-reached es usage ctx value None reach is reached low = low
@@ -97,7 +97,7 @@ IsReached-IsLatest {latest} {es} {usage} reach h within = (
   λ reached ctx low high. rw (h.values ctx low high) (raised_to-reached es usage ctx (value_at [] ctx) (top es usage ctx) reach refl reached (let none = value_at-none ctx in omega arith)),
 )
 
--- ---- the entries that the tables stand for
+-- ---- the entries that the tables represent
 
 flat_map-range_more : {X : Type 0} (f : ℕ → List X) (a n : ℕ) → flat_map f (range_with_len a (suc n)) ≡ flat_map f (range_with_len a n) ++ f (a + n)
 flat_map-range_more f a zero =
@@ -140,7 +140,7 @@ AreTops-entries_of tops rising =
 pub HasContexts-entries_of : (tops : Tops) → AreRising tops → HasContexts (entries_of tops)
 HasContexts-entries_of tops rising = HasContexts-IsCompacted (omega arith) (IsCompacted-entries_of tops rising)
 
--- and their entries agree with all that was put into them
+-- and their entries agree with all entries that were put
 pub AgreesAbove-entries_of : {tops : Tops} {es : List Entry} (reach : List ℕ) → AreTops tops [] es → HasContexts es → AgreesAbove reach (entries_of tops) es
 AgreesAbove-entries_of {tops} {es} reach tell within =
     AgreesAbove-later (IsAtLeast-none reach) (AgreesAbove-sym (AgreesAbove-IsCompacted tell within (omega arith) (λ ctx past few. absurd (omega arith)) (IsCompacted-entries_of tops (AreRising-AreTops tell))))
@@ -195,7 +195,7 @@ AreTops-zero is h = record {
   bookkeep = IsLatest-zero is h.bookkeep;
 }
 
--- ---- what is reached is dropped
+-- ---- points that are reached are dropped
 
 pending_value-rising : (reached value higher : ℕ) → value ≤ higher → pending_value reached value ≤ pending_value reached higher
 pending_value-rising reached value higher low = elim (cases_lt reached value) [
@@ -233,7 +233,7 @@ table_at-dropped h (suc zero) ctx low high = h.write.values ctx low high
 table_at-dropped h (suc (suc zero)) ctx low high = h.read.values ctx low high
 table_at-dropped h (suc (suc (suc usage))) ctx low high = h.bookkeep.values ctx low high
 
--- above a reach the entries say what the tables have
+-- above a reach the entries agree with the tables
 raised_to-entries_of : (tops : Tops) → AreRising tops → (reach : List ℕ) (usage ctx : ℕ) → 1 ≤ ctx → ctx ≤ CONTEXTS → raised_to (value_at reach ctx) (top (entries_of tops) usage ctx) ≡ max (value_at reach ctx) (value_at (table_at tops usage) ctx)
 raised_to-entries_of tops rising reach usage ctx low high =
     raised_to-higher ((IsAtLeast-none reach).values ctx) (top (entries_of tops) usage ctx)

@@ -1,4 +1,4 @@
--- Points that are put together, of which those that are not later than what their usage has are passed over.
+-- Points that are put together; those that are no later than their usage's are skipped.
 use Rattle.std.proofs.Common.{◌≡◌, ℕ, ◌+◌, ◌<◌, ◌≤◌, refl, sym, ap, ◌∙◌, subst, List, [], ◌∷◌, ◌++◌, append_assoc, append-nil, take, drop, get_or, length, arith}
 use Rattle.std.proofs.lemmas.List.{length-append, map-append, take-append-drop, take_more, drop_more}
 use Rattle.std.proofs.lemmas.List.Elements.{All-nil, All-cons, All-append, All-head, All-tail}
@@ -17,7 +17,7 @@ use Rattle.resv_core.specs.Tops.{AreTops}
 use Rattle.resv_core.specs.TopTable.{AreNotLater, IsFirstLater}
 use Rattle.resv_core.proofs.Kept.{AreTops-needless}
 
--- ---- the first that is later
+-- ---- the first later point
 
 abbrev IsNotLater : List ℕ → Point → Type 0
 IsNotLater latest p = ((1 ≤ p.ctx) × (p.ctx ≤ CONTEXTS)) × (p.value ≤ value_at latest p.ctx)
@@ -37,12 +37,12 @@ IsFirstLater-at latest points i p low at before later = record {
   later = later;
 }
 
--- ---- the points that are passed over
+-- ---- the points that are skipped
 
 entries_as-append : (usage : Usage) (ps qs : List Point) → entries_as usage (ps ++ qs) ≡ entries_as usage ps ++ entries_as usage qs
 entries_as-append usage ps qs = map-append (λ point. entry_of point usage) ps qs
 
--- the table is that of the usage, whatever was put
+-- the table is the usage's, whatever was put
 abbrev IsTableAt : List ℕ → Tops → Usage → Type 0
 IsTableAt latest tops usage = (reach : List ℕ) (es : List Entry) → AreTops tops reach es → IsLatest latest reach es (usage_number usage)
 
@@ -58,7 +58,7 @@ HasContexts-passed : (latest : List ℕ) (usage : Usage) (points : List Point) �
 HasContexts-passed latest usage [] passed = All-nil (λ (e : Entry). (1 ≤ e.point.ctx) × (e.point.ctx ≤ CONTEXTS))
 HasContexts-passed latest usage (p ∷ ps) passed = All-cons (λ (e : Entry). (1 ≤ e.point.ctx) × (e.point.ctx ≤ CONTEXTS)) (entry_of p usage) (entries_as usage ps) (All-head (IsNotLater latest) p ps passed).0 (HasContexts-passed latest usage ps (All-tail (IsNotLater latest) p ps passed))
 
--- ---- so many were put
+-- ---- the points that were put so far
 
 -- the first of the points are in the tables, and the rest are not yet
 pub record HasRaised (usage : Usage) (old new : Tops) (points rest : List Point) : Type 0 where
@@ -77,7 +77,7 @@ HasRaised-none usage tops points = record {
   nothing = λ none. refl;
 }
 
--- those that are passed over are put too
+-- the points that are skipped count as put
 HasRaised-over : {usage : Usage} {old new : Tops} {points rest : List Point} {latest : List ℕ} (before after : List Point) → HasRaised usage old new points rest → IsTableAt latest new usage → AreNotLater latest before → rest ≡ before ++ after → HasRaised usage old new points after
 HasRaised-over {usage} {old} {new} {points} {rest} {latest} before after h at passed is = record {
   put = h.put ++ before;
@@ -103,7 +103,7 @@ HasRaised-one {usage} {old} {new} {newer} {points} p others h raised context = r
 pub HasRaised-more : {usage : Usage} {old new newer : Tops} {points rest : List Point} {latest : List ℕ} (p : Point) (others : List Point) → HasRaised usage old new points rest → IsTableAt latest new usage → IsFirstLater latest rest p others → ((reach : List ℕ) (es : List Entry) → AreTops new reach es → AreTops newer reach (es ++ entry_of p usage ∷ [])) → HasContexts (entry_of p usage ∷ []) → HasRaised usage old newer points others
 HasRaised-more p others h at first raised context = HasRaised-one p others (HasRaised-over first.before (p ∷ others) h at first.passed first.parts) raised context
 
--- none of the rest is later
+-- no later point is left
 pub HasRaised-all : {usage : Usage} {old new : Tops} {points rest : List Point} {latest : List ℕ} → HasRaised usage old new points rest → IsTableAt latest new usage → AreNotLater latest rest → HasRaised usage old new points []
 HasRaised-all {rest = rest} h at passed = HasRaised-over rest [] h at passed (sym (append-nil rest))
 

@@ -1,4 +1,4 @@
--- An entry that gives way to a new one is no loss.
+-- Replacing an entry that gives way to a new one loses nothing.
 use Rattle.std.proofs.Common.{◌≡◌, ℕ, ◌<◌, ◌≤◌, ◌⊎◌, zero, suc, refl, sym, ap, ◌∙◌, List, [], ◌∷◌, ◌++◌, length, get_or, set, arith, Bool, true, false, ◌==◌, nat_le, ◌&&◌, inl, inr}
 use Rattle.std.specs.List.{list_any, HoldsAt, AllWithin}
 use Rattle.std.proofs.lemmas.Bool.{cases_Bool, or_cases, and_parts, leb-true, eqb-true}
@@ -56,13 +56,13 @@ raised_to-top-set reach (old ∷ es) (suc i) new usage ctx low way =
     ∙ put_if-comm (applies old usage ctx) (applies new usage ctx) old.point.value new.point.value (raised_to (value_at reach ctx) (top es usage ctx))
     ∙ ap (put_if (applies new usage ctx) new.point.value) (sym (raised_to-if (applies old usage ctx) (value_at reach ctx) old.point.value (top es usage ctx)))
 
--- putting the new entry in the old one's place is as good as adding it
+-- putting the new entry in the old one's place agrees with adding it
 pub AgreesAbove-set : (reach : List ℕ) (es : List Entry) (i : ℕ) (new : Entry) → i < length es → HoldsAt (λ old. gives_way reach new old ≡ true) es i → AgreesAbove reach (set es i new) (es ++ new ∷ [])
 AgreesAbove-set reach es i new low way = AgreesAbove-from_raised (λ usage ctx.
     raised_to-top-set reach es i new usage ctx low (way new)
     ∙ sym (raised_to-top-last (value_at reach ctx) es new usage ctx))
 
--- what the place that was found says of all entries
+-- the place that was found, and all entries
 pub list_any-found : (test : Entry → Bool) (es : List Entry) (i : ℕ) (d : Entry) → i < length es → HoldsAt (λ e. test e ≡ true) es i → list_any test es ≡ true
 list_any-found test es i d low holds = list_any_at test es i d low (holds d)
 

@@ -10,18 +10,18 @@ use Rattle.resv_core.specs.Tops.{AreTops}
 use Rattle.resv_core.specs.TopTable.{AreRising, entries_of, reservation_of}
 use Rattle.resv_core.proofs.Kept.{AgreesAbove-entries_of, AreRising-AreTops, AreTops-entries_of, HasContexts-entries_of, IsTable-entries_of}
 
--- once there are tables
+-- after the first fence
 pub entries-Some : {B : Type 0} (o : Option B) (tops : B → Tops) (b : B) (r : Reservation) → reservation_of (option_map tops o) ≡ r → o ≡ Some b → r.entries ≡ entries_of (tops b)
 entries-Some o tops b r view is = sym (ap (λ (q : Reservation). q.entries) view) ∙ ap (λ p. (reservation_of (option_map tops p)).entries) is
 
--- before
+-- before it
 pub entries-None : {B : Type 0} (o : Option B) (tops : B → Tops) (r : Reservation) → reservation_of (option_map tops o) ≡ r → o ≡ None → r.entries ≡ []
 entries-None o tops r view is = sym (ap (λ (q : Reservation). q.entries) view) ∙ ap (λ p. (reservation_of (option_map tops p)).entries) is
 
 pub IfSome-at : {B : Type 0} (o : Option B) (P : B → Type 0) (b : B) → o ≡ Some b → IfSome o P → P b
 IfSome-at o P b is h = subst (λ p. IfSome p P) is h
 
--- what was put into tables that were kept
+-- what was put into tables that exist
 pub record IsMore (es before : List Entry) (new : Tops) : Type 0 where
   pub rising : AreRising new
   pub table : IsTable (record { entries = entries_of new; room = 0 })

@@ -1,4 +1,4 @@
--- Rounds of acts: one more, one alone, how many acts there are, by how much they advance, and that they are in range.
+-- Rounds of acts: another round, a single one, the number of acts, the sum of advances, and ranges.
 use Rattle.std.proofs.Common.{◌≡◌, ◌≢◌, ℕ, zero, suc, ◌+◌, ◌*◌, ◌^◌, ◌<◌, ◌≤◌, true, nat_lt, All, List, [], ◌∷◌, ◌++◌, length, inl, inr, refl, sym, ap, ◌∙◌, arith, length-append, append-nil, mul-zero, mul-one, mul-suc, mul-le-mul_left}
 use Rattle.std.specs.List.{range_with_len, flat_map, list_all}
 use Rattle.std.proofs.lemmas.Bool.{and_parts, lt-ltb, ltb-true}
@@ -20,7 +20,7 @@ flat_map-range_more f a (suc n) =
     ∙ sym (append_assoc (f a) (flat_map f (range_with_len (a + 1) n)) (f (a + 1 + n)))
     ∙ ap (λ (k : ℕ). (f a ++ flat_map f (range_with_len (a + 1) n)) ++ f k) (omega arith)
 
--- one round more
+-- another round
 pub rounds_of-more : (acts : List Act) (n : ℕ) → rounds_of acts (n + 1) ≡ rounds_of acts n ++ round_of acts (n + 1)
 rounds_of-more acts n =
     let more : n + 1 ≡ suc n = omega arith in
@@ -39,7 +39,7 @@ round-first : (acts : List Act) → round_of acts 1 ≡ acts
 round-first [] = refl
 round-first (act ∷ acts) = ap (λ (a : Act). a ∷ round_of acts 1) (act-first act) ∙ ap (λ (rest : List Act). act ∷ rest) (round-first acts)
 
--- so that is all, if there is no other
+-- a single round is all
 pub rounds_of-once : (acts : List Act) → rounds_of acts 1 ≡ acts
 rounds_of-once acts = append-nil (round_of acts 1) ∙ round-first acts
 
@@ -75,13 +75,13 @@ increments-rounds acts a (suc n) =
     let more : increments_of acts * suc n ≡ increments_of acts * n + increments_of acts = mul-suc (increments_of acts) n in
     omega (arith, here, rest, whole, more)
 
--- the point of an act that is in range, in another round than the first
+-- the point of an act that is in range, in a later round
 pub point-fits : (number into : ℕ) (point : Point) (usage : Usage) → number ≢ 1 → IsInRange number (Put into point usage) → point.value * number < 2 ^ 64
 point-fits zero into point usage other h = let none = mul-zero point.value in omega (arith, none)
 point-fits (suc n) into point usage other (inl few) = absurd (other (omega (arith, few)))
 point-fits (suc n) into point usage other (inr fits) = ltb-true (point.value * suc n) (2 ^ 64) fits
 
--- an act in range is so in the rounds before
+-- an act in range is in range in earlier rounds
 in_range-earlier : (m n : ℕ) → m ≤ n → (act : Act) → IsInRange n act → IsInRange m act
 in_range-earlier m n low act (inl few) = inl (omega (arith, few, low))
 in_range-earlier m n low (Inc k) (inr fits) = inr refl
@@ -94,14 +94,14 @@ in_range-earlier m n low (Look into usage) (inr fits) = inr refl
 pub acts-in_range : (acts : List Act) (m n : ℕ) → m ≤ n → All (IsInRange n) acts → All (IsInRange m) acts
 acts-in_range acts m n low h = All-weaker (IsInRange n) (IsInRange m) (in_range-earlier m n low) acts h
 
--- so are acts that are made once
+-- acts that are made once are repeatable
 pub acts-once : (acts : List Act) → length acts < 2 ^ 64 → IsRepeatable acts 1
 acts-once acts low = let one = mul-one (length acts) in record {
   points = λ k d within. inl (omega arith);
   count = omega (arith, low, one);
 }
 
--- what the test tells
+-- the meaning of the test
 acts-pass : (n : ℕ) (acts : List Act) → list_all (is_in_range n) acts ≡ true → All (IsInRange n) acts
 acts-pass n [] h = All-nil (IsInRange n)
 acts-pass n (act ∷ acts) h =

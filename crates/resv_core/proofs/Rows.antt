@@ -1,4 +1,4 @@
--- The rows of a table, as they are appended.
+-- The rows of a table, usage by usage.
 use Rattle.std.proofs.Common.{◌≡◌, ℕ, sym, ap, ◌∙◌, List, [], ◌∷◌, ◌++◌, map, append_assoc, append-nil}
 use Rattle.std.proofs.lemmas.List.{map_push}
 use Rattle.point_core.specs.declared.entry.Point.{Point}

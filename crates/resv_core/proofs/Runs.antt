@@ -1,4 +1,4 @@
--- Calls on a table, one after another, and what a table shows.
+-- Calls on a table, one after another, and the table's answers.
 use Rattle.std.proofs.Common.{◌≡◌, ℕ, ◌↔◌, sym, ap, List, [], ◌∷◌, ◌++◌, map, append_assoc, append-nil, Contains}
 use Rattle.point_core.specs.declared.entry.Entry.{Entry}
 use Rattle.point_core.specs.declared.entry.Usage.{Usage}
@@ -9,7 +9,7 @@ use Rattle.point_core.proofs.Agreement.{AgreesAbove-same, AgreesAbove-sym, Agree
 use Rattle.resv_core.specs.Resv.{row_of, rows_at, rows_of}
 use Rattle.resv_core.specs.Run.{Call, Reserve, Add, Trim, Leaves, Step, IsRun, last_reach, last_entries, added_by, all_added}
 
--- each call agrees with what was there and what it adds
+-- each call agrees with the entries before it and those that it adds
 AgreesAbove-Leaves : (call : Call) (reach : List ℕ) (before after : List Entry) → Leaves call reach before after → AgreesAbove reach after (before ++ added_by call)
 AgreesAbove-Leaves Reserve reach before after h = AgreesAbove-trans (AgreesAbove-sym h) (AgreesAbove-same reach (sym (append-nil before)))
 AgreesAbove-Leaves (Add e) reach before after h = h

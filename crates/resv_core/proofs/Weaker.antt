@@ -1,4 +1,4 @@
--- The latest points at a usage, from those at a stronger one.
+-- The latest points at a usage, from the latest points at a stronger one.
 use Rattle.std.proofs.Common.{ℕ, ◌≤◌, ◌∙◌, List, arith}
 use Rattle.point_core.specs.declared.entry.Entry.{Entry}
 use Rattle.point_core.specs.Agreement.{top}
@@ -7,7 +7,7 @@ use Rattle.point_core.specs.Reach.{value_at}
 use Rattle.point_core.proofs.Agreement.{raised_to-above, raised_to-higher}
 use Rattle.resv_core.proofs.Compaction.{raised_to-top-stronger}
 
--- a table that has those at a stronger usage, and then all entries once more at this one
+-- a table of the stronger usage's points, into which all entries were put again at this one
 pub IsLatest-again : {latest before reach : List ℕ} {es : List Entry} {stronger usage : ℕ} → stronger ≤ usage → IsLatest before reach es stronger → IsLatest latest before es usage → IsLatest latest reach es usage
 IsLatest-again {latest} {before} {reach} {es} {stronger} {usage} low h k = record {
   values = λ ctx from to.

@@ -11,7 +11,7 @@ use Rattle.point_core.specs.Usage.{usage_number}
 use Rattle.point_core.specs.Reach.{value_at}
 use Rattle.point_core.specs.Agreement.{HasContexts, covers, listing}
 
--- the entries, and how many more there is a place for
+-- the entries, and the number of free places
 pub record Reservation : Type 0 where
   pub entries : List Entry
   pub room : ℕ

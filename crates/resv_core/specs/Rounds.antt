@@ -1,4 +1,4 @@
--- Rounds of acts, which are numbered from 1. In each of them the acts are the same, but for the points that are put.
+-- Rounds of acts, numbered from 1. Every round has the same acts, but for the points that are put.
 use Rattle.std.specs.Prelude.{ℕ, ◌*◌, ◌^◌, ◌<◌, ◌≤◌, ◌⊎◌, ◌&&◌, nat_lt, Bool, true, IsTrue, List, length, map, All}
 use Rattle.std.specs.List.{flat_map, list_all, range_with_len}
 use Rattle.point_core.specs.Agreement.{point_of}
@@ -6,13 +6,13 @@ use Rattle.resv_core.specs.declared.plan.Act.{Act}
 use Rattle.resv_core.specs.declared.plan.Act.TheVariants.{Inc, Put, Look}
 use Rattle.resv_core.specs.declared.plan.Round.{Round}
 
--- the act in the round of that number: a point that it puts is multiplied by the number
+-- the act in round `number`: a point that it puts is multiplied by the number
 abbrev pub in_round : ℕ → Act → Act
 in_round number (Inc n) = Inc n
 in_round number (Put into point usage) = Put into (point_of point.ctx (point.value * number)) usage
 in_round number (Look into usage) = Look into usage
 
--- the acts of the round of that number
+-- the acts of round `number`
 abbrev pub round_of : List Act → ℕ → List Act
 round_of acts number = map (in_round number) acts
 
@@ -34,11 +34,11 @@ is_in_range number (Look into usage) = true
 abbrev pub is_repeatable : List Act → ℕ → Bool
 is_repeatable acts times = nat_lt (length acts * times) (2 ^ 64) && list_all (is_in_range times) acts
 
--- the act can be made in that round, as every act can in the first
+-- the act can be made in that round; every act can in the first
 abbrev pub IsInRange : ℕ → Act → Type 0
 IsInRange number act = (number ≤ 1) ⊎ IsTrue (is_in_range number act)
 
--- what is known of acts that can be made in this number of rounds
+-- the acts can be made in this number of rounds, and what follows
 pub record IsRepeatable (acts : List Act) (times : ℕ) : Type 0 where
   pub points : All (IsInRange times) acts
   pub count : length acts * times < 2 ^ 64

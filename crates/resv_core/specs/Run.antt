@@ -10,7 +10,7 @@ pub data Call : Type 0 where
   Add : Entry → Call
   Trim : Call
 
--- what its contract says of the entries before and after it, at the reach that it was given
+-- the contract of a call: the entries before and after it, at the reach that it was given
 abbrev pub Leaves : Call → List ℕ → List Entry → List Entry → Type 0
 Leaves Reserve reach before after = AgreesAbove reach before after
 Leaves (Add e) reach before after = AgreesAbove reach after (before ++ e ∷ [])
@@ -22,7 +22,7 @@ pub record Step : Type 0 where
   pub reach : List ℕ
   pub after : List Entry
 
--- each call was made on what the one before it left, and at no lower reach
+-- each call was made on the entries that the one before it left, and at no lower reach
 abbrev pub IsRun : List ℕ → List Entry → List Step → Type 0
 IsRun reach before [] = ⊤
 IsRun reach before (step ∷ steps) =

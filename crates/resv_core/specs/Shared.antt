@@ -1,4 +1,4 @@
--- What a call on a shared table does to its seat.
+-- The effect of a call on a shared table on its seat.
 use Rattle.std.specs.Prelude.{◌≡◌, ℕ, ◌≤◌, List}
 use Rattle.words_core.specs.declared.trace.Step.{Step}
 use Rattle.words_core.specs.declared.trace.StepKind.TheVariants.{Load}
@@ -11,15 +11,15 @@ use Rattle.words_core.specs.Seat.{SeatModel, with_steps}
 abbrev pub HasStepped : SeatModel → SeatModel → Type 0
 HasStepped before after = (steps : List Step) × (after ≡ with_steps before steps)
 
--- of a seat with all parts: none of the first contexts was closed
+-- for a seat with all parts: none of the first contexts was closed
 abbrev pub HasClosedNone : ℕ → SeatModel → Type 0
 HasClosedNone contexts seat = (ctx : ℕ) → 1 ≤ ctx → ctx ≤ contexts → shuts_of (mark_word ctx) seat.trace ≡ 0
 
--- 1 at a load, as of a context's value or mark, and else 0
+-- 1 for a load of a context's value or mark, and else 0
 abbrev pub is_load : Step → ℕ
 is_load s = if_kind Load s.kind 1
 
--- all contexts were loaded once, which found the reach, and then no other load was made
+-- all contexts were loaded once, which gave the reach, and then no other load was made
 pub record HasLoadedOnce (reach : List ℕ) (before after : SeatModel) : Type 0 where
   pub seat : SeatModel
   pub loaded : HasLoadedAll before seat reach

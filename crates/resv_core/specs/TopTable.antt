@@ -1,4 +1,4 @@
--- The latest points that a buffer keeps, as the entries that they stand for.
+-- The latest points that a buffer keeps, as the entries that they represent.
 use Rattle.std.specs.Prelude.{ℕ, ◌≡◌, ◌≤◌, ◌<◌, nat_lt, if◌then◌else◌, List, [], ◌∷◌, ◌++◌, All, Option, None, Some}
 use Rattle.point_core.specs.declared.entry.Point.{Point}
 use Rattle.std.specs.List.{flat_map}
@@ -10,7 +10,8 @@ use Rattle.resv_core.specs.declared.tops.Tops.{Tops}
 use Rattle.resv_core.specs.Resv.{Reservation}
 use Rattle.resv_core.specs.Tops.{IsRising, entries_at}
 
--- the entries that the tables stand for: of each context, for each usage that has a later point than the stronger ones
+-- the entries that the tables represent: for each context, one for each usage that has a later point than the stronger
+-- ones
 abbrev pub entries_of : Tops → List Entry
 entries_of tops = flat_map (entries_at tops []) contexts
 
@@ -39,11 +40,11 @@ pub record AreDropped (reach : List ℕ) (before after : Tops) : Type 0 where
   pub read : HasDropped reach before.read after.read
   pub bookkeep : HasDropped reach before.bookkeep after.bookkeep
 
--- each point is of a context that there can be, and not later than what the table has
+-- each point's context exists, and the point is not later than the table's
 abbrev pub AreNotLater : List ℕ → List Point → Type 0
 AreNotLater latest points = All (λ p. ((1 ≤ p.ctx) × (p.ctx ≤ CONTEXTS)) × (p.value ≤ value_at latest p.ctx)) points
 
--- the first of the points that is later than what the table has, and those after it
+-- the first of the points that is later than in the table, and the rest
 pub record IsFirstLater (latest : List ℕ) (points : List Point) (first : Point) (others : List Point) : Type 0 where
   pub before : List Point
   pub parts : points ≡ before ++ first ∷ others

@@ -1,4 +1,4 @@
--- Tables of latest points, one for each usage, and the entries that they stand for.
+-- Tables of latest points, one for each usage, and the entries that they represent.
 use Rattle.std.specs.Prelude.{◌≡◌, ℕ, ◌≤◌, nat_lt, if◌then◌else◌, List, [], ◌∷◌, ◌++◌}
 use Rattle.point_core.specs.declared.entry.Point.{Point}
 use Rattle.point_core.specs.declared.entry.Entry.{Entry}
@@ -25,7 +25,7 @@ pub record IsRising (tops : Tops) (reach : List ℕ) (ctx : ℕ) : Type 0 where
   pub read : value_at tops.write ctx ≤ value_at tops.read ctx
   pub bookkeep : value_at tops.read ctx ≤ value_at tops.bookkeep ctx
 
--- both have the same points of the context
+-- both have equal points of the context
 abbrev pub AreSameAt : Tops → Tops → ℕ → Type 0
 AreSameAt tops others ctx =
     (value_at tops.kernel ctx ≡ value_at others.kernel ctx)
@@ -37,11 +37,11 @@ AreSameAt tops others ctx =
 abbrev pub AreSame : Tops → Tops → Type 0
 AreSame tops others = (ctx : ℕ) → 1 ≤ ctx → ctx ≤ CONTEXTS → AreSameAt tops others ctx
 
--- an entry of the point, if it is later than what the stronger usages have
+-- an entry of the point, if it is later than the stronger usages' points
 abbrev pub entry_above : ℕ → Point → Usage → List Entry
 entry_above stronger point usage = if nat_lt stronger point.value then entry_of point usage ∷ [] else []
 
--- the entries of a context that the tables stand for
+-- the entries of a context that the tables represent
 abbrev pub entries_at : Tops → List ℕ → ℕ → List Entry
 entries_at tops reach ctx =
     entry_above (value_at reach ctx) (point_of ctx (value_at tops.kernel ctx)) Kernel

@@ -1,4 +1,5 @@
-// Tables of latest points that are kept: points are put into them, and those that are reached are dropped.
+//! The tables of one buffer, from its first fence to its end: points are put into them, and points that are reached are
+//! dropped. `TopTable` owns them.
 ghost use Rattle.std.specs.Prelude.{◌≡◌, ℕ, ◌≤◌, ◌↔◌, ◌++◌, ◌∷◌, [], IsTrue, List, MatchOption, replicate};
 ghost use Rattle.point_core.specs.declared.context.TheConstants.{CONTEXTS};
 ghost use Rattle.point_core.specs.declared.entry.Entry.{Entry};
@@ -19,7 +20,7 @@ impl Tops {
         ensures latest { (reach : List ℕ) (es : List Entry) →
             AreTops self.now reach es → IsLatest result.now reach es (usage_number usage) }
     {
-        // No `match`, which becomes a jump through a table.
+        // No `match`, which would become a jump table.
         let number = usage.number();
         let strong = if number == Usage::Kernel.number() {
             &self.kernel
@@ -52,7 +53,8 @@ impl Tops {
         }
     }
 
-    /// Puts a point, as `put` does. Most are not later than what the usage has, and then no weaker usage is looked at.
+    /// Puts a point, as `put` does. Most points are no later than the usage's table has, and then no weaker usage is
+    /// looked at.
     pub(crate) fn raise(&mut self, point: Point, usage: Usage)
         ensures tops { (reach : List ℕ) (es : List Entry) →
             AreTops self.old reach es → AreTops self.new reach (es ++ entry_of point usage ∷ []) }
@@ -72,7 +74,7 @@ impl Tops {
         self.put(&Entry { point, usage });
     }
 
-    /// Drops what the reach has.
+    /// Drops the points that the reach has.
     pub(crate) fn drop_reached(&mut self, reach: &Reach)
         ensures dropped { AreDropped reach.now self.old self.new }
     {
@@ -84,7 +86,7 @@ impl Tops {
     }
 }
 
-/// The first of the points that is later than what the table has, and those after it.
+/// The first of the points that is later than in the table, and the rest.
 fn first_later<'a>(latest: &LatestPoints, points: &'a [Point]) -> Option<(Point, &'a [Point])>
     ensures first { MatchOption result
         (AreNotLater latest.now points.now)
@@ -113,7 +115,7 @@ pub(crate) fn is_reached(latest: &LatestPoints, reach: &Reach) -> bool
     true
 }
 
-/// Begins the table again with those of its points that are above the reach.
+/// Restarts the table with only the points that are above the reach.
 fn drop_reached(latest: &mut LatestPoints, reach: &Reach, none: &Reach)
     requires none { none.now ≡ replicate CONTEXTS 0 }
     ensures dropped { HasDropped reach.now latest.old latest.new }

@@ -1,4 +1,5 @@
-// What holds of every table, whatever was called on it: each law is the contract of a function with an empty body.
+//! Theorems about every table, whatever calls were made on it: each law is the contract of a function with an empty
+//! body.
 ghost use Rattle.std.specs.Prelude.{◌≡◌, ℕ, ◌+◌, ◌≤◌, ◌↔◌, List, [], ◌++◌, length, count_by, Contains};
 ghost use Rattle.point_core.specs.declared.context.TheConstants.{CONTEXTS};
 ghost use Rattle.point_core.specs.declared.entry.Entry.{Entry};
@@ -9,8 +10,8 @@ ghost use Rattle.resv_core.specs.Resv.{IsTrimmed, is_at, is_of, rows_of};
 ghost use Rattle.resv_core.specs.Run.{IsRun, Step, all_added, last_entries, last_reach};
 
 /// After any calls, at reaches that don't fall, a table agrees above the last reach with everything that was added. So
-/// two tables to which the same was added, in whatever order and however often, agree there. And whatever a table
-/// agreed with before, it agrees with that and all that was added since.
+/// two tables with equal sets of entries, added in whatever order and however often, agree there. And a table that
+/// agreed with some entries before still agrees with them and all that was added since.
 pub fn a_table_agrees_with_all_that_was_added()
     ensures agrees { (reach : List ℕ) (steps : List Step) →
         IsRun reach [] steps →
@@ -25,8 +26,8 @@ pub fn a_table_agrees_with_all_that_was_added()
         AgreesAbove (last_reach reach steps) (last_entries es steps) (put ++ all_added steps) }
 {}
 
-/// What `table` and `test` give of a table depends only on what it agrees with. Of what `collect` lists,
-/// `listings_show_agreement` of `point_core` says so.
+/// `table` and `test` depend only on the set that a table agrees with. For `collect`, `listings_show_agreement` of
+/// `point_core` says so.
 pub fn tables_that_agree_show_the_same()
     ensures table { (reach : List ℕ) (es fs : List Entry) →
         AgreesAbove reach es fs → rows_of es reach ≡ rows_of fs reach }
@@ -34,8 +35,7 @@ pub fn tables_that_agree_show_the_same()
         AgreesAbove reach es fs → (IsReached es usage reach ↔ IsReached fs usage reach) }
 {}
 
-/// A trimmed table has at most one entry of each usage for a context. So of the places of each context one is free, and
-/// of all places one for each context.
+/// A trimmed table has at most one entry of each usage for a context. So it has a free place for each context.
 pub fn a_trimmed_table_has_one_entry_of_each_usage()
     ensures usage { (reach : List ℕ) (es : List Entry) (usage : Usage) (ctx : ℕ) →
         IsTrimmed reach es → count_by (is_of usage ctx) es ≤ 1 }

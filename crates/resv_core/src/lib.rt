@@ -1,6 +1,6 @@
 //! Reservations: the table of fences of one buffer, as Linux's `dma_resv`.
 //!
-//! A table drops and replaces entries as it likes, as long as it says the same above the reach as all that was added.
+//! A table may drop and replace entries freely, as long as it agrees above the reach with all that was added.
 #![tactic(auto)]
 
 mod kept_tops;

@@ -1,4 +1,4 @@
-// What a client does, and what all plans come to.
+//! `Act` and `Plan`: the script of one client, and `Settled`, the end that all plans come to in every schedule.
 ghost use Rattle.std.specs.Prelude.{◌≡◌, ℕ, IfErr, IsTrue, OkIff, length};
 ghost use Rattle.std.specs.List.{list_all};
 ghost use Rattle.point_core.specs.declared.refusal.Refusal.TheVariants as refusal;
@@ -10,16 +10,16 @@ use std::marker::Model;
 /// One act of a client.
 #[derive(Clone, Copy, Debug, PartialEq, Eq)]
 pub enum Act {
-    /// The client's own timeline advances by so much.
+    /// Advances the client's own timeline by this number.
     Inc(u64),
-    /// A fence is put into the buffer of that number.
+    /// Puts a fence into the buffer of this number.
     Put(usize, Point, Usage),
-    /// The buffer's pending points at the usage or a stronger one are looked at.
+    /// Looks at the buffer's pending points, at the usage or a stronger one.
     Look(usize, Usage),
 }
 
 impl Act {
-    /// The act in the round of that number, from 1: a point that it puts is multiplied by the number.
+    /// The act in round `number`, from 1: a point that it puts is multiplied by the number.
     pub fn in_round(&self, number: u32) -> Act
         requires { IsInRange number self.now }
         ensures { result ≡ in_round number self.now }
@@ -38,7 +38,7 @@ impl Act {
         }
     }
 
-    /// Whether the point that it puts in the round of that number is at most the greatest u64.
+    /// Whether the point that it puts in round `number` is at most the greatest u64.
     fn is_in_range(&self, number: u32) -> bool
         ensures { result ≡ is_in_range number self.now }
     {
@@ -49,7 +49,7 @@ impl Act {
     }
 }
 
-/// A round of acts, which is made a number of times. In round r, from 1, a point v that is put is the point v r.
+/// A round of acts, and how often it is repeated. In round r, from 1, a point v that is put is the point v r.
 #[derive(Clone, Copy, Debug)]
 pub struct Round<'a> {
     pub acts: &'a [Act],
@@ -76,15 +76,15 @@ impl Model for Plan {
 }
 
 impl Plan {
-    /// The acts, each made once. Takes no memory.
+    /// The acts, each made once. Does not allocate.
     pub fn of(acts: Vec<Act>) -> Plan
         ensures acts { result ≡ acts.items }
     {
         Plan { acts, times: 1 }
     }
 
-    /// Repeats the acts in `times` rounds. A point that is put is multiplied by the number of its round, from 1. Takes no
-    /// memory.
+    /// Repeats the acts in `times` rounds. A point that is put is multiplied by the number of its round, from 1. Does
+    /// not allocate.
     ///
     /// Fails only with `Overflow`, if one of these points or the number of all acts is past the greatest u64.
     pub fn repeated(acts: Vec<Act>, times: u32) -> Result<Plan, Refusal>
@@ -97,7 +97,7 @@ impl Plan {
         Ok(Plan { acts, times })
     }
 
-    /// The round that is repeated. Takes no memory.
+    /// The round that is repeated. Does not allocate.
     pub fn round(&self) -> Round<'_>
         ensures acts { acts_of result ≡ self.now }
         ensures in_range { IsRepeatable result.acts.now result.times }
@@ -108,15 +108,15 @@ impl Plan {
         }
     }
 
-    /// The acts of the round that is repeated: of a plan that `of` made, all of them. Takes no memory.
-    /// Users of the library call it; no program here does.
+    /// The acts of the round that is repeated: all acts, for a plan that `of` made. Does not allocate. For users of the
+    /// library; no program here calls it.
     pub fn as_slice(&self) -> &[Act]
         ensures round { (times : ℕ) × (rounds_of result.now times ≡ self.now) }
     {
         self.acts.as_slice()
     }
 
-    /// How many acts there are.
+    /// The number of acts.
     pub fn len(&self) -> usize
         ensures count { result ≡ length self.now }
     {
@@ -131,15 +131,15 @@ fn is_repeatable(acts: &[Act], times: u32) -> bool
     acts.len().checked_mul(times as usize).is_some() && are_in_range(acts, times)
 }
 
-/// Whether each act is in range in the round of that number.
+/// Whether each act is in range in round `number`.
 fn are_in_range(acts: &[Act], number: u32) -> bool
     ensures { result ≡ list_all (is_in_range number) acts.now }
 {
     acts.iter().all(|act| act.is_in_range(number))
 }
 
-/// What the plans of all clients come to: the value of each timeline, and the pending tops of each buffer above the
-/// values, as `Resv::table` gives them.
+/// The end of all clients' plans: the value of each timeline, and the pending tops of each buffer above the values, as
+/// `Resv::table` gives them.
 #[derive(Debug, Drop)]
 pub struct Settled {
     pub values: Items<u64>,

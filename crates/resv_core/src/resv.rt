@@ -1,4 +1,5 @@
-// The reservation of a buffer.
+//! `Resv`: the reservation of a buffer as a list of entries, as Linux's `struct dma_resv` has one. `LockedBuffer` of
+//! `clients_core` uses it; the desk's buffers use `TopTable`.
 ghost use Rattle.std.specs.Prelude.{◌≡◌, ◌+◌, ◌-◌, ◌<◌, ◌≤◌, ◌↔◌, Ok, if◌then◌else◌, length, IfErr, IfOk, IsTrue, OnErr, OnOk};
 ghost use Rattle.std.specs.List.{list_any};
 ghost use Rattle.point_core.specs.declared.context.TheConstants.{CONTEXTS};
@@ -16,10 +17,10 @@ use point_core::{
 use std::alloc::Global;
 use std::marker::Model;
 
-/// How many places a table has for each context: one for an entry of each usage, and one for a new entry.
+/// The number of places that a table has for each context: one for an entry of each usage, and one for a new entry.
 pub const PLACES_PER_CONTEXT: usize = USAGES + 1;
 
-/// How many entries a table can hold. Of a trimmed table one place for each context is free.
+/// The most entries of a table. A trimmed table has a free place for each context.
 pub const PLACES: usize = PLACES_PER_CONTEXT * CONTEXTS;
 
 const _: () = prove!(PLACES_PER_CONTEXT == 5);
@@ -51,7 +52,7 @@ impl Model for Resv {
 }
 
 impl Resv {
-    /// No entries and no room: the places are taken by the first `reserve`. Takes no memory, so it is never refused.
+    /// No entries and no room: the first `reserve` allocates the places. Never refused, since it does not allocate.
     pub fn new(alloc: Global) -> Result<Self, Refusal>
         ensures empty { result ≡ Ok empty }
     {
@@ -61,9 +62,9 @@ impl Resv {
         })
     }
 
-    /// Makes room for `n` entries to be added, as Linux's `dma_resv_reserve_fences`. If there is too little, the
-    /// table is trimmed; the kernel makes a larger table, and doesn't carry signalled fences over. Here all places are
-    /// taken by the first call that needs one, and they always suffice.
+    /// Makes room for `n` entries to be added, as Linux's `dma_resv_reserve_fences`. If there is too little, the table
+    /// is trimmed; the kernel makes a larger table, and doesn't carry signalled fences over. Here the first call that
+    /// needs a place allocates all places, which always suffice.
     ///
     /// Fails only with `Memory`, if there were no places yet, and leaves the table as it was.
     pub fn reserve(&mut self, n: usize, reach: &Reach) -> Result<(), Refusal>
@@ -93,7 +94,7 @@ impl Resv {
         Ok(())
     }
 
-    /// How many entries can be added before there has to be another `reserve`.
+    /// The number of entries that can be added before the next `reserve`.
     pub fn room(&self) -> usize
         ensures room { result ≡ self.now.room }
         ensures table { IsTable self.now }
@@ -102,12 +103,12 @@ impl Resv {
     }
 
     /// Adds a fence. It replaces an entry that is signalled, or that the new one covers: the same context, a usage
-    /// number at least the new one's, a point not later. If there is none it takes a free place, so `reserve`
+    /// number at least the new one's, a point not later. If there is no such entry it takes a free place, so `reserve`
     /// first.
     ///
-    /// Linux's `dma_resv_add_fence` replaces in this manner; which entries it lets a new one replace differs between
-    /// kernels, and these conditions are our own. As it works today, the first such entry is replaced, in place; which
-    /// one it is, and where an entry stands, is not promised. Takes no memory.
+    /// Linux's `dma_resv_add_fence` replaces in this manner; which entries a new one may replace differs between
+    /// kernels, and these conditions are our own. At present the first such entry is replaced, in place; which one it
+    /// is, and where an entry is stored, is unspecified. Does not allocate.
     pub fn add(&mut self, point: Point, usage: Usage, reach: &Reach)
         requires room { 1 ≤ self.old.room }
         ensures table { IsTable self.new }
@@ -130,9 +131,9 @@ impl Resv {
         }
     }
 
-    /// Drops the entries that are signalled, and those that another one covers; of equal ones one stays. So there is
-    /// a place for a new entry of each context. The kernel has no such call: it drops signalled fences when it makes
-    /// a table larger. Takes no memory.
+    /// Drops the entries that are signalled, and those that another one covers; of equal ones one stays. So there is a
+    /// place for a new entry of each context. The kernel has no such call: it drops signalled fences when it makes a
+    /// larger table. Does not allocate.
     pub fn trim(&mut self, reach: &Reach)
         ensures table { IsTable self.new }
         ensures agrees { Leaves Trim reach.now self.old.entries self.new.entries }
@@ -156,8 +157,8 @@ impl Resv {
         latest.points(self.alloc, reach)
     }
 
-    /// The points that `collect` gives, into a list that is kept, by a table that is kept: what both had goes. It takes memory
-    /// if there are more points than the list has room for.
+    /// Like `collect`, but with a scratch table and a list that are cleared and reused; allocates only if there are
+    /// more points than the list has room for.
     pub fn collect_into(
         &self,
         usage: Usage,
@@ -181,10 +182,10 @@ impl Resv {
         rows_of(self.alloc, self.entries.as_slice(), reach)
     }
 
-    /// Whether every entry of the usage or a stronger one is signalled, as Linux's `dma_resv_test_signaled`. Takes no
-    /// memory.
+    /// Whether every entry of the usage or a stronger one is signalled, as Linux's `dma_resv_test_signaled`. Does not
+    /// allocate.
     ///
-    /// Users of the library call it; no program here does.
+    /// For users of the library; no program here calls it.
     pub fn test(&self, usage: Usage, reach: &Reach) -> bool
         ensures reached { IsTrue result ↔ IsReached self.now.entries (usage_number usage) reach.now }
     {
@@ -193,7 +194,7 @@ impl Resv {
     }
 
     /// Whether the table agrees above the reach with these entries: at each usage both have the same latest pending
-    /// point of each context. Takes no memory.
+    /// point of each context. Does not allocate.
     pub fn agrees(&self, entries: &[Entry], reach: &Reach) -> bool
         ensures agrees { IsTrue result ↔ AgreesAbove reach.now self.now.entries entries.now }
     {

@@ -1,4 +1,5 @@
-// Buffers that clients on threads share.
+//! `SharedTable`: the contract of buffers that clients share. `clients_core` implements it twice, with locks and as a
+//! lock-free board.
 ghost use Rattle.std.specs.Prelude.{◌≡◌, ℕ, ◌<◌, ◌≤◌, ◌⊎◌, length, List, Ok, Err, IfErr, IfOk, OnOk, Result};
 ghost use Rattle.point_core.specs.declared.entry.Entry.{Entry};
 ghost use Rattle.point_core.specs.declared.entry.Usage.{Usage};
@@ -23,22 +24,22 @@ use words_core::{Seat, Whole, Words};
 /// Buffers that clients share by reference, beside the words of their timelines. Each call is made with the caller's
 /// seat, whose words and parts it keeps; the seat's trace only grows.
 ///
-/// Every table is made for one set of words, by `empty`, and is used only with these words and their seats. What it says of a
-/// put, of an export and of what it settles, beside what all tables do, is its own: a board, which is only words, has a step
-/// for each put and look in the seat's trace.
+/// A table is made for one set of words, by `empty`, and used only with these words and their seats. An implementation
+/// states its own facts about a put, an export and a settlement, beyond those of every table: a board, which consists
+/// of words, has a step for each put and look in the seat's trace.
 pub trait SharedTable: Sync + Sized + Drop {
     ghost made_for: { Self → WordsModel };
 
-    // What it says of a put into a buffer, by the seat before it and after it, and the answer.
+    // What an implementation promises of `put` into a buffer: relates the seat before and after it, and the result.
     ghost puts: { Self → ℕ → Entry → SeatModel → SeatModel → Result (Unit {0}) Refusal → Type 0 };
 
     // What an implementation promises of `export` at a usage.
     ghost exports: { Self → ℕ → Usage → SeatModel → SeatModel → Result Listing Refusal → Type 0 };
 
-    // What it says of its settlement of plans, by the gathered seat before it, and the answer.
+    // What an implementation promises of `settle`: relates the gathered seat before it, the plans and the result.
     ghost settles: { Self → SeatModel → List (List Act) → Result Settled Refusal → Type 0 } = { λ _ _ _ _. Unit {0} };
 
-    /// The table of as many buffers as the words have. Nothing was put.
+    /// A table with as many buffers as the words have, all empty.
     ///
     /// Fails only with `Memory`.
     fn empty(alloc: Global, words: &Words) -> Result<Self, Refusal>
@@ -86,10 +87,10 @@ pub trait SharedTable: Sync + Sized + Drop {
         ensures above { IfOk result (λ listing. AllAbove listing.floor listing.points) }
         ensures refusals { IfErr result (λ e. (e ≡ refusal.Torn) ⊎ (e ≡ refusal.Memory)) };
 
-    /// A look as `export` makes it, into a listing that its caller keeps for many looks: what it had goes. A table that has
-    /// none of its own makes an `export`; the tables of `clients_core` take memory only when the list has too little room.
+    /// Like `export`, but clears and reuses `listing`. A table without a way of its own calls `export`; the tables of
+    /// `clients_core` allocate only if the list has too little room.
     ///
-    /// Fails as `put` does. Nothing is said of the listing then.
+    /// Fails as `put` does. The listing is unspecified then.
     fn export_into<R: Wait>(
         &self,
         rt: &R,
@@ -117,7 +118,7 @@ pub trait SharedTable: Sync + Sized + Drop {
     /// The values that the gathered seat knows, and the tables of the plans above them.
     ///
     /// Fails with `Torn` if a context is closed, since a floor that was loaded then is the greatest value, above the
-    /// gathered one; with `Torn` if the plans put something else than what was put; and with `Memory`.
+    /// gathered one; with `Torn` if the plans put other fences than were put; and with `Memory`.
     fn settle<R: Wait>(
         &self,
         rt: &R,

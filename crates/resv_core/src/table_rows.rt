@@ -1,4 +1,4 @@
-// The rows of a table's entries.
+//! The rows of a table's entries: the pending tops that `show` prints.
 ghost use Rattle.std.specs.Prelude.{◌≡◌, ℕ, ◌≤◌, List, IfErr, IfOk};
 ghost use Rattle.point_core.specs.Latest.{IsLatest};
 ghost use Rattle.point_core.specs.Usage.{usage_number};
@@ -31,7 +31,7 @@ pub(crate) fn rows_of(
     Ok(rows)
 }
 
-/// Makes the latest points of the entries at a stronger usage those at this one.
+/// Turns the latest points at a stronger usage into the latest points at this one.
 fn put_weaker(latest: &mut LatestPoints, usage: Usage, entries: &[Entry])
     ensures latest { (reach : List ℕ) (stronger : ℕ) → stronger ≤ usage_number usage →
         IsLatest latest.old reach entries.now stronger →

@@ -1,4 +1,4 @@
-// The latest points that a buffer keeps.
+//! `TopTable`: the fences of a buffer as one table of latest points for each usage. The desk's buffers use it.
 ghost use Rattle.std.specs.Prelude.{◌≡◌, ℕ, ◌↔◌, ◌++◌, ◌∷◌, [], List, IfErr, IfNone, IfOk, IfSome, IsTrue, OnErr, OnOk};
 ghost use Rattle.point_core.specs.declared.entry.Entry.{Entry};
 ghost use Rattle.point_core.specs.Agreement.{AgreesAbove, HasContexts, IsReached, listing};
@@ -13,12 +13,12 @@ use point_core::{LatestPoints, Point, Reach, Refusal, TopRow, Usage};
 use std::alloc::Global;
 use std::marker::Model;
 
-/// The fences of a buffer, as Linux's `struct dma_resv`: of each context the latest point at each usage or a stronger
-/// one, which is all that matters of them.
+/// The fences of a buffer, as Linux's `struct dma_resv`: for each context the latest point at each usage or a stronger
+/// one, which determines every answer.
 ///
-/// The kernel keeps a list of fences, in which a new one takes the place of an earlier one of its context. Here a new fence
-/// raises the points of its usage and of the weaker ones, so nothing is searched for, and no call has to make room. As a list
-/// it has an entry for each usage whose point is later than the points of the stronger usages.
+/// The kernel keeps a list of fences, in which a new one takes the place of an earlier one of its context. Here a new
+/// fence raises the points of its usage and of the weaker ones, so nothing is searched, and no call has to make room.
+/// As a list it has an entry for each usage whose point is later than the points of the stronger usages.
 #[derive(Debug, Drop)]
 pub struct TopTable {
     // none before the first fence
@@ -39,7 +39,7 @@ impl Model for TopTable {
 }
 
 impl TopTable {
-    /// No fences. Takes no memory.
+    /// No fences. Does not allocate.
     pub fn new(alloc: Global) -> TopTable
         ensures empty { result ≡ empty }
     {
@@ -49,7 +49,7 @@ impl TopTable {
     /// Adds a fence, as Linux's `dma_resv_add_fence`. There it takes the place of an entry that is signalled, or of its
     /// context; here it raises the points of its context, if it is later.
     ///
-    /// Fails only with `Memory`, which only the first fence takes, and leaves the table as it was.
+    /// Fails only with `Memory`, since the first fence allocates, and leaves the table as it was.
     pub fn put(&mut self, point: Point, usage: Usage) -> Result<(), Refusal>
         ensures table { IsTable self.new }
         ensures agrees { OnOk result ((reach : List ℕ) →
@@ -89,8 +89,8 @@ impl TopTable {
         Ok(())
     }
 
-    /// Drops the fences that are signalled. The kernel has no such call: it drops them when it makes a table larger. Takes no
-    /// memory.
+    /// Drops the fences that are signalled. The kernel has no such call: it drops them when it makes a larger table.
+    /// Does not allocate.
     pub fn trim(&mut self, reach: &Reach)
         ensures table { IsTable self.new }
         ensures agrees { AgreesAbove reach.now self.old.entries self.new.entries }
@@ -114,8 +114,8 @@ impl TopTable {
         }
     }
 
-    /// The latest point of each context at the usage or a stronger one; none before the first fence. Those that are above a
-    /// reach are the points that `collect` lists at it. Takes no memory.
+    /// The latest point of each context at the usage or a stronger one; none before the first fence. The points that
+    /// are above a reach are the ones that `collect` lists at it. Does not allocate.
     pub fn latest(&self, usage: Usage) -> Option<&LatestPoints>
         ensures none { IfNone result ((reach : List ℕ) → listing self.now.entries (usage_number usage) reach ≡ []) }
         ensures some { IfSome result (λ latest. (reach : List ℕ) →
@@ -138,8 +138,8 @@ impl TopTable {
         }
     }
 
-    /// Whether every fence of the usage or a stronger one is signalled, as Linux's `dma_resv_test_signaled`. Takes no
-    /// memory.
+    /// Whether every fence of the usage or a stronger one is signalled, as Linux's `dma_resv_test_signaled`. Does not
+    /// allocate.
     pub fn test(&self, usage: Usage, reach: &Reach) -> bool
         ensures reached { IsTrue result ↔ IsReached self.now.entries (usage_number usage) reach.now }
     {
@@ -150,7 +150,7 @@ impl TopTable {
     }
 }
 
-/// The tables of the first fences.
+/// The tables at the first fence.
 #[inline(never)]
 fn first_of(alloc: Global, points: &[Point], usage: Usage) -> Result<Box<Tops>, Refusal>
     ensures tops { IfOk result (λ tops. AreTops tops.value [] (entries_as usage points.now)) }

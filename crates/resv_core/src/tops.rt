@@ -1,4 +1,5 @@
-// The latest point of each context, at each usage or a stronger one.
+//! `Tops`: the latest point of each context, in one table for each usage; the table of a usage has the stronger usages'
+//! points too.
 ghost use Rattle.std.specs.Prelude.{◌≡◌, ℕ, ◌+◌, ◌*◌, ◌<◌, ◌≤◌, ◌↔◌, ◌++◌, ◌∷◌, [], IfErr, IfOk, IsTrue, List, map, vec_len};
 ghost use Rattle.std.specs.Vec.{vec_capacity};
 ghost use Rattle.point_core.specs.declared.entry.Entry.{Entry};
@@ -15,11 +16,11 @@ ghost use Rattle.resv_core.specs.Tops.{AreSame, AreSameAt, AreTops, entries_at, 
 use point_core::{CONTEXTS, Context, Entry, LatestPoints, Point, Reach, Refusal, TopRow, Usage};
 use std::alloc::Global;
 
-/// How many usages there are.
+/// The number of usages.
 pub(crate) const USAGES: usize = 4;
 
-/// Tables of latest points, which begin as a reach: for each usage one that has the stronger usages too. It is all that
-/// matters of a list of entries above that reach.
+/// Tables of latest points, which start as a reach: for each usage one that has the stronger usages too. Above that
+/// reach they determine every answer about a list of entries.
 #[derive(Debug, Drop)]
 pub struct Tops {
     pub kernel: LatestPoints,
@@ -29,7 +30,7 @@ pub struct Tops {
 }
 
 impl Tops {
-    /// No entry yet: what the reach has.
+    /// No entry: the tables are at the values of the reach.
     pub fn above(reach: &Reach) -> Tops
         ensures empty { AreTops result reach.now [] }
     {
@@ -62,7 +63,7 @@ impl Tops {
         }
     }
 
-    /// How many contexts there are up to the last that has a point or a value: the weakest usage has those of all.
+    /// The number of contexts up to the last that has a point or a value: the weakest usage has all of them.
     fn used(&self) -> usize
         ensures last { result ≡ used_of self.now.bookkeep }
         ensures within { result ≤ CONTEXTS }
@@ -71,7 +72,7 @@ impl Tops {
         self.bookkeep.used()
     }
 
-    /// Whether both have the same points.
+    /// Whether both have equal tables.
     pub fn is_same(&self, other: &Tops) -> bool
         ensures same { IsTrue result ↔ AreSame self.now other.now }
     {
@@ -145,7 +146,7 @@ pub(crate) fn put_at(latest: &mut LatestPoints, usage: Usage, entry: &Entry)
     }
 }
 
-/// Drops what is signalled or covered by another entry. Takes no memory.
+/// Drops the entries that are signalled or covered by another one. Does not allocate.
 pub(crate) fn compact(entries: &mut Vec<Entry>, reach: &Reach)
     requires places { USAGES * CONTEXTS ≤ vec_capacity entries.old }
     ensures agrees { AgreesAbove reach.now entries.old.items entries.new.items }
@@ -154,7 +155,7 @@ pub(crate) fn compact(entries: &mut Vec<Entry>, reach: &Reach)
     ensures few { vec_len entries.new ≤ USAGES * CONTEXTS }
     ensures places { vec_capacity entries.new ≡ vec_capacity entries.old }
 {
-    // The tables are made here, since a call that gives them copies all of them.
+    // Made here, since a call that returned the tables would copy all of them.
     let none = LatestPoints::above(reach);
     let mut tops = Tops {
         kernel: none,
@@ -169,7 +170,7 @@ pub(crate) fn compact(entries: &mut Vec<Entry>, reach: &Reach)
     }
 }
 
-/// Puts back the entries of a context that its tops stand for.
+/// Puts back the entries of a context that its tops represent.
 fn keep(entries: &mut Vec<Entry>, ctx: Context, tops: &Tops, reach: &Reach)
     requires places { vec_len entries.old + USAGES ≤ vec_capacity entries.old }
     ensures items { entries.new.items ≡ entries.old.items ++ entries_at tops.now reach.now ctx }
@@ -186,7 +187,7 @@ fn keep(entries: &mut Vec<Entry>, ctx: Context, tops: &Tops, reach: &Reach)
     keep_above(entries, read, ctx, bookkeep, Usage::Bookkeep);
 }
 
-/// Puts back an entry of the point, if it is later than what the stronger usages have.
+/// Puts back an entry of the point, if it is later than the stronger usages' points.
 fn keep_above(entries: &mut Vec<Entry>, stronger: u64, ctx: Context, value: u64, usage: Usage)
     requires places { vec_len entries.old < vec_capacity entries.old }
     ensures items { entries.new.items ≡ entries.old.items ++ entry_above stronger (point_of ctx value) usage }
