@@ -1,4 +1,4 @@
--- Points that are added to a table together.
+-- Points that are added to a table in one call.
 use Rattle.std.proofs.Common.{◌≡◌, refl, ap, List, [], ◌∷◌, map, Result, Ok, Err, OnOk}
 use Rattle.point_core.specs.declared.entry.Point.{Point}
 use Rattle.point_core.specs.declared.entry.Usage.{Usage}

@@ -1,4 +1,4 @@
--- What is put into a buffer, exported from it and imported into it, above a reach.
+-- Entries that are put into a buffer, exported from it and imported into it, above a reach.
 use Rattle.std.proofs.Common.{◌≡◌, ℕ, ◌↔◌, Bool, true, ◌&&◌, ◌==◌, nat_le, refl, sym, ap, ◌∙◌, List, [], ◌∷◌, ◌++◌, map, filter, if◌then◌else◌, Option, None, arith, inl, inr}
 use Rattle.std.proofs.lemmas.Bool.{cases_Bool, le-leb}
 use Rattle.point_core.specs.declared.entry.Entry.{Entry}
@@ -12,7 +12,7 @@ use Rattle.point_core.proofs.Reached.{all_reached-IsReached}
 use Rattle.point_core.proofs.Values.{IsAtLeast-refl}
 use Rattle.dmabuf_core.specs.Flags.{export_usage, import_usage, is_within, at_strongest, with_usage, exported, imported}
 
--- a table that agrees with what was put in agrees with it and what is added
+-- a table that agrees with the entries so far agrees with them and the added ones
 pub AgreesAbove-added : {reach : List ℕ} (before after put added : List Entry) → AgreesAbove reach before put → AgreesAbove reach after (before ++ added) → AgreesAbove reach after (put ++ added)
 AgreesAbove-added {reach} before after put added kept more = AgreesAbove-trans more (AgreesAbove-append kept (AgreesAbove-refl reach added))
 
@@ -23,7 +23,7 @@ usage-within Write = refl
 usage-within Read = refl
 usage-within Bookkeep = refl
 
--- the latest of entries that are all taken at one usage: the latest of all, at that usage and the weaker ones
+-- the latest of entries that all get one usage: the latest of all, at that usage and the weaker ones
 top_if : Bool → List Entry → ℕ → Option ℕ
 top_if at es ctx = if at then top es 3 ctx else None
 
@@ -45,7 +45,7 @@ top-with_usage usage (e ∷ es) level ctx =
           (let tail : top (map (with_usage usage) es) level ctx ≡ None = rest ∙ ap (λ b. top_if b es ctx) not in tail)
     ]
 
--- entries that agree agree when all are taken at one usage
+-- entries that agree also agree when all get one usage
 pub AgreesAbove-with_usage : {reach : List ℕ} {es fs : List Entry} (usage : Usage) → AgreesAbove reach es fs → AgreesAbove reach (map (with_usage usage) es) (map (with_usage usage) fs)
 unfolding top_if
 AgreesAbove-with_usage {reach} {es} {fs} usage h = record {
@@ -61,11 +61,11 @@ AgreesAbove-with_usage {reach} {es} {fs} usage h = record {
 pub AgreesAbove-imported : {reach : List ℕ} {es fs : List Entry} (flags : ℕ) → AgreesAbove reach es fs → AgreesAbove reach (imported flags es) (imported flags fs)
 AgreesAbove-imported flags h = AgreesAbove-with_usage (import_usage flags) h
 
--- also above a reach that is at least as high
+-- and above a later reach
 pub AgreesAbove-imported_later : {floor reach : List ℕ} {es put : List Entry} (flags : ℕ) → AgreesAbove floor es put → IsAtLeast reach floor → AgreesAbove reach (imported flags es) (imported flags put)
 AgreesAbove-imported_later flags h high = AgreesAbove-imported flags (AgreesAbove-later high h)
 
--- the latest of what is exported is that of the usage and the stronger ones
+-- the latest exported point is the latest at the usage and the stronger ones
 top_more : Bool → ℕ → Option ℕ → Option ℕ
 top_more at p t = if at then later p t else t
 
@@ -79,13 +79,13 @@ top-within usage (e ∷ es) level ctx =
       | inr not ↦ rw not rest
     ]
 
--- an export lists what was put in for the usage and the stronger ones
+-- an export lists the entries at the usage and the stronger ones
 pub listing-exported : {reach : List ℕ} {es put : List Entry} (flags : ℕ) → AgreesAbove reach es put → listing es (usage_number (export_usage flags)) reach ≡ listing (exported flags put) 0 reach
 listing-exported {reach} {es} {put} flags h =
     listing-AgreesAbove (usage_number (export_usage flags)) h
     ∙ listing-same put (exported flags put) (usage_number (export_usage flags)) 0 reach reach (λ ctx low high. ap (pending (value_at reach ctx)) (sym (top-within (export_usage flags) put 0 ctx)))
 
--- and its points stand for that
+-- and its points agree with them
 pub AgreesAbove-exported : {reach : List ℕ} {es put : List Entry} (flags : ℕ) → HasContexts put → AgreesAbove reach es put → AgreesAbove reach (as_entries (listing es (usage_number (export_usage flags)) reach)) (exported flags put)
 AgreesAbove-exported {reach} {es} {put} flags within h = record {
   tops = λ level ctx.
@@ -101,7 +101,7 @@ all_reached-within usage reach (e ∷ es) = elim (cases_Bool (is_within usage e)
   | inr not ↦ rw not (all_reached-within usage reach es)
 ]
 
--- all that is exported is reached exactly when all that was put in for the usage and the stronger ones is
+-- all exported points are reached exactly if all entries at the usage and the stronger ones are
 pub IsReached-exported : (reach : List ℕ) (put : List Entry) (flags : ℕ) → (IsReached (exported flags put) 0 reach ↔ IsReached put (usage_number (export_usage flags)) reach)
 IsReached-exported reach put flags =
     let file = all_reached-IsReached reach 0 (exported flags put) in

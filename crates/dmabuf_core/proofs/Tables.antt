@@ -1,4 +1,4 @@
--- Buffers in a map by name: what a write to one of them leaves.
+-- Buffers in a map by name, after a write to one of them.
 use Rattle.std.proofs.Common.{◌≡◌, ℕ, ◌<◌, ◌≤◌, Bool, true, false, cond, nat_eq, refl, sym, ap, ◌∙◌, subst, List, [], ◌∷◌, ◌++◌, length, All, Option, None, Some, option_map, unwrap_or, is_some, Result, Ok, Err, OnErr, MatchBool, arith, inl, inr, length-append}
 use Rattle.std.specs.List.{IsDistinct}
 use Rattle.std.specs.Map.{values_of, lookup, set_value}
@@ -26,7 +26,7 @@ AreBuffers-set_value name bs w kept table = record {
   tables = All-values-set_value (pointwise nat_eq name) IsTable bs w kept.tables table;
 }
 
--- a write of what is there changes nothing
+-- writing the value that is there changes nothing
 pub set_value-same : {K X : Type 0} (test : K → Bool) (es : List (K × X)) (w : X) → lookup test es ≡ Some w → set_value test es w ≡ es
 set_value-same test [] w is = refl
 set_value-same test (e ∷ es) w is = elim (cases_Bool (test e.0)) [
@@ -53,13 +53,13 @@ is_none : {T : Type 0} (o : Option T) → is_some o ≡ false → o ≡ None
 is_none None h = refl
 is_none (Some x) h = absurd (false≢true (sym h))
 
--- a name that is not there goes last
+-- a new name goes last
 pub insert_entry-last : {S : Type 0} (m : IndexMap (List ℕ) Reservation S) (bs : List Buffer) (name : List ℕ) (w : Reservation) → m.entries ≡ bs → has_buffer bs name ≡ false → insert_entry (pointwise nat_eq) m.entries name w ≡ bs ++ (name, w) ∷ []
 insert_entry-last m bs name w is new =
     insert_entry-new (pointwise nat_eq) m name w (is_none (table_at m.entries name) (ap (λ es. has_buffer es name) is ∙ new))
     ∙ ap (λ es. es ++ (name, w) ∷ []) is
 
--- what a buffer holds, if there is one, and once its table is written
+-- the entries of a buffer, if it exists, and once its table is written
 pub entries_of-found : (bs : List Buffer) (name : List ℕ) (t : Reservation) → table_at bs name ≡ Some t → entries_of bs name ≡ t.entries
 entries_of-found bs name t found = ap (λ o. unwrap_or (option_map (λ (r : Reservation). r.entries) o) []) found
 
@@ -68,7 +68,7 @@ table_at-set_value bs name old w found =
     lookup-set_value nat_list_eq_equiv (pointwise nat_eq name) (nat_list_eq_equiv.congr name) name w bs (ap is_some found)
     ∙ ap (λ b. cond b (Some w) (table_at bs name)) (nat_list_eq_equiv.refl name)
 
--- what agrees with a table and what is put in agrees so once the table is written
+-- entries that agree with a table and the added ones agree once the table is written
 pub AgreesAbove-written : {reach : List ℕ} (added : List Entry) (bs after : List Buffer) (name : List ℕ) (old new : Reservation) → table_at bs name ≡ Some old → after ≡ set_value (pointwise nat_eq name) bs new → AgreesAbove reach new.entries (old.entries ++ added) → AgreesAbove reach (entries_of after name) (entries_of bs name ++ added)
 AgreesAbove-written {reach} added bs after name old new found written agrees =
     let now = ap (λ es. entries_of es name) written ∙ entries_of-found (set_value (pointwise nat_eq name) bs new) name new (table_at-set_value bs name old new found) in

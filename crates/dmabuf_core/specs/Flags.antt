@@ -1,4 +1,4 @@
--- What the sync flags mean: what an export gives, and what an import puts in.
+-- The sync flags: which fences an export gives, and which an import puts in.
 use Rattle.std.specs.Prelude.{ℕ, ◌==◌, Bool, ◌&&◌, nat_le, if◌then◌else◌, List, map, filter}
 use Rattle.point_core.specs.declared.entry.Entry.{Entry}
 use Rattle.point_core.specs.declared.entry.Usage.{Usage}
@@ -18,15 +18,15 @@ flags_number flags.ReadWrite = 3
 abbrev pub is_sync_flags : ℕ → Bool
 is_sync_flags flags = nat_le 1 flags && nat_le flags 3
 
--- what a reader waits for are writers, and what a writer waits for are readers too
+-- a reader waits for writers, and a writer for readers too
 abbrev pub export_usage : ℕ → Usage
 export_usage flags = if flags == 1 then Write else Read
 
--- a reader's fence, if it only reads, else a writer's
+-- a reader's usage, if it only reads, else a writer's
 abbrev pub import_usage : ℕ → Usage
 import_usage flags = if flags == 1 then Read else Write
 
--- of that usage or a stronger one
+-- the entry has that usage or a stronger one
 abbrev pub is_within : Usage → Entry → Bool
 is_within usage e = nat_le (usage_number e.usage) (usage_number usage)
 
@@ -36,10 +36,10 @@ at_strongest e = as_entry e.point
 abbrev pub with_usage : Usage → Entry → Entry
 with_usage usage e = record { point = e.point; usage = usage }
 
--- what is put into a file that is exported from a buffer into which the entries were put
+-- the entries of a file that is exported from a buffer with these entries
 abbrev pub exported : ℕ → List Entry → List Entry
 exported flags es = map at_strongest (filter (is_within (export_usage flags)) es)
 
--- what is put into a buffer by the import of a file into which the entries were put
+-- the entries that an import of a file with these entries puts into a buffer
 abbrev pub imported : ℕ → List Entry → List Entry
 imported flags es = map (with_usage (import_usage flags)) es

@@ -1,4 +1,5 @@
-// The buffers by name.
+//! `Buffers`: the buffers by name, each with its reservation. No call changes another buffer than the one that it
+//! names.
 ghost use Rattle.std.specs.Prelude.{◌≡◌, ℕ, false, ◌↔◌, ◌++◌, [], ◌∷◌, List, map, IfErr, IfNone, IfOk, IfSome, IsOk, IsOkAnd, IsTrue, MatchBool, MatchOption, MatchResult, Ok, Err, OnErr, OnOk, Some};
 ghost use Rattle.point_core.specs.declared.refusal.Refusal.TheVariants.{Memory, NoEntry};
 ghost use Rattle.point_core.specs.Agreement.{AgreesAbove, as_entries, HasRisingContexts, IsReached, listing};
@@ -19,8 +20,7 @@ use std::alloc::Global;
 use std::marker::Model;
 use syncfile_core::SyncFile;
 
-/// The buffers that were made, by the order of making, each with its reservation, as Linux's `struct dma_buf` and its
-/// `resv`.
+/// The buffers in order of making, each with its reservation, as Linux's `struct dma_buf` and its `resv`.
 #[derive(Drop)]
 pub struct Buffers {
     by_name: IndexMap<Name, TopTable>,
@@ -38,7 +38,7 @@ impl Model for Buffers {
 }
 
 impl Buffers {
-    /// No buffers. It takes no memory yet, so it is never refused.
+    /// No buffers. Never refused, since it does not allocate.
     pub fn new(alloc: Global) -> Result<Buffers, Refusal>
         ensures { result ≡ Ok [] }
     {
@@ -47,9 +47,9 @@ impl Buffers {
         })
     }
 
-    /// Makes a buffer with an empty reservation. It is never unmade.
+    /// Makes a buffer with an empty reservation. It is never removed.
     ///
-    /// Fails with `Exists` if there is one of that name, with `Limit` if there are `BUFFERS` buffers, then with `Memory`;
+    /// Fails with `Exists` if a buffer has that name, with `Limit` if there are `BUFFERS` buffers, then with `Memory`;
     /// nothing is made then.
     pub fn create(&mut self, name: Name) -> Result<(), Refusal>
         ensures refused { IsRefusedFor (cause_to_refuse self.old name) result }
@@ -70,7 +70,7 @@ impl Buffers {
         }
     }
 
-    /// Whether there is a buffer of that name.
+    /// Whether a buffer has that name.
     pub fn has(&self, name: &Name) -> bool
         ensures { result ≡ has_buffer self.now name.now }
     {
@@ -79,8 +79,8 @@ impl Buffers {
 
     /// Adds one fence to a buffer, as Linux's `dma_resv_add_fence` after a `dma_resv_reserve_fences` of one.
     ///
-    /// Fails with `NoEntry`, then with `Memory`, and then leaves every table as it was. Only a buffer's first fence takes
-    /// memory.
+    /// Fails with `NoEntry`, then with `Memory`, and then leaves every table as it was. Only a buffer's first fence
+    /// allocates.
     pub fn add(
         &mut self,
         name: &Name,
@@ -129,15 +129,14 @@ impl Buffers {
         put_all(table, file.points.as_slice(), usage, reach)
     }
 
-    /// The fences that an access with those flags has to wait for, as a listing to make a sync file of, as Linux's
-    /// `DMA_BUF_IOCTL_EXPORT_SYNC_FILE`: an access that only reads waits for the kernel's and the writers' fences, any other
-    /// for the readers' too. Signalled fences are not listed, and the floor is the reach. If nothing is pending nothing is
-    /// listed; the
-    /// kernel gives a file of its stub.
+    /// The fences that an access with these flags has to wait for, as a listing for a sync file, as Linux's
+    /// `DMA_BUF_IOCTL_EXPORT_SYNC_FILE`: an access that only reads waits for the kernel's and the writers' fences, any
+    /// other for the readers' too. Signalled fences are not listed, and the floor is the reach. If nothing is pending
+    /// the listing is empty; the kernel gives a file of its stub.
     ///
     /// Fails with `NoEntry`, then with `Flags` for any number but 1, 2 and 3, then with `Memory`.
     ///
-    /// Users of the library call it; no program here does.
+    /// For users of the library; no program here calls it.
     pub fn export(&self, name: &Name, flags: u32, reach: &Reach) -> Result<Listing, Refusal>
         ensures refused { IsRefusedFor (cause_by_flags self.now name.now flags) result }
         ensures points { IfOk result (λ l.
@@ -153,11 +152,11 @@ impl Buffers {
         })
     }
 
-    /// What `export` lists, as the buffer's table has it: the latest point of each context at the usages that an access
-    /// with those flags has to wait for; none before the buffer's first fence. Those that are above a reach are pending at
-    /// it. As Linux's `DMA_BUF_IOCTL_EXPORT_SYNC_FILE`, before a file is made.
+    /// The table behind `export`: the latest point of each context at the usages for which an access with these flags
+    /// has to wait; none before the buffer's first fence. The points that are above a reach are pending at it. As
+    /// Linux's `DMA_BUF_IOCTL_EXPORT_SYNC_FILE`, before a file is made.
     ///
-    /// Fails with `NoEntry`, then with `Flags` for any number but 1, 2 and 3. Takes no memory.
+    /// Fails with `NoEntry`, then with `Flags` for any number but 1, 2 and 3. Does not allocate.
     pub fn latest(&self, name: &Name, flags: u32) -> Result<Option<&LatestPoints>, Refusal>
         ensures refused { IsRefusedFor (cause_by_flags self.now name.now flags) result }
         ensures caused { IfErr result (λ e. cause_by_flags self.now name.now flags ≡ Some e) }
@@ -173,7 +172,7 @@ impl Buffers {
 
     /// Whether every fence of the usage or a stronger one is signalled, as Linux's `dma_resv_test_signaled`.
     ///
-    /// Fails with `NoEntry`. Takes no memory.
+    /// Fails with `NoEntry`. Does not allocate.
     pub fn test(&self, name: &Name, usage: Usage, reach: &Reach) -> Result<bool, Refusal>
         ensures { MatchBool (has_buffer self.now name.now)
             (IsOkAnd result (λ signalled.
@@ -185,7 +184,7 @@ impl Buffers {
 
     /// Drops from a buffer the fences that are signalled, and those that another one covers.
     ///
-    /// Fails with `NoEntry`. Takes no memory.
+    /// Fails with `NoEntry`. Does not allocate.
     pub fn trim(&mut self, name: &Name, reach: &Reach) -> Result<(), Refusal>
         ensures known { MatchBool (has_buffer self.old name.now) (IsOk result) (result ≡ Err NoEntry) }
         ensures agrees { AgreesAbove reach.now (entries_of self.old name.now) (entries_of self.new name.now) }
@@ -211,7 +210,7 @@ impl Buffers {
         self.known(name)?.table(reach)
     }
 
-    /// The names, by the order of making.
+    /// The names, in order of making.
     pub fn names(&self) -> Result<Vec<Name>, Refusal>
         ensures names { IfOk result (λ names. names.items ≡ names_of self.now) }
         ensures memory { IfErr result (λ e. e ≡ Memory) }

@@ -1,5 +1,4 @@
-// What holds of buffers and of what was put into them, whatever was called: each law is the contract of a function with an
-// empty body.
+//! Theorems about buffers and all that was put into them: each law is the contract of a function with an empty body.
 ghost use Rattle.std.specs.Prelude.{◌≡◌, ℕ, ◌+◌, ◌*◌, ◌≤◌, ◌↔◌, List, ◌++◌};
 ghost use Rattle.point_core.specs.declared.entry.Point.{Point};
 ghost use Rattle.point_core.specs.declared.entry.Entry.{Entry};
@@ -9,16 +8,16 @@ ghost use Rattle.point_core.specs.Reach.{IsAtLeast};
 ghost use Rattle.point_core.specs.Agreement.{AgreesAbove, as_entries, HasContexts, IsReached, listing};
 ghost use Rattle.dmabuf_core.specs.Flags.{export_usage, exported, imported};
 
-/// If a table agrees above the reach with all that was put into its buffer, it does so after an `add` or an `import` at
-/// a reach that is at least as high.
+/// If a table agrees above the reach with all that was put into its buffer, it still does after an `add` or an `import`
+/// at a reach that is at least as high.
 pub fn buffers_keep_what_is_put_in()
     ensures later { (reach later : List ℕ) (before after put added : List Entry) →
         IsAtLeast later reach → AgreesAbove reach before put → AgreesAbove later after (before ++ added) →
         AgreesAbove later after (put ++ added) }
 {}
 
-/// An export lists what the definition of an exported file says of all that was put into the buffer, and the file
-/// stands for that.
+/// An export lists the entries that its definition names among all that were put into the buffer, and the file agrees
+/// with them.
 pub fn an_export_lists_what_was_put_in()
     ensures listed { (reach : List ℕ) (es put : List Entry) (flags : ℕ) →
         AgreesAbove reach es put →
@@ -30,8 +29,8 @@ pub fn an_export_lists_what_was_put_in()
         (IsReached (exported flags put) 0 reach ↔ IsReached put (usage_number (export_usage flags)) reach) }
 {}
 
-/// A file that stands above its floor for what was put into it may be imported in its place, at a reach that is at
-/// least the floor.
+/// A file that agrees above its floor with the entries that were put into it may be imported in their place, at a reach
+/// that is at least the floor.
 pub fn an_import_puts_in_what_a_file_stands_for()
     ensures stands { (floor reach : List ℕ) (points : List Point) (put : List Entry) (flags : ℕ) →
         AgreesAbove floor (as_entries points) put → IsAtLeast reach floor →
