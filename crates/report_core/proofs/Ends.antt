@@ -1,4 +1,4 @@
--- A line that is written from its end: spaces before what is there, and room for a copy after it.
+-- A line that is written from its end: spaces before it, and room for a copy after it.
 use Rattle.std.proofs.Common.{◌≡◌, ℕ, ◌+◌, ◌-◌, ◌≤◌, ◌<◌, ◌^◌, List, ◌++◌, length, take, drop, decimal, sym, ap, ◌∙◌, arith}
 use borrow.Rule.Slice.PartMut.{put_mid}
 use Rattle.std.proofs.Math.Seq.{take-take, take-append-add, drop-append_seam}
@@ -13,7 +13,7 @@ pub spaces-shorter : (bytes : List ℕ) (start end : ℕ) → start ≤ end → 
 spaces-shorter bytes start end within all =
     sym (take-take start end bytes within) ∙ ap (take start) all ∙ take-replicate start end 32 within
 
--- going back over spaces puts them before the line
+-- moving the start back over spaces puts them before the line
 pub drop-spaces : (bytes : List ℕ) (end count : ℕ) → count ≤ end → take end bytes ≡ spaces end → drop (end - count) bytes ≡ spaces count ++ drop end bytes
 drop-spaces bytes end count within all =
     let whole : spaces end ++ drop end bytes ≡ bytes = ap (λ front. front ++ drop end bytes) (sym all) ∙ take-append-drop end bytes in
@@ -23,7 +23,7 @@ drop-spaces bytes end count within all =
     ∙ drop-append-le (end - count) (spaces end) (drop end bytes) few
     ∙ ap (λ front. front ++ drop end bytes) (drop-replicate (end - count) end 32 ∙ ap spaces left)
 
--- a text that is put between two places stands before what follows
+-- a text between two places is followed by what comes after the second
 pub drop-put_mid_start : (bytes text : List ℕ) (start end : ℕ) → start ≤ end → start ≤ length bytes → drop start (put_mid start (end - start) bytes text) ≡ text ++ drop end bytes
 drop-put_mid_start bytes text start end before within =
     let size : length (take start bytes) ≡ start = length-take-le start bytes within in
@@ -32,7 +32,7 @@ drop-put_mid_start bytes text start end before within =
     ∙ drop-append_seam (take start bytes) (text ++ drop (end - start) (drop start bytes))
     ∙ ap (λ rest. text ++ rest) (drop-drop (end - start) start bytes ∙ ap (λ n. drop n bytes) next)
 
--- what is put before the end of a line begins it
+-- a text that is put before the end of a line begins it
 pub line-longer : (text old new : List ℕ) (start end : ℕ) → start + length text ≡ end → end ≤ TEXT_LINE_BYTES → new ≡ text ++ old → take (TEXT_LINE_BYTES - start) new ≡ text ++ take (TEXT_LINE_BYTES - end) old
 line-longer text old new start end at within is =
     let count : TEXT_LINE_BYTES - start ≡ length text + (TEXT_LINE_BYTES - end) = omega arith in

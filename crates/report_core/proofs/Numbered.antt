@@ -1,4 +1,4 @@
--- Texts of numbered things, one more.
+-- The text of numbered things, with another one.
 use Rattle.std.proofs.Common.{◌≡◌, ℕ, ◌+◌, ◌<◌, List, [], ◌∷◌, ◌++◌, length, take, get_or, sym, ap, ◌∙◌, arith}
 use Rattle.std.specs.List.{flat_map, enumerate_from}
 use Rattle.std.proofs.lemmas.List.{flat_map_more, take_more, length-take-le}
@@ -14,7 +14,7 @@ enumerate_from-next n i k xs x within number is =
     ∙ enumerate_from-last n (take i xs) x
     ∙ ap (λ m. enumerate_from n (take i xs) ++ (m, x) ∷ []) count
 
--- what was written of the first things, and the text of the next
+-- the text of the things so far, and the text of the next
 pub numbered-next : {X : Type 0} (f : ℕ × X → List ℕ) (old new later : List ℕ) (n i k : ℕ) (xs : List X) (x : X) → i < length xs → k ≡ n + i → x ≡ get_or xs i x → new ≡ old ++ flat_map f (enumerate_from n (take i xs)) → later ≡ new ++ f (k, x) → later ≡ old ++ flat_map f (enumerate_from n (take (i + 1) xs))
 numbered-next f old new later n i k xs x within number is written next =
     next ∙ ap (λ text. text ++ f (k, x)) written

@@ -1,4 +1,4 @@
--- A row whose parts are put at their places.
+-- A row whose parts are written at their places.
 use Rattle.std.proofs.Common.{◌≡◌, ℕ, ◌+◌, ◌-◌, ◌≤◌, List, [], ◌∷◌, ◌++◌, length, take, drop, sym, ap, ◌∙◌, slice_set, min, arith, append_assoc, ◌<◌, length-append}
 use Rattle.std.proofs.Math.Nat.{min-le_left}
 use Rattle.std.proofs.Math.Seq.{take-append_seam, drop-append_seam}
@@ -13,7 +13,7 @@ take-front front rest n size = ap (λ k. take k (front ++ rest)) (sym size) ∙ 
 drop-front : (front rest : List ℕ) (n : ℕ) → length front ≡ n → drop n (front ++ rest) ≡ rest
 drop-front front rest n size = ap (λ k. drop k (front ++ rest)) (sym size) ∙ drop-append_seam front rest
 
--- a text that is put at a place, from there on and before it
+-- a text that is written at a place, seen from there on and before it
 pub drop-put : (row text put : List ℕ) (place : ℕ) → place ≤ length row → put ≡ take place row ++ text ++ drop (place + length text) row → drop place put ≡ text ++ drop (place + length text) row
 drop-put row text put place within is =
     let size : length (take place row) ≡ place = length-take-le place row within in
@@ -24,7 +24,7 @@ take-put row text put place within is =
     let size : length (take place row) ≡ place = length-take-le place row within in
     ap (take place) (is ∙ append_assoc (take place row) text (drop (place + length text) row)) ∙ take-front (take place row) (text ++ drop (place + length text) row) place size
 
--- a text that is put after another is put with it
+-- a text that is written right after another is written with it
 pub put-next : (row one two : List ℕ) (place : ℕ) → place + length one ≤ length row → (first : List ℕ) → first ≡ take place row ++ one ++ drop (place + length one) row → take (place + length one) first ++ two ++ drop (place + length one + length two) first ≡ take place row ++ (one ++ two) ++ drop (place + length (one ++ two)) row
 put-next row one two place room first is =
     let next = place + length one in
@@ -90,7 +90,7 @@ column-left subject fits =
     ap (λ n. (full ++ spaces (SUBJECT_WIDTH - n)) ++ 32 ∷ []) (length-left SUBJECT_WIDTH subject fits)
     ∙ ap (λ text. text ++ 32 ∷ []) (append-nil full)
 
--- the number is put first, then the subject with its spaces, then the kind
+-- the number is written first, then the subject with its spaces, then the kind
 pub row-columns : (kind subject digits blank numbered named row : List ℕ) (start last : ℕ) → length kind ≡ KIND_BYTES → length subject ≤ SUBJECT_WIDTH → length digits ≤ NUMBER_WIDTH → length numbered ≡ ROW_BYTES → start + length digits ≡ 61 → blank ≡ spaces 61 ++ last ∷ [] → drop start numbered ≡ digits ++ drop 61 blank → take start numbered ≡ take start blank → named ≡ take KIND_BYTES numbered ++ left SUBJECT_WIDTH subject ++ drop (KIND_BYTES + SUBJECT_WIDTH) numbered → row ≡ take 0 named ++ kind ++ drop (0 + length kind) named → row ≡ kind ++ column SUBJECT_WIDTH subject ++ right NUMBER_WIDTH digits ++ last ∷ []
 row-columns kind subject digits blank numbered named row start last word fits few size end none written before put is =
     let full = left SUBJECT_WIDTH subject in
@@ -100,13 +100,13 @@ row-columns kind subject digits blank numbered named row start last word fits fe
     row-parts kind full digits blank numbered named row start last word (omega (arith, wide)) few size end none written before placed is
     ∙ ap (λ text. kind ++ text ++ right NUMBER_WIDTH digits ++ last ∷ []) (column-left subject fits)
 
--- a text with its spaces is put in the second column
+-- a text with its spaces is written in the second column
 pub put-column : (row subject text put : List ℕ) → length text ≡ SUBJECT_WIDTH → text ≡ left SUBJECT_WIDTH subject → put ≡ take KIND_BYTES row ++ text ++ drop (KIND_BYTES + length text) row → put ≡ take KIND_BYTES row ++ left SUBJECT_WIDTH subject ++ drop (KIND_BYTES + SUBJECT_WIDTH) row
 put-column row subject text put wide is placed =
     placed ∙ ap (λ n. take KIND_BYTES row ++ text ++ drop (KIND_BYTES + n) row) wide
     ∙ ap (λ x. take KIND_BYTES row ++ x ++ drop (KIND_BYTES + SUBJECT_WIDTH) row) is
 
--- a letter and digits that are put at the start of spaces
+-- a letter and digits that are written at the start of spaces
 pub numbered-left : (letter : ℕ) (digits text : List ℕ) → length digits < SUBJECT_WIDTH → text ≡ letter ∷ digits ++ drop (length digits) (spaces 30) → text ≡ left SUBJECT_WIDTH (letter ∷ digits)
 numbered-left letter digits text few is =
     let less : 30 - length digits ≡ SUBJECT_WIDTH - length (letter ∷ digits) = omega arith in

@@ -1,4 +1,4 @@
--- What is written of bytes.
+-- How much of some bytes was written.
 use Rattle.std.specs.Prelude.{◌≡◌, ℕ, List, ◌++◌, Option}
 use Rattle.std.specs.Io.KnownBytes.{Appends}
 

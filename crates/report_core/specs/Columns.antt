@@ -4,14 +4,14 @@ use Rattle.std.specs.Prelude.{ℕ, ◌-◌, List, [], ◌∷◌, ◌++◌, lengt
 abbrev pub spaces : ℕ → List ℕ
 spaces count = replicate count 32
 
--- the text on the left of a column
+-- the text, left-aligned in a column
 abbrev pub left : ℕ → List ℕ → List ℕ
 left width text = text ++ spaces (width - length text)
 
--- a column, and a space that parts it from the next
+-- a column, and a space after it
 abbrev pub column : ℕ → List ℕ → List ℕ
 column width text = left width text ++ 32 ∷ []
 
--- the text on the right of a column
+-- the text, right-aligned in a column
 abbrev pub right : ℕ → List ℕ → List ℕ
 right width text = spaces (width - length text) ++ text

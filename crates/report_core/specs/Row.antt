@@ -8,7 +8,7 @@ use Rattle.report_core.specs.Columns.{column, right}
 use Rattle.report_core.specs.RowKind.{kind_word}
 use Rattle.report_core.specs.Status.{status_text}
 
--- what the row is of, its subject and the text of a number
+-- the kind of a row, its subject and the text of a number
 abbrev pub columns : RowKind → List ℕ → List ℕ → List ℕ
 columns kind subject number =
     column KIND_WIDTH (kind_word kind) ++ column SUBJECT_WIDTH subject ++ right NUMBER_WIDTH number

@@ -1,4 +1,4 @@
--- The text of what clients settled. A client is named by `c` and its number, a buffer by `b` and its number.
+-- The text of the settled tables. A client is named by `c` and its number, a buffer by `b` and its number.
 use Rattle.std.specs.Prelude.{ℕ, List, ◌++◌, length, codes, decimal}
 use Rattle.std.specs.List.{flat_map, enumerate_from}
 use Rattle.point_core.specs.declared.listing.TopRow.{TopRow}

@@ -16,7 +16,7 @@ show_row_text row = row_text (Level row.usage) row.timeline row.point
 abbrev pub show_text : List ShowRow → List ℕ
 show_text rows = flat_map show_row_text rows
 
--- a closed timeline has a kind of its own
+-- a closed timeline has its own kind
 abbrev pub timeline_kind : TimelineRow → RowKind
 timeline_kind timeline = if timeline.closed then Closed else Timeline
 

@@ -1,4 +1,4 @@
-// The columns of a row.
+//! The columns of a row. Numbers and texts are written at their final place, in a row of spaces.
 ghost use Rattle.std.specs.Prelude.{◌≡◌, ◌++◌, ◌∷◌, [], ◌+◌, ◌<◌, ◌≤◌, OnOk, OnErr, Err, decimal, length, take, drop};
 ghost use Rattle.std.specs.Prelude.{vec_len, vec_capacity};
 ghost use Rattle.point_core.specs.declared.refusal.Refusal.TheVariants.{Memory};
@@ -12,20 +12,20 @@ use crate::rows::{COUNT_WIDTH, KIND_BYTES, NUMBER_WIDTH, ROW_BYTES, SUBJECT_WIDT
 use itoa::{Buffer, write_digits};
 use point_core::{Name, Refusal};
 
-/// The most bytes of a file row's last column with its line feed.
+/// The most bytes of a file row's last column and its line feed.
 const COUNT_BYTES: usize = NUMBER_WIDTH + 1;
 
-/// What a row is about: a thing with a name, or one of a numbered kind, as the client `c1`.
+/// The subject of a row: an object with a name, or one with a letter and a number, as the client `c1`.
 #[derive(Clone, Copy)]
 pub(crate) enum Subject<'a> {
     Named(&'a Name),
     Numbered(u8, u64),
 }
 
-/// Appends to `out` the three columns that each row begins with, and one more byte.
+/// Appends to `out` the three columns with which each row begins, and one more byte.
 ///
-/// Fails only with Memory, and then leaves `out` as it was. They are written where they stay: a copy would wait for the
-/// columns, which are stored in smaller pieces.
+/// Fails only with Memory, and then leaves `out` as it was. They are written in place: a copy would stall on the
+/// columns, which are stored in smaller pieces (store forwarding).
 #[inline(always)]
 pub(crate) fn push_columns(
     out: &mut Vec<u8>,
@@ -45,7 +45,7 @@ pub(crate) fn push_columns(
     Ok(())
 }
 
-/// Appends the columns to `out`, with a text on the right of the third.
+/// Appends the columns to `out`, with a right-aligned text as the third.
 ///
 /// Fails only with Memory, and then leaves `out` as it was.
 pub(crate) fn push_text_columns(
@@ -93,7 +93,7 @@ fn write_text_columns(row: &mut [u8], kind: RowKind, subject: Subject<'_>, text:
     put_at(row, 0, word);
 }
 
-/// Puts the subject on the left of the second column, and spaces after it.
+/// Writes the subject left-aligned into the second column, with spaces after it.
 #[inline(always)]
 fn put_subject(row: &mut [u8], subject: Subject<'_>)
     requires width { length row.old ≡ ROW_BYTES }
@@ -109,7 +109,7 @@ fn put_subject(row: &mut [u8], subject: Subject<'_>)
     }
 }
 
-/// The letter and the number on the left of a column.
+/// The letter and the number, left-aligned in a column.
 fn numbered_column(letter: u8, number: u64) -> [u8; SUBJECT_WIDTH]
     ensures text { result ≡ left SUBJECT_WIDTH (letter ∷ decimal number) }
     ensures len { length (decimal number) < SUBJECT_WIDTH }
@@ -131,9 +131,9 @@ fn put_at(row: &mut [u8], place: usize, text: &[u8])
     row[place..place + text.len()].copy_from_slice(text);
 }
 
-/// Appends the count on the right of a file row's last column, and a line feed, to `out`.
+/// Appends the count, right-aligned in a file row's last column, and a line feed to `out`.
 ///
-/// Fails only with Memory, and then leaves `out` as it was. It is pushed byte by byte, as `push_numbered` does.
+/// Fails only with Memory, and then leaves `out` as it was. It is pushed byte by byte, as in `push_numbered`.
 pub(crate) fn push_count(out: &mut Vec<u8>, count: u64) -> Result<(), Refusal>
     ensures ok { OnOk result (out.new.items ≡ out.old.items ++ (right COUNT_WIDTH (decimal count) ++ 10 ∷ [])) }
     ensures err { OnErr result ((result ≡ Err Memory) × (out.new.items ≡ out.old.items)) }

@@ -1,4 +1,4 @@
-//! Tables as text: rows of fixed columns, as `show`, `report` and runs of clients print them.
+//! The text of answers: rows with fixed columns for tables, and single lines.
 //!
 //! `specs/` defines the text of a row by its columns.
 #![tactic(auto)]

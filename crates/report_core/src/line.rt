@@ -1,4 +1,4 @@
-// A line of output, which is written from its end to its start.
+//! `TextLine`: one line of output, which is built from its end to its start, so that numbers need no length in advance.
 ghost use Rattle.std.specs.Prelude.{◌≡◌, ◌++◌, ◌+◌, ◌≤◌, ◌∷◌, [], OnOk, OnErr, Err, decimal, length, take};
 ghost use Rattle.point_core.specs.declared.refusal.Refusal.TheVariants.{Memory};
 ghost use Rattle.report_core.specs.Columns.{spaces};
@@ -8,8 +8,8 @@ use itoa::write_digits;
 use point_core::Refusal;
 use std::marker::Model;
 
-/// The most bytes of a line of output with its line feed: two short words, a name and two numbers, each with a byte after
-/// it.
+/// The most bytes of a line of output with its line feed: two short words, a name and two numbers, each with one byte
+/// after it.
 pub const TEXT_LINE_BYTES: usize = 2 * (KIND_WIDTH + 1)
     + (SUBJECT_WIDTH + 1)
     + 2 * (NUMBER_WIDTH + 1);
@@ -22,12 +22,12 @@ const SHORT_BYTES: usize = 32;
 /// Longer lines, up to this length, are appended with one copy of this many bytes.
 const MIDDLE_BYTES: usize = 2 * SHORT_BYTES;
 
-/// The bytes of the array: after the line there is room for the rest of a copy.
+/// The bytes of the array: behind the line there is room for the rest of a copy.
 const ARRAY_BYTES: usize = TEXT_LINE_BYTES + SHORT_BYTES;
 
 const _: () = prove!(ARRAY_BYTES == 124);
 
-/// A line of output, held without memory. What is put into it goes before what is there.
+/// A line of output on the stack. Each part is put before those that are there.
 #[derive(Drop)]
 pub struct TextLine {
     bytes: [u8; ARRAY_BYTES],
@@ -43,12 +43,12 @@ impl Model for TextLine {
 
     ghost view = { λ l. take (TEXT_LINE_BYTES - l.start) (drop l.start l.bytes) };
 
-    // Where nothing was put yet there are spaces.
+    // there are spaces before the line
     ghost invariant = { λ l. (l.start ≤ TEXT_LINE_BYTES) × (take l.start l.bytes ≡ spaces l.start) };
 }
 
 impl TextLine {
-    /// Only the line feed.
+    /// A line with only a line feed.
     #[inline(always)]
     pub fn new() -> Self
         ensures { result ≡ 10 ∷ [] }
@@ -61,7 +61,7 @@ impl TextLine {
         }
     }
 
-    /// How many bytes it has.
+    /// The number of its bytes.
     #[inline(always)]
     pub fn len(&self) -> usize
         ensures { result ≡ length self.now }
@@ -130,8 +130,8 @@ impl TextLine {
     }
 }
 
-/// Appends that many of the bytes to `out`, by a copy of all. Where the compiler knows how many there are, the copy is
-/// a few moves and no call.
+/// Appends the first `count` of the bytes to `out`, by a copy of all of them. If the compiler knows their number, the
+/// copy is a few moves and no call.
 ///
 /// Fails only with Memory, and then leaves `out` as it was.
 #[inline(always)]

@@ -1,4 +1,4 @@
-// A line of a word and a number.
+//! A line of a word and a number, as `ok 5` and `fired 7`.
 ghost use Rattle.std.specs.Prelude.{◌≡◌, ◌++◌, ◌+◌, ◌≤◌, ◌∷◌, [], OnOk, OnErr, Err, decimal, length};
 ghost use Rattle.std.specs.Prelude.{vec_len, vec_capacity};
 ghost use Rattle.point_core.specs.declared.refusal.Refusal.TheVariants.{Memory};
@@ -12,8 +12,8 @@ const LINE_BYTES: usize = KIND_WIDTH + 1 + NUMBER_WIDTH + 1;
 
 /// Appends to `out` a line of the short word, a space and the number.
 ///
-/// Fails only with Memory, and then leaves `out` as it was. It is pushed byte by byte, in room for the longest line:
-/// a copy would wait for the digits, which are stored in smaller pieces.
+/// Fails only with Memory, and then leaves `out` as it was. It is pushed byte by byte, in room for the longest line: a
+/// copy would stall on the digits, which are stored in smaller pieces (store forwarding).
 #[inline(always)]
 pub fn push_numbered(word: &[u8], number: u64, out: &mut Vec<u8>) -> Result<(), Refusal>
     requires { length word.now ≤ KIND_WIDTH }

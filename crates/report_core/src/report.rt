@@ -1,4 +1,4 @@
-// The texts of tables.
+//! The text of tables: a buffer's rows, and a report of all timelines, files and buffers.
 ghost use Rattle.std.specs.Prelude.{◌≡◌, ◌++◌, OnOk, OnErr, Err};
 ghost use Rattle.std.specs.List.{flat_map};
 ghost use Rattle.std.specs.Io.{StartsWith};
@@ -11,9 +11,9 @@ use crate::rows::{file_row, row};
 use command_core::{BufferRows, FileRow, Report, ShowRow};
 use point_core::{Refusal, TimelineRow};
 
-/// Appends the table of one buffer to `out`, a row each.
+/// Appends the table of one buffer to `out`, one row for each entry.
 ///
-/// Fails only with Memory. `out` then begins with what it was.
+/// Fails only with Memory. `out` then begins with its old bytes.
 pub fn show_text(rows: &[ShowRow], out: &mut Vec<u8>) -> Result<(), Refusal>
     ensures ok { OnOk result (out.new.items ≡ out.old.items ++ show_text rows.now) }
     ensures err { OnErr result ((result ≡ Err Memory) × StartsWith out.new.items out.old.items) }
@@ -29,10 +29,10 @@ pub fn show_text(rows: &[ShowRow], out: &mut Vec<u8>) -> Result<(), Refusal>
     Ok(())
 }
 
-/// Appends a report to `out`: a row for each timeline with its value, one for each file, and for each buffer a row
-/// with the number of its rows, and these.
+/// Appends a report to `out`: a row for each timeline with its value, one for each file, and for each buffer a row with
+/// the number of its rows, followed by these.
 ///
-/// Fails only with Memory. `out` then begins with what it was.
+/// Fails only with Memory. `out` then begins with its old bytes.
 pub fn report_text(report: &Report, out: &mut Vec<u8>) -> Result<(), Refusal>
     ensures ok { OnOk result (out.new.items ≡ out.old.items ++ report_text report.now) }
     ensures err { OnErr result ((result ≡ Err Memory) × StartsWith out.new.items out.old.items) }
@@ -45,7 +45,7 @@ pub fn report_text(report: &Report, out: &mut Vec<u8>) -> Result<(), Refusal>
 
 /// Appends a row for each timeline with its value to `out`, with `closed` for a closed one.
 ///
-/// Fails only with Memory. `out` then begins with what it was.
+/// Fails only with Memory. `out` then begins with its old bytes.
 pub fn timelines_text(timelines: &[TimelineRow], out: &mut Vec<u8>) -> Result<(), Refusal>
     ensures ok { OnOk result (out.new.items ≡ out.old.items ++ flat_map timeline_text timelines.now) }
     ensures err { OnErr result ((result ≡ Err Memory) × StartsWith out.new.items out.old.items) }
@@ -86,9 +86,9 @@ fn push_buffers(out: &mut Vec<u8>, buffers: &[BufferRows]) -> Result<(), Refusal
     Ok(())
 }
 
-/// Appends what a report has of a buffer to `out`: a row with the number of its rows, and these.
+/// Appends a buffer's part of a report to `out`: a row with the number of its rows, followed by these.
 ///
-/// Fails only with Memory. `out` then begins with what it was.
+/// Fails only with Memory. `out` then begins with its old bytes.
 pub fn buffer_text(buffer: &BufferRows, out: &mut Vec<u8>) -> Result<(), Refusal>
     ensures ok { OnOk result (out.new.items ≡ out.old.items ++ buffer_text buffer.now) }
     ensures err { OnErr result ((result ≡ Err Memory) × StartsWith out.new.items out.old.items) }

@@ -1,4 +1,4 @@
-// What a row is about.
+//! `RowKind`: the kind of a row, which is its first column.
 ghost use Rattle.std.specs.Prelude.{◌≡◌};
 ghost use Rattle.report_core.specs.Columns.{column};
 ghost use Rattle.report_core.specs.RowKind.{usage_word, kind_word};
@@ -6,7 +6,7 @@ ghost use Rattle.report_core.specs.RowKind.{usage_word, kind_word};
 use crate::rows::{KIND_BYTES, KIND_WIDTH};
 use point_core::Usage;
 
-/// What a row is about: its first column.
+/// The kind of a row: its first column.
 #[derive(Clone, Copy, Debug, PartialEq, Eq, Hash)]
 pub enum RowKind {
     Timeline,

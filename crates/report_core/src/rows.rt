@@ -1,4 +1,4 @@
-// The text of one row.
+//! The text of one row, and the widths of its columns.
 ghost use Rattle.std.specs.Prelude.{◌≡◌, ◌++◌, ◌+◌, ◌<◌, ◌^◌, OnOk, OnErr, Err, length};
 ghost use Rattle.std.specs.Io.{StartsWith};
 ghost use Rattle.point_core.specs.declared.refusal.Refusal.TheVariants.{Memory};
@@ -11,25 +11,25 @@ use crate::status::status_text;
 use command_core::FileRow;
 use point_core::{NAME_BYTES, Name, Refusal};
 
-/// The places of a row's first column: the longest words, `timeline` and `bookkeep`, fill it.
+/// The width of a row's first column: the longest words, `timeline` and `bookkeep`, fill it.
 pub const KIND_WIDTH: usize = 8;
 
-/// The bytes of the first column with the space after it.
+/// The bytes of the first column and the space after it.
 pub(crate) const KIND_BYTES: usize = KIND_WIDTH + 1;
 
-/// The places of the second column: the longest name fills it.
+/// The width of the second column: the longest name fills it.
 pub const SUBJECT_WIDTH: usize = NAME_BYTES;
 
-/// The places of the third column: the greatest number fills it.
+/// The width of the third column: the greatest number fills it.
 pub const NUMBER_WIDTH: usize = 20;
 
-/// The places of a file row's last column.
+/// The width of a file row's last column.
 pub const COUNT_WIDTH: usize = 3;
 
-/// The bytes of a row with its line feed.
+/// The bytes of a row, with its line feed.
 pub const ROW_BYTES: usize = KIND_WIDTH + 1 + SUBJECT_WIDTH + 1 + NUMBER_WIDTH + 1;
 
-/// The bytes of a file's row with its line feed, if its count fits the column.
+/// The bytes of a file's row, with its line feed, if its count fits the column.
 pub const FILE_ROW_BYTES: usize = ROW_BYTES + 1 + COUNT_WIDTH;
 
 const _: () = prove!(KIND_WIDTH == 8);
@@ -44,33 +44,33 @@ const _: () = prove!(ROW_BYTES == 62);
 
 const _: () = prove!(FILE_ROW_BYTES == 66);
 
-/// Appends a row to `out`: the kind's word on the left of its column, a space, the name on the left of its column, a
-/// space, the number in decimal on the right of its column, and a line feed.
+/// Appends a row to `out`: the kind's word, left-aligned, a space, the name, left-aligned, a space, the number in
+/// decimal, right-aligned, and a line feed.
 ///
-/// Fails only with Memory. `out` then begins with what it was.
+/// Fails only with Memory. `out` then begins with its old bytes.
 #[inline(always)]
 pub fn row(kind: RowKind, name: &Name, number: u64, out: &mut Vec<u8>) -> Result<(), Refusal>
     ensures ok { OnOk result (out.new.items ≡ out.old.items ++ row_text kind name.now number) }
     ensures width { OnOk result (length out.new.items ≡ length out.old.items + ROW_BYTES) }
     ensures err { OnErr result ((result ≡ Err Memory) × StartsWith out.new.items out.old.items) }
 {
-    // For the proof: what a name keeps.
+    // for the proof: the invariant of a name
     prove!(name.as_bytes().len() <= NAME_BYTES);
     push_row(out, kind, Subject::Named(name), number)?;
     Ok(())
 }
 
 /// Appends a file's row to `out`: as `row`, with its status for the number, and before the line feed a space and the
-/// count on the right of a column of its own.
+/// count, right-aligned in a column of its own.
 ///
-/// Fails only with Memory. `out` then begins with what it was.
+/// Fails only with Memory. `out` then begins with its old bytes.
 pub fn file_row(file: &FileRow, out: &mut Vec<u8>) -> Result<(), Refusal>
     ensures ok { OnOk result (out.new.items ≡ out.old.items ++ file_row_text file.now) }
     ensures width { OnOk result (file.now.count < 10 ^ COUNT_WIDTH →
         length out.new.items ≡ length out.old.items + FILE_ROW_BYTES) }
     ensures err { OnErr result ((result ≡ Err Memory) × StartsWith out.new.items out.old.items) }
 {
-    // For the proof: what a name keeps.
+    // for the proof: the invariant of a name
     prove!(file.name.as_bytes().len() <= NAME_BYTES);
     push_file_row(out, file)?;
     Ok(())

@@ -1,4 +1,4 @@
-// The text of what clients settled.
+//! The text of `clients`: the end that all clients' plans come to.
 ghost use Rattle.std.specs.Prelude.{◌≡◌, ◌++◌, ◌+◌, ◌<◌, ◌^◌, OnOk, OnErr, Err, length};
 ghost use Rattle.std.specs.List.{flat_map, enumerate_from};
 ghost use Rattle.std.specs.Io.{StartsWith};
@@ -11,10 +11,10 @@ use crate::rows::push_row;
 use point_core::{Items, Refusal, TopRow};
 use resv_core::Settled;
 
-/// Appends what clients settled to `out`: a row for each client's timeline with its value, and for each buffer a row
-/// with the number of its rows, and these. Clients are named `c1`, `c2` and so on, buffers `b0`, `b1` and so on.
+/// Appends the settled tables to `out`: a row for each client's timeline with its value, and for each buffer a row with
+/// the number of its rows, followed by these. Clients are named `c1`, `c2` and so on, buffers `b0`, `b1` and so on.
 ///
-/// Fails only with Memory. `out` then begins with what it was.
+/// Fails only with Memory. `out` then begins with its old bytes.
 pub fn settled_text(settled: &Settled, out: &mut Vec<u8>) -> Result<(), Refusal>
     ensures ok { OnOk result (out.new.items ≡ out.old.items ++ settled_text settled.now) }
     ensures err { OnErr result ((result ≡ Err Memory) × StartsWith out.new.items out.old.items) }

@@ -1,4 +1,4 @@
-// The text of a status.
+//! The text of a status: 0, 1 or -2.
 ghost use Rattle.std.specs.Prelude.{◌≡◌, ◌≤◌, length};
 ghost use Rattle.report_core.specs.Status.{status_text};
 
