@@ -1,4 +1,4 @@
--- Who is woken, and what the closing of a timeline leaves.
+-- The files that are woken, and the device after a timeline's closing.
 use Rattle.std.proofs.Common.{◌≡◌, ℕ, ◌+◌, ◌^◌, ◌<◌, nat_eq, ◌↔◌, inl, inr, Bool, true, false, not, cond, ◌&&◌, ◌||◌, refl, sym, ap, ◌∙◌, List, [], ◌∷◌, Option, None, Some, is_some, option_map, Contains, IsSome, IfSome, IfOk, OnOk, Result, Vec, Global, Ok, Err}
 use Rattle.std.specs.List.{list_all}
 use Rattle.std.specs.List.Sorted.{IsStrictlyIncreasing}
@@ -14,7 +14,7 @@ use Rattle.device_core.specs.State.{FileState, DeviceState, at, timeline_at, fil
 use Rattle.device_core.specs.Woken.{is_settled_by, file_wakes}
 use Rattle.device_core.specs.Request.{value_in, with_signals, closed_timeline, dropped, closed, risen, overflow, is_waiting, has_signalled, AreWoken}
 
--- what a device holds once a timeline is closed
+-- the objects of a device after a timeline is closed
 objects-with_signals : (d e : DeviceState) (t : ℕ) (new : Option Timeline) (v : ℕ) (s : Signal) → e.next ≡ d.next → e.buffers ≡ d.buffers → ((q : ℕ) → timeline_at e q ≡ cond (nat_eq t q) new (timeline_at d q)) → AreSignalled t v s d.files e.files → objects_of e ≡ with_signals (objects_of d) t new v s
 objects-with_signals d e t new v s next buffers timelines signalled = λ i. record {
   next = next i;
@@ -26,7 +26,7 @@ objects-with_signals d e t new v s next buffers timelines signalled = λ i. reco
 closed-timeline : (d : DeviceState) (n now : ℕ) → is_some (timeline_at d n) ≡ true → closed_timeline (objects_of d) n now ≡ closed (objects_of d) n now
 closed-timeline d n now there = sym (ap (λ b. cond b (closed_timeline (objects_of d) n now) (dropped (objects_of d) n)) there)
 
--- who is woken
+-- a single fence
 one_settled : (t v : ℕ) (s : Signal) (f : Fence) → not (is_pending (signalled_by t v s f)) ≡ is_settled_by t v f
 one_settled t v s f = elim (cases_Bool (is_due t v f)) [
   | inl due ↦ ap (λ b. not (is_pending (cond b (record f { signal = Some s }) f))) due ∙ sym (or_right (not (is_pending f)) (is_due t v f) due)

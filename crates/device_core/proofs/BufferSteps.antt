@@ -1,4 +1,4 @@
--- Buffers of a device: what its requests keep of them.
+-- Buffers of a device: the properties that requests keep.
 use Rattle.std.proofs.Common.{◌≡◌, ℕ, ◌⊎◌, ◌↔◌, zero, suc, refl, sym, ap, ◌∙◌, List, [], ◌∷◌, ◌++◌, length, map, filter, cond, Option, None, Some, Bool, true, false, if◌then◌else◌, nat_eq, nat_le, nat_lt, inl, inr, arith, All}
 use Rattle.std.specs.Prelude.{fold}
 use Rattle.std.specs.List.{filter_map, cons_option}
@@ -27,7 +27,7 @@ use Rattle.device_core.proofs.Sound.{fences-reached, value_at-reach_of}
 use Rattle.device_core.proofs.Putting.{import-agrees}
 use Rattle.device_core.proofs.Exports.{AgreesAbove-at_usage, exported-agrees, exported-rising, tested}
 
--- the reach of a device is that of its timelines
+-- the reach of a device is its timelines'
 pub value_of : (d : Objects) (n : ℕ) (t : Timeline) → HasGivenTimelines d → d.timelines n ≡ Some t → value_at (reach_of d) n ≡ t.value
 value_of d zero t h is = let none = h.none in absurd (cc)
 value_of d (suc n) t h is = elim (cases_lt (suc n) d.next) [
@@ -45,7 +45,7 @@ reach-is d hs h all = record {
       rw value fits;
 }
 
--- an import keeps what holds of each fence
+-- an import keeps a property of each fence
 pub with-All : (P : BufferFence → Type 0) (hs : List BufferFence) (g : BufferFence) → All P hs → P g → All P (with_buffer_fence hs g)
 with-All P [] g all here = All-cons P g [] here all
 with-All P (h ∷ hs) g all here =
@@ -81,7 +81,7 @@ imported-fences d usage (f ∷ fs) all =
 pub import-keeps : (d : Objects) (usage : Usage) (fs : List Fence) (b : BufferState) → AreBufferFences d b.fences → AreFences d fs → AreBufferFences d (import_into d.timelines usage fs b).fences
 import-keeps d usage fs b all more = import-All (IsBufferFence d.next) d.timelines usage fs b all (imported-fences d usage fs more.each)
 
--- what an import puts in
+-- the fences that an import puts in
 weakest : (usage : Usage) → nat_le (usage_number usage) 3 ≡ true
 weakest Kernel = refl
 weakest Write = refl
@@ -117,7 +117,7 @@ entries-put_as : (usage : Usage) (fs : List Fence) → entries_of (map (put_as u
 entries-put_as usage [] = refl
 entries-put_as usage (f ∷ fs) = ap (λ es. entry_of (put_as usage f) ∷ es) (entries-put_as usage fs)
 
--- a buffer agrees with what was put into it, and what was put into the file that was imported
+-- a buffer agrees with the entries put into it, and with those put into the imported file
 pub import-step : (d : Objects) (usage : Usage) (fs : List Fence) (b : BufferState) (put more : List Entry) → HasGivenTimelines d → AreBufferFences d b.fences → AreFences d fs → AgreesAbove (reach_of d) (entries_of b.fences) put → AgreesAbove (reach_of d) (entries_in fs) more → AgreesAbove (reach_of d) (entries_of (import_into d.timelines usage fs b).fences) (put ++ put_with usage more)
 import-step d usage fs b put more h all each left right =
     let reach = reach_of d in
@@ -126,7 +126,7 @@ import-step d usage fs b put more h all each left right =
     AgreesAbove-trans (import-agrees d.timelines usage fs b reach (reach-is d b.fences h all))
     (AgreesAbove-trans (AgreesAbove-same reach (map-append entry_of b.fences (imported usage fs))) (AgreesAbove-append left imported_ones))
 
--- an exported file agrees with what was put into the buffer at its usage
+-- an exported file agrees with the entries of the buffer at its usage
 pub export-step : (d : Objects) (usage : Usage) (hs : List BufferFence) (put : List Entry) → HasGivenTimelines d → AreBufferFences d hs → AgreesAbove (reach_of d) (entries_of hs) put → AgreesAbove (reach_of d) (entries_in (exported d.timelines usage hs)) (at_usage usage put)
 export-step d usage hs put h all agrees =
     AgreesAbove-trans (exported-agrees d.timelines usage hs (reach_of d) (reach-is d hs h all)) (AgreesAbove-at_usage (reach_of d) usage (entries_of hs) put agrees)
@@ -158,7 +158,7 @@ export-keeps d usage hs all = record {
   each = fold-All (IsFence d) (filter_map (waiting_fence d.timelines usage) hs) [] (All-nil (IsFence d)) (waiting-fences d usage hs all);
 }
 
--- a test finds whether all that was put is reached
+-- a test finds whether all entries are reached
 pub test-step : (d : Objects) (usage : Usage) (hs : List BufferFence) (put : List Entry) → HasGivenTimelines d → AreBufferFences d hs → AgreesAbove (reach_of d) (entries_of hs) put → (none_waits d.timelines usage hs ≡ true) ↔ IsReached put (usage_number usage) (reach_of d)
 test-step d usage hs put h all agrees =
     let means = tested d.timelines usage hs (reach_of d) (none_waits d.timelines usage hs) refl (reach-is d hs h all) in

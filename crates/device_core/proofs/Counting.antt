@@ -1,4 +1,4 @@
--- Each file is woken at most once, and each number given once.
+-- Each file is woken at most once, and each number given at most once.
 use Rattle.std.proofs.Common.{◌≡◌, ◌≢◌, ℕ, ◌+◌, ◌-◌, ◌<◌, ◌≤◌, zero, suc, nat_eq, ◌⊎◌, inl, inr, Bool, true, false, not, cond, ◌&&◌, refl, sym, ap, ◌∙◌, subst, List, [], ◌∷◌, ◌++◌, append_assoc, append-nil, map-id, length, get_or, Option, None, Some, is_some, option_map, AllPairs, Contains, count_by, flat_map, Result, Ok, Err, arith}
 use Rattle.std.specs.List.{range_with_len, list_all}
 use Rattle.std.proofs.lemmas.Bool.{cases_Bool, cases_eq, and_parts, and_from, or_left, eq-eqb, ne_eqb, eqb-true, false≢true}
@@ -81,7 +81,7 @@ count-woken old new woken n h = elim (cases_Bool (is_waiting (old.files n) && ha
       ∙ sym (ap one_if not)
 ]
 
--- what becomes of a file by one request
+-- a file before and after one request
 balanced : (s t : Bool) (c : ℕ) → (s ≡ true → not t ≡ false) → c ≡ one_if (not s && t) → one_if (not s) ≡ c + one_if (not s && false) + one_if (not t)
 balanced true true c again is = sym (ap (λ m. m + 0 + 0) is)
 balanced true false c again is = absurd (false≢true (sym (again refl)))
@@ -99,7 +99,7 @@ balance None (Some g) c again is = let none : c ≡ 0 = is in omega arith
 balance (Some f) None c again is = let one = dropped_one (are_signalled f.fences) c is in omega arith
 balance (Some f) (Some g) c again is = let one = balanced (are_signalled f.fences) (are_signalled g.fences) c again is in omega arith
 
--- a file that has signalled waits no more
+-- a file that has signalled no longer waits
 settled_stays : (t v : ℕ) (fs : List Fence) → are_signalled fs ≡ true → list_all (is_settled_by t v) fs ≡ true
 settled_stays t v [] all = refl
 settled_stays t v (f ∷ fs) all =
@@ -147,7 +147,7 @@ never-again w (request.Export buffer flags) n sound is = never-new w (export_of 
 never-again w (request.Import buffer file flags) n sound is = not_waiting (w.objects.files n) is
 never-again w (request.Test buffer usage) n sound is = not_waiting (w.objects.files n) is
 
--- who is woken by any request
+-- the files that a request wakes
 none-woken : (old new : Objects) → ((n : ℕ) → (new.files n ≡ old.files n) ⊎ (old.files n ≡ None)) → AreWoken old new []
 none-woken old new files = record {
   all = λ n. (λ among. absurd (omega (arith, among.1)), λ both. go n (files n) both.0 both.1);
@@ -211,7 +211,7 @@ wakes-after w (request.Import buffer file flags) given sound h = subst (AreWoken
 wakes-after w (request.Test buffer usage) given sound h =
     subst (AreWoken w.objects w.objects) (sym (object-told woken_in (w.objects.buffers buffer) (λ b. answer.Signalled (none_waits_in w.objects.timelines usage b.fences)) given (λ b. refl) h)) (none-woken w.objects w.objects (λ n. inl refl))
 
--- which number is given
+-- the number that is given
 abbrev IsNext : Objects → Request → Answer → Type 0
 IsNext d r given =
     ((number_in given ≡ d.next ∷ []) × ((after d r).next ≡ d.next + 1))

@@ -1,4 +1,4 @@
--- What an export lists, and what a test finds.
+-- The fences of an export, and the result of a test.
 use Rattle.std.proofs.Common.{◌≡◌, ℕ, ◌≤◌, ◌⊎◌, ◌↔◌, refl, sym, ap, ◌∙◌, List, [], ◌∷◌, cond, Option, None, Some, Bool, true, false, not, ◌&&◌, ◌||◌, if◌then◌else◌, nat_eq, nat_lt, inl, inr, arith, append-nil}
 use Rattle.std.specs.Prelude.{fold, IsTrue}
 use Rattle.std.specs.List.{filter_map, cons_option}
@@ -19,7 +19,7 @@ use Rattle.device_core.specs.Buffers.{AreWaiting, IsReachOf, IsWaitingAt, at_usa
 use Rattle.device_core.proofs.Placed.{Rising-is, fold-All, fold-Rising, fold-agrees}
 use Rattle.device_core.proofs.Putting.{Contains-first, IsReachOf-tail, not_waiting-reached}
 
--- at each usage it has the top that the entries have at that one
+-- at each usage the exported entries have the top that the entries have at the export's usage
 pub top-at_usage : (usage : Usage) (es : List Entry) (any ctx : ℕ) → top (at_usage usage es) any ctx ≡ top es (usage_number usage) ctx
 top-at_usage usage [] any ctx = refl
 top-at_usage usage (e ∷ es) any ctx = go (cases_Bool (is_within usage e)) (top-at_usage usage es any ctx)
@@ -28,14 +28,14 @@ top-at_usage usage (e ∷ es) any ctx = go (cases_Bool (is_within usage e)) (top
     go (inl within) rest = rw (within, le-leb 0 any (omega arith)) (ap (λ t. cond (nat_eq e.point.ctx ctx) (later e.point.value t) t) rest)
     go (inr weaker) rest = rw weaker rest
 
--- so entries that agree export alike
+-- so entries that agree export the same
 pub AgreesAbove-at_usage : (reach : List ℕ) (usage : Usage) (es fs : List Entry) → AgreesAbove reach es fs → AgreesAbove reach (at_usage usage es) (at_usage usage fs)
 AgreesAbove-at_usage reach usage es fs h = record {
   tops = λ any ctx. ap (pending (value_at reach ctx)) (top-at_usage usage es any ctx) ∙ h.tops (usage_number usage) ctx ∙ sym (ap (pending (value_at reach ctx)) (top-at_usage usage fs any ctx));
 }
 
 module _ (timelines : ℕ → Option Timeline) (usage : Usage) where
-  -- what is waiting is all that is not reached
+  -- the waiting fences are those that are not reached
   pub waiting-agrees : (hs : List BufferFence) (reach : List ℕ) → IsReachOf timelines hs reach → AgreesAbove reach (entries_in (filter_map (waiting_fence timelines usage) hs)) (at_usage usage (entries_of hs))
   waiting-agrees [] reach of = AgreesAbove-refl reach []
   waiting-agrees (h ∷ hs) reach of = go (cases_Bool (is_within usage (entry_of h))) (timelines h.timeline) refl (waiting-agrees hs reach (IsReachOf-tail timelines h hs reach of))
@@ -55,7 +55,7 @@ module _ (timelines : ℕ → Option Timeline) (usage : Usage) where
       go (inl within) None is rest = rw (within, is) (left None is refl rest)
       go (inl within) (Some t) is rest = rw (within, is) (some t is (cases_Bool (nat_lt t.value h.value)) rest)
 
-  -- each is a fence that waits
+  -- each exported fence waits
   waiting-each : (h : BufferFence) (gs : List Fence) (within : Bool) (o : Option Timeline) → timelines h.timeline ≡ o → AreWaiting timelines gs → AreWaiting timelines (cons_option (if within then fence_waiting h.timeline h.value o else None) gs)
   waiting-each h gs false o is rest = rest
   waiting-each h gs true None is rest = rest
@@ -68,7 +68,7 @@ module _ (timelines : ℕ → Option Timeline) (usage : Usage) where
   waiting-waits [] = All-nil (λ (f : Fence). IsWaitingAt f (timelines f.timeline))
   waiting-waits (h ∷ hs) = waiting-each h (filter_map (waiting_fence timelines usage) hs) (is_within usage (entry_of h)) (timelines h.timeline) refl (waiting-waits hs)
 
-  -- an export of them
+  -- an export of these fences
   pub exported-agrees : (hs : List BufferFence) (reach : List ℕ) → IsReachOf timelines hs reach → AgreesAbove reach (entries_in (fold with_fence [] (filter_map (waiting_fence timelines usage) hs))) (at_usage usage (entries_of hs))
   exported-agrees hs reach of =
       let gs = filter_map (waiting_fence timelines usage) hs in
@@ -81,7 +81,7 @@ module _ (timelines : ℕ → Option Timeline) (usage : Usage) where
   pub exported-waits : (hs : List BufferFence) → AreWaiting timelines (fold with_fence [] (filter_map (waiting_fence timelines usage) hs))
   exported-waits hs = fold-All (λ (f : Fence). IsWaitingAt f (timelines f.timeline)) (filter_map (waiting_fence timelines usage) hs) [] (All-nil (λ (f : Fence). IsWaitingAt f (timelines f.timeline))) (waiting-waits hs)
 
-  -- a test finds what is reached
+  -- a test finds whether all are reached
   waits_in-reached : (hs : List BufferFence) (reach : List ℕ) (h : BufferFence) (o : Option Timeline) → IsReachOf timelines (h ∷ hs) reach → timelines h.timeline ≡ o → not (waits_in o h.value) ≡ is_reached reach (entry_of h).point
   waits_in-reached hs reach h None of is = sym (le-leb h.value (value_at reach h.timeline) (of.closed h (Contains-first h hs) is))
   waits_in-reached hs reach h (Some t) of is =

@@ -16,14 +16,14 @@ use Rattle.device_core.specs.Fences.{is_pending, waits_at}
 use Rattle.device_core.specs.Floors.{HasFloors, HasRisenQuietly, TimelinesState, lowered, lowered_by, settled, timelines_in, timelines_state}
 use Rattle.device_core.specs.State.{AreInOrder, at, holds, is_due_at, raised, waits_of}
 
--- what is found among the timelines
+-- a timeline that is found by its number
 pub at-timelines : (es : List (ℕ × OpenTimeline)) (number : ℕ) → at (timelines_in es) number ≡ option_map (λ (o : OpenTimeline). o.timeline) (at es number)
 at-timelines es number = lookup-map_values (λ (o : OpenTimeline). o.timeline) (nat_eq number) es
 
 pub at-view : (es : List (ℕ × OpenTimeline)) (index : List Waiting) (d : TimelinesState) → timelines_state es index ≡ d → (number : ℕ) → at d.entries number ≡ option_map (λ (o : OpenTimeline). o.timeline) (at es number)
 at-view es index d view number = ap (λ (s : TimelinesState). at s.entries number) (sym view) ∙ at-timelines es number
 
--- one of them is another, or no longer there
+-- one timeline is changed or removed
 pub timelines-changed : (old new : List (ℕ × OpenTimeline)) (number : ℕ) (w : Option OpenTimeline) (index : List Waiting) (d : TimelinesState) → timelines_state old index ≡ d → ((q : ℕ) → at new q ≡ cond (nat_eq number q) w (at old q)) → (q : ℕ) → at (timelines_in new) q ≡ cond (nat_eq number q) (option_map (λ (o : OpenTimeline). o.timeline) w) (at d.entries q)
 timelines-changed old new number w index d view is q =
     at-timelines new q ∙ ap (option_map (λ (o : OpenTimeline). o.timeline)) (is q) ∙ elim (cases_Bool (nat_eq number q)) [
@@ -35,7 +35,7 @@ pub is_some-map : {X Y : Type 0} (f : X → Y) (o : Option X) → is_some o ≡ 
 is_some-map f None = refl
 is_some-map f (Some x) = refl
 
--- a floor, as it was or lower
+-- a floor that is unchanged or lower
 abbrev IsAtMost : Option OpenTimeline → ℕ → Type 0
 IsAtMost o value = IfSome o (λ t. t.floor ≤ value)
 
@@ -44,7 +44,7 @@ low-by true o p value h g = h refl
 low-by false o p value h g = g refl
 
 module _ (old new : List (ℕ × OpenTimeline)) (number : ℕ) where
-  -- what is there at one number is another
+  -- the timeline at one number is another
   at-same : (q : ℕ) → number ≡ q → nat_eq number q ≡ true
   at-same q is = eq-eqb number q is
 
@@ -62,7 +62,7 @@ HasFloors-none es index is = record {
   ordered = subst AreInOrder (sym is) tt;
 }
 
--- the same timelines at another index
+-- the same timelines with a smaller index
 pub HasFloors-fewer : (es : List (ℕ × OpenTimeline)) (index fewer : List Waiting) → HasFloors es index → AreInOrder fewer → ((k : Waiting) → holds fewer k ≡ true → holds index k ≡ true) → HasFloors es fewer
 HasFloors-fewer es index fewer kept ordered less = record { floors = λ k there. kept.floors k (less k there); ordered = ordered }
 
@@ -70,7 +70,7 @@ HasFloors-fewer es index fewer kept ordered less = record { floors = λ k there.
 pub HasFloors-opened : (old new : List (ℕ × OpenTimeline)) (number : ℕ) (o : OpenTimeline) (index : List Waiting) → ((q : ℕ) → at new q ≡ cond (nat_eq number q) (Some o) (at old q)) → o.floor ≡ 0 → HasFloors old index → HasFloors new index
 HasFloors-opened old new number o index is low kept = HasFloors-written old new number index index (Some o) is kept kept.ordered (λ k there. there) (λ k its there. omega (arith, low))
 
--- one of which the floor is not raised
+-- a timeline whose floor is not raised
 own_floor : (number value : ℕ) (was : Option OpenTimeline) (k : Waiting) (es : List (ℕ × OpenTimeline)) → was ≡ at es number → k.timeline ≡ number → IsAtMost (at es k.timeline) k.value → IsAtMost was k.value
 own_floor number value was k es there its low = subst (λ o. IsAtMost o k.value) (ap (at es) its ∙ sym there) low
 
@@ -79,11 +79,11 @@ HasFloors-kept old new number o w index is there same kept =
     HasFloors-written old new number index index (Some w) is kept kept.ordered (λ k held. held)
     (λ k its held. let low : o.floor ≤ k.value = own_floor number 0 (Some o) k old there its (kept.floors k held) in omega (arith, same, low))
 
--- a closed one
+-- a timeline that is closed
 pub HasFloors-closed : (old new : List (ℕ × OpenTimeline)) (number : ℕ) (index fewer : List Waiting) → ((q : ℕ) → at new q ≡ cond (nat_eq number q) None (at old q)) → HasFloors old index → AreInOrder fewer → ((k : Waiting) → holds fewer k ≡ true → holds index k ≡ true) → HasFloors new fewer
 HasFloors-closed old new number index fewer is kept ordered less = HasFloors-written old new number index fewer None is kept ordered less (λ k its there. tt)
 
--- one that has risen
+-- a timeline that has risen
 settled-low : (value floor : ℕ) (o : Option OpenTimeline) (most : ℕ) → floor ≤ most → IsAtMost (option_map (settled value floor) o) most
 settled-low value floor None most low = tt
 settled-low value floor (Some o) most low = low
@@ -194,7 +194,7 @@ HasFloors-lowered_only old new index fs is kept = record {
   ordered = kept.ordered;
 }
 
--- a timeline is written to, but none is another
+-- a timeline is written, but none changes
 pub timelines-written : (test : ℕ → Bool) (es : List (ℕ × OpenTimeline)) (o w : OpenTimeline) → Some o ≡ lookup test es → w.timeline ≡ o.timeline → timelines_in (set_value test es w) ≡ timelines_in es
 timelines-written test [] o w there same = refl
 timelines-written test (e ∷ es) o w there same = go (test e.0) refl (λ later. timelines-written test es o w later same)
@@ -212,7 +212,7 @@ timelines-written test (e ∷ es) o w there same = go (test e.0) refl (λ later.
         let later : Some o ≡ lookup test es = there ∙ ap (λ b. cond b (Some e.1) (lookup test es)) is in
         ap (λ b. timelines_in (cond b ((e.0, w) ∷ es) (e ∷ set_value test es w))) is ∙ ap (λ xs. (e.0, e.1.timeline) ∷ xs) (rest later)
 
--- a rise that comes to no floor
+-- a rise that stays below the floor
 none_below : (number value : ℕ) (o : OpenTimeline) (es : List (ℕ × OpenTimeline)) (index : List Waiting) → Some o ≡ at es number → value < o.floor → HasFloors es index → (k : Waiting) → is_due_at number value k ≡ true → holds index k ≡ false
 none_below number value o es index there below kept k due = elim (cases_Bool (holds index k)) [
   | inl held ↦

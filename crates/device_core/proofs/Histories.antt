@@ -1,4 +1,4 @@
--- A request more at the end of a history.
+-- Another request at the end of a history.
 use Rattle.std.proofs.Common.{◌≡◌, length, length-append, refl, sym, ap, ◌∙◌, subst, List, [], ◌∷◌, ◌++◌, None, Result, Ok, Err, OnOk, OnErr, arith}
 use Rattle.device_core.specs.declared.refusal.Refusal.{Refusal}
 use Rattle.device_core.specs.declared.request.Request.{Request}

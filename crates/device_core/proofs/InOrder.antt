@@ -1,4 +1,4 @@
--- The index is in order, so what it holds says what it is.
+-- The index is sorted, so its elements determine it.
 use Rattle.std.proofs.Common.{◌≡◌, ℕ, ◌⊎◌, inl, inr, Bool, true, false, ◌&&◌, ◌||◌, refl, sym, ap, ◌∙◌, subst, List, [], ◌∷◌}
 use Rattle.std.specs.List.{AllByRecursion}
 use Rattle.std.specs.List.Sorted.{IsStrictlySortedBy}
@@ -65,7 +65,7 @@ same_keys (j ∷ js) (k ∷ ks) g h same = by (order j k) refl (same_keys js ks 
         let less : order k j ≡ Less = order_total.antisymm k j ∙ ap ordering_reverse greater in
         absurd (false≢true (sym (held-below k (j ∷ js) (less, All-less k j js less g.0)) ∙ same k ∙ held-first k ks))
 
--- what a device keeps, part by part
+-- the state of a device, field by field
 abbrev pub state : ℕ → List (ℕ × Timeline) → List (ℕ × FileState) → List (ℕ × BufferState) → List Waiting → DeviceState
 state next timelines files buffers index =
     record { next = next; timelines = timelines; files = files; buffers = buffers; index = index }

@@ -1,4 +1,4 @@
--- What a file or a buffer lists was put into it.
+-- Every fence that a file or a buffer lists was put into it.
 use Rattle.std.proofs.Common.{◌≡◌, ℕ, ◌+◌, ◌<◌, ◌≤◌, ◌⊎◌, zero, suc, inl, inr, Bool, true, false, cond, nat_eq, nat_lt, refl, sym, ap, ◌∙◌, subst, List, [], ◌∷◌, ◌++◌, map, filter, Option, None, Some, is_some, option_map, Result, Ok, Err, All, Contains, if◌then◌else◌, arith}
 use Rattle.std.specs.List.{filter_map, cons_option}
 use Rattle.std.proofs.lemmas.Bool.{cases_Bool, cases_eq}
@@ -28,7 +28,7 @@ use Rattle.device_core.proofs.Sound.{with_at-same, with_at-other}
 use Rattle.device_core.proofs.BufferSteps.{import-All}
 use Rattle.device_core.proofs.Stepping.{same_Some, None≢Some, buffer_given, file_given, IsSound-after, IsSound-empty}
 
--- what is contained, once each element or a part of them is taken
+-- the elements of a list that is mapped or filtered
 pub mapped : {X Y : Type 0} (f : X → Y) (xs : List X) (x : X) → Contains xs x → Contains (map f xs) (f x)
 mapped f [] x (i, low, is) = absurd (omega arith)
 mapped f (y ∷ ys) x (zero, low, is) = (0, omega arith, ap f is)
@@ -57,7 +57,7 @@ pub record HasListed (w : World) : Type 0 where
   pub files : (n : ℕ) (f : FileState) → w.objects.files n ≡ Some f → AreIn (w.put n) f.fences
   pub buffers : (n : ℕ) (b : BufferState) → w.objects.buffers n ≡ Some b → AreAmong (w.put n) b.fences
 
--- what an import puts in
+-- the fences that an import puts in
 imported-among : (usage : Usage) (put : List Entry) (fs : List Fence) → AreIn put fs → AreAmong (put_with usage put) (imported usage fs)
 imported-among usage put [] all = All-nil (λ (h : BufferFence). Contains (put_with usage put) (entry_of h))
 imported-among usage put (f ∷ fs) all =
@@ -76,7 +76,7 @@ import-among timelines usage fs b put more old new =
     (All-weaker (λ (h : BufferFence). Contains put (entry_of h)) P (λ h is. Contains-append_left put (put_with usage more) (entry_of h) is) b.fences old)
     (All-weaker (λ (h : BufferFence). Contains (put_with usage more) (entry_of h)) P (λ h is. Contains-append_right put (put_with usage more) (entry_of h) is) (imported usage fs) (imported-among usage more fs new))
 
--- what an export lists
+-- the fences that an export lists
 waiting-in : (usage : Usage) (put : List Entry) (h : BufferFence) (gs : List Fence) (o : Option Timeline) (within : Bool) → is_within usage (entry_of h) ≡ within → Contains put (entry_of h) → AreIn (at_usage usage put) gs → AreIn (at_usage usage put) (cons_option (if within then fence_waiting h.timeline h.value o else None) gs)
 waiting-in usage put h gs o false is here rest = rest
 waiting-in usage put h gs None true is here rest = rest
@@ -139,7 +139,7 @@ buffer-new w time sound h =
       ];
     }
 
--- a file that signals lists what it did
+-- a file that signals lists the same points
 signalled-in : (t v : ℕ) (s : Signal) (put : List Entry) (fs : List Fence) → AreIn put fs → AreIn put (all_signalled_by t v s fs)
 signalled-in t v s put fs all =
     let P : Fence → Type 0 = λ g. Contains put (entry_in g) in
@@ -194,7 +194,7 @@ export-in timelines (Ok usage) put (Some b) f all is =
     let fs : exported timelines usage b.fences ≡ f.fences = ap (λ (x : FileState). x.fences) (same_Some is) in
     subst (AreIn (at_usage usage put)) fs (exported-in timelines usage put b.fences (all b refl))
 
--- what becomes of a buffer by an import
+-- a buffer before and after an import
 import-in : (timelines : ℕ → Option Timeline) (u : Result Usage Refusal) (put more : List Entry) (o : Option FileState) (p : Option BufferState) (b : BufferState) → ((g : FileState) → o ≡ Some g → AreIn more g.fences) → ((c : BufferState) → p ≡ Some c → AreAmong put c.fences) → import_of timelines u o p ≡ Some b → AreAmong (put_by_import u put more) b.fences
 import-in timelines (Err e) put more o p b file was is = was b is
 import-in timelines (Ok usage) put more None p b file was is =

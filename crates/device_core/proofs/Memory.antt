@@ -1,4 +1,4 @@
--- What is kept is no more than what is alive.
+-- The tables are no larger than what is alive.
 use Rattle.std.proofs.Common.{◌≡◌, ℕ, ◌+◌, ◌<◌, ◌≤◌, ◌⊎◌, zero, suc, inl, inr, Bool, true, false, nat_eq, nat_lt, ◌&&◌, ◌||◌, refl, sym, ap, ◌∙◌, subst, List, [], ◌∷◌, ◌++◌, length, map, filter, arith}
 use Rattle.std.specs.Prelude.{Option, None, Some, is_some}
 use Rattle.std.specs.List.{IsDistinct, flat_map, list_any, range_with_len, sum_by}
@@ -47,7 +47,7 @@ among a (suc n) q low high = elim (at_or_past a q low) [
 in_range : (next q : ℕ) → q < next → q < 0 + next
 in_range next q low = omega arith
 
--- a number at which something is alive was given
+-- a number whose object is alive was given
 was_given : {X : Type 0} (kept : ℕ → Option X) (next n : ℕ) → ((q : ℕ) → next ≤ q → kept q ≡ None) → is_some (kept n) ≡ true → n < next
 was_given kept next n given there = elim (cases_Bool (nat_lt n next)) [
   | inl low ↦ ltb-true n next low
@@ -65,7 +65,7 @@ kept-alive es next distinct given =
     ∙ and_from (is_member nat_eq numbers q) (live q) (among 0 next q (omega arith) (in_range next q (was_given (at es) next q given alive_there))) alive_there) in
     subst (λ n. n ≤ length (filter live numbers)) (length-keys_of es) few
 
--- the points at which a file waits
+-- the points for which a file waits
 abbrev points_of : ℕ → Option FileState → List Waiting
 points_of n None = []
 points_of n (Some f) = map (waiting n) (pending_of f.fences)

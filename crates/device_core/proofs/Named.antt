@@ -25,7 +25,7 @@ use Rattle.device_core.proofs.Histories.{world_from-push}
 use Rattle.device_core.proofs.Sound.{with_at-same, with_at-other}
 use Rattle.device_core.proofs.Stepping.{same_Some, None≢Some, IsSound-after, IsSound-empty}
 
--- the name after one more request
+-- the name after another request
 first_name-none : (a : Option Text) → first_name a None ≡ a
 first_name-none None = refl
 first_name-none (Some x) = refl
@@ -64,7 +64,7 @@ all-stay before r fs all = All-weaker (IsNamed before) (IsNamed (before ++ r ∷
 names-stay : (before : List Request) (r : Request) (timelines : ℕ → Option Timeline) → AreNamed before timelines → AreNamed (before ++ r ∷ []) timelines
 names-stay before r timelines all n t is = stays before r n t.name (all n t is)
 
--- a number that was not given has no name, but for the one that a timeline is opened with
+-- a number that was not given has no name, until a timeline is opened with it
 none-later : (before : List Request) (w : World) (r : Request) → w ≡ world_of before → w.objects.next ≤ (world_after w r).objects.next → ((n : ℕ) → (world_after w r).objects.next ≤ n → name_in n w r ≡ None) → HasNames w before → (n : ℕ) → (world_after w r).objects.next ≤ n → opened_as n empty_world (before ++ r ∷ []) ≡ None
 none-later before w r is more idle h n past = comes before w r n is (h.none n (omega arith)) ∙ idle n past
 
@@ -81,7 +81,7 @@ signalled-names before t v s (Some g) f all is =
     subst (All (IsNamed before)) (ap (λ (x : FileState). x.fences) (same_Some is))
     (All-map (IsNamed before) (signalled_by t v s) g.fences (All-weaker (IsNamed before) (λ x. IsNamed before (signalled_by t v s x)) (λ x its. signalled-named before t v s x its) g.fences (all g refl)))
 
--- a timeline that is another
+-- a timeline that is changed
 changed-names : (before : List Request) (timelines : ℕ → Option Timeline) (number : ℕ) (new : Option Timeline) → AreNamed before timelines → ((t : Timeline) → new ≡ Some t → opened_as number empty_world before ≡ Some t.name) → AreNamed before (with_at timelines number new)
 changed-names before timelines number new all own n t is = elim (cases_eq number n) [
   | inl same ↦ sym (ap (λ m. opened_as m empty_world before) same) ∙ own t (sym (with_at-same timelines number new) ∙ ap (with_at timelines number new) same ∙ is)
@@ -124,7 +124,7 @@ exported-names before timelines (Ok usage) (Some b) f all is =
     subst (All (IsNamed before)) (ap (λ (x : FileState). x.fences) (same_Some is))
     (fold-All (IsNamed before) (filter_map (waiting_fence timelines usage) b.fences) [] (All-nil (IsNamed before)) (all_waiting-named before timelines usage b.fences all))
 
--- after one more request
+-- after another request
 HasNames-same : (before : List Request) (w : World) (r : Request) → w ≡ world_of before → w.objects.next ≤ (world_after w r).objects.next → ((n : ℕ) → (world_after w r).objects.next ≤ n → name_in n w r ≡ None) → (world_after w r).objects.timelines ≡ w.objects.timelines → (world_after w r).objects.files ≡ w.objects.files → HasNames w before → HasNames (world_after w r) (before ++ r ∷ [])
 HasNames-same before w r is more idle timelines files h = record {
   timelines = subst (AreNamed (before ++ r ∷ [])) (sym timelines) (names-stay before r w.objects.timelines h.timelines);

@@ -1,4 +1,4 @@
--- Requests that need memory for what they wake.
+-- Requests that need memory to report the files that they wake.
 use Rattle.std.proofs.Common.{◌≡◌, ℕ, ◌+◌, ◌^◌, ◌<◌, ◌≤◌, ◌⊎◌, zero, suc, inl, inr, Bool, true, false, not, ◌&&◌, ◌||◌, cond, refl, sym, ap, ◌∙◌, subst, Option, None, Some, is_some, option_map, arith}
 use Rattle.std.specs.List.{list_any, range_with_len}
 use Rattle.std.proofs.lemmas.Bool.{and_from, and_parts, cases_Bool, cases_eq, cases_lt, false≢true, lt-leb}
@@ -29,7 +29,7 @@ none-range : (p : ℕ → Bool) (a n : ℕ) → ((q : ℕ) → p q ≡ false) �
 none-range p a zero none = refl
 none-range p a (suc n) none = ap (λ b. b || list_any p (range_with_len (a + 1) n)) (none a) ∙ none-range p (a + 1) n none
 
--- a file that waits has a number that was given
+-- a file that waits has a given number
 waits-given : (d : Objects) (n : ℕ) → ((m : ℕ) → d.next ≤ m → d.files m ≡ None) → is_waiting (d.files n) ≡ true → n < d.next
 waits-given d n given waits = elim (cases_lt n d.next) [
   | inl low ↦ low
@@ -93,7 +93,7 @@ and-none : (b : Bool) → (b && false) ≡ false
 and-none true = refl
 and-none false = refl
 
--- that of a file or a buffer
+-- the closing of a file or a buffer
 pub drop-spares : (d : Objects) (number now : ℕ) → is_some (d.timelines number) ≡ false → takes_memory d (request.Close number now) ≡ false
 drop-spares d number now not =
     subst (λ b. wakes_some d (cond b (closed_timeline d number now) (dropped d number)) ≡ false) (sym not)

@@ -1,4 +1,4 @@
--- The pending fences of a file are the latest pending points of what was put into it.
+-- The pending fences of a file are the latest pending points among all that were put into it.
 use Rattle.std.proofs.Common.{◌≡◌, ◌≢◌, ℕ, ◌+◌, ◌-◌, ◌<◌, ◌≤◌, zero, suc, inl, inr, Bool, true, false, refl, sym, ap, ◌∙◌, List, [], ◌∷◌, length, map, filter, Option, None, Some, option_map, All, if◌then◌else◌, arith}
 use Rattle.std.specs.List.{filter_map, cons_option, range_with_len}
 use Rattle.std.proofs.lemmas.Bool.{cases_eq, false≢true, lt-ltb, ltb-true}
@@ -28,7 +28,7 @@ use Rattle.device_core.proofs.Exports.{exported-waits, top-at_usage}
 use Rattle.device_core.proofs.BufferSteps.{export-keeps, export-step}
 use Rattle.device_core.proofs.Sound.{fences-reached, value_at-reach_of}
 
--- what fences of rising timelines have at the top of each timeline
+-- fences of rising timelines, and the top of each timeline
 top-none : (fs : List Fence) (t : ℕ) → All (λ (f : Fence). f.timeline ≢ t) fs → top (entries_in fs) 0 t ≡ None
 top-none [] t apart = refl
 top-none (f ∷ fs) t apart =
@@ -83,7 +83,7 @@ listed-itself reach (suc n) a (f ∷ fs) within rising high =
           ∙ listed-itself reach n (a + 1) (f ∷ fs) (All-cons (Within (a + 1) n) f fs (omega arith, omega arith) rest_later) rising high
     ]
 
--- fences of a device that are pending
+-- pending fences of a device
 above-reach : (d : Objects) (f : Fence) (o : Option Timeline) → d.timelines f.timeline ≡ o → 1 ≤ f.timeline → f.timeline < d.next → is_above o f.value ≡ true → value_at (reach_of d) f.timeline < f.value
 above-reach d f None is low high above = absurd (false≢true above)
 above-reach d f (Some t) is low high above =
@@ -119,7 +119,7 @@ file-pending d fs put first are agrees =
     points-are d (pending_of fs) put first (pending-Rising fs (Rising-from fs are.rising)) (All-filter is_pending (IsFence d) fs are.each) (filter_passes is_pending fs)
     (AgreesAbove-trans (pending-agrees (reach_of d) fs (fences-reached d fs are)) agrees)
 
--- what an export lists
+-- the fences that an export lists
 waiting-pending : (f : Fence) (o : Option Timeline) → IsWaitingAt f o → is_pending f ≡ true
 waiting-pending f None is = absurd is
 waiting-pending f (Some t) is = ap is_pending is.1

@@ -1,4 +1,4 @@
--- A fence that is put among others, by rising timeline.
+-- Inserting a fence among others, by rising timeline.
 use Rattle.std.proofs.Common.{◌≡◌, ℕ, ◌<◌, ◌≤◌, suc, nat_eq, nat_lt, inl, inr, true, false, cond, refl, sym, ap, ◌∙◌, List, [], ◌∷◌, ◌++◌, map, fold, slice_get, Option, None, Some, All, AllPairs, Contains, get_or, arith}
 use Rattle.std.proofs.lemmas.Bool.{cases_Bool, eqb-true, eqb-false, ltb-true, ltb-false}
 use Rattle.std.proofs.lemmas.List.Elements.{All-nil, All-cons, All-head, All-tail, All-weaker, All-map}
@@ -10,7 +10,7 @@ use Rattle.point_core.proofs.Agreement.{AgreesAbove-refl, AgreesAbove-sym, Agree
 use Rattle.device_core.specs.declared.fence.Fence.{Fence}
 use Rattle.device_core.specs.Fences.{is_pending, pending_of, place_of, with_fence_at, with_fence, merged, point_in, entries_in, HasRisingTimelines, IsReachedUnlessPending}
 
--- the first fence is of a lower timeline: the others take the new one
+-- the first fence is of a lower timeline: the new one is inserted among the others
 at_later : (f : Fence) (fs : List Fence) (g : Fence) (p : ℕ) (o : Option Fence) → with_fence_at (f ∷ fs) (suc p) o g ≡ f ∷ with_fence_at fs p o g
 at_later f fs g p None = refl
 at_later f fs g p (Some h) = elim (cases_Bool (nat_eq h.timeline g.timeline)) [
@@ -30,7 +30,7 @@ pub with_fence-here : (f : Fence) (fs : List Fence) (g : Fence) → nat_lt f.tim
 with_fence-here f fs g upper =
     ap (λ b. let place = cond b (suc (place_of g.timeline fs)) 0 in with_fence_at (f ∷ fs) place (slice_get (f ∷ fs) place) g) upper
 
--- a fence gets its place after the first, in its stead, not at all, or before it
+-- a fence is inserted after the first, in its place, not at all, or before it
 pub with_fence-cases : (P : List Fence → Type 0) (f : Fence) (fs : List Fence) (g : Fence)
     → (nat_lt f.timeline g.timeline ≡ true → P (f ∷ with_fence fs g))
     → (f.timeline ≡ g.timeline → f.value < g.value → P (g ∷ fs))
@@ -104,7 +104,7 @@ with_fence-Rising (f ∷ fs) g h =
       h,
     ))
 
--- the pending ones
+-- the pending fences
 pub pending-All : (P : Fence → Type 0) (fs : List Fence) → All P fs → All P (pending_of fs)
 pending-All P [] all = all
 pending-All P (f ∷ fs) all =
@@ -137,7 +137,7 @@ merged-All P fs gs all more = fold-All P (pending_of gs) (pending_of fs) (pendin
 pub merged-Rising : (fs gs : List Fence) → Rising fs → Rising (merged fs gs)
 merged-Rising fs gs h = fold-Rising (pending_of gs) (pending_of fs) (pending-Rising fs h)
 
--- what they say above a reach
+-- the entries that they represent above a reach
 abbrev pub entry_in : Fence → Entry
 entry_in f = as_entry (point_in f)
 

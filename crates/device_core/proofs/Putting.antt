@@ -1,4 +1,4 @@
--- Fences that are put into a buffer, and those that a trim drops.
+-- Fences that are put into a buffer, and fences that a trim drops.
 use Rattle.std.proofs.Common.{◌≡◌, ℕ, ◌+◌, ◌*◌, ◌<◌, ◌≤◌, ◌⊎◌, zero, suc, max, refl, sym, ap, ◌∙◌, List, [], ◌∷◌, ◌++◌, length, get_or, set, drop, map, filter, Option, None, Some, Bool, true, false, if◌then◌else◌, inl, inr, arith, Contains, append_assoc, append-nil}
 use Rattle.std.specs.Prelude.{fold}
 use Rattle.std.specs.List.{AllWithin, HoldsAt}
@@ -20,7 +20,7 @@ use Rattle.device_core.specs.declared.fence.Timeline.{Timeline}
 use Rattle.device_core.specs.Fences.{are_signalled, is_pending, pending_of}
 use Rattle.device_core.specs.Buffers.{BufferState, IsReachOf, entries_of, entry_of, has_grown, import_into, imported, is_waiting, put_as, state_of, trimmed_with, waits_in, with_buffer_fence, with_fences}
 
--- what is covered adds nothing
+-- a covered entry adds nothing
 put_if-covered : (new old : Bool) (p q value : ℕ) → (old ≡ true → (new ≡ true) × (q ≤ p)) → put_if new p value ≡ put_if new p (put_if old q value)
 put_if-covered new false p q value h = refl
 put_if-covered true true p q value h = let low = (h refl).1 in omega arith
@@ -52,14 +52,14 @@ raised_to-top-with value (old ∷ hs) new usage ctx = go (cases_Bool (covers (en
         ∙ put_if-comm (applies (entry_of old) usage ctx) (applies (entry_of new) usage ctx) old.value new.value (raised_to value (top (entries_of hs) usage ctx))
         ∙ ap (put_if (applies (entry_of new) usage ctx) new.value) (sym (raised_to-if (applies (entry_of old) usage ctx) value old.value (top (entries_of hs) usage ctx))))
 
--- to put a fence in the place of one that it covers is as good as to add it
+-- putting a fence in the place of one that it covers agrees with adding it
 with_buffer_fence-agrees : (reach : List ℕ) (hs : List BufferFence) (new : BufferFence) → AgreesAbove reach (entries_of (with_buffer_fence hs new)) (entries_of (hs ++ new ∷ []))
 with_buffer_fence-agrees reach hs new = AgreesAbove-from_raised (λ usage ctx.
     raised_to-top-with (value_at reach ctx) hs new usage ctx
     ∙ sym (raised_to-top-last (value_at reach ctx) (entries_of hs) (entry_of new) usage ctx)
     ∙ ap (λ es. raised_to (value_at reach ctx) (top es usage ctx)) (sym (map-append entry_of hs (new ∷ []))))
 
--- the first that it covers was found, and none
+-- the first fence that it covers was found, or none was
 pub placed-first : (hs : List BufferFence) (i : ℕ) (new : BufferFence) → i < length hs → HoldsAt (λ old. covers (entry_of new) (entry_of old) ≡ true) hs i → AllWithin (λ old. covers (entry_of new) (entry_of old) ≡ false) hs 0 i → set hs i new ≡ with_buffer_fence hs new
 placed-first [] i new low fits none = absurd (omega arith)
 placed-first (h ∷ hs) zero new low fits none = let is : covers (entry_of new) (entry_of h) ≡ true = fits new in rw is refl
@@ -73,7 +73,7 @@ placed-last (h ∷ hs) new none =
     let not : covers (entry_of new) (entry_of h) ≡ false = none 0 new (omega arith) (omega arith) in
     rw not (ap (λ gs. h ∷ gs) (placed-last hs new (λ k d from below. none (suc k) d (omega arith) (omega arith))))
 
--- what does not wait is reached
+-- a fence that does not wait is reached
 reached_at : (timelines : ℕ → Option Timeline) (hs : List BufferFence) (reach : List ℕ) (h : BufferFence) (o : Option Timeline) → IsReachOf timelines hs reach → Contains hs h → timelines h.timeline ≡ o → waits_in o h.value ≡ false → h.value ≤ value_at reach h.timeline
 reached_at timelines hs reach h None of among is not = of.closed h among is
 reached_at timelines hs reach h (Some t) of among is not =
@@ -130,7 +130,7 @@ put_each-agrees reach (g ∷ gs) hs =
     AgreesAbove-trans (put_each-agrees reach gs (with_buffer_fence hs g))
     (AgreesAbove-more reach hs (with_buffer_fence hs g) (g ∷ []) gs (entries_of (hs ++ g ∷ gs)) (with_buffer_fence-agrees reach hs g) (AgreesAbove-refl reach (entries_of (hs ++ g ∷ gs))))
 
--- what a trim leaves, with what is put then
+-- the fences that a trim leaves, and the new ones
 AgreesAbove-put_after : (reach : List ℕ) (old trimmed new put : List BufferFence) → AgreesAbove reach (entries_of trimmed) (entries_of old) → AgreesAbove reach (entries_of new) (entries_of (trimmed ++ put)) → AgreesAbove reach (entries_of new) (entries_of (old ++ put))
 AgreesAbove-put_after reach old trimmed new put trim step =
     AgreesAbove-trans step
@@ -138,7 +138,7 @@ AgreesAbove-put_after reach old trimmed new put trim step =
     (AgreesAbove-trans (AgreesAbove-append trim (AgreesAbove-refl reach (entries_of put)))
     (AgreesAbove-same reach (sym (map-append entry_of old put)))))
 
--- a file of which nothing is pending
+-- a file without pending fences
 pending_of-signalled : (fs : List Fence) → are_signalled fs ≡ true → pending_of fs ≡ []
 pending_of-signalled [] is = refl
 pending_of-signalled (f ∷ fs) is = go (cases_Bool (is_pending f)) (λ rest. pending_of-signalled fs rest)
@@ -167,7 +167,7 @@ import-is timelines usage fs b start kept new grown left not same is trim put co
         let all : new ≡ fold with_buffer_fence b.fences (imported usage fs) = put ∙ ap (λ hs. fold with_buffer_fence hs (imported usage fs)) (trim ∙ same) in
         ap (λ n. state_of new n b.stub_at) count ∙ ap (λ hs. state_of hs b.left b.stub_at) all
 
--- an import puts in what was pending, whether the table is trimmed or not
+-- an import adds the pending fences, whether or not the table is trimmed
 pub import-agrees : (timelines : ℕ → Option Timeline) (usage : Usage) (fs : List Fence) (b : BufferState) (reach : List ℕ) → IsReachOf timelines b.fences reach → AgreesAbove reach (entries_of (import_into timelines usage fs b).fences) (entries_of (b.fences ++ imported usage fs))
 import-agrees timelines usage fs b reach of = go (cases_Bool (are_signalled fs)) (cases_Bool (has_grown b.left (length fs) b.fences))
   where

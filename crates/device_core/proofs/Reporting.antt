@@ -1,4 +1,4 @@
--- What a device says of all that was put into its files and buffers, and of its timelines.
+-- A device's reports of all that was put into its files and buffers, and of its timelines.
 use Rattle.std.proofs.Common.{◌≡◌, ◌≢◌, ◌↔◌, ℕ, ◌+◌, ◌<◌, ◌≤◌, ◌⊎◌, inl, inr, true, false, not, cond, refl, sym, ap, ◌∙◌, subst, List, [], ◌∷◌, ◌++◌, append_assoc, append-nil, map, Option, None, Some, is_some, option_map, All, arith}
 use Rattle.std.proofs.lemmas.Bool.{cases_eq, and_parts, and_from, not-true, le-ltb, eq-eqb, ne_eqb}
 use Rattle.std.proofs.lemmas.List.Elements.{All-nil, All-cons, All-head, All-tail, All-contains, Contains-append_right}
@@ -55,7 +55,7 @@ below-signalled d (f ∷ fs) each reached =
     and_from (not (is_pending f)) (are_signalled fs) (ap not settled)
     (below-signalled d fs (All-tail (IsFence d) f fs each) (λ e among strong. reached e (Contains-append_right (entry_in f ∷ []) (entries_in fs) e among) strong))
 
--- of the world of a history
+-- for the world of a history
 pub signalled-world : (w : World) → IsSound w → (n : ℕ) (f : FileState) → w.objects.files n ≡ Some f → (are_signalled f.fences ≡ true) ↔ IsReached (w.put n) 0 (reach_of w.objects)
 signalled-world w sound n f is =
     let reach = reach_of w.objects in
@@ -84,7 +84,7 @@ ReportsWhatWasPut-stands d history had =
       rising = λ n f is. (sound.fences n f (there n f is)).rising;
     }
 
--- the same of its buffers
+-- for its buffers
 pub ReportsBuffers-stands : (d : DeviceState) (history : List Request) → HasHistory d history → ReportsBuffers d history
 ReportsBuffers-stands d history had =
     let w = world_of history in

@@ -1,4 +1,4 @@
--- When the fences of files signal along a history, and whether they are cancelled.
+-- The signals of files' fences along a history, and whether they are cancellations.
 use Rattle.std.proofs.Common.{◌≡◌, ◌≢◌, ℕ, ◌+◌, ◌<◌, ◌≤◌, ◌⊎◌, inl, inr, Bool, true, false, not, ◌&&◌, cond, nat_eq, nat_le, nat_lt, refl, sym, ap, ◌∙◌, subst, List, [], ◌∷◌, ◌++◌, append_assoc, append-nil, map, Option, None, Some, is_some, option_map, Result, Ok, Err, All, if◌then◌else◌, arith}
 use Rattle.std.proofs.lemmas.Bool.{and_parts, cases_Bool, cases_eq, cases_lt, eq-eqb, eqb-true, ne_eqb, false≢true, le-leb, le-ltb, leb-true, lt-leb, lt-ltb, ltb-true, ltb-false}
 use Rattle.std.proofs.lemmas.List.Elements.{All-nil, All-cons, All-head, All-tail, All-weaker, filter_passes}
@@ -31,7 +31,7 @@ use Rattle.device_core.proofs.Pending.{exported-pending, fence-above}
 use Rattle.device_core.proofs.Reporting.{HasSums, HasSums-after, HasSums-empty, HasSums-history, sum-push}
 use Rattle.device_core.proofs.Stepping.{same_Some, None≢Some, no_cause, numbered, IsSound-after, IsSound-empty, IsSound-history}
 
--- the first of two times
+-- the earlier of two times
 abbrev or_time : Option ℕ → Option ℕ → Option ℕ
 or_time None later = later
 or_time (Some t) later = Some t
@@ -44,7 +44,7 @@ reached_from-push (x ∷ xs) w r n p = go (cases_Bool (has_reached n p (world_af
     go (inl is) rest = rw is refl
     go (inr not) rest = rw not rest
 
--- what is known of a fence of a file after a history
+-- the facts about a fence of a file after a history
 record IsTold (before : List Request) (n : ℕ) (g : Fence) : Type 0 where
   pub time : option_map (λ (s : Signal). s.at) g.signal ≡ reached_from n (point_in g) empty_world before
   pub cancelled : (s : Signal) → g.signal ≡ Some s → s.is_cancelled ≡ nat_lt (sum_of g.timeline before) g.value
@@ -69,7 +69,7 @@ reached-test v n f g there is =
       | inr not ↦ rw not (le-leb g.value (value_at (reach_of v.objects) g.timeline) (fence-reached v.objects g is not))
     ])
 
--- its time after one more request: its signal is as it was, or it came with that request
+-- its time after another request: its signal is unchanged, or came with that request
 abbrev Came : Request → Option Signal → Option Signal → Type 0
 Came r old new = (new ≡ old) ⊎ ((old ≡ None) × ((s : Signal) → new ≡ Some s → s.at ≡ time_in r))
 
@@ -82,7 +82,7 @@ time-after r None (Some s) seen (inr came) was = ap Some (came.1 s refl) ∙ ap 
 time-after r (Some x) (Some s) seen (inl same) was = ap (λ (o : Option Signal). option_map (λ (y : Signal). y.at) o) same ∙ ap (λ o. or_time o (Some (time_in r))) was
 time-after r (Some x) (Some s) seen (inr came) was = None≢Some x (sym came.0)
 
--- a fence after one more request
+-- a fence after another request
 told-after : (before : List Request) (w : World) (r : Request) (n : ℕ) (f : FileState) (g h : Fence) → w ≡ world_of before → (world_after w r).objects.files n ≡ Some f → IsFence (world_after w r).objects h → point_in h ≡ point_in g → Came r g.signal h.signal
     → ((s : Signal) → h.signal ≡ Some s → s.is_cancelled ≡ nat_lt (sum_of h.timeline (before ++ r ∷ [])) h.value)
     → option_map (λ (s : Signal). s.at) g.signal ≡ reached_from n (point_in g) empty_world before
@@ -104,7 +104,7 @@ sum-same t before r idle = let push = sum-push t before r in omega (arith, push,
 cancelled-same : (before : List Request) (r : Request) (g : Fence) → added_by g.timeline r ≡ 0 → ((s : Signal) → g.signal ≡ Some s → s.is_cancelled ≡ nat_lt (sum_of g.timeline before) g.value) → (s : Signal) → g.signal ≡ Some s → s.is_cancelled ≡ nat_lt (sum_of g.timeline (before ++ r ∷ [])) g.value
 cancelled-same before r g idle was s is = was s is ∙ ap (λ k. nat_lt k g.value) (sym (sum-same g.timeline before r idle))
 
--- fences of a file that stays as it is
+-- fences of a file that is unchanged
 all-same : (before : List Request) (w : World) (r : Request) (n : ℕ) (f : FileState) (fs : List Fence) → w ≡ world_of before → (world_after w r).objects.files n ≡ Some f → ((t : ℕ) → added_by t r ≡ 0) → All (IsFence (world_after w r).objects) fs → All (IsTold before n) fs → All (IsTold (before ++ r ∷ []) n) fs
 all-same before w r n f [] is there idle each told = All-nil (IsTold (before ++ r ∷ []) n)
 all-same before w r n f (g ∷ gs) is there idle each told =
@@ -149,7 +149,7 @@ same-point t v s g = elim (cases_Bool (is_due t v g)) [
   | inr not ↦ ap (λ b. point_in (cond b (record g { signal = Some s }) g)) not
 ]
 
--- an open timeline is at the sum of its increments, and what has signalled of it is not above
+-- an open timeline is at the sum of its increments, and its signalled fences are not above it
 settled-low : (w : World) (before : List Request) (g : Fence) (t : ℕ) (k : Timeline) → HasSums w before → IsFence w.objects g → w.objects.timelines t ≡ Some k → g.timeline ≡ t → is_pending g ≡ false → g.value ≤ sum_of g.timeline before
 settled-low w before g t k sums fence there its not =
     let here : w.objects.timelines g.timeline ≡ Some k = ap w.objects.timelines its ∙ there in
@@ -164,12 +164,12 @@ pending-high w before g t k sums fence there its waits =
     let high = ltb-true k.value g.value (sym (ap (λ o. is_above o g.value) here) ∙ sym fence.pending ∙ waits) in
     omega (arith, sum, high)
 
--- what is known of how a request signals: with its time, and as cancelled exactly if the sum stays below the point
+-- how a request signals: with its time, and as cancelled exactly if the sum is below the point
 record IsSignalling (before : List Request) (w : World) (r : Request) (t v : ℕ) (s : Signal) : Type 0 where
   pub time : s.at ≡ time_in r
-  -- of a fence that is due
+  -- a fence that is due
   pub due : (g : Fence) → IsFence w.objects g → is_due t v g ≡ true → s.is_cancelled ≡ nat_lt (sum_of g.timeline (before ++ r ∷ [])) g.value
-  -- of one that had signalled
+  -- a fence that had signalled
   pub settled : (g : Fence) → IsFence w.objects g → is_pending g ≡ false → nat_lt (sum_of g.timeline before) g.value ≡ nat_lt (sum_of g.timeline (before ++ r ∷ [])) g.value
 
 signalled-pending : (g : Fence) (s : Signal) → g.signal ≡ Some s → is_pending g ≡ false
@@ -249,7 +249,7 @@ close-signals before w t now k sums there = record {
   settled = λ g fence not. ap (λ m. nat_lt m g.value) (sym (sum-same g.timeline before (request.Close t now) refl));
 }
 
--- a number that stands for no file any more
+-- a number whose file is closed
 HasSignals-dropped : (before : List Request) (w : World) (number now : ℕ) → w ≡ world_of before → IsSound (world_after w (request.Close number now)) → w.objects.timelines number ≡ None → HasSignals w before → HasSignals (world_after w (request.Close number now)) (before ++ request.Close number now ∷ [])
 HasSignals-dropped before w number now is sound gone h =
     let r = request.Close number now in
@@ -379,7 +379,7 @@ HasSignals-from (r ∷ rs) w before is sound accepted sums h =
     subst (HasSignals (world_from (world_after w r) rs)) (append_assoc before (r ∷ []) rs)
     (HasSignals-from rs (world_after w r) (before ++ r ∷ []) next later accepted.1 (HasSums-after w before r sound accepted.0 sums) (HasSignals-after before w r is sound accepted.0 sums h later))
 
--- the status that a fence then has
+-- the status that such a fence has
 told-status : (w : World) (history : List Request) (n : ℕ) (g : Fence) → HasSums w history → IsFence w.objects g → IsTold history n g → status_before g.signal Signalled ≡ point_status w.objects.timelines history (point_in g)
 told-status w history n g sums fence told = go g.signal refl (w.objects.timelines g.timeline) refl
   where

@@ -1,4 +1,4 @@
--- What holds of the world of every history, request by request.
+-- Invariants of the world of every history, request by request.
 use Rattle.std.proofs.Common.{◌≡◌, ◌≢◌, ℕ, ◌+◌, ◌-◌, ◌<◌, ◌≤◌, nat_eq, nat_le, inl, inr, Bool, true, false, not, cond, ◌&&◌, refl, sym, ap, ◌∙◌, subst, List, [], ◌∷◌, map, Option, None, Some, All, arith}
 use Rattle.std.specs.List.Sorted.{IsStrictlyIncreasing}
 use Rattle.std.proofs.lemmas.Bool.{cases_Bool, cases_lt, and_parts, and_right, eqb-true, eqb-false, eq-eqb, ne_eqb, ltb-false, false≢true}
@@ -16,14 +16,14 @@ use Rattle.device_core.specs.Request.{with_at}
 use Rattle.device_core.specs.History.{reach_of, reached_by}
 use Rattle.device_core.specs.Sound.{is_above, IsFence, AreFences}
 
--- what is kept by number
+-- a table by number
 pub with_at-same : {X : Type 0} (kept : ℕ → X) (n : ℕ) (x : X) → with_at kept n x n ≡ x
 with_at-same kept n x = ap (λ b. cond b x (kept n)) (eq-eqb n n refl)
 
 pub with_at-other : {X : Type 0} (kept : ℕ → X) (n : ℕ) (x : X) (q : ℕ) → n ≢ q → with_at kept n x q ≡ kept q
 with_at-other kept n x q apart = ap (λ b. cond b x (kept q)) (ne_eqb n q apart)
 
--- what is reached
+-- the reach
 pub value_at-reach_of : (d : Objects) (n : ℕ) → 1 ≤ n → n < d.next → value_at (reach_of d) n ≡ reached_by (d.timelines n)
 value_at-reach_of d n low high = get_or-map-range_with_len (λ m. reached_by (d.timelines m)) 1 (d.next - 1) (n - 1) n 0 (omega arith) (omega arith)
 
@@ -40,7 +40,7 @@ reach-rises d e more each =
       | inr past ↦ rw (get_or_past (reach_of d) k 0 (omega arith)) (omega arith)
     ])
 
--- a fence of a timeline that stays as it is
+-- a fence of a timeline that is unchanged
 pub fence-kept : (d e : Objects) (f : Fence) → d.next ≤ e.next → (f.timeline < d.next → e.timelines f.timeline ≡ d.timelines f.timeline) → IsFence d f → IsFence e f
 fence-kept d e f more same h =
     let given = h.given in
@@ -57,7 +57,7 @@ fences-kept d e fs more same h = record {
   each = All-weaker (IsFence d) (IsFence e) (λ f is. fence-kept d e f more (same f.timeline) is) fs h.each;
 }
 
--- a timeline that is another, and what is due of it signalled
+-- a timeline that is changed, with its due fences signalled
 left_of : (p le : Bool) → ((p && true) && le) ≡ false → p ≡ (p && not le)
 left_of true true h = absurd (false≢true (sym h))
 left_of true false h = refl
@@ -119,7 +119,7 @@ fences-signalled d e t v s fs more changes h = record {
       (All-weaker (IsFence d) (λ f. IsFence e (signalled_by t v s f)) (λ f is. fence-signalled d e t v s f more changes is) fs h.each);
 }
 
--- what has signalled is reached
+-- a signalled fence is reached
 pub fence-reached : (d : Objects) (f : Fence) → IsFence d f → IsReachedUnlessPending (reach_of d) f
 fence-reached d f h settled = rw (value_at-reach_of d f.timeline h.numbered h.given) (low (d.timelines f.timeline) (sym h.pending ∙ settled))
   where

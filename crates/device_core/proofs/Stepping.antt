@@ -1,4 +1,4 @@
--- Each accepted request keeps the world sound.
+-- Each accepted request keeps the world well-formed.
 use Rattle.std.proofs.Common.{◌≡◌, ◌≢◌, ℕ, ◌+◌, ◌^◌, ◌<◌, ◌≤◌, nat_lt, nat_le, inl, inr, Bool, true, false, not, cond, ◌&&◌, refl, sym, ap, ◌∙◌, subst, List, [], ◌∷◌, ◌++◌, Option, None, Some, is_some, option_map, Result, Ok, Err, arith}
 use Rattle.std.proofs.lemmas.Bool.{cases_lt, cases_eq, and_right, lt-ltb, le-ltb, le-leb, lt-leb}
 use Rattle.std.proofs.lemmas.Bool.Decides.{nat_tests}
@@ -59,7 +59,7 @@ IsSound-empty = record {
   buffer_agrees = λ n b is. None≢Some b is;
 }
 
--- an object that is there has a number that was given
+-- an open object has a given number
 pub timeline_given : (w : World) → IsSound w → (n : ℕ) (t : Timeline) → w.objects.timelines n ≡ Some t → (1 ≤ n) × (n < w.objects.next)
 timeline_given w h n t there = (
   elim (cases_eq n 0) [
@@ -84,7 +84,7 @@ buffer_given w h n b there = elim (cases_lt n w.objects.next) [
   | inr past ↦ None≢Some b (sym (h.buffers n past) ∙ there)
 ]
 
--- fences of timelines that were opened stay so
+-- fences of timelines that were opened remain such
 buffer_fences-kept : (d e : Objects) (hs : List BufferFence) → d.next ≤ e.next → AreBufferFences d hs → AreBufferFences e hs
 buffer_fences-kept d e hs more all = All-weaker (IsBufferFence d.next) (IsBufferFence e.next) (λ h is. later h is) hs all
   where
@@ -254,12 +254,12 @@ IsSound-with_buffer w number was new put h there kept agrees =
       ];
     }
 
--- what a file was that is signalled
+-- a file before it is signalled
 signalled-was : {P : Type 0} (t v : ℕ) (s : Signal) (o : Option FileState) (f : FileState) → option_map (file_signalled t v s) o ≡ Some f → ((g : FileState) → o ≡ Some g → all_signalled_by t v s g.fences ≡ f.fences → P) → P
 signalled-was t v s None f is told = None≢Some f is
 signalled-was t v s (Some g) f is told = told g refl (ap (λ (x : FileState). x.fences) (same_Some is))
 
--- a timeline that is there is another, and what is due of it signalled
+-- an open timeline is changed, and its due fences are signalled
 pub IsSound-with_signals : (w : World) (t : ℕ) (new : Option Timeline) (v : ℕ) (s : Signal) (was : Timeline) → IsSound w
     → w.objects.timelines t ≡ Some was
     → ((k : Timeline) → new ≡ Some k → k.value ≤ GREATEST)
@@ -338,7 +338,7 @@ IsSound-dropped w file h =
       buffer_agrees = λ n b is. h.buffer_agrees n b (had n b is);
     }
 
--- a cause that is none
+-- no cause
 pub no_cause : {X : Type 0} (o : Option X) (c : Option Refusal) (e : Refusal) → cond (is_some o) c (Some e) ≡ None → (x : X) × (o ≡ Some x) × (c ≡ None)
 no_cause None c e is = None≢Some e (sym is)
 no_cause (Some x) c e is = (x, refl, is)
@@ -395,7 +395,7 @@ IsSound-merged w name a b (Some g) (Some k) h left right f is =
           (AgreesAbove-append {reach = reach} {a = entries_in g.fences} {b = w.put a} {c = entries_in k.fences} {d = w.put b} (h.agrees a g left) (h.agrees b k right))),
     )
 
--- what is exported from a buffer that is there
+-- the export of an open buffer
 IsSound-exported : (w : World) (buffer : ℕ) (u : Result Usage Refusal) (o : Option BufferState) → IsSound w → w.objects.buffers buffer ≡ o
     → (f : FileState) → export_of w.objects.timelines u o ≡ Some f → AreFences w.objects f.fences × AgreesAbove (reach_of w.objects) (entries_in f.fences) (put_by_export u (w.put buffer))
 IsSound-exported w buffer (Err e) o h its f is = None≢Some f is
@@ -408,7 +408,7 @@ IsSound-exported w buffer (Ok usage) (Some b) h its f is =
           (export-step w.objects usage b.fences (w.put buffer) (given_timelines w h) kept (h.buffer_agrees buffer b its)),
     )
 
--- what becomes of a buffer by an import
+-- a buffer before and after an import
 IsSound-imported : (w : World) (buffer file : ℕ) (b : BufferState) (u : Result Usage Refusal) (o : Option FileState) → IsSound w
     → w.objects.buffers buffer ≡ Some b → w.objects.files file ≡ o → cause_after u (cond (is_some o) None (Some Invalid)) ≡ None
     → IsSound (world (with_buffer w.objects buffer (import_of w.objects.timelines u o (w.objects.buffers buffer))) (with_at w.put buffer (put_by_import u (w.put buffer) (w.put file))))

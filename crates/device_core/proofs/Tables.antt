@@ -73,7 +73,7 @@ is_same_entry-equiv = record {
   congr = λ a b c is. same-alike a b c (same-parts a b is);
 }
 
--- which entries a list has
+-- the entries of a list
 member-alike : (es : List Entry) (a b : Entry) → is_same_entry a b ≡ true → is_member is_same_entry es a ≡ is_member is_same_entry es b
 member-alike [] a b same = refl
 member-alike (e ∷ es) a b same =
@@ -149,7 +149,7 @@ few-apart hs es apart all =
     let few = length-le_from_is_member is_same_entry-equiv (map entry_of hs) (unique_keys is_same_entry es) (distinct hs apart) (λ q there. member-unique es q (all-members hs es all q there)) in
     subst (λ n. n ≤ length (unique_keys is_same_entry es)) (length-map hs entry_of) few
 
--- what waits is pending
+-- a waiting fence is pending
 above-waits : (o : Option Timeline) (value : ℕ) → is_above o value ≡ waits_in o value
 above-waits None value = refl
 above-waits (Some t) value = refl
@@ -180,7 +180,7 @@ put_each-waits d (g ∷ gs) hs all more =
     let P : BufferFence → Type 0 = λ h. is_waiting d.timelines h ≡ true in
     put_each-waits d gs (with_buffer_fence hs g) (with-All P hs g all (All-head P g gs more)) (All-tail P g gs more)
 
--- fences that wait, no two of them the same, are no more than those that were put in and are pending
+-- distinct fences that wait are no more than the pending entries that were put in
 both-in : (d : Objects) (put : List Entry) (hs : List BufferFence) → HasGivenTimelines d → All (λ (h : BufferFence). is_waiting d.timelines h ≡ true) hs → AreAmong put hs → All (λ (h : BufferFence). Contains (filter (λ e. not (is_reached (reach_of d) e.point)) put) (entry_of h)) hs
 both-in d put [] given waits among = All-nil (λ (h : BufferFence). Contains (filter (λ e. not (is_reached (reach_of d) e.point)) put) (entry_of h))
 both-in d put (h ∷ hs) given waits among =
@@ -190,7 +190,7 @@ both-in d put (h ∷ hs) given waits among =
     (kept (λ e. not (is_reached (reach_of d) e.point)) put (entry_of h) (waits-pending d h (d.timelines h.timeline) given refl (All-head P h hs waits)) (All-head Q h hs among))
     (both-in d put hs given (All-tail P h hs waits) (All-tail Q h hs among))
 
--- what holds of each table
+-- the invariant of each table
 abbrev IsTable : ℕ → BufferState → Type 0
 IsTable most b = Apart b.fences × HasRoom b × (b.left ≤ most)
 
@@ -287,7 +287,7 @@ HasTables-after w (request.Import buffer file flags) most sound listed h = λ n 
     ]
 HasTables-after w (request.Test buffer usage) most sound listed h = same-tables w (world_after w (request.Test buffer usage)) most refl h
 
--- and after all of a history
+-- and after a whole history
 now-pending : (n : ℕ) (w : World) (rs : List Request) → pending_put w n ≤ most_pending n w rs
 now-pending n w [] = omega arith
 now-pending n w (r ∷ rs) = omega arith

@@ -6,7 +6,7 @@ use Rattle.point_core.specs.Reach.{GREATEST}
 use Rattle.device_core.specs.declared.buffer_fence.BufferFence.{BufferFence}
 use Rattle.device_core.specs.State.{Objects}
 
--- a fence of a buffer is of a timeline that was opened
+-- a fence of a buffer belongs to a timeline that was opened
 pub record IsBufferFence (next : ℕ) (h : BufferFence) : Type 0 where
   pub numbered : 1 ≤ h.timeline
   pub given : h.timeline < next
@@ -20,6 +20,6 @@ pub record HasGivenTimelines (d : Objects) : Type 0 where
   pub none : d.timelines 0 ≡ None
   pub given : (n : ℕ) → d.next ≤ n → d.timelines n ≡ None
 
--- what is put into a buffer by the import of a file into which the entries were put
+-- the entries that an import of a file with these entries puts into a buffer
 abbrev pub put_with : Usage → List Entry → List Entry
 put_with usage es = map (λ (e : Entry). record { point = e.point; usage = usage }) es

@@ -1,4 +1,4 @@
--- The fences of a file: what they report, what signals them, and what a merge keeps of them.
+-- The fences of a file: their status, what signals them, and their merge.
 use Rattle.std.specs.Prelude.{◌≡◌, ℕ, ◌≤◌, false, suc, insert, slice_get, slice_set, nat_eq, nat_lt, nat_le, max, Bool, not, ◌&&◌, if◌then◌else◌, List, [], ◌∷◌, map, filter, fold, Option, None, Some, is_some}
 use Rattle.std.specs.List.{list_any, list_all}
 use Rattle.std.specs.List.Sorted.{IsStrictlyIncreasing}
@@ -27,7 +27,7 @@ is_pending f = not (is_some f.signal)
 abbrev pub is_due : ℕ → ℕ → Fence → Bool
 is_due timeline value f = is_pending f && nat_eq f.timeline timeline && nat_le f.value value
 
--- the fence, once its timeline signals all that is pending up to the value. A signal stays as it is
+-- the fence after its timeline has signalled every pending point up to the value. A signal never changes
 abbrev pub signalled_by : ℕ → ℕ → Signal → Fence → Fence
 signalled_by timeline value signal f = if is_due timeline value f then record f { signal = Some signal } else f
 
@@ -37,7 +37,7 @@ all_signalled_by timeline value signal fs = map (signalled_by timeline value sig
 abbrev pub are_signalled : List Fence → Bool
 are_signalled fs = list_all (λ f. not (is_pending f)) fs
 
--- the kernel's order: the status of the first that is pending or has an error
+-- the kernel's order: the status of the first fence that is pending or has an error
 abbrev pub status_before : Option Signal → Status → Status
 status_before None others = Active
 status_before (Some s) others = if s.is_cancelled then Cancelled else others
@@ -55,8 +55,8 @@ abbrev pub place_of : ℕ → List Fence → ℕ
 place_of timeline [] = 0
 place_of timeline (f ∷ fs) = if nat_lt f.timeline timeline then suc (place_of timeline fs) else 0
 
--- the fences with one more at its place, if another may be: of one timeline the later stays, or the one that is there
--- if they are equal
+-- the fences with another one at its place, if it is given: of one timeline the later fence stays, or the one that is
+-- there if they are equal
 abbrev pub with_fence_at : List Fence → ℕ → Option Fence → Fence → List Fence
 with_fence_at fs place None g = insert fs place g
 with_fence_at fs place (Some f) g =
@@ -64,11 +64,11 @@ with_fence_at fs place (Some f) g =
     then (if nat_lt f.value g.value then slice_set fs place g else fs)
     else insert fs place g
 
--- the fences with one more, by rising timeline
+-- the fences with another one, by rising timeline
 abbrev pub with_fence : List Fence → Fence → List Fence
 with_fence fs g = let place = place_of g.timeline fs in with_fence_at fs place (slice_get fs place) g
 
--- what a merge keeps: the pending fences of both, the latest of each timeline, by rising timeline
+-- the fences of a merge: the pending ones of both, the latest of each timeline, by rising timeline
 abbrev pub merged : List Fence → List Fence → List Fence
 merged fs gs = fold with_fence (pending_of fs) (pending_of gs)
 
@@ -77,22 +77,22 @@ abbrev pub time_of : Option Signal → ℕ
 time_of None = 0
 time_of (Some s) = s.at
 
--- the latest such time among them and one more
+-- the latest such time among them and another one
 abbrev pub latest_time : ℕ → List Fence → ℕ
 latest_time time fs = fold (λ t (f : Fence). max t (time_of f.signal)) time fs
 
--- the points, as the crates below speak of them: a timeline's number is its context
+-- the point as point_core has it: a timeline's number is its context
 abbrev pub point_in : Fence → Point
 point_in f = point_of f.timeline f.value
 
 abbrev pub entries_in : List Fence → List Entry
 entries_in fs = as_entries (map point_in fs)
 
--- no timeline comes twice, and their numbers rise
+-- timelines are distinct, and their numbers rise
 abbrev pub HasRisingTimelines : List Fence → Type 0
 HasRisingTimelines fs = IsStrictlyIncreasing (map (λ (f : Fence). f.timeline) fs)
 
--- a file's number, at a point that it waits for
+-- a file's number, at a point for which it waits
 abbrev pub waiting : ℕ → Fence → Waiting
 waiting file f = record { timeline = f.timeline; value = f.value; file = file }
 

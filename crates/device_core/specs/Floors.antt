@@ -23,20 +23,20 @@ pub record HasFloors (es : List (ℕ × OpenTimeline)) (index : List Waiting) : 
   pub floors : (k : Waiting) → holds index k ≡ true → IfSome (at es k.timeline) (λ o. o.floor ≤ k.value)
   pub ordered : AreInOrder index
 
--- an open timeline at that value, with that floor
+-- an open timeline at this value, with this floor
 abbrev pub settled : ℕ → ℕ → OpenTimeline → OpenTimeline
 settled value floor o = record { timeline = record o.timeline { value = value }; floor = floor }
 
--- its floor is at or below a fence of its own that is pending
+-- its floor is at or below the fence, if that is pending and its own
 abbrev pub lowered_by : Fence → OpenTimeline → OpenTimeline
 lowered_by f o = if is_pending f then record o { floor = min o.floor f.value } else o
 
--- its floor is at or below each fence that is pending and of that number
+-- its floor is at or below each pending fence with that number
 abbrev pub lowered : ℕ → List Fence → OpenTimeline → OpenTimeline
 lowered number [] o = o
 lowered number (f ∷ fs) o = lowered number fs (if nat_eq f.timeline number then lowered_by f o else o)
 
--- an open timeline has risen by n, and no file waited for what it has reached
+-- an open timeline has risen by n, and no file waited for a point that it has reached
 pub record HasRisenQuietly (old new : TimelinesState) (number n : ℕ) : Type 0 where
   pub known : IsSome (at old.entries number)
   pub fits : IfSome (at old.entries number) (λ t. t.value + n < 2 ^ 64)

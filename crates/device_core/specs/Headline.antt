@@ -1,4 +1,4 @@
--- What a device reports of all that was put into its files and buffers, and of its timelines.
+-- The main theorem's parts: what a device reports of all that was put into its files and buffers, and of its timelines.
 use Rattle.std.specs.Prelude.{◌≡◌, ◌↔◌, ℕ, ◌+◌, ◌-◌, ◌≤◌, true, List, map, Some, option_map, All, Contains, Result}
 use Rattle.std.specs.List.{range_with_len}
 use Rattle.point_core.specs.declared.entry.Entry.{Entry}
@@ -30,11 +30,11 @@ pub record HasSameEntries (es fs : List Entry) : Type 0 where
 abbrev pub reach_after : List Request → List ℕ
 reach_after history = reach_of (world_of history).objects
 
--- all that a history put into the file or buffer of that number
+-- all entries that a history put into the file or buffer with that number
 abbrev pub put_into : List Request → ℕ → List Entry
 put_into history number = (world_of history).put number
 
--- above the timelines' values a file says what was put into it
+-- above the timelines' values a file agrees with what was put into it
 pub record ReportsWhatWasPut (d : DeviceState) (history : List Request) : Type 0 where
   -- each file agrees with the union of the points put into it
   pub agrees : (n : ℕ) (f : FileState) → file_at d n ≡ Some f →
@@ -55,7 +55,7 @@ pub record ReportsWhatWasPut (d : DeviceState) (history : List Request) : Type 0
   -- its fences are of rising timelines
   pub rising : (n : ℕ) (f : FileState) → file_at d n ≡ Some f → HasRisingTimelines f.fences
 
--- above the timelines' values a buffer says what was put into it, at each usage
+-- above the timelines' values a buffer agrees with what was put into it, at each usage
 pub record ReportsBuffers (d : DeviceState) (history : List Request) : Type 0 where
   -- each buffer agrees with the union of all that was put into it
   pub agrees : (n : ℕ) (b : BufferState) → buffer_at d n ≡ Some b →
@@ -64,7 +64,7 @@ pub record ReportsBuffers (d : DeviceState) (history : List Request) : Type 0 wh
   pub same_put : (m n : ℕ) (a b : BufferState) → buffer_at d m ≡ Some a → buffer_at d n ≡ Some b →
       HasSameEntries (put_into history m) (put_into history n) →
       AgreesAbove (reach_after history) (entries_of a.fences) (entries_of b.fences)
-  -- a file agrees with a buffer at a usage if all that was put into it is what was put into the buffer there
+  -- a file agrees with a buffer at a usage if what was put into the file is what was put into the buffer at that usage
   pub same_as_file : (m n : ℕ) (f : FileState) (b : BufferState) (usage : Usage) →
       file_at d m ≡ Some f → buffer_at d n ≡ Some b →
       HasSameEntries (put_into history m) (at_usage usage (put_into history n)) →
@@ -79,7 +79,7 @@ pub record ReportsBuffers (d : DeviceState) (history : List Request) : Type 0 wh
   pub lists : (n : ℕ) (b : BufferState) (usage : Usage) → buffer_at d n ≡ Some b →
       map point_in (exported (timeline_at d) usage b.fences)
       ≡ pending_points (reach_after history) (put_into history n) (usage_number usage)
-  -- an export at a usage says what was put in at it or a stronger one
+  -- an export at a usage agrees with what was put in at it or a stronger one
   pub exports : (n : ℕ) (b : BufferState) (usage : Usage) → buffer_at d n ≡ Some b →
       AgreesAbove (reach_after history) (entries_in (exported (timeline_at d) usage b.fences))
       (at_usage usage (put_into history n))
@@ -108,7 +108,8 @@ pub record ReportsSums (d : DeviceState) (history : List Request) : Type 0 where
 pub record ReportsNumbers (d : DeviceState) (given : List (Result Answer Refusal)) : Type 0 where
   pub rising : numbers_given given ≡ range_with_len 1 (d.next - 1)
 
--- each file that waits when it is made is woken, or closed while it waits, or still waits, and only one of these
+-- each file that waits when it is made is later woken, or is closed while it waits, or still waits, and only one of
+-- these
 pub record ReportsEachWaking (d : DeviceState) (history : List Request) (given : List (Result Answer Refusal))
     : Type 0 where
   pub each : (n : ℕ) →

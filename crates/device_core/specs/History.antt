@@ -1,5 +1,5 @@
--- A history is the list of the accepted requests. What was put into a file or a buffer is read off it, and a timeline is
--- its number.
+-- A history is the list of accepted requests. It determines what was put into each file and buffer; a timeline is its
+-- number.
 use Rattle.std.specs.Prelude.{◌≡◌, ℕ, ◌+◌, ◌-◌, nat_eq, ⊤, if◌then◌else◌, List, [], ◌∷◌, ◌++◌, map, Option, None, Some, Result, Ok, Err}
 use Rattle.std.specs.List.{range_with_len}
 use Rattle.point_core.specs.declared.entry.Entry.{Entry}
@@ -17,8 +17,8 @@ use Rattle.device_core.specs.BufferWorld.{put_with}
 use Rattle.device_core.specs.State.{DeviceState, Objects, no_objects, objects_of}
 use Rattle.device_core.specs.Request.{with_at, value_in, after, cause_of, IsAnswer}
 
--- what the device holds, and all that was ever put into each file and buffer, by number. Nothing of that is dropped, by
--- a close either
+-- the objects of a device, and all that was ever put into each file and buffer, by number. Nothing of that is dropped,
+-- not by a close either
 pub record World : Type 0 where
   pub objects : Objects
   pub put : ℕ → List Entry
@@ -26,21 +26,21 @@ pub record World : Type 0 where
 abbrev pub empty_world : World
 empty_world = record { objects = no_objects; put = λ _. [] }
 
--- the point that a point of 32 bits stands for
+-- the 64-bit point that a point of 32 bits represents
 abbrev pub asked : ℕ → Option Timeline → ℕ → List Entry
 asked number timeline point = as_entry (point_of number (unwrapped (value_in timeline) point)) ∷ []
 
--- what an export puts into its file, of what was put into the buffer
+-- the entries that an export puts into its file, from those put into the buffer
 abbrev pub put_by_export : Result Usage Refusal → List Entry → List Entry
 put_by_export (Ok usage) put = at_usage usage put
 put_by_export (Err refusal) put = []
 
--- what was put into a buffer once a file is imported, of what was put into both
+-- the entries in a buffer after an import, from those put into both
 abbrev pub put_by_import : Result Usage Refusal → List Entry → List Entry → List Entry
 put_by_import (Ok usage) put more = put ++ put_with usage more
 put_by_import (Err refusal) put more = put
 
--- what was put into each object after a request
+-- the entries put into each object after a request
 abbrev pub put_after : World → Request → ℕ → List Entry
 put_after w (request.Open name) = w.put
 put_after w (request.Fence timeline point now) =
@@ -74,17 +74,17 @@ abbrev pub AreAccepted : World → List Request → Type 0
 AreAccepted w [] = ⊤
 AreAccepted w (r ∷ rs) = (cause_of w.objects r ≡ None) × AreAccepted (world_after w r) rs
 
--- the list of requests is a history, and the device is what it makes
+-- the list of requests is a history, and the device is its result
 pub record HasHistory (d : DeviceState) (history : List Request) : Type 0 where
   pub accepted : AreAccepted empty_world history
   pub is : objects_of d ≡ (world_of history).objects
 
--- the history after a request that was answered so
+-- the history after a request with this answer
 abbrev pub history_after : List Request → Request → Result Answer Refusal → List Request
 history_after history r (Ok given) = history ++ r ∷ []
 history_after history r (Err refusal) = history
 
--- the history after requests that were answered so
+-- the history after requests with these answers
 abbrev pub history_of : List Request → List Request → List (Result Answer Refusal) → List Request
 history_of history [] given = history
 history_of history (r ∷ rs) [] = history
@@ -98,12 +98,13 @@ AreAnswers history (r ∷ rs) [] = ⊥
 AreAnswers history (r ∷ rs) (a ∷ rest) =
     IsAnswer (world_of history).objects r a × AreAnswers (history_after history r a) rs rest
 
--- what a timeline has reached: its value, or everything once it is closed
+-- the reach of a timeline: its value, or the greatest one once it is closed
 abbrev pub reached_by : Option Timeline → ℕ
 reached_by None = GREATEST
 reached_by (Some t) = t.value
 
--- what every number that was given has reached. That of a file or a buffer is never looked at, since no point is of one
+-- the reach of every number that was given. The reach of a file or a buffer is never looked at, since no point is of
+-- one
 abbrev pub reach_of : Objects → List ℕ
 reach_of d = map (λ n. reached_by (d.timelines n)) (range_with_len 1 (d.next - 1))
 

@@ -1,4 +1,4 @@
--- How much a device keeps, by what is alive.
+-- The sizes of a device's tables, by what is alive.
 use Rattle.std.specs.Prelude.{◌≡◌, ℕ, ◌*◌, ◌≤◌, max, Bool, not, ◌&&◌, is_some, List, [], ◌∷◌, length, filter, Option, None, Some}
 use Rattle.std.specs.List.{range_with_len, sum_by}
 use Rattle.std.specs.Set.{distinct_count}
@@ -13,7 +13,7 @@ use Rattle.device_core.specs.History.{World, empty_world, reach_of, world_after}
 use Rattle.device_core.specs.Buffers.{BufferState}
 use Rattle.device_core.specs.State.{DeviceState, FileState, Objects, objects_of, timeline_at, file_at, buffer_at}
 
--- how many entries its tables have, and the index of what waits
+-- the number of entries of its tables, and the length of the index
 abbrev pub kept_of : DeviceState → Kept
 kept_of d = record {
   timelines = length d.timelines;
@@ -22,21 +22,21 @@ kept_of d = record {
   waiting = length d.index;
 }
 
--- how many of the numbers that were given are of something that is alive
+-- the number of given numbers whose object is alive
 abbrev pub alive : {X : Type 0} → (ℕ → Option X) → ℕ → ℕ
 alive kept next = length (filter (λ n. is_some (kept n)) (range_with_len 0 next))
 
--- how many fences of a file are pending
+-- the number of pending fences of a file
 abbrev pub pending_in : Option FileState → ℕ
 pending_in None = 0
 pending_in (Some f) = length (pending_of f.fences)
 
--- how many fences of the files that are alive are pending
+-- the number of pending fences of the files that are alive
 abbrev pub pending_alive : Objects → ℕ
 pending_alive d = sum_by (λ n. pending_in (d.files n)) (range_with_len 0 d.next)
 
--- no more is kept than one entry for each timeline, file and buffer that is alive, and a point in the index for each
--- pending fence of a file that is alive
+-- the tables have at most one entry for each timeline, file and buffer that is alive, and the index at most one point
+-- for each pending fence of a file that is alive
 pub record KeepsWhatIsAlive (d : DeviceState) : Type 0 where
   pub timelines : length d.timelines ≤ alive (timeline_at d) d.next
   pub files : length d.files ≤ alive (file_at d) d.next
@@ -47,18 +47,18 @@ pub record KeepsWhatIsAlive (d : DeviceState) : Type 0 where
 abbrev pub is_same_entry : Entry → Entry → Bool
 is_same_entry a b = covers a b && covers b a
 
--- how many of the entries that were put into a buffer are pending, each counted once
+-- the number of pending entries among those that were put into a buffer, each counted once
 abbrev pub pending_put : World → ℕ → ℕ
 pending_put w number =
     distinct_count is_same_entry (filter (λ e. not (is_reached (reach_of w.objects) e.point)) (w.put number))
 
--- the most that ever were at once, from a world on along the requests
+-- the maximum of this number along the requests, from a world on
 abbrev pub most_pending : ℕ → World → List Request → ℕ
 most_pending number w [] = pending_put w number
 most_pending number w (r ∷ rs) = max (pending_put w number) (most_pending number (world_after w r) rs)
 
 -- a buffer that is alive has at most GROWTH times the fences that were ever pending in it at once, or GROWTH times
--- UNTRIMMED: what has signalled doesn't count, and neither does what an imported file has that isn't pending
+-- UNTRIMMED: fences that have signalled don't count, and neither do fences of an imported file that aren't pending
 abbrev pub AreTrimmed : DeviceState → List Request → Type 0
 AreTrimmed d history = (n : ℕ) (b : BufferState) → buffer_at d n ≡ Some b →
     length b.fences ≤ GROWTH * max (most_pending n empty_world history) UNTRIMMED

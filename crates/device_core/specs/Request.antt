@@ -1,4 +1,4 @@
--- What a device is after an accepted request, why a request is refused, and what is answered.
+-- The device after an accepted request, the cause to refuse a request, and the answer.
 use Rattle.std.specs.Prelude.{◌≡◌, ◌↔◌, ℕ, ◌+◌, ◌^◌, nat_eq, nat_le, Bool, true, false, not, ◌&&◌, ◌||◌, if◌then◌else◌, List, Option, None, Some, is_some, option_map, Contains, Result, Ok, Err}
 use Rattle.std.specs.List.{list_any, range_with_len}
 use Rattle.std.specs.List.Sorted.{IsStrictlyIncreasing}
@@ -19,11 +19,11 @@ use Rattle.device_core.specs.Buffers.{BufferState, empty_buffer, export_usage, i
 use Rattle.device_core.specs.Info.{IsInfo}
 use Rattle.device_core.specs.State.{FileState, Objects, new_timeline, raised, one_fence_file, merged_files, file_signalled, export_of, import_of, missing_timeline, missing_file, missing_buffer}
 
--- what is kept by number, with one number changed
+-- a table by number, with one number changed
 abbrev pub with_at : {X : Type 0} → (ℕ → X) → ℕ → X → ℕ → X
 with_at kept number x q = if nat_eq number q then x else kept q
 
--- the value of a timeline; of none it is never looked at
+-- the value of a timeline; without one it is never looked at
 abbrev pub value_in : Option Timeline → ℕ
 value_in None = 0
 value_in (Some t) = t.value
@@ -34,14 +34,14 @@ opened d name = record d { next = d.next + 1; timelines = with_at d.timelines d.
 abbrev pub with_file : Objects → Option FileState → Objects
 with_file d file = record d { next = d.next + 1; files = with_at d.files d.next file }
 
--- a timeline is another, or no longer there, and what is pending of it up to the value is signalled
+-- a timeline is changed or closed, and its pending fences up to the value are signalled
 abbrev pub with_signals : Objects → ℕ → Option Timeline → ℕ → Signal → Objects
 with_signals d timeline new value signal = record d {
   timelines = with_at d.timelines timeline new;
   files = λ q. option_map (file_signalled timeline value signal) (d.files q);
 }
 
--- a timeline that is there rises by n
+-- the timeline with that number rises by n
 abbrev pub risen : Objects → ℕ → ℕ → ℕ → Objects
 risen d timeline n now =
     with_signals d timeline (option_map (λ t. raised t n) (d.timelines timeline)) (value_in (d.timelines timeline) + n)
@@ -50,7 +50,7 @@ risen d timeline n now =
 abbrev pub closed_timeline : Objects → ℕ → ℕ → Objects
 closed_timeline d timeline now = with_signals d timeline None GREATEST (signal_at now true)
 
--- neither a file nor a buffer has that number any more
+-- the file or buffer with that number is removed
 abbrev pub dropped : Objects → ℕ → Objects
 dropped d number = record d { files = with_at d.files number None; buffers = with_at d.buffers number None }
 
@@ -86,19 +86,19 @@ after d (request.Test buffer usage) = d
 abbrev pub overflow : ℕ → Option Refusal
 overflow value = if nat_le (2 ^ 64) value then Some Overflow else None
 
--- the cause at a timeline that is there, or why there is none
+-- the cause at an open timeline, or the error for a number without one
 abbrev pub cause_at_timeline : Objects → ℕ → Option Refusal → Option Refusal
 cause_at_timeline d number cause = if is_some (d.timelines number) then cause else Some (missing_timeline d number)
 
--- the same at a file
+-- the cause at a file, or the error for a number without one
 abbrev pub cause_at_file : Objects → ℕ → Option Refusal → Option Refusal
 cause_at_file d number cause = if is_some (d.files number) then cause else Some (missing_file d number)
 
--- the same at a buffer
+-- the cause at a buffer, or the error for a number without one
 abbrev pub cause_at_buffer : Objects → ℕ → Option Refusal → Option Refusal
 cause_at_buffer d number cause = if is_some (d.buffers number) then cause else Some (missing_buffer d number)
 
--- the cause once flags are known, or why they are refused
+-- the cause after valid flags, or the error of the flags
 abbrev pub cause_after : Result Usage Refusal → Option Refusal → Option Refusal
 cause_after (Ok usage) cause = cause
 cause_after (Err refusal) cause = Some refusal
@@ -107,11 +107,11 @@ cause_after (Err refusal) cause = Some refusal
 abbrev pub is_there : Objects → ℕ → Bool
 is_there d number = is_some (d.timelines number) || (is_some (d.files number) || is_some (d.buffers number))
 
--- the cause at what makes an object, once there is a number for it
+-- the cause for a request that makes an object, after there is a number for it
 abbrev pub cause_if_numbered : Objects → Option Refusal → Option Refusal
 cause_if_numbered d cause = if nat_le GREATEST d.next then Some NoNumber else cause
 
--- the first cause to refuse a request, but for memory
+-- the first cause to refuse a request, other than memory
 abbrev pub cause_of : Objects → Request → Option Refusal
 cause_of d (request.Open name) = cause_if_numbered d None
 cause_of d (request.Fence timeline point now) =
@@ -144,8 +144,7 @@ has_signalled (Some f) = are_signalled f.fences
 abbrev pub wakes_some : Objects → Objects → Bool
 wakes_some old new = list_any (λ n. is_waiting (old.files n) && has_signalled (new.files n)) (range_with_len 0 old.next)
 
--- the request may be refused for want of memory: it makes something, puts something in or reports a list, or it wakes a
--- file
+-- the request may fail for lack of memory: it makes something, puts something in, reports a list or wakes a file
 abbrev pub takes_memory : Objects → Request → Bool
 takes_memory d (request.Open name) = true
 takes_memory d (request.Fence timeline point now) = true
@@ -160,7 +159,7 @@ takes_memory d (request.Export buffer flags) = true
 takes_memory d (request.Import buffer file flags) = true
 takes_memory d (request.Test buffer usage) = false
 
--- the files that waited and have signalled, each once, by rising number: there is one such list
+-- the files that waited and have signalled, each once, by rising number: there is exactly one such list
 pub record AreWoken (old new : Objects) (woken : List ℕ) : Type 0 where
   pub all : (n : ℕ) → (Contains woken n ↔ ((is_waiting (old.files n) ≡ true) × (has_signalled (new.files n) ≡ true)))
   pub rising : IsStrictlyIncreasing woken
@@ -174,12 +173,12 @@ OnWoken such (answer.Signalled signalled) = ⊥
 OnWoken such (answer.Info info) = ⊥
 OnWoken such answer.Done = ⊥
 
--- the answer is that of an object that is there
+-- the answer reports on an object that is there
 abbrev pub OnObject : {X : Type 0} → Option X → (X → Answer) → Answer → Type 0
 OnObject None told given = ⊥
 OnObject (Some x) told given = given ≡ told x
 
--- the answer is what is reported of a file of that number that is there
+-- the answer is the information on the file with this number
 abbrev pub OnInfo : ℕ → Option FileState → Answer → Type 0
 OnInfo number None given = ⊥
 OnInfo number (Some f) (answer.Number n) = ⊥
@@ -189,7 +188,7 @@ OnInfo number (Some f) (answer.Signalled signalled) = ⊥
 OnInfo number (Some f) (answer.Info info) = IsInfo number f info
 OnInfo number (Some f) answer.Done = ⊥
 
--- what is answered to an accepted request
+-- the answer to an accepted request
 abbrev pub Reports : Objects → Request → Answer → Type 0
 Reports d (request.Open name) given = given ≡ answer.Number d.next
 Reports d (request.Fence timeline point now) given = given ≡ answer.Number d.next
@@ -206,7 +205,7 @@ Reports d (request.Import buffer file flags) given = given ≡ answer.Done
 Reports d (request.Test buffer usage) given =
     OnObject (d.buffers buffer) (λ b. answer.Signalled (none_waits d.timelines usage b.fences)) given
 
--- it is the first cause, or that memory is short if there is none
+-- the refusal is the first cause, or that memory is short if there is none
 abbrev pub IsCause : Option Refusal → Bool → Refusal → Type 0
 IsCause (Some cause) takes given = given ≡ cause
 IsCause None takes given = (given ≡ NoMemory) × (takes ≡ true)

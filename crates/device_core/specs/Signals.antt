@@ -1,4 +1,4 @@
--- What a history says of a fence: when its point was reached, which status it then has, and its name.
+-- The signal of a fence along a history: when its point was reached, its status, and its name.
 use Rattle.std.specs.Prelude.{ℕ, Bool, ◌&&◌, nat_eq, nat_le, if◌then◌else◌, List, [], ◌∷◌, Option, None, Some, is_some}
 use Rattle.point_core.specs.declared.entry.Point.{Point}
 use Rattle.point_core.specs.declared.status.Status.{Status}
@@ -29,14 +29,14 @@ time_in (request.Test buffer usage) = 0
 abbrev pub has_reached : ℕ → Point → World → Bool
 has_reached file p w = is_some (w.objects.files file) && is_reached (reach_of w.objects) p
 
--- the time of the first request after which that is so
+-- the time of the first request after which that holds
 abbrev pub reached_from : ℕ → Point → World → List Request → Option ℕ
 reached_from file p w [] = None
 reached_from file p w (r ∷ rs) =
     if has_reached file p (world_after w r) then Some (time_in r) else reached_from file p (world_after w r) rs
 
--- a point is signalled once the increments of its timeline come to it; until then it is active while the timeline is
--- open, and cancelled once that is closed
+-- a point is signalled once the increments of its timeline reach it; until then it is active while the timeline is
+-- open, and cancelled once it is closed
 abbrev pub point_status : (ℕ → Option Timeline) → List Request → Point → Status
 point_status timelines history p =
     if nat_le p.value (sum_of p.ctx history)

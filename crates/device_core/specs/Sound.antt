@@ -1,4 +1,4 @@
--- What holds of the world of every history.
+-- Invariants of the world of every history.
 use Rattle.std.specs.Prelude.{◌≡◌, ℕ, ◌<◌, ◌≤◌, nat_lt, Bool, false, List, Option, None, Some, All}
 use Rattle.point_core.specs.Reach.{GREATEST}
 use Rattle.point_core.specs.Agreement.{AgreesAbove}
@@ -10,12 +10,13 @@ use Rattle.device_core.specs.BufferWorld.{AreBufferFences}
 use Rattle.device_core.specs.State.{FileState, Objects}
 use Rattle.device_core.specs.History.{World, reach_of}
 
--- the timeline is open, and the value above its own
+-- the timeline is open, and the value is above its own
 abbrev pub is_above : Option Timeline → ℕ → Bool
 is_above None value = false
 is_above (Some t) value = nat_lt t.value value
 
--- a fence is of a timeline that was opened, and is pending exactly if that is open and its point is above the value
+-- a fence belongs to a timeline that was opened, and is pending exactly if that is open and its point is above the
+-- value
 pub record IsFence (d : Objects) (f : Fence) : Type 0 where
   pub numbered : 1 ≤ f.timeline
   pub given : f.timeline < d.next
@@ -26,8 +27,8 @@ pub record AreFences (d : Objects) (fs : List Fence) : Type 0 where
   pub rising : HasRisingTimelines fs
   pub each : All (IsFence d) fs
 
--- nothing has a number that was not given, no value is past the greatest, and each file and buffer agrees with what was
--- put into it
+-- no object has a number that was not given, no value is past the greatest, and each file and buffer agrees with what
+-- was put into it
 pub record IsSound (w : World) : Type 0 where
   pub first : 1 ≤ w.objects.next
   pub none : w.objects.timelines 0 ≡ None

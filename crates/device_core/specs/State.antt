@@ -26,13 +26,13 @@ pub record FileState : Type 0 where
 abbrev pub file_of : Text → List Fence → ℕ → FileState
 file_of name fences stub_at = record { name = name; fences = fences; stub_at = stub_at }
 
--- the next number, and what is alive, by number, in no order that means anything
+-- the next number, and the objects that are alive, by number, in no particular order
 pub record DeviceState : Type 0 where
   pub next : ℕ
   pub timelines : List (ℕ × Timeline)
   pub files : List (ℕ × FileState)
   pub buffers : List (ℕ × BufferState)
-  -- the points at which files wait, in order
+  -- the points for which files wait, in order
   pub index : List Waiting
 
 abbrev pub nothing : DeviceState
@@ -50,7 +50,7 @@ file_at d number = at d.files number
 abbrev pub buffer_at : DeviceState → ℕ → Option BufferState
 buffer_at d number = at d.buffers number
 
--- the next number, and what each number stands for: what a device holds, as definitions speak of it
+-- the next number, and the object of each number: the contents of a device as definitions use them
 pub record Objects : Type 0 where
   pub next : ℕ
   pub timelines : ℕ → Option Timeline
@@ -82,41 +82,41 @@ empty_text = record { bytes = replicate 32 0 }
 abbrev pub one_fence_file : ℕ → Timeline → ℕ → ℕ → FileState
 one_fence_file number t point now = file_of empty_text (fence_at number t point now ∷ []) 0
 
--- the time of a stub that stands for both files: the latest at which any of their fences signalled
+-- the time of the stub of both files: the latest at which any of their fences signalled
 abbrev pub merged_time : FileState → FileState → ℕ
 merged_time a b = latest_time (latest_time (max a.stub_at b.stub_at) a.fences) b.fences
 
--- the merge of two files: a stub if nothing of them is pending
+-- the merge of two files: a stub if none of their fences is pending
 abbrev pub merged_file : Text → FileState → FileState → FileState
 merged_file name a b =
     let fences = merged a.fences b.fences in
     file_of name fences (if length fences == 0 then merged_time a b else 0)
 
--- the merge of two that are there
+-- the merge of two open files
 abbrev pub merged_files : Text → Option FileState → Option FileState → Option FileState
 merged_files name None o = None
 merged_files name (Some a) None = None
 merged_files name (Some a) (Some b) = Some (merged_file name a b)
 
--- the file of an export: a stub if nothing is waiting
+-- the file of an export: a stub if no fence is waiting
 abbrev pub exported_file : (ℕ → Option Timeline) → Usage → BufferState → FileState
 exported_file timelines usage b =
     let fences = exported timelines usage b.fences in
     file_of empty_text fences (if length fences == 0 then b.stub_at else 0)
 
--- the export of a buffer that is there, at a usage that is known
+-- the export of an open buffer, at a valid usage
 abbrev pub export_of : (ℕ → Option Timeline) → Result Usage Refusal → Option BufferState → Option FileState
 export_of timelines (Ok usage) buffer = option_map (exported_file timelines usage) buffer
 export_of timelines (Err refusal) buffer = None
 
--- the buffer after the import of a file that is there, at a usage that is known
+-- the buffer after the import of an open file, at a valid usage
 abbrev pub import_of :
     (ℕ → Option Timeline) → Result Usage Refusal → Option FileState → Option BufferState → Option BufferState
 import_of timelines (Ok usage) (Some f) buffer = option_map (import_into timelines usage f.fences) buffer
 import_of timelines (Ok usage) None buffer = buffer
 import_of timelines (Err refusal) file buffer = buffer
 
--- why there is no timeline of that number, no file and no buffer
+-- the error for a number without a timeline, file or buffer
 abbrev pub missing_timeline : Objects → ℕ → Refusal
 missing_timeline d number = if is_some (d.files number) || is_some (d.buffers number) then WrongKind else NoEntry
 
@@ -126,7 +126,7 @@ missing_file d number = if is_some (d.timelines number) || is_some (d.buffers nu
 abbrev pub missing_buffer : Objects → ℕ → Refusal
 missing_buffer d number = if is_some (d.timelines number) || is_some (d.files number) then WrongKind else NoEntry
 
--- the file, once a timeline signals all that is pending up to the value
+-- the file after a timeline has signalled every pending point up to the value
 abbrev pub file_signalled : ℕ → ℕ → Signal → FileState → FileState
 file_signalled timeline value signal f = record f { fences = all_signalled_by timeline value signal f.fences }
 
@@ -148,25 +148,25 @@ AreInOrder ks = IsStrictlySortedBy order ks
 abbrev pub is_due_at : ℕ → ℕ → Waiting → Bool
 is_due_at timeline value k = nat_eq k.timeline timeline && nat_le k.value value
 
--- a file of these fences waits at that point
+-- a file with these fences waits at that point
 abbrev pub waits_of : ℕ → List Fence → Waiting → Bool
 waits_of file fs k = nat_eq k.file file && waits_at k fs
 
--- a file that is there waits at that point
+-- an open file waits at that point
 abbrev pub file_waits : Waiting → Option FileState → Bool
 file_waits k None = false
 file_waits k (Some f) = waits_at k f.fences
 
--- the index holds the pending points of the files that are there, and no others
+-- the index has the pending points of the open files, and no others
 abbrev pub IsIndexed : List Waiting → List (ℕ × FileState) → Type 0
 IsIndexed index files = (k : Waiting) → holds index k ≡ file_waits k (at files k.file)
 
--- the files, once a timeline signals all that is pending up to the value
+-- the files after a timeline has signalled every pending point up to the value
 abbrev pub AreSignalled : ℕ → ℕ → Signal → List (ℕ × FileState) → List (ℕ × FileState) → Type 0
 AreSignalled timeline value signal old new =
     (q : ℕ) → at new q ≡ option_map (file_signalled timeline value signal) (at old q)
 
--- what is kept: nothing has a number that was not given, no number is of two objects, and the index is that of the files
+-- the invariant: no object has a number that was not given, no number is of two objects, and the index is the files'
 pub record IsKept (next : ℕ) (timelines : List (ℕ × Timeline)) (files : List (ℕ × FileState))
     (buffers : List (ℕ × BufferState)) (index : List Waiting)
     : Type 0 where

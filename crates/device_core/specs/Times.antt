@@ -1,4 +1,4 @@
--- Which numbers a run gives, and how often each file begins to wait, is woken, and is closed while it waits.
+-- The numbers that a run gives, and how often each file begins to wait, is woken, and is closed while it waits.
 use Rattle.std.specs.Prelude.{ℕ, ◌+◌, nat_eq, Bool, not, ◌&&◌, if◌then◌else◌, List, [], ◌∷◌, count_by, is_some, Result, Ok, Err}
 use Rattle.std.specs.List.{flat_map}
 use Rattle.device_core.specs.declared.refusal.Refusal.{Refusal}
@@ -9,7 +9,7 @@ use Rattle.device_core.specs.State.{Objects}
 use Rattle.device_core.specs.Request.{is_waiting}
 use Rattle.device_core.specs.History.{World, world_after, empty_world}
 
--- the number of what was made
+-- the number of the new object
 abbrev pub number_in : Answer → List ℕ
 number_in (answer.Number n) = n ∷ []
 number_in (answer.Woken woken) = []
@@ -18,7 +18,7 @@ number_in (answer.Signalled signalled) = []
 number_in (answer.Info info) = []
 number_in answer.Done = []
 
--- the files that are reported to have signalled
+-- the files that are reported as signalled
 abbrev pub woken_in : Answer → List ℕ
 woken_in (answer.Number n) = []
 woken_in (answer.Woken woken) = woken.items
@@ -27,7 +27,7 @@ woken_in (answer.Signalled signalled) = []
 woken_in (answer.Info info) = []
 woken_in answer.Done = []
 
--- of an accepted request
+-- for an accepted request
 abbrev pub in_accepted : (Answer → List ℕ) → Result Answer Refusal → List ℕ
 in_accepted told (Ok given) = told given
 in_accepted told (Err refusal) = []
@@ -36,11 +36,11 @@ in_accepted told (Err refusal) = []
 abbrev pub numbers_given : List (Result Answer Refusal) → List ℕ
 numbers_given given = flat_map (in_accepted number_in) given
 
--- how often a file is reported to have signalled
+-- how often a file is reported as signalled
 abbrev pub times_woken : ℕ → List (Result Answer Refusal) → ℕ
 times_woken n given = count_by (nat_eq n) (flat_map (in_accepted woken_in) given)
 
--- 1 if it is so
+-- 1 if it holds, and else 0
 abbrev pub one_if : Bool → ℕ
 one_if b = if b then 1 else 0
 
@@ -57,7 +57,7 @@ module _ (test : Objects → Objects → ℕ → Bool) (n : ℕ) where
   times_from w [] = 0
   times_from w (r ∷ rs) = one_if (test w.objects (world_after w r).objects n) + times_from (world_after w r) rs
 
--- how often a history makes a file of that number that waits, and closes one
+-- how often a history makes a file with this number that waits, and closes one
 abbrev pub times_begun : ℕ → List Request → ℕ
 times_begun n history = times_from begins n empty_world history
 

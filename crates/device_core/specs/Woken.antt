@@ -1,4 +1,4 @@
--- The files that signal by a request.
+-- The files that a request signals.
 use Rattle.std.specs.Prelude.{◌≡◌, nat_eq, ℕ, Bool, true, false, not, ◌&&◌, ◌||◌, List, Option, None, Some}
 use Rattle.std.specs.List.{list_any, list_all}
 use Rattle.device_core.specs.declared.fence.Fence.{Fence}
@@ -9,7 +9,7 @@ use Rattle.device_core.specs.State.{FileState}
 abbrev pub is_settled_by : ℕ → ℕ → Fence → Bool
 is_settled_by timeline value f = not (is_pending f) || is_due timeline value f
 
--- they have not all signalled, and they have once the timeline signals up to the value
+-- not all of them have signalled, and all have once the timeline signals up to the value
 abbrev pub wakes : ℕ → ℕ → List Fence → Bool
 wakes timeline value fs = not (are_signalled fs) && list_all (is_settled_by timeline value) fs
 
@@ -17,10 +17,10 @@ abbrev pub file_wakes : ℕ → ℕ → Option FileState → Bool
 file_wakes timeline value None = false
 file_wakes timeline value (Some f) = wakes timeline value f.fences
 
--- that of some file, and which
+-- some file wakes, with its number
 abbrev pub WakesSome : ℕ → ℕ → (ℕ → Option FileState) → Type 0
 WakesSome timeline value files = (n : ℕ) × (file_wakes timeline value (files n) ≡ true)
 
--- the number is among these
+-- the number is in the list
 abbrev pub has : List ℕ → ℕ → Bool
 has numbers n = list_any (nat_eq n) numbers

@@ -1,4 +1,5 @@
-// A buffer.
+//! `Buffer`: a buffer of the device, whose fences outlive their timelines. Its table is trimmed as it grows, so its
+//! memory follows what is pending.
 ghost use Rattle.std.specs.Prelude.{◌≡◌, ◌+◌, ◌≤◌, ◌<◌, ◌∷◌, [], filter, fold, if◌then◌else◌, length, option_to_list, vec_len, IfErr, IfOk, OnErr, OnOk};
 ghost use Rattle.std.specs.List.{filter_map};
 ghost use Rattle.std.specs.Vec.{vec_capacity};
@@ -17,8 +18,8 @@ use point_core::Usage;
 use std::alloc::Global;
 use std::marker::Model;
 
-/// A table is trimmed before it has more than this many times the fences that it had after the import that trimmed it
-/// last. Those were all pending, so it never has more than this many times the fences that were ever pending at once.
+/// A table is trimmed before it has more than this many times the fences that it had after the last import that trimmed
+/// it. Those were all pending, so it never has more than this many times the fences that were ever pending at once.
 const GROWTH: usize = 2;
 
 /// A table of at most `GROWTH` times this many fences isn't trimmed.
@@ -28,8 +29,8 @@ const _: () = prove!(GROWTH == 2);
 
 const _: () = prove!(UNTRIMMED == 8);
 
-/// The fences of a buffer, each with the usage that it was put with, as Linux's `struct dma_resv`. What its timelines
-/// have reached is asked at each call, so their rises and closings leave it as it is.
+/// The fences of a buffer, each with its usage, as Linux's `struct dma_resv`. Each call asks what the timelines have
+/// reached, so their rises and closings leave the buffer as it is.
 #[derive(Drop)]
 pub struct Buffer {
     fences: Vec<BufferFence>,
@@ -46,7 +47,7 @@ impl Model for Buffer {
 }
 
 impl Buffer {
-    /// No fences. It takes no memory.
+    /// No fences. Does not allocate.
     pub(crate) fn new(alloc: Global, now: u64) -> Buffer
         ensures { result ≡ empty_buffer now }
     {
@@ -58,10 +59,10 @@ impl Buffer {
     }
 
     /// Puts the pending fences of a file with that usage, as Linux's `DMA_BUF_IOCTL_IMPORT_SYNC_FILE`. Each takes the
-    /// place of the first fence that it covers, as in `dma_resv_add_fence`; the kernel's also takes that of one that
-    /// has signalled, which stays here until the next trim.
+    /// place of the first fence that it covers, as in `dma_resv_add_fence`; the kernel's also takes the place of one
+    /// that has signalled, which stays here until the next trim.
     ///
-    /// Fails only with `NoMemory`, and then leaves all as it was.
+    /// Fails only with `NoMemory`, and then leaves the buffer as it was.
     pub(crate) fn import(
         &mut self,
         timelines: &Timelines,
@@ -104,16 +105,16 @@ impl Buffer {
         Ok(listed)
     }
 
-    /// Whether every fence of the usage or a stronger one has signalled, as Linux's `dma_resv_test_signaled`. Takes no
-    /// memory.
+    /// Whether every fence of the usage or a stronger one has signalled, as Linux's `dma_resv_test_signaled`. Does not
+    /// allocate.
     pub(crate) fn test(&self, timelines: &Timelines, usage: Usage) -> bool
         ensures { result ≡ none_waits_of (at timelines.now.entries) usage self.now.fences }
     {
         none_waits(self.fences.as_slice(), timelines, usage)
     }
 
-    /// The time of the stub that an export of an idle buffer gives: that of its making. The kernel's is that of the
-    /// stub's first use since the start of the machine.
+    /// The time of the stub that an export of an idle buffer gives: when the buffer was made. The kernel's is the time
+    /// of the stub's first use since boot.
     pub(crate) fn stub_at(&self) -> u64
         ensures { result ≡ self.now.stub_at }
     {
@@ -158,7 +159,7 @@ fn put_option(listed: &mut Vec<Fence>, fence: Option<Fence>) -> Result<(), Refus
     }
 }
 
-/// Drops what no longer waits, if the table would have grown too much since its last trim by that many more fences.
+/// Drops the fences that have signalled, if `more` fences would let the table grow too much since its last trim.
 /// Returns whether it was trimmed.
 fn trim_grown(
     fences: &mut Vec<BufferFence>,
@@ -182,7 +183,7 @@ fn trim_grown(
     true
 }
 
-/// How many fences the last trim left, now that the table has that many.
+/// How many fences the last trim left, now that the table has `count`.
 fn left_after(trimmed: bool, left: usize, count: usize) -> usize
     ensures { result ≡ (if trimmed then count else left) }
 {
@@ -209,7 +210,7 @@ fn put_if_pending(fences: &mut Vec<BufferFence>, fence: &Fence, usage: Usage)
     }
 }
 
-/// Puts a fence in the place of the first that it covers, or after the others.
+/// Puts a fence in the place of the first fence that it covers, or after the others.
 fn put(fences: &mut Vec<BufferFence>, new: BufferFence)
     requires room { vec_len fences.old < vec_capacity fences.old }
     ensures put { fences.new.items ≡ with_buffer_fence fences.old.items new }

@@ -1,4 +1,4 @@
-// A fence of a buffer.
+//! `BufferFence`: a fence in a buffer, by timeline and point. Whether it has signalled is read off its timeline.
 ghost use Rattle.std.specs.Prelude.{◌≡◌, Some};
 ghost use Rattle.point_core.specs.Agreement.{covers};
 ghost use Rattle.device_core.specs.Buffers.{entry_of, fence_waiting, is_waiting, put_as, waiting_fence};
@@ -8,8 +8,8 @@ use crate::fence::{Fence, Timeline};
 use crate::timelines::Timelines;
 use point_core::Usage;
 
-/// A fence that was put into a buffer: its timeline, its point, and what it is for. It has signalled once the timeline
-/// has reached the point, or is closed.
+/// A fence that was put into a buffer: its timeline, its point, and its usage. It has signalled once the timeline has
+/// reached the point, or is closed.
 #[derive(Clone, Copy)]
 pub(crate) struct BufferFence {
     pub(crate) timeline: u64,
@@ -29,7 +29,7 @@ impl BufferFence {
         }
     }
 
-    /// Whether it makes the other needless, as in Linux's `dma_resv_add_fence`: the same timeline, a usage at least as
+    /// Whether it supersedes the other, as in Linux's `dma_resv_add_fence`: the same timeline, a usage at least as
     /// strong, a point at least as late.
     pub(crate) fn covers(&self, other: &BufferFence) -> bool
         ensures { result ≡ covers (entry_of self.now) (entry_of other.now) }
@@ -49,7 +49,7 @@ impl BufferFence {
         }
     }
 
-    /// The fence of a file that it is, if it waits and is of the usage or a stronger one.
+    /// The fence as a file has it, if it waits and is of the usage or a stronger one.
     pub(crate) fn waiting(&self, timelines: &Timelines, usage: Usage) -> Option<Fence>
         ensures { result ≡ waiting_fence (at timelines.now.entries) usage self.now }
     {

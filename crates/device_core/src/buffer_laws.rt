@@ -1,4 +1,4 @@
-//! What holds of all buffers: each law is the contract of a function with an empty body.
+//! Theorems about all buffers: each law is the contract of a function with an empty body.
 ghost use Rattle.std.specs.Prelude.{◌≡◌, ℕ, ◌%◌, ◌^◌, ◌<◌, ◌↔◌, ◌++◌, true, List, Option};
 ghost use Rattle.point_core.specs.declared.entry.Entry.{Entry};
 ghost use Rattle.point_core.specs.declared.entry.Usage.{Usage};
@@ -15,8 +15,8 @@ ghost use Rattle.device_core.specs.Sound.{AreFences};
 ghost use Rattle.device_core.specs.State.{Objects};
 ghost use Rattle.device_core.specs.Wrapping.{unwrapped};
 
-/// At each usage a buffer agrees, above what its timelines have reached, with what was in it and the pending fences of
-/// the file that was imported.
+/// At each usage a buffer agrees, above what its timelines have reached, with its old fences and the pending fences of
+/// the imported file.
 pub fn an_import_is_a_union()
     ensures { (timelines : ℕ → Option Timeline) (usage : Usage) (fs : List Fence) (b : BufferState) (reach : List ℕ) →
         IsReachOf timelines b.fences reach →
@@ -24,8 +24,8 @@ pub fn an_import_is_a_union()
         (entries_of (b.fences ++ imported usage fs)) }
 {}
 
-/// An export has one fence of each timeline, by rising number, each of them pending, and agrees with what was put into
-/// the buffer at its usage or a stronger one.
+/// An export has one fence for each timeline, by rising number, each of them pending, and agrees with the fences that
+/// were put into the buffer at its usage or a stronger one.
 pub fn an_export_is_what_waits()
     ensures agrees { (timelines : ℕ → Option Timeline) (usage : Usage) (hs : List BufferFence) (reach : List ℕ) →
         IsReachOf timelines hs reach →
@@ -36,7 +36,7 @@ pub fn an_export_is_what_waits()
         HasRisingTimelines (exported timelines usage hs) }
 {}
 
-/// Nothing waits exactly if all that was put at the usage or a stronger one is reached.
+/// Nothing waits exactly if all fences that were put at the usage or a stronger one are reached.
 pub fn a_test_finds_what_is_reached()
     ensures { (timelines : ℕ → Option Timeline) (usage : Usage) (hs : List BufferFence) (reach : List ℕ) →
         IsReachOf timelines hs reach →
@@ -62,14 +62,14 @@ pub fn a_buffer_keeps_what_was_put()
         ((none_waits d.timelines usage hs ≡ true) ↔ IsReached put (usage_number usage) (reach_of d)) }
 {}
 
-/// Buffers that agree above a reach export alike.
+/// Buffers that agree above a reach export the same fences.
 pub fn exports_show_agreement()
     ensures { (reach : List ℕ) (usage : Usage) (es fs : List Entry) →
         AgreesAbove reach es fs → AgreesAbove reach (at_usage usage es) (at_usage usage fs) }
 {}
 
-/// A pending point of 32 bits is the low half of the point of 64 that it stands for, so an exported fence has the point
-/// that was asked for.
+/// A pending point of 32 bits is the low half of the 64-bit point that it represents, so an exported fence has the
+/// point that was asked for.
 pub fn a_pending_point_is_the_low_half()
     ensures { (value point : ℕ) →
         point < 2 ^ 32 → value < unwrapped value point → unwrapped value point % 2 ^ 32 ≡ point }

@@ -1,4 +1,5 @@
-// The device.
+//! `Device`: timelines, sync files and buffers by number, with the kernel's requests as calls. Each call finds its
+//! causes of refusal first, and changes nothing if one holds.
 ghost use Rattle.std.specs.Prelude.{◌≡◌, ◌⊎◌, ℕ, ◌+◌, ◌^◌, ◌≤◌, nat_eq, if◌then◌else◌, Some, None, is_some, option_map, ◌||◌, IsSome, IfSome, IfNone, OnOk, OnErr, IfOk, IfErr, MatchOption, Ok, Err, true, false, ◌<◌, ◌↔◌, Contains, length};
 ghost use Rattle.std.specs.List.Sorted.{IsStrictlyIncreasing};
 ghost use Rattle.device_core.specs.declared.refusal.Refusal.TheVariants.{NoEntry, NoMemory, NoNumber, Overflow};
@@ -57,7 +58,7 @@ impl Model for Device {
 }
 
 impl Device {
-    /// Nothing is open. It takes no memory.
+    /// Nothing is open. Does not allocate.
     pub fn new(alloc: Global) -> Device
         ensures { result ≡ nothing }
     {
@@ -70,7 +71,7 @@ impl Device {
         }
     }
 
-    /// Opens a timeline at 0, as opening `sync/sw_sync` does; the name is that of the task.
+    /// Opens a timeline at 0, as opening `sync/sw_sync` does; the name is the task's.
     ///
     /// Fails with `NoNumber`, then with `NoMemory`; nothing is opened then.
     pub fn open(&mut self, name: Text) -> Result<u64, Refusal>
@@ -120,9 +121,9 @@ impl Device {
         self.add_file(Text::EMPTY, fences, 0)
     }
 
-    /// Raises a timeline, as `SW_SYNC_IOC_INC` does: what is pending at or below the new value is signalled now. Gives
-    /// the files that signal by it, by rising number. A rise that reaches no point at which a file waits looks at no
-    /// file, and mostly compares once.
+    /// Raises a timeline, as `SW_SYNC_IOC_INC` does: pending points at or below the new value are signalled now.
+    /// Returns the files that this signals, by rising number. A rise that reaches no point for which a file waits looks
+    /// at no file, and mostly compares once.
     ///
     /// Fails with `NoEntry`, or with `WrongKind` at a file or a buffer, then with `Overflow`, then, if it wakes a file,
     /// with `NoMemory`; nothing has changed then.
@@ -170,9 +171,8 @@ impl Device {
 
     /// Closes a timeline, a file or a buffer; its number is never used again.
     ///
-    /// What is pending of a timeline is cancelled now, as the release of `sync/sw_sync` does. Gives the files that
-    /// signal by it, by rising number. Nothing waits for a closed file any more. Nothing is woken by the closing of a
-    /// buffer.
+    /// Pending points of a timeline are cancelled now, as the release of `sync/sw_sync` does. Returns the files that
+    /// this signals, by rising number. Nothing waits for a closed file any more. Closing a buffer wakes nothing.
     ///
     /// Fails with `NoEntry`, then, if it wakes a file, with `NoMemory`; nothing has changed then.
     pub fn close(&mut self, number: u64, now: u64) -> Result<Vec<u64>, Refusal>
@@ -225,8 +225,7 @@ impl Device {
         Ok(woken)
     }
 
-    // Neither a file nor a buffer has the number any more. Fails with `NoEntry`; nothing has changed then. Takes no
-    // memory.
+    // Removes the file or buffer with this number. Fails with `NoEntry`; nothing has changed then. Does not allocate.
     fn drop_number(&mut self, number: u64) -> Result<(), Refusal>
         ensures files { OnOk result ((q : ℕ) →
             file_at self.new q ≡ (if nat_eq number q then None else file_at self.old q)) }
@@ -299,7 +298,7 @@ impl Device {
 
     /// Whether each fence of a file has signalled.
     ///
-    /// Fails with `NoEntry`, or with `WrongKind` at a timeline or a buffer. Takes no memory.
+    /// Fails with `NoEntry`, or with `WrongKind` at a timeline or a buffer. Does not allocate.
     pub fn is_signalled(&self, file: u64) -> Result<bool, Refusal>
         ensures known { MatchOption (file_at self.now file)
             (result ≡ Err (missing_file (objects_of self.now) file))
@@ -313,7 +312,7 @@ impl Device {
 
     /// The status of a file, in the kernel's order.
     ///
-    /// Fails with `NoEntry`, or with `WrongKind` at a timeline or a buffer. Takes no memory.
+    /// Fails with `NoEntry`, or with `WrongKind` at a timeline or a buffer. Does not allocate.
     pub fn status(&self, file: u64) -> Result<Status, Refusal>
         ensures known { MatchOption (file_at self.now file)
             (result ≡ Err (missing_file (objects_of self.now) file))
@@ -325,7 +324,7 @@ impl Device {
         }
     }
 
-    /// What `SYNC_IOC_FILE_INFO` reports of a file: its name, its status, and each of its fences.
+    /// The information that `SYNC_IOC_FILE_INFO` reports on a file: its name, its status, and each of its fences.
     ///
     /// Fails with `NoEntry`, or with `WrongKind` at a timeline or a buffer, then with `NoMemory`.
     pub fn info(&self, file: u64) -> Result<FileInfo, Refusal>
@@ -340,7 +339,7 @@ impl Device {
         }
     }
 
-    /// How many files are open.
+    /// The number of open files.
     pub fn open_files(&self) -> usize
         ensures { result ≡ length self.now.files }
     {
@@ -361,9 +360,9 @@ impl Device {
         self.timelines.contains_key(&number)
     }
 
-    /// Whether an increment can do with no memory for what it would wake. Takes no memory.
+    /// Whether an increment needs no memory to report the files that it wakes. Does not allocate.
     ///
-    /// Fails with what the increment is refused with: `NoMemory` if it wakes a file, unless something else refuses it.
+    /// Fails with the increment's own error: `NoMemory` if it wakes a file, unless another cause holds.
     pub fn inc_without_memory(&self, timeline: u64, n: u32) -> Result<(), Refusal>
         ensures none { OnOk result ((now : ℕ) →
             takes_memory (objects_of self.now) (request.Inc timeline n now) ≡ false) }
@@ -375,7 +374,7 @@ impl Device {
         let Some(value) = known.value.checked_add(u64::from(n)) else {
             return Err(Refusal::Overflow);
         };
-        // For the proof: no file has a number past the next one.
+        // for the proof: no file has a number past the next one
         let _next = self.next;
         if self.timelines.wakes_some(&self.files, timeline, value) {
             return Err(Refusal::NoMemory);
@@ -383,9 +382,9 @@ impl Device {
         Ok(())
     }
 
-    /// Whether a closing can do with no memory for what it would wake. Takes no memory.
+    /// Whether a closing needs no memory to report the files that it wakes. Does not allocate.
     ///
-    /// Fails with `NoMemory` if it is the closing of a timeline that wakes a file.
+    /// Fails with `NoMemory` if it closes a timeline and wakes a file.
     pub fn close_without_memory(&self, number: u64) -> Result<(), Refusal>
         ensures none { OnOk result ((now : ℕ) →
             takes_memory (objects_of self.now) (request.Close number now) ≡ false) }
@@ -396,7 +395,7 @@ impl Device {
         if !self.timelines.contains_key(&number) {
             return Ok(());
         }
-        // For the proof: no file has a number past the next one.
+        // for the proof: no file has a number past the next one
         let _next = self.next;
         if self.timelines.wakes_some(&self.files, number, u64::MAX) {
             return Err(Refusal::NoMemory);
@@ -404,7 +403,7 @@ impl Device {
         Ok(())
     }
 
-    /// How much it keeps, which is no more than what is alive. Takes no memory.
+    /// The sizes of its tables, which follow what is alive. Does not allocate.
     pub fn kept(&self) -> Kept
         ensures counts { result ≡ kept_of self.now }
         ensures alive { KeepsWhatIsAlive self.now }
@@ -417,7 +416,7 @@ impl Device {
         }
     }
 
-    // The timeline of that number.
+    // The timeline with this number.
     fn timeline(&self, number: u64) -> Result<Timeline, Refusal>
         ensures found { IfOk result (λ t. timeline_at self.now number ≡ Some t) }
         ensures refused { IfErr result (λ e.
@@ -429,7 +428,7 @@ impl Device {
         }
     }
 
-    // Why there is no timeline of that number.
+    // The error for a number without a timeline.
     fn unknown_timeline(&self, number: u64) -> Refusal
         ensures { result ≡ missing_timeline (objects_of self.now) number }
     {
@@ -440,7 +439,7 @@ impl Device {
         }
     }
 
-    // The number of what is made next. Fails only with `NoNumber`, once each has been given.
+    // The number of the next object. Fails only with `NoNumber`, once each number has been given.
     fn next_number(&self) -> Result<u64, Refusal>
         ensures next { IfOk result (λ n. (n ≡ self.now.next) × (n < GREATEST)) }
         ensures none { IfErr result (λ e. (e ≡ NoNumber) × (GREATEST ≤ self.now.next)) }
@@ -483,7 +482,7 @@ impl Device {
         }
     }
 
-    // Why there is no file of that number.
+    // The error for a number without a file.
     fn unknown_file(&self, number: u64) -> Refusal
         ensures { result ≡ missing_file (objects_of self.now) number }
     {

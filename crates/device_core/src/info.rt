@@ -1,4 +1,4 @@
-// What is reported of a file.
+//! Information on a file and its fences, as `SYNC_IOC_FILE_INFO` reports it.
 ghost use Rattle.std.specs.Prelude.{◌≡◌, ◌∷◌, [], map, IfErr, IfOk};
 ghost use Rattle.device_core.specs.declared.refusal.Refusal.TheVariants.{NoMemory};
 ghost use Rattle.device_core.specs.Fences.{status_of};
@@ -31,8 +31,8 @@ impl Driver {
     }
 }
 
-/// What is reported of a fence, as Linux's `struct sync_fence_info`: the name of its timeline, its driver and its
-/// status, and the time in nanoseconds at which it signalled, or 0.
+/// Information on a fence, as Linux's `struct sync_fence_info`: the name of its timeline, its driver and its status,
+/// and the time in nanoseconds at which it signalled, or 0.
 #[derive(Clone, Copy, Debug, PartialEq, Eq)]
 pub struct FenceInfo {
     pub timeline: Text,
@@ -41,8 +41,8 @@ pub struct FenceInfo {
     pub at: u64,
 }
 
-/// What is reported of a file, as Linux's `struct sync_file_info`: its name and its status, and what is reported of
-/// each of its fences. A file without fences has one that has signalled, a stub.
+/// Information on a file, as Linux's `struct sync_file_info`: its name, its status, and each of its fences. A file
+/// without fences has one that has signalled, a stub.
 #[derive(Drop)]
 pub struct FileInfo {
     pub name: Text,
@@ -50,7 +50,7 @@ pub struct FileInfo {
     pub fences: Vec<FenceInfo>,
 }
 
-/// What `SYNC_IOC_FILE_INFO` reports of a file of that number.
+/// The information that `SYNC_IOC_FILE_INFO` reports on the file with this number.
 ///
 /// Fails only with `NoMemory`.
 pub(crate) fn info(alloc: Global, number: u64, file: &File) -> Result<FileInfo, Refusal>

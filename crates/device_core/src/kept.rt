@@ -1,6 +1,6 @@
-// How much a device keeps.
+//! `Kept`: the sizes of a device's tables, so that tests and laws can say that memory follows what is alive.
 
-/// How much a device keeps: the entries of its tables, and the points at which files wait.
+/// The sizes of a device's tables: their entries, and the points for which files wait.
 #[derive(Clone, Copy, Debug)]
 pub struct Kept {
     pub timelines: usize,

@@ -1,4 +1,4 @@
-//! What holds of all points, fences and values: each law is the contract of a function with an empty body.
+//! Theorems about all points, fences and values: each law is the contract of a function with an empty body.
 ghost use Rattle.std.specs.Prelude.{◌≡◌, ℕ, ◌+◌, ◌^◌, ◌<◌, ◌≤◌, ◌++◌, List, nat_lt, All, ◌↔◌, Some, true};
 ghost use Rattle.point_core.specs.declared.entry.Entry.{Entry};
 ghost use Rattle.point_core.specs.Reach.{IsAtLeast};
@@ -12,14 +12,14 @@ ghost use Rattle.device_core.specs.Sound.{IsSound};
 ghost use Rattle.device_core.specs.State.{FileState};
 ghost use Rattle.device_core.specs.Wrapping.{is_later, unwrapped};
 
-/// The kernel's comparison of 32 bits says that a point is later than the value exactly when the point of 64 bits that
-/// it stands for is.
+/// The kernel's comparison of 32 bits finds a point later than the value exactly if the 64-bit point that it represents
+/// is later.
 pub fn points_wrap_as_the_kernel_compares()
     ensures { (value point : ℕ) → is_later value point ≡ nat_lt value (unwrapped value point) }
 {}
 
-/// Signalling leaves the points of a file as they are, so what agreed with it does above every reach that is at least
-/// as high, however many timelines there are.
+/// Signalling keeps the points of a file, so a set that agreed with it still does above every reach that is at least as
+/// high, however many timelines there are.
 pub fn signalling_keeps_agreement()
     ensures points { (timeline value : ℕ) (s : Signal) (fs : List Fence) →
         entries_in (all_signalled_by timeline value s fs) ≡ entries_in fs }
@@ -28,8 +28,8 @@ pub fn signalling_keeps_agreement()
         AgreesAbove later (entries_in (all_signalled_by timeline value s fs)) put }
 {}
 
-/// A merge says what both files do above every reach that all signalled fences have reached, and keeps fences that rise
-/// by timeline.
+/// A merge agrees with both files together above every reach that all signalled fences have reached, and its fences
+/// rise by timeline.
 pub fn merge_is_a_union()
     ensures agrees { (reach : List ℕ) (fs gs : List Fence) →
         All (IsReachedUnlessPending reach) fs → All (IsReachedUnlessPending reach) gs →
@@ -37,13 +37,13 @@ pub fn merge_is_a_union()
     ensures rising { (fs gs : List Fence) → HasRisingTimelines fs → HasRisingTimelines (merged fs gs) }
 {}
 
-/// The world of every history is sound: nothing has a number that was not given, each fence is pending exactly if its
-/// timeline is open and its point above the value, and each file and buffer agrees with what was put into it.
+/// The world of every history is well-formed: no object has a number that was not given, each fence is pending exactly
+/// if its timeline is open and its point above the value, and each file and buffer agrees with what was put into it.
 pub fn a_history_makes_a_sound_world()
     ensures { (history : List Request) → AreAccepted empty_world history → IsSound (world_of history) }
 {}
 
-/// After every history an open file has signalled exactly when each point that was put into it is reached, or its
+/// After every history an open file has signalled exactly if each point that was put into it is reached, or its
 /// timeline closed.
 pub fn a_file_has_signalled_once_all_is_reached()
     ensures { (history : List Request) → AreAccepted empty_world history →

@@ -1,4 +1,4 @@
-// The name that the kernel gives to a file.
+//! The name of a file without one of its own, as Linux's `sync_file_get_name` makes it from a fence.
 ghost use Rattle.std.specs.Prelude.{◌≡◌, ◌++◌, ◌+◌, ◌≤◌, [], decimal, length};
 ghost use Rattle.device_core.specs.declared.naming.TheConstants.{NUMBER_BYTES, KERNEL_NAME_BYTES};
 ghost use Rattle.device_core.specs.declared.text.TheConstants.{TEXT_BYTES};
@@ -20,7 +20,7 @@ const _: () = prove!(NUMBER_BYTES == 20);
 
 const _: () = prove!(KERNEL_NAME_BYTES == 106);
 
-/// A name before it is cut. What is put into it goes before what is there.
+/// A name before it is cut. Each part is put before those that are there.
 #[derive(Drop)]
 struct Line {
     bytes: [u8; KERNEL_NAME_BYTES],
@@ -73,7 +73,7 @@ impl Line {
     }
 }
 
-/// The name of a fence of that driver, as Linux's `sync_file_get_name` writes it.
+/// The name of a fence of this driver, as Linux's `sync_file_get_name` writes it.
 fn kernel_name(driver: &[u8], timeline: &[u8], context: u64, point: u64) -> Text
     requires driver { length driver.now ≤ TEXT_BYTES }
     requires timeline { length timeline.now ≤ TEXT_BYTES }
@@ -89,7 +89,7 @@ fn kernel_name(driver: &[u8], timeline: &[u8], context: u64, point: u64) -> Text
     Text::of(line.as_bytes())
 }
 
-/// The name of a file of that number: the one that it was given, or if that is empty that of its fence, as Linux's
+/// The name of the file with this number: the name that it was given, or if that is empty its fence's, as Linux's
 /// `sync_file_get_name`. Several fences are an array; its context, which the kernel counts on, is the number of the
 /// file here.
 pub(crate) fn name_of(number: u64, file: &File) -> Text

@@ -1,7 +1,7 @@
-// Why a request is refused.
+//! `Refusal`: the errors of requests, with Linux's errno.
 use thiserror::Error;
 
-/// Why a request is refused, numbered as the errno that Linux gives. A refused request changes nothing.
+/// The error of a request, numbered as the errno that Linux gives. A refused request changes nothing.
 #[derive(Clone, Copy, Debug, PartialEq, Eq, Hash, Error)]
 pub enum Refusal {
     #[error("no object has that number")]

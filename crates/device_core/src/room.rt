@@ -1,4 +1,4 @@
-//! Room that a map no longer needs.
+//! Shrinks a map that has become much too large for its entries, so that a device's memory follows what is alive.
 ghost use Rattle.std.specs.Prelude.{◌≡◌, ℕ};
 ghost use Rattle.device_core.specs.State.{at};
 
@@ -15,8 +15,8 @@ const FEW_PLACES: usize = 64;
 
 const _: () = prove!(KEPT_PLACES < MOST_PLACES);
 
-/// Gives back room that a map has no use for, and keeps its entries. The entries move once their number has halved since
-/// they last did, so on average a removal costs the same.
+/// Gives back memory that a map doesn't need, and keeps its entries. The entries move once their number has halved
+/// since they last did, so a removal takes constant time on average.
 pub fn give_room_back<T>(map: &mut HashMap<u64, T>)
     ensures { (q : ℕ) → at map.new.entries q ≡ at map.old.entries q }
 {

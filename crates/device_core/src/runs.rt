@@ -1,4 +1,4 @@
-// A run over a list of requests.
+//! `run`: a list of requests on a new device. Its contract is this crate's main theorem.
 ghost use Rattle.std.specs.Prelude.{◌≡◌, [], IfOk, IfErr};
 ghost use Rattle.device_core.specs.declared.refusal.Refusal.TheVariants.{NoMemory};
 ghost use Rattle.device_core.specs.History.{AreAnswers, HasHistory, history_of};
@@ -10,9 +10,9 @@ use crate::refusal::Refusal;
 use crate::request::{Answer, Request};
 use std::alloc::Global;
 
-/// Serves the requests one after another over a new device. Gives the device and one answer a request.
+/// Serves the requests one after another on a new device. Returns the device and one answer for each request.
 ///
-/// Fails only with `NoMemory`, when there is none for the list of answers.
+/// Fails only with `NoMemory`, if the list of answers can't be allocated.
 pub fn run(
     alloc: Global,
     requests: &[Request],
@@ -36,7 +36,7 @@ pub fn run(
     for request in requests {
         answers.push_reserved(device.serve(*request));
     }
-    // For the proof: what the device keeps.
+    // for the proof: what the device keeps
     let _kept = device.kept();
     Ok((device, answers))
 }

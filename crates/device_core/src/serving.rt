@@ -1,4 +1,4 @@
-// One request in, one answer out.
+//! `serve`: one request in, one answer out.
 ghost use Rattle.std.specs.Prelude.{◌≡◌, List, None, Ok, Err, OnOk, OnErr, IfOk, IfErr};
 ghost use Rattle.device_core.specs.declared.request.Request.{Request as Asked};
 ghost use Rattle.device_core.specs.declared.request.Request.TheVariants as request;
@@ -14,9 +14,9 @@ use crate::request::{Answer, Request};
 use point_core::Usage;
 
 impl Device {
-    /// The answer to one request: the first refusal whose cause holds, else what the request gives. `NoMemory` comes
-    /// last, and only if a growth was really refused; `Status`, `IsSignalled` and `Test` are never answered it, and an
-    /// increment or a closing only if it wakes a file. A refused request changes nothing.
+    /// The answer to one request: the first error whose cause holds, else the result. `NoMemory` comes last, and only
+    /// if an allocation really failed; `Status`, `IsSignalled` and `Test` never fail with it, and an increment or a
+    /// closing only if it wakes a file. A refused request changes nothing.
     #[inline(always)]
     pub fn serve(&mut self, request: Request) -> Result<Answer, Refusal>
         ensures answer { IsAnswer (objects_of self.old) request result }

@@ -1,4 +1,5 @@
-// What a timeline's rise or closing signals.
+//! Signals the fences that a timeline's rise or closing reaches. The index leads to the files that wait there, so no
+//! other file is looked at.
 ghost use Rattle.std.specs.Prelude.{◌≡◌, ℕ, nat_eq, if◌then◌else◌, option_map, true};
 ghost use Rattle.device_core.specs.declared.waiting.Waiting.{Waiting as Key};
 ghost use Rattle.device_core.specs.State.{AreInOrder, AreSignalled, IsIndexed, at, file_signalled, holds};
@@ -8,7 +9,8 @@ use crate::file::File;
 use crate::waiting::WaitingFiles;
 use std::collections::HashMap;
 
-/// Signals what is pending of a timeline up to the value, in each file. Only the files that wait there are looked at.
+/// Signals the pending fences of a timeline up to the value, in each file. Only the files that wait there are looked
+/// at.
 pub(crate) fn signal_due(
     waiting: &mut WaitingFiles,
     files: &mut HashMap<u64, File>,

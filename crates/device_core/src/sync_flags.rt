@@ -1,4 +1,4 @@
-// The sync flags of an export and an import.
+//! The usages of an export and an import, by Linux's sync flags.
 ghost use Rattle.std.specs.Prelude.{◌≡◌};
 ghost use Rattle.device_core.specs.Buffers.{export_usage as export_usage_of, import_usage as import_usage_of};
 
@@ -16,7 +16,7 @@ const READ_WRITE: u32 = READ | WRITE;
 
 const _: () = prove!(READ_WRITE == 3);
 
-/// The weakest usage that an access with these flags waits for: a reader waits for writers, and a writer for readers
+/// The weakest usage for which an access with these flags waits: a reader waits for writers, and a writer for readers
 /// too.
 ///
 /// Fails with `Invalid` for every other number, as Linux's `DMA_BUF_IOCTL_EXPORT_SYNC_FILE`.
@@ -30,7 +30,7 @@ pub(crate) fn export_usage(flags: u32) -> Result<Usage, Refusal>
     }
 }
 
-/// The usage of the fences of such an access: a reader's if it only reads, else a writer's.
+/// The usage of such an access's fences: a reader's if it only reads, else a writer's.
 ///
 /// Fails with `Invalid` for every other number, as Linux's `DMA_BUF_IOCTL_IMPORT_SYNC_FILE`.
 pub(crate) fn import_usage(flags: u32) -> Result<Usage, Refusal>

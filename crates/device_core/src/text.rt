@@ -1,17 +1,17 @@
-// The bytes of a text.
+//! `Text`: a NUL-terminated name of at most 31 bytes, cut as the kernel cuts it.
 ghost use Rattle.std.specs.Prelude.{◌≡◌, ◌≤◌, length};
 ghost use Rattle.device_core.specs.Names.{as_text as text_as, text_of};
 
 use crate::fence::Text;
 
-/// How many bytes a text has, with the 0 that ends it, as the names in Linux's `struct sync_file_info`.
+/// The bytes of a text with its terminating NUL, as the names in Linux's `struct sync_file_info`.
 pub const TEXT_BYTES: usize = 32;
 
 const _: () = prove!(TEXT_BYTES == 32);
 
 impl Text {
-    /// The text of these bytes, cut at one less than `TEXT_BYTES` as Linux's `snprintf` and `strscpy` cut it. Zeros
-    /// follow.
+    /// The text of these bytes, cut to one less than `TEXT_BYTES` as Linux's `snprintf` and `strscpy` cut it, and
+    /// padded with zeros.
     pub fn of(bytes: &[u8]) -> Text
         ensures { result ≡ text_as bytes.now }
     {
@@ -21,7 +21,7 @@ impl Text {
         Text { bytes: text }
     }
 
-    /// Its bytes, up to the first that is 0.
+    /// Its bytes, up to the first 0.
     pub fn as_bytes(&self) -> &[u8]
         ensures bytes { result.now ≡ text_of self.now }
         ensures few { length result.now ≤ 32 }

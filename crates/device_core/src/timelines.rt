@@ -1,4 +1,5 @@
-// The open timelines, and the files that wait for them.
+//! `Timelines`: the open timelines, and the index of the points for which files wait. Each timeline has a floor, at or
+//! below every point that is waited for, so most increments compare once.
 ghost use Rattle.std.specs.Prelude.{◌≡◌, ℕ, ◌+◌, ◌<◌, ◌≤◌, ◌^◌, ◌↔◌, not, ◌&&◌, ◌||◌, nat_eq, if◌then◌else◌, length, [], None, Some, is_some, option_copied, option_map, Contains, true, false, IfOk, IfErr, IfSome, OnOk, OnErr};
 ghost use Rattle.std.specs.Bool.{OnTrue, OnFalse};
 ghost use Rattle.std.specs.List.{IsDistinct};
@@ -29,7 +30,7 @@ pub(crate) struct OpenTimeline {
 }
 
 impl OpenTimeline {
-    /// Raises it by n if that is below its floor, and reports whether it is.
+    /// Raises it by n if the new value is below its floor, and returns whether it is.
     fn rise_below_floor(&mut self, n: u32) -> bool
         ensures below { OnTrue result (self.old.timeline.value + n < self.old.floor) }
         ensures fits { OnTrue result (self.old.timeline.value + n < 2 ^ 64) }
@@ -46,7 +47,7 @@ impl OpenTimeline {
         true
     }
 
-    /// Lowers its floor to a fence of its own, if that is pending.
+    /// Lowers its floor to a fence of its own, if the fence is pending.
     fn lower(&mut self, fence: &Fence)
         ensures { self.new ≡ lowered_by fence.now self.old }
     {
@@ -74,7 +75,7 @@ impl Model for Timelines {
 }
 
 impl Timelines {
-    /// None is open. It takes no memory.
+    /// None is open. Does not allocate.
     pub(crate) fn new(alloc: Global) -> Timelines
         ensures { result ≡ timelines_state [] [] }
     {
@@ -84,7 +85,7 @@ impl Timelines {
         }
     }
 
-    /// How many are open.
+    /// The number of open timelines.
     pub(crate) fn len(&self) -> usize
         ensures len { result ≡ length self.now.entries }
         ensures distinct { IsDistinct nat_eq (keys_of self.now.entries) }
@@ -92,7 +93,7 @@ impl Timelines {
         self.by_number.len()
     }
 
-    /// At how many points files wait.
+    /// The number of points for which files wait.
     pub(crate) fn waiting(&self) -> usize
         ensures len { result ≡ length self.now.index }
         ensures ordered { AreInOrder self.now.index }
@@ -100,14 +101,14 @@ impl Timelines {
         self.waiting.len()
     }
 
-    /// Whether the number is that of an open timeline.
+    /// Whether an open timeline has this number.
     pub(crate) fn contains_key(&self, number: &u64) -> bool
         ensures { result ≡ is_some (at self.now.entries number.now) }
     {
         self.by_number.contains_key(number)
     }
 
-    /// The open timeline of that number.
+    /// The open timeline with this number.
     pub(crate) fn get(&self, number: &u64) -> Option<&Timeline>
         ensures { option_copied result ≡ at self.now.entries number.now }
     {
@@ -119,7 +120,7 @@ impl Timelines {
 
     /// Opens a timeline.
     ///
-    /// Fails only with `NoMemory`, and then leaves all as it was.
+    /// Fails only with `NoMemory`, and then leaves everything as it was.
     pub(crate) fn insert(&mut self, number: u64, timeline: Timeline) -> Result<(), Refusal>
         ensures updates { OnOk result ((q : ℕ) →
             at self.new.entries q ≡ (if nat_eq number q then Some timeline else at self.old.entries q)) }
@@ -134,8 +135,8 @@ impl Timelines {
         Ok(())
     }
 
-    /// Raises an open timeline by n if no file waits for what it then reaches, which is one comparison. Says whether
-    /// it has risen.
+    /// Raises an open timeline by n if no file waits for a point that it then reaches, which is one comparison. Returns
+    /// whether it has risen.
     pub(crate) fn rise_quietly(&mut self, number: u64, n: u32) -> bool
         ensures risen { OnTrue result (HasRisenQuietly self.old self.new number n) }
         ensures unchanged { OnFalse result (self.new ≡ self.old) }
@@ -166,7 +167,7 @@ impl Timelines {
         self.waiting.woken_by(alloc, files, number, value)
     }
 
-    /// Whether a file signals once a timeline signals up to the value. Takes no memory.
+    /// Whether a file signals once a timeline signals up to the value. Does not allocate.
     pub(crate) fn wakes_some(&self, files: &HashMap<u64, File>, number: u64, value: u64) -> bool
         requires indexed { IsIndexed self.now.index files.now.entries }
         requires below { (n : ℕ) → 2 ^ 64 ≤ n → at files.now.entries n ≡ None }
@@ -176,7 +177,7 @@ impl Timelines {
         self.waiting.wakes_some(files, number, value)
     }
 
-    /// Raises an open timeline to a value, and signals what is pending of it up to there in each file.
+    /// Raises an open timeline to a value, and signals its pending fences up to there in each file.
     pub(crate) fn raise_to(
         &mut self,
         files: &mut HashMap<u64, File>,
@@ -195,7 +196,7 @@ impl Timelines {
         settle(&mut self.by_number, number, value, floor);
     }
 
-    /// Closes a timeline, and signals what is pending of it in each file.
+    /// Closes a timeline, and signals its pending fences in each file.
     pub(crate) fn close(&mut self, files: &mut HashMap<u64, File>, number: u64, signal: Signal)
         requires indexed { IsIndexed self.old.index files.old.entries }
         ensures closed { (q : ℕ) →
@@ -208,9 +209,9 @@ impl Timelines {
         signal_due(&mut self.waiting, files, number, u64::MAX, signal);
     }
 
-    /// Puts a file in at each of its pending fences.
+    /// Enters a file at each of its pending fences.
     ///
-    /// Fails only with `NoMemory`, and then leaves all as it was.
+    /// Fails only with `NoMemory`, and then leaves everything as it was.
     pub(crate) fn put_all(&mut self, file: u64, fences: &[Fence]) -> Result<(), Refusal>
         requires new { (k : Key) → k.file ≡ file → holds self.old.index k ≡ false }
         ensures put { OnOk result ((k : Key) →
@@ -225,7 +226,7 @@ impl Timelines {
         Ok(())
     }
 
-    /// Takes a file out at each of its pending fences.
+    /// Removes a file from each of its pending fences.
     pub(crate) fn take_all(&mut self, file: u64, fences: &[Fence])
         ensures taken { (k : Key) →
             holds self.new.index k ≡ (not (waits_of file fences.now k) && holds self.old.index k) }
@@ -248,7 +249,7 @@ fn settle(timelines: &mut HashMap<u64, OpenTimeline>, number: u64, value: u64, f
     }
 }
 
-/// Lowers the floor of each open timeline to its pending fences among these.
+/// Lowers the floor of each open timeline to its pending fences in the list.
 fn lower_floors(timelines: &mut HashMap<u64, OpenTimeline>, fences: &[Fence])
     ensures lowered { (q : ℕ) →
         at timelines.new.entries q ≡ option_map (lowered q fences.now) (at timelines.old.entries q) }

@@ -1,4 +1,5 @@
-// The files that wait, by the points that they wait for.
+//! `WaitingFiles`: the ordered index of the pending points of all files. It has a file at a point exactly if a fence of
+//! the file is pending there.
 ghost use Rattle.std.specs.Prelude.{◌≡◌, ℕ, ◌≤◌, None, IfOk, ◌+◌, ◌-◌, ◌^◌, length, not, ◌&&◌, ◌||◌, [], ◌∷◌, true, false, OnOk, OnErr, IfErr, IfSome, IfNone, ◌↔◌, Contains};
 ghost use Rattle.std.specs.List.Sorted.{IsStrictlyIncreasing};
 ghost use Rattle.device_core.specs.declared.waiting.Waiting.{Waiting as Key};
@@ -15,7 +16,7 @@ use std::alloc::Global;
 use std::collections::{BTreeSet, HashMap};
 use std::marker::Model;
 
-/// A file, at a point that it waits for.
+/// A file, and a point for which it waits.
 #[derive(Clone, Copy, PartialEq, Eq, PartialOrd, Ord)]
 pub(crate) struct Waiting {
     pub(crate) timeline: u64,
@@ -35,7 +36,7 @@ impl Waiting {
         }
     }
 
-    /// The greatest of a timeline at that value.
+    /// The greatest entry of a timeline at that value.
     pub(crate) fn last(timeline: u64, value: u64) -> Waiting
         ensures { result ≡ record { timeline = timeline; value = value; file = 2 ^ 64 - 1 } }
     {
@@ -46,7 +47,7 @@ impl Waiting {
         }
     }
 
-    /// The least of a timeline.
+    /// The least entry of a timeline.
     pub(crate) fn first(timeline: u64) -> Waiting
         ensures { result ≡ record { timeline = timeline; value = 0; file = 0 } }
     {
@@ -85,7 +86,7 @@ impl Model for WaitingFiles {
 }
 
 impl WaitingFiles {
-    /// None. It takes no memory.
+    /// No points. Does not allocate.
     pub(crate) fn new(alloc: Global) -> WaitingFiles
         ensures { result ≡ [] }
     {
@@ -94,16 +95,16 @@ impl WaitingFiles {
         }
     }
 
-    /// How many points there are.
+    /// The number of points.
     pub(crate) fn len(&self) -> usize
         ensures len { result ≡ length self.now }
     {
         self.points.len()
     }
 
-    /// Puts one in.
+    /// Enters one point.
     ///
-    /// Fails only with `NoMemory`, and then leaves all as it was.
+    /// Fails only with `NoMemory`, and then leaves everything as it was.
     pub(crate) fn put(&mut self, waiting: Waiting) -> Result<(), Refusal>
         ensures put { OnOk result ((k : Key) → holds self.new k ≡ (is_same waiting k || holds self.old k)) }
         ensures ordered { AreInOrder self.new }
@@ -136,7 +137,7 @@ impl WaitingFiles {
         woken_by(alloc, &self.points, files, timeline, value)
     }
 
-    /// Whether a file signals once a timeline signals up to the value. Takes no memory.
+    /// Whether a file signals once a timeline signals up to the value. Does not allocate.
     pub(crate) fn wakes_some(&self, files: &HashMap<u64, File>, timeline: u64, value: u64) -> bool
         requires indexed { IsIndexed self.now files.now.entries }
         requires below { (n : ℕ) → 2 ^ 64 ≤ n → at files.now.entries n ≡ None }
@@ -146,9 +147,9 @@ impl WaitingFiles {
         wakes_some(&self.points, files, timeline, value)
     }
 
-    /// Puts a file in at each of its pending fences.
+    /// Enters a file at each of its pending fences.
     ///
-    /// Fails only with `NoMemory`, and then leaves all as it was.
+    /// Fails only with `NoMemory`, and then leaves everything as it was.
     pub(crate) fn put_all(&mut self, file: u64, fences: &[Fence]) -> Result<(), Refusal>
         requires new { (k : Key) → k.file ≡ file → holds self.old k ≡ false }
         requires ordered { AreInOrder self.old }
@@ -166,7 +167,7 @@ impl WaitingFiles {
         Ok(())
     }
 
-    // Fails only with `NoMemory`, and then leaves all as it was.
+    // Fails only with `NoMemory`, and then leaves everything as it was.
     fn put_pending(&mut self, file: u64, fence: &Fence) -> Result<(), Refusal>
         requires ordered { AreInOrder self.old }
         ensures put { OnOk result ((k : Key) →
@@ -191,7 +192,7 @@ impl WaitingFiles {
         }
     }
 
-    /// Takes a file out at each of its pending fences.
+    /// Removes a file from each of its pending fences.
     pub(crate) fn take_all(&mut self, file: u64, fences: &[Fence])
         requires ordered { AreInOrder self.old }
         ensures taken { (k : Key) → holds self.new k ≡ (not (waits_of file fences.now k) && holds self.old k) }
@@ -202,7 +203,7 @@ impl WaitingFiles {
         }
     }
 
-    /// Takes one out.
+    /// Removes one point.
     pub(crate) fn take(&mut self, waiting: Waiting)
         ensures taken { (k : Key) → holds self.new k ≡ (not (is_same waiting k) && holds self.old k) }
         ensures fewer { holds self.old waiting ≡ true → length self.new + 1 ≡ length self.old }
@@ -211,7 +212,7 @@ impl WaitingFiles {
         self.points.remove(&waiting);
     }
 
-    /// The first of the timeline at or below the value.
+    /// The first point of the timeline at or below the value.
     pub(crate) fn first_due(&self, timeline: u64, value: u64) -> Option<Waiting>
         ensures some { IfSome result (λ k. (is_due_at timeline value k ≡ true) × (holds self.now k ≡ true)) }
         ensures least { IfSome result (λ first. (k : Key) →
@@ -224,7 +225,7 @@ impl WaitingFiles {
         }
     }
 
-    /// The least point of a timeline at which a file waits, or the greatest of all if there is none.
+    /// The least point of a timeline for which a file waits, or the greatest number if there is none.
     pub(crate) fn floor(&self, timeline: u64) -> u64
         ensures { (k : Key) → k.timeline ≡ timeline → holds self.now k ≡ true → result ≤ k.value }
     {

@@ -1,4 +1,4 @@
-// The files that signal by a request.
+//! Collects the files that a request signals, by rising number.
 ghost use Rattle.std.specs.Prelude.{◌≡◌, ℕ, ◌^◌, ◌≤◌, nat_eq, ◌&&◌, ◌||◌, ◌↔◌, true, false, None, OnOk, IfOk, IfErr, Contains};
 ghost use Rattle.device_core.specs.declared.refusal.Refusal.TheVariants.{NoMemory};
 ghost use Rattle.device_core.specs.State.{IsIndexed, at};
@@ -36,7 +36,7 @@ pub(crate) fn woken_by(
     Ok(woken)
 }
 
-/// Whether a file signals once a timeline signals up to the value. Takes no memory.
+/// Whether a file signals once a timeline signals up to the value. Does not allocate.
 pub(crate) fn wakes_some(
     points: &BTreeSet<Waiting>,
     files: &HashMap<u64, File>,
@@ -58,7 +58,7 @@ pub(crate) fn wakes_some(
     false
 }
 
-// By rising number, each once.
+// Sorts the numbers, and drops repeated ones.
 fn put_in_order(numbers: &mut Vec<u64>)
     ensures rising { IsStrictlyIncreasing numbers.new.items }
     ensures kept { (n : ℕ) → (Contains numbers.new.items n ↔ Contains numbers.old.items n) }

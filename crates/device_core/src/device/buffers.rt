@@ -1,4 +1,4 @@
-// The calls of a device on its buffers.
+//! The requests about buffers. As in `device.rt`, each finds its causes of refusal first.
 ghost use Rattle.std.specs.Prelude.{◌≡◌, ℕ, ◌+◌, nat_eq, if◌then◌else◌, Some, None, option_map, OnOk, OnErr, IfOk, IfErr, MatchOption, Ok, Err, true};
 ghost use Rattle.device_core.specs.declared.refusal.Refusal.TheVariants.{NoMemory};
 ghost use Rattle.device_core.specs.Buffers.{empty_buffer, export_usage as export_usage_of, import_usage as import_usage_of, import_into as imported_into, none_waits};
@@ -40,9 +40,9 @@ impl Device {
         }
     }
 
-    /// Makes a file of what an access with these flags waits for in a buffer, as `DMA_BUF_IOCTL_EXPORT_SYNC_FILE` does:
-    /// the latest pending fence of each timeline. If nothing is pending, the file is a stub, with the time at which the
-    /// buffer was made.
+    /// Makes a file of the fences for which an access with these flags waits in a buffer, as
+    /// `DMA_BUF_IOCTL_EXPORT_SYNC_FILE` does: the latest pending fence of each timeline. If nothing is pending, the
+    /// file is a stub, with the time at which the buffer was made.
     ///
     /// Fails with `NoNumber`, then with `NoEntry`, or with `WrongKind` at a timeline or a file, then with `Invalid` for
     /// flags that are none, then with `NoMemory`; nothing is made then.
@@ -118,7 +118,7 @@ impl Device {
     /// Whether each fence of a buffer at that usage or a stronger one has signalled, as poll asks: the writers before a
     /// read, and the readers too before a write.
     ///
-    /// Fails with `NoEntry`, or with `WrongKind` at a timeline or a file. Takes no memory.
+    /// Fails with `NoEntry`, or with `WrongKind` at a timeline or a file. Does not allocate.
     pub fn test(&self, buffer: u64, usage: Usage) -> Result<bool, Refusal>
         ensures known { MatchOption (buffer_at self.now buffer)
             (result ≡ Err (missing_buffer (objects_of self.now) buffer))
@@ -130,7 +130,7 @@ impl Device {
         }
     }
 
-    // Why there is no buffer of that number.
+    // The error for a number without a buffer.
     fn unknown_buffer(&self, number: u64) -> Refusal
         ensures { result ≡ missing_buffer (objects_of self.now) number }
     {
