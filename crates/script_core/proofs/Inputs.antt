@@ -1,4 +1,4 @@
--- What was read of a script, and what was written of its answers.
+-- The part of a script that was read, and the answers that were written.
 use Rattle.std.proofs.Common.{◌≡◌, ◌≢◌, ◌⊎◌, inl, inr, ℕ, ◌≤◌, List, [], ◌∷◌, ◌++◌, length, take, Option, refl, sym, ap, ◌∙◌, subst, append_assoc, append-nil}
 use Rattle.std.specs.Io.KnownBytes.{Appends}
 use Rattle.point_core.specs.declared.refusal.Refusal.TheVariants.{Memory}
@@ -21,7 +21,7 @@ use Rattle.line_core.proofs.EndedLines.{ended_lines, given-first}
 use Rattle.line_core.proofs.Inputs.{input_from, script_of-whole, script_of-too_long, lines_until-short, first_lines}
 use Rattle.script_core.proofs.Progress.{AppendsFront-all}
 
--- without Memory each line has its one answer
+-- unless it is Memory, the answer of a line is unique
 exact : (history : List Command) (body : Body) (a : Answer) → IsLineAnswer history body a → a ≢ answer.Refused Memory → a ≡ answer_of_line history body
 exact history (Cmd command) a is other = elim is.reported [ inl e ↦ e | inr m ↦ absurd (other m.0) ]
 exact history (Bad refusal) a is other = is
@@ -91,7 +91,7 @@ module _ (known left : Option (List ℕ)) (bytes shown : List ℕ) (end : Ending
       let answers : WritesAnswers (lines_until ending.Failed bytes) w.0 old new = subst (λ ls. WritesAnswers ls w.0 old new) lines_are w.1 in
       record { bytes = bytes; consumed = read.consumed; few = short; given = w.0; answers = answers }
 
--- the lines that were given come first among the script's
+-- the lines that were returned come first among the script's
 pub given-front : (before now : Option (List ℕ)) (s : LinesState) (given : List (List ℕ)) (old new : Option (List ℕ)) → HasGiven before now s given → WritesPrefix (ended_lines 1 given) old new → (script : List ℕ) × IsInput before script × WritesPrefix (script_of script) old new
 given-front before now s given old new p w =
     let first = given-first before now s given p in

@@ -1,4 +1,4 @@
--- Bytes that go after those that wait to be written, of which a prefix is written.
+-- Bytes that are appended to the pending ones, and written in part.
 use Rattle.std.proofs.Common.{◌≡◌, ℕ, ◌+◌, ◌<◌, List, [], ◌∷◌, ◌++◌, length, take, drop, get_or, Option, sym, ap, ◌∙◌, append_assoc, take-append-drop, refl}
 use Rattle.std.specs.List.{flat_map}
 use Rattle.std.proofs.KnownBytes.{Appends-nil, Appends-trans}
@@ -22,7 +22,7 @@ Passes-trans waiting middle left one two old between new p q = record {
 pub Front-none : (bytes : List ℕ) (old : Option (List ℕ)) → AppendsFront old old bytes
 Front-none bytes old = record { front = []; rest = bytes; whole = refl; appended = Appends-nil old }
 
--- a front of them is a front of more
+-- a prefix of these bytes is a prefix of more
 pub Front-more : (bytes more all : List ℕ) (old new : Option (List ℕ)) → all ≡ bytes ++ more → AppendsFront old new bytes → AppendsFront old new all
 Front-more bytes more all old new is f = record {
   front = f.front;
@@ -31,7 +31,7 @@ Front-more bytes more all old new is f = record {
   appended = f.appended;
 }
 
--- first bytes were passed on, and of the next a front was written
+-- the first bytes were passed on, and a prefix of the next was written
 pub Front-passed : (waiting middle one two : List ℕ) (old between new : Option (List ℕ)) → PassesOn waiting middle one old between → AppendsFront between new (middle ++ two) → AppendsFront old new (waiting ++ (one ++ two))
 Front-passed waiting middle one two old between new p f = record {
   front = p.written ++ f.front;
@@ -50,7 +50,7 @@ module _ {X : Type 0} where
       ap (flat_map f) (take_more xs i x within ∙ ap (λ y. take i xs ++ y ∷ []) (sym is))
       ∙ sym (flat_map_more f [] (take i xs) x)
 
-  -- the texts of first things were passed on, and that of the next
+  -- the texts of the first things were passed on, and the text of the next
   pub Passes-next : (f : X → List ℕ) (xs : List X) (i : ℕ) (x : X) (waiting middle left : List ℕ) (old between new : Option (List ℕ)) → i < length xs → x ≡ get_or xs i x → PassesOn waiting middle (flat_map f (take i xs)) old between → PassesOn middle left (f x) between new → PassesOn waiting left (flat_map f (take (i + 1) xs)) old new
   Passes-next f xs i x waiting middle left old between new within is p q =
       rw (flat_map-next f xs i x within is) (Passes-trans waiting middle left (flat_map f (take i xs)) (f x) old between new p q)
@@ -59,7 +59,7 @@ module _ {X : Type 0} where
   flat_map-append f [] ys = refl
   flat_map-append f (x ∷ xs) ys = ap (λ rest. f x ++ rest) (flat_map-append f xs ys) ∙ sym (append_assoc (f x) (flat_map f xs) (flat_map f ys))
 
-  -- the texts of first things were passed on, and of the next a front was written
+  -- the texts of the first things were passed on, and a prefix of the next was written
   pub Front-next : (f : X → List ℕ) (xs : List X) (i : ℕ) (x : X) (waiting middle : List ℕ) (old between new : Option (List ℕ)) → i < length xs → x ≡ get_or xs i x → PassesOn waiting middle (flat_map f (take i xs)) old between → AppendsFront between new (middle ++ f x) → AppendsFront old new (waiting ++ flat_map f xs)
   Front-next f xs i x waiting middle old between new within is p q =
       let first = flat_map f (take i xs) in

@@ -68,7 +68,7 @@ Progress-line done desk desk' out out' totals totals' old new l a p is stands e 
       };
     }
 
--- some of what stood in `out` was written
+-- a part of `out` was written
 pub Progress-write : (done : List Line) (desk : DeskState) (out out' : List ℕ) (totals : Totals) (old new new' : Option (List ℕ)) → Progress done desk out totals old new
     → (written : List ℕ) × (out ≡ written ++ out') × Appends new new' written → Progress done desk out' totals old new'
 Progress-write done desk out out' totals old new new' p w = record {
@@ -98,7 +98,7 @@ Progress-front lines done rest desk out totals old new new' p e f = record {
   };
 }
 
--- one more line was answered, and of what waited and its text a front was written
+-- one more line was answered, and a prefix of the pending output and its text was written
 pub Progress-unwritten : (done : List Line) (desk : DeskState) (out : List ℕ) (totals : Totals) (old new new' : Option (List ℕ)) (l : Line) (a : Answer) → Progress done desk out totals old new
     → ((history : List Command) → HasHistory desk history → IsLineAnswer history l.body a)
     → AppendsFront new new' (out ++ text_of l.number a) → WritesPrefix (done ++ l ∷ []) old new'

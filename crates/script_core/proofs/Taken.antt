@@ -1,4 +1,4 @@
--- Lines whose bytes were taken, and so are answered.
+-- Lines whose bytes were taken are answered.
 use Rattle.std.proofs.Common.{ℕ, List, [], ◌++◌, Option, None, Some, append-nil}
 use Rattle.std.specs.Prelude.{Result, OnOk, OnErr}
 use Rattle.point_core.specs.declared.refusal.Refusal.{Refusal}

@@ -17,7 +17,7 @@ use Rattle.script_core.specs.Text.{text_of}
 use Rattle.script_core.specs.Output.{history_after_line, IsLineAnswer, AreLineAnswers, refusal_of, texts_of, WritesAnswers, WritesPrefix, Counts}
 use Rattle.line_core.specs.Script.{lines_until}
 
--- the history after lines that were answered so
+-- the history after lines with these answers
 abbrev pub history_along : List Command → List Line → List Answer → List Command
 history_along history [] given = history
 history_along history (l ∷ ls) [] = history
@@ -34,7 +34,7 @@ pub record Progress (done : List Line) (desk : DeskState) (out : List ℕ) (tota
   pub appended : Appends old new front
   pub counts : Counts totals given
 
--- a desk, the texts of its last answers, and how many it gave
+-- a desk, the text of its last answers, and the number of its answers
 pub record AnswersState : Type 0 where
   pub desk : DeskState
   pub out : List ℕ
@@ -44,8 +44,8 @@ pub record AnswersState : Type 0 where
 abbrev pub HasAnswered : List Line → AnswersState → Option (List ℕ) → Option (List ℕ) → Type 0
 HasAnswered done s old new = Progress done s.desk s.out s.totals old new
 
--- One line was answered: the text of its answer was put after what was not yet written, and the answer is that refusal, or
--- none.
+-- One line was answered: the text of its answer was appended to the pending output, and `refused` is the answer's
+-- refusal, if any.
 pub record AnswersLine (l : Line) (refused : Option Refusal) (before after : AnswersState)
     (old new : Option (List ℕ)) : Type 0 where
   pub given : Answer
@@ -61,14 +61,14 @@ pub record AnswersLines (lines : List Line) (totals : Totals) (old new : Option 
   pub answers : WritesAnswers lines given old new
   pub counts : Counts totals given
 
--- bytes of a script were read that end so, and their lines are answered
+-- bytes of a script were read, which end so, and their lines are answered
 pub record HasAnsweredBytes (before after : Option (List ℕ)) (end : Ending) (s : AnswersState)
     (old new : Option (List ℕ)) : Type 0 where
   pub bytes : List ℕ
   pub read : WasRead before after bytes end
   pub answered : HasAnswered (lines_until end (take SCRIPT_BYTES bytes)) s old new
 
--- A line of that number was answered, or an answer could not be passed on: the clauses of `answer_body`, as one.
+-- Line `number` was answered, or an answer could not be passed on: all clauses of `answer_body` as one proposition.
 pub record IsAnswered (number : ℕ) (body : Body) (given : Result (Option Refusal) Refusal) (before after : AnswersState)
     (old new : Option (List ℕ)) : Type 0 where
   pub ok : OnOk given ((done : List Line) → (start : Option (List ℕ)) → HasAnswered done before start old

@@ -1,4 +1,4 @@
--- What is written for a script.
+-- The output of a script.
 use Rattle.std.specs.Prelude.{◌≡◌, ◌≢◌, ◌≤◌, ℕ, List, [], ◌∷◌, ◌++◌, length, Option, None, Some, count_by}
 use Rattle.std.specs.List.{AllByRecursion}
 use Rattle.std.specs.Io.KnownBytes.{Appends, Consumes}
@@ -20,12 +20,12 @@ use Rattle.line_core.specs.Reading.{IsInput}
 use Rattle.line_core.specs.Script.{script_of, lines_until}
 use Rattle.script_core.specs.Text.{text_of}
 
--- the one answer of a line
+-- the unique answer of a line
 abbrev pub answer_of_line : List Command → Body → Answer
 answer_of_line history (Cmd command) = answer_to (world_of history) command
 answer_of_line history (Bad refusal) = answer.Refused refusal
 
--- the history after a line that was answered so
+-- the history after a line with this answer
 abbrev pub history_after_line : List Command → Body → Answer → List Command
 history_after_line history (Cmd command) given = history_after history command given
 history_after_line history (Bad refusal) given = history
@@ -40,7 +40,7 @@ output_from history (l ∷ ls) =
 abbrev pub output_of : List ℕ → List ℕ
 output_of script = output_from [] (script_of script)
 
--- the one answer of the line, or Memory if a command isn't refused
+-- the unique answer of the line, or Memory for a command that isn't refused
 abbrev pub IsLineAnswer : List Command → Body → Answer → Type 0
 IsLineAnswer history (Cmd command) given = IsAnswer history command given
 IsLineAnswer history (Bad refusal) given = given ≡ answer.Refused refusal
@@ -76,7 +76,7 @@ pub record WritesAnswers (lines : List Line) (given : List Answer) (old new : Op
   pub each : AreLineAnswers [] lines given
   pub written : Appends old new (texts_of lines given)
 
--- a prefix of the answers of first lines was written
+-- a prefix of the answers of the first lines was written
 pub record WritesPrefix (lines : List Line) (old new : Option (List ℕ)) : Type 0 where
   pub first : List Line
   pub rest : List Line
@@ -85,21 +85,21 @@ pub record WritesPrefix (lines : List Line) (old new : Option (List ℕ)) : Type
   pub each : AreLineAnswers [] first given
   pub written : AppendsFront old new (texts_of first given)
 
--- how many answers there were, and how many of them refusals
+-- the number of answers, and the number of refusals among them
 pub record Counts (totals : Totals) (given : List Answer) : Type 0 where
   pub lines : totals.lines ≡ length given
   pub refused : totals.refused ≡ count_by is_refused given
 
--- The script was answered: each of its lines has its answer, in order, and the texts of these were written, and nothing
--- else. If no answer is Memory, that is the output of the script.
+-- The script was answered: each of its lines has its answer, in order, and their texts were written, and nothing else.
+-- If no answer is Memory, the texts are the output of the script.
 pub record AnswersScript (script : List ℕ) (totals : Totals) (old new : Option (List ℕ)) : Type 0 where
   pub given : List Answer
   pub answers : WritesAnswers (script_of script) given old new
   pub output : NoneIsMemory given → Appends old new (output_of script)
   pub counts : Counts totals given
 
--- A read failed, at most the bytes of a script having been read. The lines whose line feed was read have their answers,
--- and the texts of these were written, and nothing else.
+-- A read failed, after at most the bytes of a script. The lines whose line feed was read have their answers, and the
+-- texts of these were written, and nothing else.
 pub record AnswersEndedLines (before after old new : Option (List ℕ)) : Type 0 where
   pub bytes : List ℕ
   pub consumed : Consumes before after bytes

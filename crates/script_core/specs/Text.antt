@@ -1,4 +1,4 @@
--- The texts of answers.
+-- The text of each answer.
 use Rattle.std.specs.Prelude.{ℕ, List, [], ◌∷◌, ◌++◌, length, codes, decimal}
 use Rattle.std.specs.List.{join_with_byte, flat_map}
 use Rattle.point_core.specs.Refusal as refusal
@@ -40,18 +40,18 @@ fired_text cookie = line_text (codes "fired" ∷ decimal cookie ∷ [])
 abbrev pub value_line : ℕ → List ℕ
 value_line value = line_text (codes "ok" ∷ decimal value ∷ [])
 
--- a timeline's new value, and the callbacks that it fired
+-- a timeline's new value, and the callbacks that fired
 abbrev pub raised_text : ℕ → List ℕ → List ℕ
 raised_text value fired = value_line value ++ flat_map fired_text fired
 
--- the number of the rows, and these
+-- the number of rows, and the rows
 abbrev pub show_text : List ShowRow → List ℕ
 show_text rows = value_line (length rows) ++ rows_text rows
 
 abbrev pub report_text : Tables → List ℕ
 report_text tables = value_line (row_count tables) ++ tables_text tables
 
--- what follows the name of a refusal on a line of that number
+-- the details of a refusal of line `number`, after its name
 abbrev pub details : ℕ → Refusal → List (List ℕ)
 details number Syntax = codes "line" ∷ decimal number ∷ []
 details number LongLine = codes "line" ∷ decimal number ∷ []
@@ -74,7 +74,7 @@ abbrev pub refusal_text : ℕ → Refusal → List ℕ
 refusal_text number r = line_text
     (codes "err" ∷ decimal (refusal.refusal_number r) ∷ refusal.refusal_name r ∷ details number r)
 
--- the text of the answer of the line of that number
+-- the text of the answer of line `number`
 abbrev pub text_of : ℕ → Answer → List ℕ
 text_of number answer.Done = line_text (codes "ok" ∷ [])
 text_of number (answer.Value n) = value_line n

@@ -1,4 +1,5 @@
-// How a line is answered.
+//! `Answerer`: the handler that answers each line of a script. `reading.rt` calls it for every line. `NoNotes` is for
+//! plain runs; `reason_core` has one that also writes notes.
 
 use crate::answers::Answers;
 use crate::next_line::answer_raw;
@@ -16,10 +17,10 @@ pub trait Answerer<N> {
     ghost use Rattle.script_core.specs.Answering.{HasAnswered};
     ghost use Rattle.script_core.specs.Output.{WritesPrefix};
 
-    /// Answers a line that ended with a line feed, if it has an answer. Texts are written once they are many.
+    /// Answers a line that ended with a line feed, if it has an answer. Output is written once enough is pending.
     ///
-    /// Fails with `Write` if a write failed or took no byte, and with `Memory` if a growth was refused: then a prefix of the
-    /// answers is written.
+    /// Fails with `Write` if a write failed or took no byte, and with `Memory` if an allocation failed: then a prefix
+    /// of the answers is written.
     fn answer<W: Write>(
         &mut self,
         answers: &mut Answers,
@@ -39,7 +40,7 @@ pub trait Answerer<N> {
         ensures lines { answers.new.totals.lines ≤ answers.old.totals.lines + 1 }
         ensures refusals { IfErr result (λ refusal. (refusal ≡ WriteFault) ⊎ (refusal ≡ Memory)) };
 
-    /// Answers what follows the last line feed, which is a whole line if the script ended there.
+    /// Answers the bytes after the last line feed, which are a whole line if the script ended there.
     ///
     /// Fails as `answer`.
     fn answer_last<W: Write>(
@@ -63,12 +64,12 @@ pub trait Answerer<N> {
         ensures refusals { IfErr result (λ refusal. (refusal ≡ WriteFault) ⊎ (refusal ≡ Memory)) };
 }
 
-/// Answers lines, and writes no notes about them.
+/// Answers lines, and writes no notes.
 #[derive(Clone, Copy, Drop)]
 pub struct NoNotes;
 
 impl Answerer<()> for NoNotes {
-    // Inlined into its one caller, so that neither a command nor its answer is in memory as a whole.
+    // Inlined into its only caller, so that neither a command nor its answer is ever stored as a whole.
     #[inline(always)]
     fn answer<W: Write>(
         &mut self,

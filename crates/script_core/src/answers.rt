@@ -1,4 +1,5 @@
-// The answers of lines, on their way to a writer.
+//! `Answers`: a desk with the output that is pending. Its memory follows the desk and one block of output, not the
+//! script.
 ghost use Rattle.std.specs.Prelude.{◌≡◌, ◌+◌, ◌<◌, ◌≤◌, ◌⊎◌, ◌++◌, ◌∷◌, [], List, ℕ, Option, None, MatchOption, IfOk, OnOk, OnErr, IfErr};
 ghost use Rattle.std.specs.Io.KnownBytes.{Keeps};
 ghost use Rattle.point_core.specs.declared.refusal.Refusal.TheVariants.{Write as WriteFault, Memory};
@@ -19,12 +20,12 @@ use std::alloc::Global;
 use std::io::Write;
 use std::marker::Model;
 
-/// The answers of lines, one after another: a desk, and the texts of its answers on their way to a writer. What it keeps is
-/// what the desk holds, and the texts that are not yet written.
+/// A desk, and the text of its answers up to the next write. It keeps what the desk holds, and the text that is not yet
+/// written.
 #[derive(Drop)]
 pub struct Answers {
     desk: Desk,
-    // the texts that are not yet written
+    // the text that is not yet written
     out: Vec<u8>,
     totals: Totals,
 }
@@ -40,7 +41,7 @@ impl Model for Answers {
 impl Answers {
     ghost use Rattle.script_core.specs.Answering.{HasAnswered, AnswersLine, AnswersLines};
 
-    /// No line was answered yet.
+    /// No line has been answered.
     ///
     /// Fails only with Memory.
     pub fn new(alloc: Global) -> Result<Answers, Refusal>
@@ -54,18 +55,18 @@ impl Answers {
         })
     }
 
-    /// The desk, as the lines that were answered have left it.
+    /// The desk, as the answered lines have left it.
     pub fn desk(&self) -> &Desk
         ensures { result.now ≡ self.now.desk }
     {
         &self.desk
     }
 
-    /// Answers the line of that number if it has an answer, and gives the refusal if the answer is one. Texts are written
-    /// once they are many.
+    /// Answers line `number` if it has an answer, and returns the refusal if the answer is one. Output is written once
+    /// enough is pending.
     ///
-    /// Fails with Write if a write failed or took no byte, and with Memory if a growth was refused: then a prefix of the
-    /// answers is written.
+    /// Fails with Write if a write failed or took no byte, and with Memory if an allocation failed: then a prefix of
+    /// the answers is written.
     pub fn answer<W: Write>(
         &mut self,
         number: u32,
@@ -93,8 +94,8 @@ impl Answers {
         }
     }
 
-    /// Answers the line of that number, which says this. It is inlined where the body is made: then neither the command nor
-    /// its answer is in memory as a whole.
+    /// Answers line `number`, whose body is known. It is inlined where the body is made: then neither the command nor
+    /// its answer is ever stored as a whole.
     ///
     /// Fails as `answer`.
     #[inline(always)]
@@ -123,7 +124,7 @@ impl Answers {
         Ok(refused)
     }
 
-    /// Writes the texts that are not yet written.
+    /// Writes the pending output.
     ///
     /// Fails with Write if a write failed or took no byte: then a prefix of the answers is written.
     pub fn write<W: Write>(&mut self, writer: &mut W) -> Result<(), Refusal>
@@ -141,9 +142,10 @@ impl Answers {
         Ok(())
     }
 
-    /// Writes the texts that are not yet written, flushes, and reports how many lines were answered.
+    /// Writes the pending output, flushes, and reports how many lines were answered.
     ///
-    /// Fails with Write if a write failed or took no byte, or the flush failed: then a prefix of the answers is written.
+    /// Fails with Write if a write failed or took no byte, or the flush failed: then a prefix of the answers is
+    /// written.
     pub fn finish<W: Write>(&mut self, writer: &mut W) -> Result<Totals, Refusal>
         ensures ok { IfOk result (λ totals. (done : List LineModel) → (start : Option (List ℕ)) →
             HasAnswered done self.old start (W.contents writer.old)

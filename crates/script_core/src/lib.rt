@@ -1,6 +1,6 @@
-//! The engine, which turns a script's bytes into answers and these into bytes.
+//! Runs a script: `line_core` parses its lines, `desk_core` answers them, and `report_core` prints the answers.
 //!
-//! `specs/` defines the text of each answer. `line_core` reads the lines.
+//! `specs/` defines the text of each answer.
 #![tactic(auto)]
 
 mod answerer;

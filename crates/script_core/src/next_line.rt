@@ -1,4 +1,4 @@
-// A line that is answered where it is read.
+//! `NextLine`: the visitor that answers a line where it is parsed, so that its command is never stored.
 ghost use Rattle.std.specs.Prelude.{◌≡◌, ◌+◌, ◌<◌, ◌≤◌, ◌⊎◌, ◌++◌, [], List, ℕ, Option, None, MatchOption, IfOk, OnOk, OnErr, IfErr};
 ghost use Rattle.point_core.specs.declared.refusal.Refusal.TheVariants.{Write as WriteFault, Memory};
 ghost use Rattle.line_core.specs.declared.line.Line.{Line};
@@ -12,7 +12,7 @@ use line_core::{Body, RawLine, Takes, take_raw_line};
 use point_core::Refusal;
 use std::io::Write;
 
-/// Answers the line, if it has an answer, and gives the refusal if the answer is one.
+/// Answers the line, if it has an answer, and returns the refusal if the answer is one.
 ///
 /// Fails as `Answers::answer`.
 #[inline(always)]
@@ -60,7 +60,7 @@ fn take_raw<W: Write>(
     }
 }
 
-/// Takes what the line of that number says, and answers it to the writer.
+/// Receives the body of line `number`, and writes its answer.
 #[derive(Drop)]
 struct NextLine<'a, W> {
     answers: &'a mut Answers,

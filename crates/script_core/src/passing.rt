@@ -1,4 +1,5 @@
-// The text of an answer on its way to a writer.
+//! Appends an answer's text to the output, and writes the output once enough is pending. A report is passed on in
+//! pieces.
 ghost use Rattle.std.specs.Prelude.{◌≡◌, ◌⊎◌, ◌++◌, OnOk, OnErr, IfErr};
 ghost use Rattle.std.specs.List.{flat_map};
 ghost use Rattle.point_core.specs.declared.refusal.Refusal.TheVariants.{Write as WriteFault, Memory};
@@ -16,11 +17,11 @@ use point_core::Refusal;
 use report_core::{buffer_text, file_row};
 use std::io::Write;
 
-/// Appends the text of the answer of the line of that number to `out`, and writes what waits there if it is much. The
-/// text of a report waits by its timelines, file by file and buffer by buffer, and is never held as a whole.
+/// Appends the text of the answer of line `line` to `out`, and writes `out` if enough is pending. The text of a report
+/// is appended by its timelines, file by file and buffer by buffer, and is never stored as a whole.
 ///
-/// Fails with Write if a write failed or took no byte, and with Memory if a growth was refused: then a prefix of what
-/// waited and of the text is written.
+/// Fails with Write if a write failed or took no byte, and with Memory if an allocation failed: then a prefix of the
+/// pending output and of the text is written.
 #[inline(always)]
 pub(crate) fn pass_answer<W: Write>(
     line: u32,

@@ -1,4 +1,5 @@
-// A script from a reader, and its answers to a writer.
+//! Runs a script from a reader to a writer. It reads only when no answer is pending, so an interactive user sees each
+//! answer.
 ghost use Rattle.std.specs.Prelude.{◌≡◌, ◌+◌, ◌⊎◌, [], Err, IfOk, OnErr, IfErr};
 ghost use Rattle.point_core.specs.declared.refusal.Refusal.TheVariants.{Read as ReadFault, Write as WriteFault, Memory};
 ghost use Rattle.script_core.specs.Answering.{HasAnswered, HasAnsweredBytes};
@@ -13,14 +14,14 @@ use point_core::Refusal;
 use std::alloc::Global;
 use std::io::{Read, Write};
 
-/// Reads a script and writes its answers: the text of each line's answer, in order. A line is answered when its end is read,
-/// and its answer is written before the next read. It reads up to the end, or one byte past the limit of a script, and
-/// flushes once, at the end. An interrupted read or write counts as failed.
+/// Reads a script and writes its answers: the text of each line's answer, in order. A line is answered when its end is
+/// read, and its answer is written before the next read. It reads up to the end, or one byte past the limit of a
+/// script, and flushes once, at the end. An interrupted read or write counts as failed.
 ///
-/// Its memory does not grow with the script: of the lines it keeps what the desk holds.
+/// Its memory does not grow with the script, but with the objects on the desk.
 ///
-/// Fails with Read if a read failed: then the lines whose line feed was read are answered. Fails with Write if a
-/// write failed or took no byte, or the flush failed, and with Memory if a growth was refused: then a prefix of the answers
+/// Fails with Read if a read failed: then the lines whose line feed was read are answered. Fails with Write if a write
+/// failed or took no byte, or the flush failed, and with Memory if an allocation failed: then a prefix of the answers
 /// is written.
 pub fn engine<R: Read, W: Write>(
     alloc: Global,
@@ -30,7 +31,7 @@ pub fn engine<R: Read, W: Write>(
     ensures ok { IfOk result (λ totals. AnswersInput (R.remaining reader.old) totals
         (W.contents writer.old) (W.contents writer.new)) }
 
-    // What is read is the script, up to the byte after its limit.
+    // The bytes that are read are the script, up to the byte after its limit.
     ensures reads { IfOk result (λ _. ReadsScript (R.remaining reader.old) (R.remaining reader.new)) }
 
     // Whatever the result, no byte is read past that one.
@@ -49,9 +50,10 @@ pub fn engine<R: Read, W: Write>(
     answer_script(alloc, &mut NoNotes, reader, writer, &mut ())
 }
 
-/// Runs a script as `engine` does, and has each line answered by `answerer`, which may write notes about it to `notes`.
+/// Runs a script as `engine` does, but has each line answered by `answerer`, which may write notes about it to `notes`.
 ///
-/// Fails as `engine` does: also with Write if a write of a note failed, and with Memory if `answerer` was refused a growth.
+/// Fails as `engine` does: also with Write if a write of a note failed, and with Memory if `answerer` could not
+/// allocate.
 pub fn answer_script<R: Read, W: Write, N, A: Answerer<N>>(
     alloc: Global,
     answerer: &mut A,
@@ -62,7 +64,7 @@ pub fn answer_script<R: Read, W: Write, N, A: Answerer<N>>(
     ensures ok { IfOk result (λ totals. AnswersInput (R.remaining reader.old) totals
         (W.contents writer.old) (W.contents writer.new)) }
 
-    // What is read is the script, up to the byte after its limit.
+    // The bytes that are read are the script, up to the byte after its limit.
     ensures reads { IfOk result (λ _. ReadsScript (R.remaining reader.old) (R.remaining reader.new)) }
 
     // Whatever the result, no byte is read past that one.

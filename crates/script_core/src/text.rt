@@ -1,4 +1,4 @@
-// The texts of answers.
+//! The text of each answer, as `specs/Text.antt` defines it.
 ghost use Rattle.std.specs.Prelude.{◌≡◌, ◌+◌, ◌≤◌, ◌∷◌, ◌++◌, [], OnOk, OnErr, Err, codes, decimal, length};
 ghost use Rattle.std.specs.List.{flat_map};
 ghost use Rattle.std.specs.Io.{StartsWith};
@@ -22,10 +22,10 @@ use report_core::{
 /// The most bytes of a driver's name, `sw_sync`.
 const DRIVER_BYTES: usize = 7;
 
-/// The bytes of the answer that is done, with its line feed.
+/// The bytes of the answer `ok`, with its line feed.
 const DONE_BYTES: usize = 3;
 
-/// Appends the text of the answer of the line of that number to `out`.
+/// Appends the text of the answer of line `line` to `out`.
 ///
 /// Fails only with Memory, and then leaves `out` as it was.
 pub fn print(line: u32, answer: &Answer, out: &mut Vec<u8>) -> Result<(), Refusal>
@@ -40,7 +40,7 @@ pub fn print(line: u32, answer: &Answer, out: &mut Vec<u8>) -> Result<(), Refusa
     pushed
 }
 
-/// The text of the answer that is done and has no more to report.
+/// The text of an answer that reports nothing but success.
 pub fn done_line() -> TextLine
     ensures { result ≡ line_text (codes "ok" ∷ []) }
 {
@@ -58,9 +58,9 @@ pub fn value_line(value: u64) -> TextLine
     line
 }
 
-/// The text of the refusal of the line of that number.
+/// The text of a refusal of line `line`.
 ///
-/// Takes no memory.
+/// Does not allocate.
 pub fn refusal_line(line: u32, refusal: Refusal) -> TextLine
     ensures { result ≡ refusal_text line refusal }
 {
@@ -84,9 +84,9 @@ fn push_answer(line: u32, answer: &Answer, out: &mut Vec<u8>) -> Result<(), Refu
     }
 }
 
-/// Appends the text of an answer that is given by value, which then need not be in memory as a whole.
+/// Appends the text of an answer that is given by value, so that it need not be stored as a whole.
 ///
-/// Fails only with Memory. `out` then begins with what it was.
+/// Fails only with Memory. `out` then begins with its old bytes.
 #[inline(always)]
 pub(crate) fn push_owned(line: u32, answer: Answer, out: &mut Vec<u8>) -> Result<(), Refusal>
     ensures ok { OnOk result (out.new.items ≡ out.old.items ++ text_of line answer) }
@@ -194,7 +194,7 @@ fn push_fence(fence: &FenceRow, out: &mut Vec<u8>) -> Result<(), Refusal>
     line.push_to(out)
 }
 
-/// Puts a space and the status before the line. Each arm copies a text of a length that the compiler knows.
+/// Puts a space and the status before the line. Each arm copies a text whose length the compiler knows.
 #[inline(always)]
 fn put_status(line: &mut TextLine, status: Status)
     requires { length line.old + 1 + STATUS_BYTES ≤ TEXT_LINE_BYTES }
@@ -243,7 +243,7 @@ fn push_report(report: &Report, out: &mut Vec<u8>) -> Result<(), Refusal>
 
 /// Appends the number of a report's rows, and its rows of timelines, to `out`.
 ///
-/// Fails only with Memory. `out` then begins with what it was.
+/// Fails only with Memory. `out` then begins with its old bytes.
 #[inline(never)]
 pub(crate) fn push_timelines(report: &Report, out: &mut Vec<u8>) -> Result<(), Refusal>
     ensures ok { OnOk result (out.new.items
@@ -287,7 +287,7 @@ fn put_refusal(text: &mut TextLine, line: u32, refusal: Refusal)
     text.put_text(b"err");
 }
 
-/// Puts what follows the name of a refusal before the line feed.
+/// Puts the details of a refusal, which follow its name, before the line feed.
 fn put_details(text: &mut TextLine, line: u32, refusal: Refusal)
     requires { text.old ≡ 10 ∷ [] }
     ensures text { text.new ≡ line_end (details line refusal) }

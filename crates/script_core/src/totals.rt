@@ -1,10 +1,10 @@
-// How many lines of a script were answered.
+//! `Totals`: how many lines of a script were answered, and how many of these were refused.
 ghost use Rattle.std.specs.Prelude.{◌≡◌, ◌+◌, ◌^◌, ◌<◌, [], if◌then◌else◌};
 ghost use Rattle.desk_core.specs.Answer.{is_refused};
 
 use command_core::Answer;
 
-/// How many lines of a script were answered.
+/// The number of answers of a script.
 #[derive(Clone, Copy, Debug)]
 pub struct Totals {
     /// The lines that have an answer. The rows of an answer aren't counted.
@@ -17,7 +17,7 @@ pub struct Totals {
 impl Totals {
     ghost use Rattle.script_core.specs.Output.{Counts};
 
-    /// No line was answered yet.
+    /// No answers.
     pub fn new() -> Self
         ensures counts { Counts result [] }
     {
@@ -28,7 +28,7 @@ impl Totals {
         }
     }
 
-    /// With one answer more.
+    /// The totals with another answer.
     pub fn with(self, answer: &Answer) -> Self
         requires { self.lines + 1 < 2 ^ 64 }
         ensures lines { result.lines ≡ self.lines + 1 }

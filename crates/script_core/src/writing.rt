@@ -1,4 +1,4 @@
-// The texts of answers to a writer.
+//! Buffers output: text is collected up to `WRITE_BYTES` before it is written.
 ghost use Rattle.std.specs.Prelude.{◌≡◌, ◌++◌, [], Err, List, ℕ, OnOk, OnErr};
 ghost use Rattle.std.specs.Io.KnownBytes.{Appends};
 ghost use Rattle.point_core.specs.declared.refusal.Refusal.TheVariants.{Write};
@@ -8,10 +8,10 @@ use point_core::Refusal;
 use report_core::write_whole;
 use std::io::Write;
 
-/// Texts are gathered up to this many bytes before they are written.
+/// Output is collected up to this many bytes before it is written.
 const WRITE_BYTES: usize = 8192;
 
-/// Writes the texts if they are many, and takes them out.
+/// Writes the output if it is long enough, and clears it.
 ///
 /// Fails as `write_whole`.
 #[inline(always)]
@@ -27,7 +27,7 @@ pub fn write_many<W: Write>(writer: &mut W, out: &mut Vec<u8>) -> Result<(), Ref
     Ok(())
 }
 
-/// Writes the texts, and takes them out.
+/// Writes the output, and clears it.
 ///
 /// Fails as `write_whole`.
 #[inline(never)]
