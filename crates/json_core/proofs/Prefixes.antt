@@ -1,4 +1,4 @@
--- What was written of objects when a call failed.
+-- The objects that were written when a call failed.
 use Rattle.std.proofs.Common.{◌≡◌, ℕ, ◌+◌, ◌-◌, ◌⊎◌, inl, inr, List, [], ◌∷◌, ◌++◌, length, take, Option, None, Some, refl, sym, ap, ◌∙◌, append_assoc, append-nil, subst, arith}
 use Rattle.std.specs.Prelude.{MatchOption}
 use Rattle.std.proofs.KnownBytes.{Appends-trans}
@@ -26,7 +26,7 @@ use Rattle.json_core.specs.Written.{BeginsScript, HasBegun, HasWritten, WritesOb
 use Rattle.json_core.proofs.Writing.{objects-next}
 
 module _ {lines : List (List ℕ)} {said : List Line} {desk : DeskState} {out : List ℕ} {totals : Totals} {old now : Option (List ℕ)} (p : HasWritten lines said desk out totals old now) where
-  -- what waited was written in part
+  -- the pending output is written in part
   pub prefix-out : {new : Option (List ℕ)} → AppendsFront now new out → (more : List (List ℕ)) → WritesObjectsPrefix (lines ++ more) said old new
   prefix-out {new} f more = record {
     first = said;
@@ -42,7 +42,7 @@ module _ {lines : List (List ℕ)} {said : List Line} {desk : DeskState} {out : 
     };
   }
 
-  -- one line more has an answer, and of what waited and its object a prefix was written
+  -- one more line has an answer, and a prefix of the pending output and its object was written
   pub prefix-one : {new : Option (List ℕ)} (line : List ℕ) (l : Line) → l.number ≡ length lines + 1 → ReportsPrefix l.number (cut line) l.body desk out now new
       → (more : List (List ℕ)) → WritesObjectsPrefix (lines ++ line ∷ more) (said ++ l ∷ []) old new
   prefix-one {new} line l number t more =
@@ -93,7 +93,7 @@ pub begun-prefix : (input : Option (List ℕ)) (desk : DeskState) (out : List �
     → AppendsFront now new out → WritesScriptPrefix input old new
 begun-prefix input desk out totals old now new b f = first-prefix input b.lines b.said old new b.begins (prefix-out b.written f)
 
--- the lines that were given are the script's first
+-- the lines that were returned are the script's first
 pub given-begins : (before now : Option (List ℕ)) (s : LinesState) (given : List (List ℕ)) → HasGiven before now s given → BeginsScript before given (ended_lines 1 given)
 given-begins before now s given p =
     let input = input_from before now p.bytes p.consumed in
@@ -111,7 +111,7 @@ given-begins before now s given p =
       first = ap (numbered (ending_of script) 1) split ∙ numbered-given (ending_of script) 1 given tail (some_lines (p.front ++ (s.ready ++ after)));
     }
 
--- bytes that end so, if the read did not fail, are all that a script has
+-- bytes that end so, if the read did not fail, are the whole script
 pub whole-begins : (before left : Option (List ℕ)) (bytes : List ℕ) (end : Ending) → WasRead before left bytes end → (end ≡ ending.Whole) ⊎ (end ≡ ending.TooLong)
     → BeginsScript before (lines_of (take SCRIPT_BYTES bytes)) (lines_until end (take SCRIPT_BYTES bytes))
 whole-begins before left bytes end read ends =
@@ -153,7 +153,7 @@ ended-begun before now left s t ending.Failed given g e line body desk desk' out
     let same = none is in
     record { lines = given; said = ended_lines 1 given; begins = given-begins before now s given g; written = rw (same.0, same.1, same.2, same.3) w }
 
--- a read that failed leaves no answer to the last line
+-- after a failed read the last line has no answer
 ends-so : (end : Ending) (line : List ℕ) (body : Option Body) → body ≡ last_body end line → (body ≡ None → ⊥) → (end ≡ ending.Whole) ⊎ (end ≡ ending.TooLong)
 ends-so ending.Whole line body is some = inl refl
 ends-so ending.TooLong line body is some = inr refl

@@ -1,4 +1,4 @@
--- Lines that are answered one after another, and the objects that are written on the way.
+-- Lines that are answered one after another, and their objects.
 use Rattle.std.proofs.Common.{◌≡◌, ℕ, ◌+◌, ◌-◌, ◌⊎◌, inl, inr, List, [], ◌∷◌, ◌++◌, length, take, Option, None, Some, Bool, cond, refl, sym, ap, ◌∙◌, append_assoc, append-nil, zero-add, subst, arith}
 use Rattle.std.specs.Prelude.{MatchOption, OnOk, Result, Ok, Err}
 use Rattle.std.specs.List.{count_by}
@@ -46,7 +46,7 @@ shown-here lines line more number is =
     ap (λ text. utf8_lossy (cut text)) (get_or_at lines line more [] (number - 1) (omega (arith, is)))
 
 module _ {lines : List (List ℕ)} {said : List Line} {desk : DeskState} {out : List ℕ} {totals : Totals} {old now : Option (List ℕ)} (p : HasWritten lines said desk out totals old now) where
-  -- the objects with that of one line more
+  -- the objects with another line's
   pub objects-next : (line : List ℕ) (l : Line) (a : Answer) → l.number ≡ length lines + 1 → (more : List (List ℕ))
       → objects_of (lines ++ line ∷ more) (said ++ l ∷ []) (p.given ++ a ∷ []) ≡ p.written ++ (out ++ line_text l.number (utf8_lossy (cut line)) a)
   objects-next line l a number more =
@@ -88,7 +88,7 @@ module _ {lines : List (List ℕ)} {said : List Line} {desk : DeskState} {out : 
         };
       }
 
-  -- what waited is written
+  -- the pending output is written
   pub written-out : {new : Option (List ℕ)} → Appends now new out → HasWritten lines said desk [] totals old new
   written-out {new} all = record {
     given = p.given;
@@ -109,7 +109,7 @@ written-next lines said desk desk' out out' totals totals' old now new line numb
 written-next lines said desk desk' out out' totals totals' old now new line number (Some body) p is told =
     written-one p line (record { number = number; body = body }) is told
 
--- what waited was written, and all else is as it was
+-- the pending output was written, and everything else is unchanged
 pub written-out-of : (lines : List (List ℕ)) (said : List Line) (desk desk' : DeskState) (out out' : List ℕ) (totals totals' : Totals) (old now new : Option (List ℕ)) → HasWritten lines said desk out totals old now
     → desk' ≡ desk → out' ≡ [] → totals' ≡ totals → Appends now new out → HasWritten lines said desk' out' totals' old new
 written-out-of lines said desk desk' out out' totals totals' old now new p same none counted all = rw (same, none, counted) (written-out p all)
@@ -133,7 +133,7 @@ written-whole lines said desk out totals old now new p all =
       counts = p.counts;
     }
 
--- what was read is the script
+-- the bytes that were read are the script
 
 module _ (before left : Option (List ℕ)) (bytes : List ℕ) (end : Ending) (read : WasRead before left bytes end) (totals : Totals) (old new : Option (List ℕ)) (w : WritesObjects (lines_of (take SCRIPT_BYTES bytes)) (lines_until end (take SCRIPT_BYTES bytes)) totals old new) where
   same-script : (script : List ℕ) → script_of script ≡ lines_until end (take SCRIPT_BYTES bytes) → take SCRIPT_BYTES script ≡ take SCRIPT_BYTES bytes

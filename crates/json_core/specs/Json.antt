@@ -80,7 +80,7 @@ report_tokens tables = accepted ++ array (codes "timelines") (flat_map timeline_
     ++ array (codes "files") (flat_map file_tokens tables.files)
     ++ array (codes "buffers") (flat_map buffer_tokens tables.buffers)
 
--- which limit was met
+-- the limit that was met
 abbrev pub limit_of : Refusal → Option LimitKind
 limit_of (Limit kind) = Some kind
 limit_of Syntax = None
@@ -120,10 +120,10 @@ answer_tokens (answer.Refused r) = refusal_tokens r
 abbrev pub said_tokens : ℕ → List ℕ → List Token
 said_tokens line command = begin_object ∷ count (codes "line") line ++ text (codes "command") command
 
--- the object of the line of that number: its text, and the members of its answer
+-- the object of line `number`: its text, and the members of its answer
 abbrev pub line_tokens : ℕ → List ℕ → Answer → List Token
 line_tokens line command given = said_tokens line command ++ (answer_tokens given ++ end_object ∷ [])
 
--- on a line of its own
+-- the object on a line of its own
 abbrev pub line_text : ℕ → List ℕ → Answer → List ℕ
 line_text line command given = print (line_tokens line command given) ++ 10 ∷ []

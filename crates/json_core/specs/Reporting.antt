@@ -1,4 +1,4 @@
--- A line that is answered by an object.
+-- A line that is answered with an object.
 use Rattle.std.specs.Prelude.{◌≡◌, ◌+◌, ℕ, if◌then◌else◌, List, Option, ◌++◌}
 use Rattle.std.specs.Str.Lossy.{utf8_lossy}
 use Rattle.command_core.specs.declared.command.Command.{Command}
@@ -12,8 +12,8 @@ use Rattle.script_core.specs.Bytes.{PassesOn}
 use Rattle.script_core.specs.Output.{IsLineAnswer, history_after_line}
 use Rattle.json_core.specs.Json.{line_text}
 
--- One line was answered: the object of its answer was put after what was not yet written, and it was counted. Bytes of the line
--- that are no UTF-8 are shown as U+FFFD.
+-- One line was answered: the object of its answer was appended to the pending output, and it was counted. Bytes of the
+-- line that are not UTF-8 are shown as U+FFFD.
 pub record ReportsLine (number : ℕ) (line : List ℕ) (body : Body) (before after : DeskState) (waiting left : List ℕ)
     (counted totals : Totals) (old new : Option (List ℕ)) : Type 0 where
   pub given : Answer
@@ -23,7 +23,7 @@ pub record ReportsLine (number : ℕ) (line : List ℕ) (body : Body) (before af
   pub lines : totals.lines ≡ counted.lines + 1
   pub refused : totals.refused ≡ counted.refused + (if is_refused given then 1 else 0)
 
--- One line has an answer, and of what was not yet written and its object a prefix was written.
+-- One line has an answer, and a prefix of the pending output and its object was written.
 pub record ReportsPrefix (number : ℕ) (line : List ℕ) (body : Body) (desk : DeskState) (waiting : List ℕ)
     (old new : Option (List ℕ)) : Type 0 where
   pub given : Answer

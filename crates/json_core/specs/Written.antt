@@ -1,4 +1,4 @@
--- What is written for a script: the objects of its lines' answers, in order, and nothing else.
+-- The JSON output of a script: the objects of its lines' answers, in order, and nothing else.
 use Rattle.std.specs.Prelude.{◌≡◌, ◌≤◌, ◌-◌, ℕ, List, [], ◌∷◌, ◌++◌, length, get_or, Option, take}
 use Rattle.std.specs.Io.KnownBytes.{Appends, Consumes}
 use Rattle.std.specs.Str.Lossy.{utf8_lossy}
@@ -16,8 +16,8 @@ use Rattle.json_core.specs.Json.{line_text}
 use Rattle.report_core.specs.Bytes.{AppendsFront}
 use Rattle.line_core.specs.Reading.{IsInput}
 
--- the line of that number as its object shows it: of one that is too long only its first bytes, and U+FFFD for what is
--- no UTF-8
+-- line `number` as its object shows it: only the first bytes of an over-long line, and U+FFFD for bytes that are not
+-- UTF-8
 abbrev pub shown : List (List ℕ) → ℕ → List ℕ
 shown lines number = utf8_lossy (cut (get_or lines (number - 1) []))
 
@@ -26,15 +26,15 @@ objects_of lines [] given = []
 objects_of lines (l ∷ ls) [] = []
 objects_of lines (l ∷ ls) (a ∷ rest) = line_text l.number (shown lines l.number) a ++ objects_of lines ls rest
 
--- each of the lines that have an answer has its own, one after another; the objects of these were written, and nothing else
+-- each line in `said` has its answer, one after another; the objects of these were written, and nothing else
 pub record WritesObjects (lines : List (List ℕ)) (said : List Line) (totals : Totals) (old new : Option (List ℕ)) : Type 0 where
   pub given : List Answer
   pub each : AreLineAnswers [] said given
   pub written : Appends old new (objects_of lines said given)
   pub counts : Counts totals given
 
--- A read failed, at most the bytes of a script having been read. The objects of the answers of the lines whose line feed
--- was read were written, and nothing else.
+-- A read failed, after at most the bytes of a script. The objects of the answers of the lines whose line feed was read
+-- were written, and nothing else.
 pub record WritesEndedObjects (before after old new : Option (List ℕ)) : Type 0 where
   pub bytes : List ℕ
   pub consumed : Consumes before after bytes
@@ -42,8 +42,8 @@ pub record WritesEndedObjects (before after old new : Option (List ℕ)) : Type 
   pub totals : Totals
   pub objects : WritesObjects (lines_of bytes) (lines_until ending.Failed bytes) totals old new
 
--- The lines that come first among those that have an answer have their own, one after another; a prefix of the objects of
--- these was written, and nothing else.
+-- The first lines in `said` have their answers, one after another; a prefix of the objects of these was written, and
+-- nothing else.
 pub record WritesObjectsPrefix (lines : List (List ℕ)) (said : List Line) (old new : Option (List ℕ)) : Type 0 where
   pub first : List Line
   pub rest : List Line
@@ -52,13 +52,13 @@ pub record WritesObjectsPrefix (lines : List (List ℕ)) (said : List Line) (old
   pub each : AreLineAnswers [] first given
   pub written : AppendsFront old new (objects_of lines first given)
 
--- of the objects of a script's answers a prefix was written, and nothing else
+-- a prefix of the objects of a script's answers was written
 pub record WritesScriptPrefix (input old new : Option (List ℕ)) : Type 0 where
   pub script : List ℕ
   pub is : IsInput input script
   pub written : WritesObjectsPrefix (lines_of (take SCRIPT_BYTES script)) (script_of script) old new
 
--- a script begins with `lines`, and `said` are the lines that have an answer
+-- a script begins with `lines`, and `said` are the ones that have an answer
 pub record BeginsScript (input : Option (List ℕ)) (lines : List (List ℕ)) (said : List Line) : Type 0 where
   pub script : List ℕ
   pub is : IsInput input script
@@ -67,8 +67,7 @@ pub record BeginsScript (input : Option (List ℕ)) (lines : List (List ℕ)) (s
   pub rest : List Line
   pub first : script_of script ≡ said ++ rest
 
--- The lines `said` of the first `lines` of a script are answered: their objects are written but for those that stand in
--- `out`.
+-- The lines `said` of the first `lines` of a script are answered: their objects are written but for the ones in `out`.
 pub record HasWritten (lines : List (List ℕ)) (said : List Line) (desk : DeskState) (out : List ℕ) (totals : Totals)
     (old new : Option (List ℕ)) : Type 0 where
   pub given : List Answer

@@ -1,4 +1,4 @@
-//! Answers as JSON: an object on a line for each answer.
+//! Answers as JSON: one object on a line for each answer.
 #![tactic(auto)]
 
 mod members;

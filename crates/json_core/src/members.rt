@@ -1,4 +1,4 @@
-// The object of an answer.
+//! The JSON object of an answer: the line, its text, and the members that its kind of answer has.
 ghost use Rattle.std.specs.Prelude.{flat_map, ◌≡◌, ◌++◌, IfOk, IfErr, OnOk};
 ghost use Rattle.std.specs.Str.Lossy.{utf8_lossy};
 ghost use Rattle.point_core.specs.declared.refusal.Refusal.TheVariants.{Memory};
@@ -14,8 +14,8 @@ use json::Writer;
 use point_core::{LimitKind, Refusal};
 use std::alloc::{AllocError, Global};
 
-/// Writes the object of the answer of the line of that number after the text, and a line feed. Bytes of the line that are no
-/// UTF-8 are written as U+FFFD.
+/// Writes the object of line `number` after the text, and a line feed. Bytes of the line that are not UTF-8 are written
+/// as U+FFFD.
 pub fn push_line(
     alloc: Global,
     number: u32,
@@ -197,7 +197,7 @@ fn put_limit(writer: &mut Writer, limit: Option<LimitKind>) -> Result<(), AllocE
     }
 }
 
-/// Which limit was reached, if that is the refusal.
+/// The limit that was reached, if the refusal is `Limit`.
 fn limit_of(refusal: Refusal) -> Option<LimitKind>
     ensures { result ≡ limit_of refusal }
 {

@@ -1,4 +1,4 @@
-// The objects of answers, on their way to a writer.
+//! `Objects`: a desk with the JSON output that is pending, as `script_core::Answers` is for text.
 ghost use Rattle.std.specs.Prelude.{◌≡◌, ◌+◌, ◌<◌, ◌≤◌, ◌⊎◌, ◌∷◌, ◌++◌, [], List, ℕ, Option, None, length, IfErr, IfOk};
 ghost use Rattle.std.specs.Prelude.{MatchOption, OnErr, OnOk};
 ghost use Rattle.std.specs.Io.KnownBytes.{Appends};
@@ -24,18 +24,18 @@ use std::alloc::Global;
 use std::io::Write;
 use std::mem;
 
-/// The objects of answers, one after another: a desk, and the texts of its answers on their way to a writer.
+/// A desk, and the objects of its answers up to the next write.
 #[derive(Drop)]
 pub(crate) struct Objects {
     alloc: Global,
     desk: Desk,
-    // the texts that are not yet written
+    // the text that is not yet written
     out: Vec<u8>,
     totals: Totals,
 }
 
 impl Objects {
-    /// Of no line.
+    /// No line has been answered.
     pub(crate) fn new(alloc: Global) -> Result<Objects, Refusal>
         ensures none { IfOk result (λ objects. (contents : Option (List ℕ)) →
             HasWritten [] [] objects.desk objects.out.items objects.totals contents contents) }
@@ -49,9 +49,9 @@ impl Objects {
         })
     }
 
-    /// Answers a line that has an answer. Texts are written once they are many.
+    /// Answers a line that has an answer. Output is written once enough is pending.
     ///
-    /// Fails with `Write` if a write failed or took no byte, and with `Memory` if a growth was refused.
+    /// Fails with `Write` if a write failed or took no byte, and with `Memory` if an allocation failed.
     pub(crate) fn answer<W: Write>(
         &mut self,
         number: u32,
@@ -101,7 +101,7 @@ impl Objects {
         pass_line(self.alloc, number, line, &answer, &mut self.out, writer)
     }
 
-    /// Writes the texts that are not yet written.
+    /// Writes the pending output.
     ///
     /// Fails with `Write` if a write failed or took no byte.
     pub(crate) fn write<W: Write>(&mut self, writer: &mut W) -> Result<(), Refusal>
@@ -115,7 +115,7 @@ impl Objects {
         write_out(writer, &mut self.out)
     }
 
-    /// Writes the texts that are not yet written, flushes, and reports how many lines were answered.
+    /// Writes the pending output, flushes, and reports how many lines were answered.
     ///
     /// Fails with `Write` if a write failed or took no byte, or the flush failed.
     pub(crate) fn finish<W: Write>(&mut self, writer: &mut W) -> Result<Totals, Refusal>
@@ -130,9 +130,9 @@ impl Objects {
     }
 }
 
-/// Appends the object of an answer to `out`, and writes what waits there if it is much.
+/// Appends the object of an answer to `out`, and writes `out` if enough is pending.
 ///
-/// Fails with `Write` if a write failed or took no byte, and with `Memory` if a growth was refused.
+/// Fails with `Write` if a write failed or took no byte, and with `Memory` if an allocation failed.
 fn pass_line<W: Write>(
     alloc: Global,
     number: u32,

@@ -1,4 +1,4 @@
-// The parts of a JSON text.
+//! `Part`: a piece of a JSON text, so that a document is a list of pieces, and its contract a list of tokens.
 ghost use Rattle.std.specs.Prelude.{OnOk};
 ghost use Rattle.json.specs.Written.{Writes};
 ghost use Rattle.json.specs.Token.{string};
@@ -8,7 +8,7 @@ use json::Writer;
 use point_core::{Name, Status};
 use std::alloc::AllocError;
 
-/// A part of a JSON text.
+/// A piece of a JSON text.
 #[derive(Clone, Copy)]
 pub(crate) enum Part<'a> {
     BeginObject,

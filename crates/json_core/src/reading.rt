@@ -1,4 +1,4 @@
-// A script from a reader, and the objects of its answers to a writer.
+//! Runs a script from a reader, and writes JSON. `run --json` calls it.
 ghost use Rattle.std.specs.Prelude.{◌≡◌, ◌+◌, ◌⊎◌, List, ℕ, [], take, Err, IfErr, IfOk, OnErr};
 ghost use Rattle.point_core.specs.declared.refusal.Refusal.TheVariants.{Read as ReadFault, Write as WriteFault, Memory};
 ghost use Rattle.line_core.specs.Reading.{ConsumesAtMost, IsInput, ReadsScript, WasRead};
@@ -13,14 +13,15 @@ use script_core::Totals;
 use std::alloc::Global;
 use std::io::{Read, Write};
 
-/// Runs a script as `engine` does, and writes for each line that has an answer a JSON object, on a line of its own: the line's
-/// number and text, and its answer. A line is answered when its end is read, and its object is written before the next read.
+/// Runs a script as `engine` does, and writes for each line that has an answer a JSON object, on a line of its own: the
+/// line's number and text, and its answer. A line is answered when its end is read, and its object is written before
+/// the next read.
 ///
-/// Its memory does not grow with the script: of the lines it keeps what the desk holds, and of an answer its text.
+/// Its memory does not grow with the script, but with the objects on the desk and the text of one answer.
 ///
-/// Fails with `Read` if a read failed: then the lines whose line feed was read are answered. Fails with `Write` if a write
-/// failed or took no byte, or the flush failed, and with `Memory` if a growth was refused: then a prefix of the objects is
-/// written.
+/// Fails with `Read` if a read failed: then the lines whose line feed was read are answered. Fails with `Write` if a
+/// write failed or took no byte, or the flush failed, and with `Memory` if an allocation failed: then a prefix of the
+/// objects is written.
 pub fn run_json<R: Read, W: Write>(
     alloc: Global,
     reader: &mut R,
@@ -31,7 +32,7 @@ pub fn run_json<R: Read, W: Write>(
         × WritesObjects (lines_of (take SCRIPT_BYTES script)) (script_of script) totals
         (W.contents writer.old) (W.contents writer.new)) }
 
-    // What is read is the script, up to the byte past its limit.
+    // The bytes that are read are the script, up to the byte past its limit.
     ensures reads { IfOk result (λ _. ReadsScript (R.remaining reader.old) (R.remaining reader.new)) }
 
     // Whatever the result, no byte is read past that one.
@@ -80,7 +81,7 @@ fn with_objects<R: Read, W: Write>(
     }
 }
 
-/// Reads the lines of a script and answers each when its end was read. Nothing is read while an object is not written.
+/// Reads lines and answers each as soon as its end has been read; never reads while output is pending.
 fn answer_lines<R: Read, W: Write>(
     objects: &mut Objects,
     reader: &mut R,

@@ -1,4 +1,4 @@
-// The members of tables.
+//! The JSON members of tables: fences, rows, timelines, files and buffers.
 ghost use Rattle.std.specs.Prelude.{OnOk, codes};
 ghost use Rattle.std.specs.List.{flat_map};
 ghost use Rattle.json_core.specs.Part.{Adds};

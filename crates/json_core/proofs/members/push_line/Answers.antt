@@ -1,4 +1,4 @@
--- What is UTF-8 is written as it stands.
+-- UTF-8 is written unchanged.
 use Rattle.std.proofs.lemmas.Str.{utf8_lossy-IsUtf8}
 use Rattle.json_core.proofs.members.push_line.Goals as goal
 

@@ -1,4 +1,4 @@
--- Each exit is shown by the lines that were given, and by the objects that were written of their answers.
+-- Each exit follows from the lines that were returned, and from the objects that were written for their answers.
 use Rattle.std.proofs.Common.{[], ◌∷◌, ◌++◌, take, length-append, refl, ap, sym, subst, ◌∙◌, arith}
 use Rattle.line_core.specs.declared.script.TheConstants.{SCRIPT_BYTES}
 use Rattle.line_core.specs.Script.{lines_of, lines_until}
