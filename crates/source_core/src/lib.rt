@@ -1,4 +1,4 @@
-//! Where scripts come from: standard input, files, and the files below folders; and how a file is replaced.
+//! Files and standard input for `fencectl`: opens scripts, lists folders, and replaces files atomically.
 #![tactic(auto)]
 
 mod listing;

@@ -1,4 +1,4 @@
-// The scripts that paths name.
+//! Expands paths to scripts: a folder is expanded to the scripts below it.
 use crate::script::STANDARD_INPUT;
 use crate::source::reported;
 use std::alloc::{AllocError, Global};
@@ -6,12 +6,12 @@ use std::fs::{DirEntry, ReadDir};
 use std::rt::Files;
 use std::{fs, io};
 
-/// How the name of a script's file ends.
+/// The ending of a script's file name.
 const SUFFIX: &str = ".fence";
 
-/// The names of the scripts that paths name, in the order of the paths: of a folder the files below it whose names end with
-/// `.fence`, sorted by their bytes, and each other path itself. A link to a folder is followed if it is such a path, and
-/// not below one. A folder that can't be listed stands for itself, so that reading it fails and reports why.
+/// The scripts at the given paths, in order: for a folder the files below it whose names end with `.fence`, sorted by
+/// their bytes, and for any other path the path itself. A link to a folder is followed if it is one of the paths, but
+/// not below one. A folder that can't be listed is returned as a path, so that reading it fails and reports why.
 ///
 /// Fails if memory was refused.
 pub fn script_files<R: Files + Eprint + AllocGlobal + Clone + Drop>(
@@ -54,7 +54,7 @@ fn add_path<R: Files + Eprint + AllocGlobal + Clone + Drop>(
     }
 }
 
-/// What can't be listed is a file, or can't be read either.
+/// A path that can't be listed is a file, or can't be read either.
 fn push_unlisted<R: AllocGlobal>(
     rt: &R,
     path: &str,

@@ -1,4 +1,4 @@
-// A reader at a terminal.
+//! `Prompted`: a reader that writes a prompt before each line, for `fencectl` at a terminal.
 ghost use Rattle.std.specs.Prelude.{◌≡◌};
 
 use std::io;
@@ -6,8 +6,8 @@ use std::io::{Read, Write};
 
 const PROMPT: &[u8] = b"fencectl> ";
 
-/// A reader at a terminal: before each line it writes a prompt to another writer, and when the reader ends a line feed. If a
-/// prompt can't be written, what is read stays the same.
+/// A reader at a terminal: it writes a prompt to another writer before each line, and a line feed at the end. A failed
+/// write of a prompt doesn't affect what is read.
 #[derive(Drop)]
 pub struct Prompted<R, W> {
     reader: R,

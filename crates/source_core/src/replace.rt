@@ -1,4 +1,4 @@
-// Files that are read and replaced as a whole.
+//! Reads a file as a whole, and replaces one atomically. `check --update` and `draw` use it.
 ghost use Rattle.std.specs.Prelude.{◌+◌, ◌-◌, ◌^◌, min, IfOk, OnOk};
 ghost use Rattle.source_core.specs.Replace.{HasFront, WasGiven};
 
@@ -7,7 +7,7 @@ use std::io::{Read, Write};
 use std::rt::Files;
 use std::{fs, io};
 
-/// The bytes of a file, of which it reads at most one more than `most`.
+/// The bytes of a file; reads at most `most` and one.
 pub fn read_file<R: Files + AllocGlobal>(rt: &R, name: &str, most: u64) -> io::Result<Vec<u8>>
     ensures front { IfOk result (λ bytes. HasFront R.File.remaining (min (most + 1) (2 ^ 64 - 1)) bytes.items) }
 {
@@ -17,11 +17,11 @@ pub fn read_file<R: Files + AllocGlobal>(rt: &R, name: &str, most: u64) -> io::R
     Ok(bytes)
 }
 
-/// Replaces a file, to which links may lead, by bytes: a file beside it is written, with the same permissions, and takes its
-/// name once it is whole and on disk. So the name always stands for a whole file.
+/// Replaces the contents of a file, following links: a file beside it is written, with the same permissions, and
+/// renamed once it is complete and on disk. So the name always leads to a complete file.
 ///
-/// If that fails, the file stays as it was, and the one beside it is removed. If there was one beside it before, it is left
-/// alone, and the call fails.
+/// If that fails, the file stays as it was, and the one beside it is removed. If there was one beside it before, it is
+/// left alone, and the call fails.
 pub fn replace_file<R: Files + AllocGlobal>(rt: &R, name: &str, bytes: &[u8]) -> io::Result<()>
     ensures written { OnOk result (WasGiven R.File.contents bytes.now) }
 {
@@ -31,13 +31,13 @@ pub fn replace_file<R: Files + AllocGlobal>(rt: &R, name: &str, bytes: &[u8]) ->
     let file = File::create_new(rt, beside.as_str())?;
     let replaced = replace(rt, path.as_str(), beside.as_str(), file, bytes);
     if replaced.is_err() {
-        // What failed first is reported, whether or not it can be removed.
+        // The first error is reported, whether or not this succeeds.
         let _ = fs::remove_file(rt, beside.as_str());
     }
     replaced
 }
 
-/// Replaces a file by bytes as `replace_file` does, or makes the file if there is none of that name.
+/// Replaces the contents of a file as `replace_file` does, or makes the file if the name is new.
 pub fn put_file<R: Files + AllocGlobal>(rt: &R, name: &str, bytes: &[u8]) -> io::Result<()>
     ensures written { OnOk result (WasGiven R.File.contents bytes.now) }
 {
@@ -56,7 +56,7 @@ fn make_file<R: Files + AllocGlobal>(rt: &R, name: &str, bytes: &[u8]) -> io::Re
     let file = File::create_new(rt, beside.as_str())?;
     let made = make(rt, name, beside.as_str(), file, bytes);
     if made.is_err() {
-        // What failed first is reported, whether or not it can be removed.
+        // The first error is reported, whether or not this succeeds.
         let _ = fs::remove_file(rt, beside.as_str());
     }
     made

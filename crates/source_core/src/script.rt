@@ -1,20 +1,20 @@
-// Where a script comes from.
+//! `Script`: standard input or a file, as an argument names it.
 ghost use Rattle.std.specs.Prelude.{◌≡◌, Some};
 ghost use Rattle.source_core.specs.Script.{file_named, file_of};
 
-/// The word for standard input, in the place of a file's name.
+/// The argument that names standard input.
 pub const STANDARD_INPUT: &str = "-";
 
-/// Where a script comes from.
+/// A source of a script.
 #[derive(Clone, Copy)]
 pub enum Script<'a> {
     StandardInput,
-    /// A file of that name.
+    /// A file with this name.
     File(&'a str),
 }
 
 impl<'a> Script<'a> {
-    /// The script that a word of the command line names.
+    /// The script that an argument names.
     pub fn named(name: &'a str) -> Script<'a>
         ensures { file_of result ≡ file_named (Some name.entry.now) }
     {

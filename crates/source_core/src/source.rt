@@ -1,4 +1,4 @@
-// Where a script is read from.
+//! `Source`: a script that is opened for reading. Errors of the system are reported here, with the file's name.
 ghost use Rattle.std.specs.Prelude.{◌≡◌, IfOk, IfErr};
 ghost use Rattle.point_core.specs.declared.refusal.Refusal.TheVariants.{Read as ReadFault};
 ghost use Rattle.source_core.specs.Script.{file_of};
@@ -10,7 +10,7 @@ use std::io::Read;
 use std::rt::Files;
 use std::{fs, io};
 
-/// A script's reader. Why a file can't be opened or read is reported on standard error, with its name.
+/// A script's reader. If a file can't be opened or read, the reason is reported on standard error, with its name.
 #[derive(Drop)]
 pub enum Source<'r, 'a, R: Files, S> {
     StandardInput(S),
@@ -57,12 +57,12 @@ impl<'r, 'a, R: Files + Eprint, S: Read + Drop> Read for Source<'r, 'a, R, S> {
     }
 }
 
-/// What a call on a file of that name gave. If it failed, the name and the system's reason are reported.
+/// The result of a call on a file. If the call failed, the name and the system's reason are reported.
 pub fn reported<T: Drop>(rt: &impl Eprint, name: &str, given: io::Result<T>) -> io::Result<T>
     ensures same { result ≡ given }
 {
     if let Err(error) = &given {
-        // It doesn't matter whether this could be written: the line of the fault follows.
+        // A failed write is ignored: the line of the fault follows.
         let _ = eprintln!(rt; "fencectl: {name}: {error}");
     }
     given
