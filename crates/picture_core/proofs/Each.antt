@@ -5,7 +5,7 @@ use Rattle.std.proofs.lemmas.List.{get_or-set_same, get_or-set_other, get_or_def
 pub below_or_at : (k i : ℕ) → k < i + 1 → (k < i) ⊎ (k ≡ i)
 below_or_at k i low = grind arith
 
--- the first i elements of the old list and of the one so far are so related, and the others are the same
+-- the first i elements of the old list and of the current one are related by R, and the others are equal
 module _ {X : Type 0} (R : X → X → Type 0) (old now : List X) (i : ℕ) (y : X) where
   pub each_more : ((k : ℕ) (d : X) → k < i → R (get_or old k d) (get_or now k d))
       → ((k : ℕ) (d : X) → i ≤ k → get_or now k d ≡ get_or old k d)

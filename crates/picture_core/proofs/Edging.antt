@@ -1,4 +1,4 @@
--- The edges of columns and the lanes of bars, as places one after another.
+-- The edges of columns and the lanes of bars, as places in a row.
 use Rattle.std.proofs.Common.{ℕ, ◌≡◌, inl, inr, ◌+◌, ◌<◌, ◌≤◌, List, [], length, get_or, subst, arith, All}
 use Rattle.std.specs.Prelude.{IfOk, Result, Ok, Err}
 use Rattle.picture_core.specs.declared.history.History.{History}

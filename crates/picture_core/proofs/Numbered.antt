@@ -6,7 +6,7 @@ use Rattle.picture_core.specs.declared.bar.Bar.{Bar}
 use Rattle.picture_core.specs.declared.shapes.Shape.{Shape}
 use Rattle.picture_core.specs.Shapes.{shapes_of}
 
--- the shapes of a bar at its place among the bars
+-- the shapes of the bar at an index
 abbrev pub numbered : (ℕ → ℕ) → ℕ → (ℕ → ℕ) → ℕ × Bar → List Shape
 numbered middle right height p = shapes_of middle right (height p.0) p.1
 
@@ -21,7 +21,7 @@ enumerate_from-next n i k xs x within number is =
     ∙ enumerate_from-last n (take i xs) x
     ∙ ap (λ m. enumerate_from n (take i xs) ++ (m, x) ∷ []) count
 
--- what the first things gave, and what the next one gives
+-- the results of the first things, and of the next
 pub numbered-next : {X Y : Type 0} (f : ℕ × X → List Y) (old new later : List Y) (n i k : ℕ) (xs : List X) (x : X) → i < length xs → k ≡ n + i → x ≡ get_or xs i x → new ≡ old ++ flat_map f (enumerate_from n (take i xs)) → later ≡ new ++ f (k, x) → later ≡ old ++ flat_map f (enumerate_from n (take (i + 1) xs))
 numbered-next f old new later n i k xs x within number is gave next =
     next ∙ ap (λ ys. ys ++ f (k, x)) gave

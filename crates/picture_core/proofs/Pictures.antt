@@ -23,7 +23,7 @@ use Rattle.picture_core.proofs.Middles.{middle-ends, middle-rises}
 use Rattle.picture_core.proofs.Samples.{IsFrom-weaker}
 use Rattle.picture_core.proofs.Seeing.{IsBeside, bar-beside, bar-seen, fills-below, fills-told, history-shows, one-seen}
 
--- where bars lie
+-- the layout of bars
 
 module _ (h : History) (s : Sheet) (p : Picture) (sheet : IsSheetOf h s) (on : IsPictureOn s h p) where
   abbrev n : ℕ
@@ -69,7 +69,7 @@ module _ (h : History) (s : Sheet) (p : Picture) (sheet : IsSheetOf h s) (on : I
     | inr more ↦ let far = heights-apart k j (omega arith) j-low in inl (omega arith)
   ]
 
-  -- where the lanes of each kind lie
+  -- the layout of each kind of lanes
 
   stacked : AreStacked h s
   stacked = sheet.stacked
@@ -153,7 +153,7 @@ module _ (h : History) (s : Sheet) (p : Picture) (sheet : IsSheetOf h s) (on : I
   lane-low (lane_of.Buffer k) low = let at = (buffer-at k low).1 in omega (arith, at, watches-end)
   lane-low (lane_of.Watch k) low = omega (arith, watch-at k low, low, watches-end)
 
-  -- where columns lie
+  -- the layout of columns
 
   under : (c d : ℕ) → c ≤ n → nat_le (middle_of s d) (middle_of s c) ≡ nat_le d c
   under c d low = elim (cases_lt c d) [

@@ -1,10 +1,10 @@
--- Places one after another.
+-- Places in a row.
 use Rattle.std.proofs.Common.{ℕ, ◌≡◌, inl, inr, ◌∙◌, ◌+◌, ◌<◌, ◌≤◌, List, [], ◌∷◌, ◌++◌, length, get_or, ap, length-append, arith}
 use Rattle.std.proofs.lemmas.List.{get_or_append_left, get_or-append-add}
 use Rattle.picture_core.specs.Sheet.{AreApart}
 use Rattle.picture_core.proofs.Each.{below_or_at}
 
--- each place is so far below a number
+-- each place is below a number, by at least this much
 abbrev pub AreBelow : ℕ → List ℕ → ℕ → Type 0
 AreBelow gap xs x = (k : ℕ) → k < length xs → get_or xs k 0 + gap ≤ x
 

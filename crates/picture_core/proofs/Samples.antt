@@ -36,7 +36,7 @@ AddsSamples-append y first second old mid new one two = record {
   low = All-append (IsFrom y) one.more two.more one.low two.low;
 }
 
--- what the first things added, and what the next one adds
+-- the samples of the first things, and of the next
 pub AddsSamples-next : {X : Type 0} (y : ℕ) (f : X → List Fill) (i : ℕ) (xs : List X) (x : X) (old mid new later : List Shape) → i < length xs → x ≡ get_or xs i x
     → AddsSamples y (flat_map f (take i xs)) old mid → AddsSamples y (f x) mid new → later ≡ new → AddsSamples y (flat_map f (take (i + 1) xs)) old later
 AddsSamples-next y f i xs x old mid new later low is so_far adds same =
@@ -44,7 +44,7 @@ AddsSamples-next y f i xs x old mid new later low is so_far adds same =
     let fills = ap (flat_map f) taken ∙ flat_map-append f (take i xs) (x ∷ []) ∙ ap (λ zs. flat_map f (take i xs) ++ zs) (append-nil (f x)) in
     rw (same, fills) (AddsSamples-append y (flat_map f (take i xs)) (f x) old mid new so_far adds)
 
--- a mark that is at that height or below it is no sample
+-- a mark at that height or below it is no sample
 
 All-mark : (y : ℕ) (m : Mark) (at : Spot) → y ≤ at.y → All (IsFrom y) (shape.Mark m at ∷ [])
 All-mark y m at low = All-cons (IsFrom y) (shape.Mark m at) [] low (All-nil (IsFrom y))
@@ -55,7 +55,7 @@ AddsSamples-mark y m at told (Err e) old new low in' out = tt
 AddsSamples-mark y m at true (Ok u) old new low in' out = record { more = shape.Mark m at ∷ []; added = in' refl; filled = refl; low = All-mark y m at low }
 AddsSamples-mark y m at false (Ok u) old new low in' out = AddsSamples-none y old new (out refl)
 
--- what four calls add, one after another
+-- the shapes that four calls add, one after another
 pub added-all : (old a b c d e bars arrows signs watches : List Shape) → a ≡ old → b ≡ a ++ bars → c ≡ b ++ arrows → d ≡ c ++ signs → e ≡ d ++ watches
     → e ≡ old ++ (bars ++ (arrows ++ (signs ++ watches)))
 added-all old a b c d e bars arrows signs watches first second third fourth fifth =

@@ -1,4 +1,4 @@
--- What the shapes of bars show at a point.
+-- The fills that the shapes of bars show at a point.
 use Rattle.std.proofs.Common.{ℕ, zero, suc, ◌≡◌, ◌≢◌, ◌⊎◌, inl, inr, ◌∙◌, ◌+◌, ◌-◌, ◌*◌, ◌^◌, ◌<◌, ◌≤◌, ◌==◌, Bool, true, false, cond, ◌&&◌, not, nat_le, nat_lt, min, max, List, [], ◌∷◌, ◌++◌, length, get_or, ap, refl, append-nil, arith, All}
 use Rattle.std.specs.Prelude.{flat_map, Option, None, Some}
 use Rattle.std.specs.List.{enumerate_from, cons_option}
@@ -29,7 +29,7 @@ use Rattle.picture_core.proofs.Numbered.{numbered}
 use Rattle.picture_core.specs.Picture.{shapes_of_history}
 use Rattle.picture_core.specs.Shapes.{arrow, arrow_of, arrows_of_all, edge_of, end_of, end_sign, fill_at, fill_of, fills_at, is_bar_fill, is_told, part_of, parts_of, registered_sign, room_at, seen_of, shapes_of, shapes_of_all, signs_of_all, told_shapes, watch_signs, watch_signs_of_all}
 
--- the shapes that tell what happened show all
+-- the shapes that represent the history show all
 
 fill-other : (x y : ℕ) (s : Shape) → is_told s ≡ false → fill_at x y s ≡ None
 fill-other x y (shape.Area f at width height) is = rw is refl
@@ -52,7 +52,7 @@ fills-told x y (s ∷ shapes) =
     fills-both true x y s shapes same = ap (cons_option (fill_at x y s)) same
     fills-both false x y s shapes same = same
 
--- below a point nothing is shown there
+-- shapes below a point show nothing at it
 
 fill-below : (x y from : ℕ) (s : Shape) → y < from → IsFrom from s → fill_at x y s ≡ None
 fill-below x y from (shape.Area f at width height) low is =
@@ -74,7 +74,7 @@ fills-below x y from (s ∷ shapes) low all =
     ap (λ o. cons_option o (fills_at x y shapes)) (fill-below x y from s low (All-head (IsFrom from) s shapes all))
     ∙ fills-below x y from shapes low (All-tail (IsFrom from) s shapes all)
 
--- arrows and marks show nothing of bars
+-- arrows and marks show no fill of bars
 
 arrow-shows : (x y : ℕ) (b : Bool) (m n : Mark) (at from end end' : ℕ) → fills_at x y (cond b (arrow m at from end) (arrow n at from end')) ≡ []
 arrow-shows x y true m n at from end end' = refl
@@ -116,7 +116,7 @@ module _ (x y : ℕ) (middle : ℕ → ℕ) (height : Lane → ℕ) where
       ∙ ap (λ (fs : List Fill). fs ++ fills_at x y (flat_map (watch_signs middle height) (enumerate_from (n + 1) watches))) (watch-shows (n, w))
       ∙ watches-show (n + 1) watches
 
-  -- what a history shows is what its bars show
+  -- a history shows what its bars show
   pub history-shows : (right : ℕ) (h : History) → fills_at x y (shapes_of_history middle right height h) ≡ fills_at x y (shapes_of_all middle right (λ place. height (lane.Bar place)) h.bars.items)
   history-shows right h =
       let bars = shapes_of_all middle right (λ place. height (lane.Bar place)) h.bars.items in
@@ -130,9 +130,9 @@ module _ (x y : ℕ) (middle : ℕ → ℕ) (height : Lane → ℕ) where
       ∙ (λ i. signs-show h.lanes.marks.items i ++ watches-show 0 h.lanes.watches.items i))
       ∙ append-nil (fills_at x y bars)
 
--- one bar at the height of its middle
+-- one bar, at the middle of its height
 
--- whether a place lies from a left end on and ahead of a right one
+-- whether a place is from a left end on and before a right one
 abbrev pub is_between : ℕ → ℕ → ℕ → Bool
 is_between left right x = nat_le left x && nat_lt x right
 
@@ -175,7 +175,7 @@ lt-not-le a b = grind (arith, nat_tests)
 lt-true : (a b : ℕ) → a < b → nat_lt a b ≡ true
 lt-true a b less = grind (arith, nat_tests)
 
--- a column of which the middle lies as it does among those of the others
+-- a column whose middle is in order among the middles of the others
 module _ (middle : ℕ → ℕ) (right c : ℕ) (under : (d : ℕ) → nat_le (middle d) (middle c) ≡ nat_le d c) (within : middle c < right) where
   end-seen : (closed : Option ℕ) → nat_lt (middle c) (end_of middle right closed) ≡ not (is_closed_by c closed)
   end-seen None = lt-true (middle c) right within

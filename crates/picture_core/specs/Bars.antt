@@ -12,15 +12,16 @@ use Rattle.picture_core.specs.declared.bar.Settled.{Settled}
 abbrev pub bar_of : List ℕ → ℕ → Bar
 bar_of name column = record { name = name; made = column; settled = None; closed = None }
 
--- the bar of a file of that name that is not closed
+-- the bar of an open file with that name
 abbrev pub is_open_of : List ℕ → Bar → Bool
 is_open_of name b = is_none b.closed && same_name b.name name
 
--- the bar, closed in that column where it is the open one of that name
+-- the bar, closed in that column if it is the open one with that name
 abbrev pub closed_if : ℕ → List ℕ → Bar → Bar
 closed_if column name b = if is_open_of name b then record b { closed = Some column } else b
 
--- the bars once the file of that name is closed in that column; one that is closed before the first column isn't drawn
+-- the bars after the file with that name is closed in that column; a bar that is closed before the first column isn't
+-- drawn
 abbrev pub with_closed : ℕ → List ℕ → List Bar → List Bar
 with_closed zero name bars = filter (λ b. not (is_open_of name b)) bars
 with_closed (suc c) name bars = map (closed_if (suc c) name) bars
@@ -33,7 +34,7 @@ bars_after column (command.Export f b flags) bars = bars ++ bar_of f column ∷ 
 bars_after column (command.Close f) bars = with_closed column f bars
 bars_after column _ bars = bars
 
--- a bar is drawn as pending up to the column from which on it is settled
+-- a bar is drawn as pending up to the column in which it is settled
 abbrev pub settled_at : Option Settled → ℕ → Status
 settled_at None column = Active
 settled_at (Some s) column = if nat_le s.column column then s.status else Active

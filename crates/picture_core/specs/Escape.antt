@@ -1,4 +1,4 @@
--- Texts that stand in a document, and how they are read again.
+-- Escaped texts, and how they are read back.
 use Rattle.std.specs.Prelude.{ℕ, zero, suc, ◌+◌, ◌-◌, ◌*◌, ◌/◌, ◌%◌, ◌==◌, nat_lt, nat_le, Bool, ◌&&◌, ◌||◌, not, if◌then◌else◌, List, [], ◌∷◌, length, drop, get_or}
 use Rattle.std.specs.List.{flat_map, list_all}
 
@@ -38,18 +38,18 @@ byte_text plain marked b = if plain then b ∷ [] else if marked then reference 
 abbrev pub escaped_byte : ℕ → List ℕ
 escaped_byte b = byte_text (is_plain b) (is_marked b) b
 
--- the text as it stands in a document
+-- the text as a document has it
 abbrev pub escaped : List ℕ → List ℕ
 escaped text = flat_map escaped_byte text
 
--- nothing that ends a text or begins an element; an ampersand begins a reference
+-- no byte that ends a text or starts markup; an ampersand starts a reference
 abbrev pub is_inert : ℕ → Bool
 is_inert b = prints b && not (b == 92) && not (b == 34 || b == 39 || b == 60 || b == 62)
 
 abbrev pub hex_value : ℕ → ℕ
 hex_value c = if nat_lt c 58 then c - 48 else c - 87
 
--- the number of a reference, whose two digits stand after `#`
+-- the number of a reference, whose two digits follow `#`
 abbrev pub number_in : List ℕ → ℕ
 number_in bytes = 10 * (get_or bytes 1 0 - 48) + (get_or bytes 2 0 - 48)
 

@@ -1,5 +1,5 @@
--- What commands leave on the lanes: a mark on the lane of the buffer that a command works on, and a link from each lane that it
--- takes fences from to the lane of what it makes or changes.
+-- The marks and links of commands: a mark on the lane of the buffer that a command works on, and a link from each lane
+-- from which it takes fences to the lane that it makes or changes.
 use Rattle.std.specs.Prelude.{ℕ, ◌-◌, ◌==◌, nat_le, if◌then◌else◌, List, [], ◌∷◌, ◌++◌, length, Option, None, Some, option_map}
 use Rattle.std.specs.List.{position_from}
 use Rattle.point_core.specs.Named.{same_name}
@@ -43,7 +43,7 @@ bar_lane bars name = option_map lane.Bar (bar_place bars name)
 abbrev pub last_watch : Lanes → Option Lane
 last_watch l = if nat_le 1 (length l.watches.items) then Some (lane.Watch (length l.watches.items - 1)) else None
 
--- the lanes that a command takes fences from
+-- the lanes from which a command takes fences
 abbrev pub sources : Lanes → List Bar → Command → List (Option Lane)
 sources l bars (command.Fence f t p) = timeline_lane l t ∷ []
 sources l bars (command.Merge f a b) = bar_lane bars a ∷ bar_lane bars b ∷ []
@@ -53,7 +53,7 @@ sources l bars (command.Import b f flags) = bar_lane bars f ∷ []
 sources l bars (command.Watch f cookie) = bar_lane bars f ∷ []
 sources l bars _ = []
 
--- the lane of what a command makes of fences, or puts them into
+-- the lane that a command makes from fences, or into which it puts them
 abbrev pub target : Lanes → List Bar → Command → Option Lane
 target l bars (command.Fence f t p) = bar_lane bars f
 target l bars (command.Merge f a b) = bar_lane bars f
@@ -63,7 +63,7 @@ target l bars (command.Import b f flags) = buffer_lane l b
 target l bars (command.Watch f cookie) = last_watch l
 target l bars _ = None
 
--- the links, with one more between two lanes that there are
+-- the links with another one, if both lanes exist
 abbrev pub joined : ℕ → Option Lane → Option Lane → List Link → List Link
 joined column None to old = old
 joined column (Some from) None old = old
@@ -73,12 +73,13 @@ abbrev pub joined_all : ℕ → List (Option Lane) → Option Lane → List Link
 joined_all column [] to old = old
 joined_all column (from ∷ more) to old = joined_all column more to (joined column from to old)
 
--- the links after an accepted command: one more in its column from each of its sources to its target; none of one that isn't drawn
+-- the links after an accepted command: another one in its column from each of its sources to its target; none if the
+-- command isn't drawn
 abbrev pub links_after : ℕ → Lanes → List Bar → Command → List Link → List Link
 links_after column l bars c old =
     if column == 0 then old else joined_all column (sources l bars c) (target l bars c) old
 
--- what an accepted command does with the buffer of a name
+-- the action of an accepted command on the buffer with a name
 abbrev pub access_of : Command → Option (List ℕ × Access)
 access_of (command.Add b t p u) = Some (b, access.Add u)
 access_of (command.Import b f flags) = Some (b, access.Import flags)
@@ -86,7 +87,7 @@ access_of (command.Export f b flags) = Some (b, access.Export flags)
 access_of (command.Trim b) = Some (b, access.Trim)
 access_of _ = None
 
--- the marks, with one more on the lane of a buffer that there is
+-- the marks with another one, if the buffer has a lane
 abbrev pub marked : ℕ → Option ℕ → Access → List BufferMark → List BufferMark
 marked column None a old = old
 marked column (Some buffer) a old = old ++ record { buffer = buffer; column = column; access = a } ∷ []
@@ -95,6 +96,7 @@ abbrev pub marked_if : ℕ → List BufferLane → Option (List ℕ × Access) �
 marked_if column bs None old = old
 marked_if column bs (Some p) old = if column == 0 then old else marked column (buffer_place bs p.0) p.1 old
 
--- the marks after an accepted command: one more in its column, on the lane of its buffer; none of one that isn't drawn
+-- the marks after an accepted command: another one in its column, on the lane of its buffer; none if the command isn't
+-- drawn
 abbrev pub marks_after : ℕ → List BufferLane → Command → List BufferMark → List BufferMark
 marks_after column bs c old = marked_if column bs (access_of c) old

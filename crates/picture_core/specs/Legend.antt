@@ -8,7 +8,7 @@ use Rattle.picture_core.specs.declared.shapes.Meaning.TheVariants as meaning
 use Rattle.picture_core.specs.declared.shapes.Shape.{Shape}
 use Rattle.picture_core.specs.declared.shapes.Shape.TheVariants as shape
 
--- what the sample of a bar is filled with that has that meaning
+-- the fill of the sample with that meaning
 abbrev pub sample_of : Meaning → List Fill
 sample_of meaning.Pending = fill.Pending ∷ []
 sample_of meaning.Signalled = fill.Signalled ∷ []
@@ -30,21 +30,21 @@ fills_of_legend = fill.Pending ∷ fill.Signalled ∷ fill.Cancelled ∷ []
 abbrev pub top_of_samples : ℕ → ℕ
 top_of_samples top = min (top + FIRST) (2 ^ 64 - 1) - HALF_SAMPLE
 
--- what an area is filled with
+-- the fill of an area
 abbrev pub fill_in : Shape → Option Fill
 fill_in (shape.Area f at width height) = Some f
 fill_in (shape.Edge at width height ends) = None
 fill_in (shape.Line stroke from to) = None
 fill_in (shape.Mark mark at) = None
 
--- an area has its top at that height or below it, and a mark its middle
+-- an area whose top is at that height or below it, or a mark whose middle is
 abbrev pub IsFrom : ℕ → Shape → Type 0
 IsFrom y (shape.Area f at width height) = y ≤ at.y
 IsFrom y (shape.Edge at width height ends) = ⊤
 IsFrom y (shape.Line stroke from to) = ⊤
 IsFrom y (shape.Mark mark at) = y ≤ at.y
 
--- shapes are added whose areas have these fills, at that height or below it
+-- shapes were added, whose areas have these fills, at that height or below it
 pub record AddsSamples (y : ℕ) (fills : List Fill) (old new : List Shape) : Type 0 where
   pub more : List Shape
   pub added : new ≡ old ++ more

@@ -1,4 +1,4 @@
--- What a picture shows of a history.
+-- What it means that a picture shows a history.
 use Rattle.std.specs.Prelude.{◌≡◌, ℕ, ◌+◌, ◌-◌, ◌*◌, ◌/◌, ◌^◌, ◌<◌, ◌≤◌, List, [], ◌++◌, All, map, filter_map, length, get_or}
 use Rattle.std.specs.List.{range_with_len}
 use Rattle.picture_core.specs.declared.bar.Bar.{Bar}
@@ -16,7 +16,7 @@ use Rattle.picture_core.specs.Legend.{AddsSamples, IsFrom, fill_in, fills_of_leg
 use Rattle.picture_core.specs.Shapes.{arrows_of_all, fills_at, seen_of, shapes_of_all, signs_of_all, told_on, told_shapes, waitings, waits_on, waits_in, watch_signs_of_all}
 use Rattle.picture_core.specs.Sheet.{height_of_lane, left_of, middle_of}
 
--- the area of the column at that place, from 0, which has the number above
+-- the area of the column at that index, with its number
 abbrev pub area_of_column : Sheet → ℕ → ColumnArea
 area_of_column s place =
     record { column = place; x = left_of s (place + 1); width = left_of s (place + 1 + 1) - left_of s (place + 1) }
@@ -24,7 +24,7 @@ area_of_column s place =
 abbrev pub areas_of_columns : Sheet → ℕ → List ColumnArea
 areas_of_columns s count = map (area_of_column s) (range_with_len 0 count)
 
--- the shapes that tell of a history: its bars, the arrows of its links, and the marks of its buffers and watches
+-- the shapes that represent a history: its bars, the arrows of its links, and the marks of its buffers and watches
 abbrev pub shapes_of_history : (ℕ → ℕ) → ℕ → (Lane → ℕ) → History → List Shape
 shapes_of_history middle right height h =
     shapes_of_all middle right (λ place. height (lane_of.Bar place)) h.bars.items
@@ -32,13 +32,13 @@ shapes_of_history middle right height h =
     ++ (signs_of_all middle height h.lanes.marks.items
     ++ watch_signs_of_all middle height h.lanes.watches.items))
 
--- the shapes that tell of a history, and with them those of a legend
+-- the shapes that represent a history, and with them the legend's
 pub record AddsTold (s : Sheet) (h : History) (old new : List Shape) : Type 0 where
   pub with_history : List Shape
   pub history : with_history ≡ old ++ shapes_of_history (middle_of s) s.end (height_of_lane s) h
   pub legend : AddsSamples (top_of_samples s.bottom) fills_of_legend with_history new
 
--- all that is drawn of a history
+-- all that is drawn for a history
 pub record AddsAll (s : Sheet) (h : History) (old new : Canvas) : Type 0 where
   pub shapes : AddsTold s h (told_on old) (told_on new)
   pub waits : waits_on new ≡ waits_on old ++ waitings h.waits.items
@@ -61,14 +61,14 @@ IsLane h (lane_of.Bar place) = place < length h.bars.items
 IsLane h (lane_of.Buffer place) = place < length h.lanes.buffers.items
 IsLane h (lane_of.Watch place) = place < length h.lanes.watches.items
 
--- A picture shows a history. Columns are numbered from 1, and 0 stands for what was there before the first. Where the
--- middle of a column crosses the middle of a bar, the shapes show exactly what has to be seen of that bar in that column. Each
--- link has an arrow in its column between its two lanes, and each mark of a buffer and of a watch lies on its lane in its column.
+-- A picture shows a history. Columns are numbered from 1; 0 is before the first. Where the middle of a column crosses
+-- the middle of a bar, the shapes show exactly what has to be seen of that bar in that column. Each link has an arrow
+-- in its column between its two lanes, and each mark of a buffer and of a watch is on its lane in its column.
 pub record ShowsHistory (h : History) (p : Picture) : Type 0 where
-  -- how far from the left the middle of each column lies, and the right end of the columns
+  -- the x of the middle of each column, and of the right end of the columns
   pub middle : ℕ → ℕ
   pub right : ℕ
-  -- how far from the top the marks of each lane lie, and the middle of each bar
+  -- the y of the marks of each lane, and of the middle of each bar
   pub lane : Lane → ℕ
   pub height : ℕ → ℕ
   pub legend : List Shape

@@ -1,4 +1,4 @@
--- Where columns and the lanes of bars lie.
+-- The layout of columns and lanes.
 use Rattle.std.specs.Prelude.{◌≡◌, ℕ, ◌+◌, ◌-◌, ◌*◌, ◌/◌, ◌^◌, ◌<◌, ◌≤◌, min, ◌==◌, if◌then◌else◌, List, length, get_or, All}
 use Rattle.picture_core.specs.declared.history.History.{History}
 use Rattle.picture_core.specs.declared.sheet.Sheet.{Sheet}
@@ -10,17 +10,17 @@ use Rattle.picture_core.specs.declared.sheet.TheConstants.{AXIS, BAR, BUFFER, TI
 abbrev pub left_of : Sheet → ℕ → ℕ
 left_of s column = get_or s.edges.items column s.end
 
--- the middle between the edges of a column; what stood before the first one begins at the left edge
+-- the middle between the edges of a column; column 0, before the first, begins at the left edge
 abbrev pub middle_of : Sheet → ℕ → ℕ
 middle_of s column =
     if column == 0 then left_of s column
     else left_of s column + (left_of s (column + 1) - left_of s column) / 2
 
--- the height of the middle of a bar, from the top
+-- the y of the middle of a bar
 abbrev pub height_of_bar : Sheet → ℕ → ℕ
 height_of_bar s place = min (get_or s.bars.items place s.bottom + BAR / 2) (2 ^ 64 - 1)
 
--- the top of a lane: those of a kind lie one below another
+-- the top of a lane: lanes of one kind are stacked
 abbrev pub below : ℕ → ℕ → ℕ → ℕ
 below top place size = min (top + min (place * size) (2 ^ 64 - 1)) (2 ^ 64 - 1)
 
@@ -30,7 +30,7 @@ top_of_lane s (lane.Bar place) = get_or s.bars.items place s.bottom
 top_of_lane s (lane.Buffer place) = below s.buffers place BUFFER
 top_of_lane s (lane.Watch place) = below s.watches place WATCH
 
--- from the top of a lane to where its marks lie, and arrows meet it
+-- from the top of a lane to the middle of its marks, where arrows meet it
 abbrev pub half_lane : Lane → ℕ
 half_lane (lane.Timeline place) = AXIS
 half_lane (lane.Bar place) = BAR / 2
@@ -40,7 +40,7 @@ half_lane (lane.Watch place) = WATCH / 2
 abbrev pub height_of_lane : Sheet → Lane → ℕ
 height_of_lane s l = min (top_of_lane s l + half_lane l) (2 ^ 64 - 1)
 
--- each number is more than the ones ahead of it, by so much at least
+-- each number exceeds all earlier ones by at least this much
 abbrev pub AreApart : ℕ → List ℕ → Type 0
 AreApart gap xs = (j k : ℕ) → j < k → k < length xs → get_or xs j 0 + gap ≤ get_or xs k 0
 
@@ -50,19 +50,19 @@ pub record AreEdges (h : History) (edges : List ℕ) (end : ℕ) : Type 0 where
   pub rising : AreApart 1 edges
   pub last : get_or edges (length h.columns.items + 1) 0 ≡ end
 
--- the tops of the lanes of a history's bars, each with another place below it, and what lies under them all
+-- the tops of the lanes of a history's bars, at a distance each, and the bottom of the last
 pub record AreLanes (h : History) (tops : List ℕ) (bottom : ℕ) : Type 0 where
   pub below : (k : ℕ) → k < length h.bars.items → k + 1 < length tops
   pub apart : AreApart BAR tops
   pub low : All (λ top. top ≤ bottom) tops
 
--- below this many lanes that begin there, if that is a place
+-- the bottom of this many lanes from that place on, if that is in range
 abbrev pub end_of_lanes : ℕ → ℕ → ℕ → ℕ
 end_of_lanes first count size = min (first + count * size) (2 ^ 64 - 1)
 
--- the lanes of each kind begin below those of the kind ahead of it: timelines, bars, buffers, watches
+-- the lanes of each kind begin below the kind before it: timelines, bars, buffers, watches
 pub record AreStacked (h : History) (s : Sheet) : Type 0 where
-  -- the place below the timelines, and the one below the bars
+  -- the bottom of the timelines, and of the bars
   pub from : ℕ
   pub to : ℕ
   pub timelines : end_of_lanes s.timelines (length h.lanes.timelines.items) TIMELINE ≤ from
@@ -73,7 +73,7 @@ pub record AreStacked (h : History) (s : Sheet) : Type 0 where
   pub buffers_end : end_of_lanes s.buffers (length h.lanes.buffers.items) BUFFER ≤ s.watches
   pub watches_end : end_of_lanes s.watches (length h.lanes.watches.items) WATCH ≤ s.bottom
 
--- where the columns of a history lie, and its lanes
+-- the layout of a history's columns and lanes
 pub record IsSheetOf (h : History) (s : Sheet) : Type 0 where
   pub columns : AreEdges h s.edges.items s.end
   pub bars : AreLanes h s.bars.items s.bottom

@@ -1,11 +1,11 @@
-// The bars of sync files.
+//! `Bar`: a sync file in the picture, from the column that makes it to the one that closes it.
 ghost use Rattle.std.specs.Prelude.{◌≡◌};
 ghost use Rattle.picture_core.specs.Bars.{bar_of, closed_if, goes_on, is_open_of};
 ghost use Rattle.picture_core.specs.Lanes.{bar_place};
 
 use point_core::{Name, Status};
 
-/// First column in which the file is signalled.
+/// The column from which the file is signalled, and how.
 #[derive(Clone, Copy)]
 pub struct Settled {
     pub column: usize,
@@ -13,7 +13,7 @@ pub struct Settled {
     pub status: Status,
 }
 
-/// The bar of a sync file. Columns are numbered from 1, and 0 stands for what was there before the first.
+/// The bar of a sync file. Columns are numbered from 1; 0 is before the first.
 #[derive(Clone, Copy)]
 pub struct Bar {
     pub name: Name,
@@ -38,7 +38,7 @@ impl Bar {
         }
     }
 
-    /// Whether it is the bar of a file of that name that is not closed.
+    /// Whether it is the bar of an open file with this name.
     pub(crate) fn is_open_of(&self, name: &Name) -> bool
         ensures { result ≡ is_open_of name.now self.now }
     {
@@ -52,7 +52,7 @@ impl Bar {
         self.settled.is_none() && self.closed.is_none()
     }
 
-    /// Closes it in that column, where it is the open bar of that name.
+    /// Closes it in that column, if it is the open bar with that name.
     pub(crate) fn close_if(&mut self, column: usize, name: &Name)
         ensures { self.new ≡ closed_if column name.now self.old }
     {
@@ -62,7 +62,7 @@ impl Bar {
     }
 }
 
-/// The place of the bar of the file of that name which is not closed.
+/// The index of the open bar with this name.
 pub(crate) fn open_place(bars: &[Bar], name: &Name) -> Option<usize>
     ensures { result ≡ bar_place bars.now name.now }
 {

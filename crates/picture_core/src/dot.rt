@@ -1,4 +1,4 @@
-// DOT, the language of Graphviz.
+//! Writes a graph in DOT, the language of Graphviz.
 
 use crate::graph::{Edge, Graph, Node, Waiter};
 use crate::part::{Part, push_parts};
@@ -12,7 +12,7 @@ const START: &str = "digraph waits {\n\
     node [fontname=\"monospace\", fontsize=11];\n\
     edge [fontname=\"monospace\", fontsize=9];\n";
 
-/// A graph as a document of DOT, with an arrow from what waits to what it waits for.
+/// A graph as a DOT document, with an arrow from each waiter to the point for which it waits.
 ///
 /// Fails only with `Memory`.
 pub fn dot_text(alloc: Global, graph: &Graph) -> Result<Vec<u8>, Refusal> {
@@ -102,7 +102,7 @@ fn push_file(file: &FileRow, out: &mut Vec<u8>) -> Result<(), Refusal> {
     push_parts(&parts, out)
 }
 
-/// The end of a label, and how it looks.
+/// The end of a label, and its style.
 fn status_words(status: Status) -> &'static str {
     match status {
         Status::Active => "pending\"",
@@ -172,7 +172,7 @@ fn push_named(kind: &'static str, name: &Name, out: &mut Vec<u8>) -> Result<(), 
     push_parts(&parts, out)
 }
 
-/// A buffer waits at a usage.
+/// The label of an edge: a buffer waits at a usage.
 fn edge_words(waiter: &Waiter) -> &'static str {
     match waiter {
         Waiter::Buffer(_, Usage::Kernel) => " [label=\"kernel\"]",

@@ -1,4 +1,4 @@
-// What an accepted command did, entered into the history.
+//! Enters an accepted command into the history: the bars, steps, marks, links and watches that it adds or changes.
 ghost use Rattle.std.specs.Prelude.{◌≡◌, ◌∷◌, ◌++◌, [], suc, map, if◌then◌else◌, ◌==◌, OnOk};
 ghost use Rattle.picture_core.specs.Bars.{bar_of, bars_after, closed_if, with_closed};
 ghost use Rattle.picture_core.specs.Watches.{AreWatchesAfter, IsRegistered, ended_if, fired_all, fired_by, with_ended};
@@ -15,8 +15,7 @@ use point_core::{Name, Point, Refusal};
 use std::alloc::{AllocError, Global};
 
 impl History {
-    /// Enters what an accepted command did, in its column; in 0 where it is not drawn. Of a watch, `points` are those of its
-    /// file.
+    /// Enters an accepted command in its column, which is 0 if it is not drawn. For a watch, `points` are its file's.
     ///
     /// Fails only with `Memory`.
     pub fn enter(
@@ -177,7 +176,7 @@ impl Lanes {
         )
     }
 
-    /// From what the command used to what it made or changed.
+    /// A link from each lane that the command reads to the lane that it makes or changes.
     fn link_all(&mut self, column: usize, command: &Command, bars: &[Bar]) -> Result<(), AllocError>
         ensures links { OnOk result (self.new.links.items
             ≡ joined_all column (sources self.old bars.now command.now) (target self.old bars.now command.now)
@@ -294,7 +293,7 @@ fn push_step(lanes: &mut [TimelineLane], name: &Name, step: ValueStep) -> Result
     Ok(())
 }
 
-/// One step more. Two of one column are one.
+/// Adds a step. Two steps in one column become one.
 fn set_step(steps: &mut Vec<ValueStep>, step: ValueStep) -> Result<(), AllocError> {
     if let Some(last) = steps.last_mut() {
         if last.column == step.column {
@@ -348,7 +347,7 @@ fn push_watch(
     )
 }
 
-/// Watches that fired in that column.
+/// Ends the watches that fired in this column.
 fn end_watches(watches: &mut Vec<WatchLane>, cookies: &[u64], column: usize)
     ensures { watches.new.items ≡ fired_all column cookies.now watches.old.items }
 {

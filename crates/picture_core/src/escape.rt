@@ -1,13 +1,13 @@
-// Texts that stand in a document.
+//! Escapes text for SVG and DOT.
 ghost use Rattle.std.specs.Prelude.{◌≡◌, ◌+◌, ◌<◌, ◌≤◌, ◌++◌, OnOk, IsTrue};
 ghost use Rattle.std.specs.List.{flat_map};
 ghost use Rattle.picture_core.specs.Escape.{escaped, escaped_byte, hex_digit, is_plain, is_marked};
 
 use std::alloc::AllocError;
 
-/// Writes a text to `out` so that it stays within the text of an element of SVG, within an attribute and within a quoted string
-/// of DOT: the bytes that would end it are references of characters by their numbers, as `&#60;`, and the backslash and each
-/// byte that doesn't print are written as in a Rust literal, as `\x07`, with such a reference for the backslash.
+/// Writes a text to `out` so that it is inert in an element or an attribute of SVG and in a quoted string of DOT: the
+/// bytes that would end the text are written as character references, as `&#60;`, and the backslash and each byte that
+/// doesn't print as in a Rust literal, as `\x07`, with a reference for the backslash.
 ///
 /// Fails only with `Memory`.
 pub fn push_escaped(text: &[u8], out: &mut Vec<u8>) -> Result<(), AllocError>
@@ -19,7 +19,7 @@ pub fn push_escaped(text: &[u8], out: &mut Vec<u8>) -> Result<(), AllocError>
     Ok(())
 }
 
-/// A byte of such a text.
+/// Writes one byte of such a text.
 pub(crate) fn push_byte(byte: u8, out: &mut Vec<u8>) -> Result<(), AllocError>
     ensures ok { OnOk result (out.new.items ≡ out.old.items ++ escaped_byte byte) }
 {
@@ -44,14 +44,14 @@ pub(crate) fn push_byte(byte: u8, out: &mut Vec<u8>) -> Result<(), AllocError>
     Ok(())
 }
 
-/// Whether the byte stands for itself.
+/// Whether the byte is written unchanged.
 fn is_plain(byte: u8) -> bool
     ensures { result ≡ is_plain byte }
 {
     (32..127).contains(&byte) && byte != b'\\' && !is_marked(byte)
 }
 
-/// Whether the byte would end a text or begin something else in it.
+/// Whether the byte would end a text or start markup.
 fn is_marked(byte: u8) -> bool
     ensures marked { result ≡ is_marked byte }
     ensures two { IsTrue result → byte < 100 }

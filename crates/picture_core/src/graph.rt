@@ -1,4 +1,4 @@
-// What waits for what.
+//! `Graph`: the waiters at the end of a run, and the points for which they wait. Each point on an edge is a node.
 ghost use Rattle.std.specs.Prelude.{◌≡◌, ◌∷◌, ◌++◌, [], OnOk};
 ghost use Rattle.picture_core.specs.Waits.{edge_to};
 
@@ -9,7 +9,7 @@ use point_core::{Name, Refusal, TimelineRow, Usage};
 use std::alloc::Global;
 use std::collections::HashSet;
 
-/// What stands in a graph.
+/// A node of a graph.
 #[derive(Clone, Copy)]
 pub enum Node {
     Timeline(TimelineRow),
@@ -21,16 +21,16 @@ pub enum Node {
     Watch(u64),
 }
 
-/// What waits.
+/// The source of an edge.
 #[derive(Clone, Copy)]
 pub enum Waiter {
     File(Name),
-    /// At that usage.
+    /// A buffer, at this usage.
     Buffer(Name, Usage),
     Watch(u64),
 }
 
-/// What waits for a point.
+/// An edge: a waiter, and a point for which it waits.
 #[derive(Clone, Copy)]
 pub struct Edge {
     pub waiter: Waiter,
@@ -45,7 +45,8 @@ struct NamedPoint {
     value: u64,
 }
 
-/// What waits for what: of points those that something waits for. Each of these waits for its timeline.
+/// Waiters and the points for which they wait. A point has a node only if something waits for it; it waits for its
+/// timeline.
 #[derive(Drop)]
 pub struct Graph {
     pub nodes: Vec<Node>,
@@ -66,7 +67,7 @@ impl Graph {
         }
     }
 
-    /// One node more.
+    /// Adds a node.
     ///
     /// Fails only with `Memory`.
     pub fn add_node(&mut self, node: Node) -> Result<(), Refusal>
@@ -75,7 +76,7 @@ impl Graph {
         Ok(push(&mut self.nodes, node)?)
     }
 
-    /// One edge more, to a point, which becomes a node where it is none yet.
+    /// Adds an edge to a point, which becomes a node if it is none yet.
     ///
     /// Fails only with `Memory`.
     pub fn add_wait(&mut self, waiter: &Waiter, waiting: &Waiting) -> Result<(), Refusal>

@@ -1,4 +1,4 @@
-// What a run did, column by column.
+//! `History`: the columns and lanes of a run, as `draw_core` records them. The picture shows exactly this.
 ghost use Rattle.std.specs.Prelude.{◌≡◌, ◌∷◌, ◌++◌, [], OnOk};
 ghost use Rattle.picture_core.specs.Watches.{ended_if, is_pending};
 
@@ -8,19 +8,19 @@ use crate::waiting::Waiting;
 use point_core::{Name, Point, Refusal, Usage};
 use std::alloc::Global;
 
-/// A line of the script that has an answer. Columns are numbered from 1, and 0 stands for what was there before the first.
+/// A line of the script that has an answer. Columns are numbered from 1; 0 is before the first.
 #[derive(Drop)]
 pub struct Column {
     /// The line's number.
     pub line: u32,
-    /// The word of its command, or `?` where it is none.
+    /// The word of its command, or `?` if it is none.
     pub word: &'static str,
     pub refused: bool,
-    /// The line, its answer, and where it was refused why.
+    /// The line, its answer, and the reason if it was refused.
     pub note: Vec<u8>,
 }
 
-/// The value that a timeline has from a column on.
+/// The value of a timeline from a column on.
 #[derive(Clone, Copy)]
 pub struct ValueStep {
     pub column: usize,
@@ -44,14 +44,14 @@ pub struct BufferLane {
     pub made: usize,
 }
 
-/// What a command did with a buffer.
+/// The action of a command on a buffer.
 #[derive(Clone, Copy)]
 pub enum Access {
-    /// A fence was added for this usage.
+    /// A fence was added with this usage.
     Add(Usage),
-    /// The fences of a file were added for an access so.
+    /// The fences of a file were added for an access with these flags.
     Import(u32),
-    /// What an access so waits for was made a file.
+    /// The fences for which an access with these flags waits became a file.
     Export(u32),
     Trim,
 }
@@ -64,7 +64,7 @@ pub struct BufferMark {
     pub access: Access,
 }
 
-/// What became of a watch.
+/// The end of a watch.
 #[derive(Clone, Copy)]
 pub enum WatchEnd {
     Pending,
@@ -97,7 +97,7 @@ pub struct WatchLane {
 }
 
 impl WatchLane {
-    /// Ends it so, where it is pending and has that cookie.
+    /// Ends it so, if it is pending and has that cookie.
     pub(crate) fn end_if(&mut self, cookie: u64, end: WatchEnd)
         ensures { self.new ≡ ended_if cookie end self.old }
     {
@@ -107,7 +107,7 @@ impl WatchLane {
     }
 }
 
-/// A lane, by its place among those of its kind.
+/// A lane, by its index among those of its kind.
 #[derive(Clone, Copy)]
 pub enum Lane {
     Timeline(usize),
@@ -116,7 +116,7 @@ pub enum Lane {
     Watch(usize),
 }
 
-/// From what a command used to what it made or changed.
+/// A link from a lane that a command reads to one that it makes or changes.
 #[derive(Clone, Copy)]
 pub struct Link {
     pub column: usize,
@@ -124,14 +124,14 @@ pub struct Link {
     pub to: Lane,
 }
 
-/// A point that the file of a bar waits for at the end.
+/// A point for which the file of a bar waits at the end.
 #[derive(Clone, Copy)]
 pub struct BarWait {
     pub bar: usize,
     pub waiting: Waiting,
 }
 
-/// What the commands that are drawn did with timelines, buffers and watches, and what stood before them.
+/// The timelines, buffers and watches of the drawn commands, and those that were there before them.
 #[derive(Drop)]
 pub struct Lanes {
     pub timelines: Vec<TimelineLane>,
@@ -153,16 +153,16 @@ impl Lanes {
     }
 }
 
-/// What the commands that are drawn did, and what stood before them.
+/// The drawn commands, and the state before them.
 #[derive(Drop)]
 pub struct History {
     pub columns: Vec<Column>,
-    /// The files that are or were there, in order of making.
+    /// The files that are or were open, in order of making.
     pub bars: Vec<Bar>,
     pub lanes: Lanes,
-    /// By bar, what its file waits for at the end.
+    /// By bar, the points for which its file waits at the end.
     pub waits: Vec<BarWait>,
-    /// Whether a line was refused, also one that is not drawn.
+    /// Whether a line was refused, including lines that are not drawn.
     pub refused: bool,
 }
 
@@ -182,7 +182,7 @@ impl History {
         }
     }
 
-    /// One column more.
+    /// Adds a column.
     ///
     /// Fails only with `Memory`.
     pub fn add_column(&mut self, column: Column) -> Result<(), Refusal>
@@ -193,7 +193,7 @@ impl History {
         Ok(push(&mut self.columns, column)?)
     }
 
-    /// One point more that the file of a bar waits for.
+    /// Adds a point for which the file of a bar waits.
     ///
     /// Fails only with `Memory`.
     pub fn add_wait(&mut self, wait: BarWait) -> Result<(), Refusal>

@@ -1,4 +1,4 @@
-// The lanes of timelines, files, buffers and watches.
+//! Draws the lanes: the steps of timelines, the bars of files, the marks of buffers and watches.
 ghost use Rattle.std.specs.Prelude.{◌≡◌, ◌++◌, ◌∷◌, [], true, false, OnOk, None};
 ghost use Rattle.picture_core.specs.Shapes.{end_of, end_sign, fill_of, is_bar_fill, is_link, is_told_mark, mark_of, part_of, parts_of, registered_sign, shapes_of, shapes_of_all, sign_of, signs_of_all, told_on, waiting_in, waitings, waits_on, watch_signs, watch_signs_of_all};
 ghost use Rattle.picture_core.specs.Sheet.{height_of_bar, height_of_lane, middle_of};
@@ -13,16 +13,16 @@ use crate::sheet::{LINE, PAD, Sheet};
 use point_core::Status;
 use std::alloc::AllocError;
 
-/// How far a timeline's value rises, and where it begins in its lane. Above it is room for the mark of a closing, below the
-/// numbers.
+/// The rise of a timeline's value, and its base in its lane. Above it is room for the mark of a closing, below it for
+/// the numbers.
 const RISE: u64 = 16;
 
 const FLOOR: u64 = 40;
-/// Where a timeline's numbers stand in its lane.
+/// The baseline of a timeline's numbers in its lane.
 const VALUES: u64 = 15;
 /// Half the height of a bar.
 pub(crate) const HALF_BAR: u64 = 7;
-/// From the middle of a lane to the foot of a text there.
+/// From the middle of a lane to the baseline of a text there.
 const FOOT: u64 = 4;
 
 /// A line to the right.
@@ -39,7 +39,7 @@ fn push_level(
     canvas.line(stroke, &Spot { x: left, y }, &Spot { x: right, y })
 }
 
-/// The name of a lane, in its middle.
+/// The name of a lane, vertically centred.
 fn push_name(
     sheet: &Sheet,
     lane: Lane,
@@ -70,7 +70,7 @@ pub(crate) fn push_timelines(
     Ok(())
 }
 
-/// What links begin at.
+/// The axis at which links begin.
 fn push_axis(
     sheet: &Sheet,
     y: u64,
@@ -123,7 +123,7 @@ fn push_values(
     }
 }
 
-/// How high a value lies, by the greatest.
+/// The height of a value, in proportion to the greatest.
 fn rise(value: u64, greatest: u64) -> u64 {
     let scaled = u128::from(value) * u128::from(RISE) / u128::from(greatest.max(1));
     u64::try_from(scaled).unwrap_or(RISE)
@@ -155,7 +155,7 @@ fn push_value(
     canvas.text(Face::Number, x, y, &Label::Number(step.value))
 }
 
-/// From its last value on.
+/// The line from its last value on.
 fn push_end(
     sheet: &Sheet,
     lane: &TimelineLane,
@@ -222,7 +222,7 @@ fn push_bar(sheet: &Sheet, middle: u64, bar: &Bar, canvas: &mut Canvas) -> Resul
     push_bar_end(bar, right, middle, canvas)
 }
 
-/// Where a bar ends.
+/// The right end of a bar.
 fn end_of(sheet: &Sheet, closed: Option<usize>) -> u64
     ensures { result ≡ end_of (middle_of sheet.now) sheet.now.end closed }
 {
@@ -232,7 +232,7 @@ fn end_of(sheet: &Sheet, closed: Option<usize>) -> u64
     }
 }
 
-/// Pending, and from the column on from which it is settled with the fill of its status.
+/// A bar's parts: pending, and, from the column where it is settled, with the fill of its status.
 fn push_parts(
     sheet: &Sheet,
     settled: Option<Settled>,
@@ -295,7 +295,7 @@ fn push_bar_end(bar: &Bar, right: u64, middle: u64, canvas: &mut Canvas) -> Resu
     Ok(())
 }
 
-/// What bars wait for, a line of text each, right of the columns.
+/// The points for which bars wait, one line of text each, right of the columns.
 fn push_waits(waits: &[BarWait], sheet: &Sheet, canvas: &mut Canvas) -> Result<(), AllocError>
     ensures told { told_on canvas.new ≡ told_on canvas.old }
     ensures waits { OnOk result (waits_on canvas.new ≡ waits_on canvas.old ++ waitings waits.now) }
@@ -432,7 +432,7 @@ fn push_watch(
     push_watch_end(sheet, lane.end, y, canvas)
 }
 
-/// Where the line of a watch ends.
+/// The right end of a watch's line.
 fn end_of_watch(sheet: &Sheet, end: WatchEnd) -> u64 {
     match end {
         WatchEnd::Pending => sheet.end,
@@ -440,7 +440,7 @@ fn end_of_watch(sheet: &Sheet, end: WatchEnd) -> u64 {
     }
 }
 
-/// A watch that stood before the first column has no mark where it begins.
+/// The mark of a registration; none for a watch that was there before the first column.
 fn push_registered(made: usize, x: u64, y: u64, canvas: &mut Canvas) -> Result<(), AllocError>
     ensures told { OnOk result (told_on canvas.new ≡ told_on canvas.old ++ registered_sign made x y) }
     ensures waits { waits_on canvas.new ≡ waits_on canvas.old }
@@ -451,7 +451,7 @@ fn push_registered(made: usize, x: u64, y: u64, canvas: &mut Canvas) -> Result<(
     canvas.mark(Mark::Registered, x, y)
 }
 
-/// What became of a watch.
+/// The mark of a watch's end.
 fn push_watch_end(
     sheet: &Sheet,
     end: WatchEnd,

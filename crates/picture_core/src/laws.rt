@@ -1,4 +1,4 @@
-// What holds of every escaped text.
+//! The theorem about escaped texts.
 ghost use Rattle.std.specs.Prelude.{◌≡◌, ℕ, List, true};
 ghost use Rattle.std.specs.List.{list_all};
 ghost use Rattle.picture_core.specs.Escape.{are_bytes, escaped, is_inert, unescaped};

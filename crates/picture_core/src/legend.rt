@@ -1,4 +1,4 @@
-// What the signs of a picture mean.
+//! The legend of a picture.
 ghost use Rattle.std.specs.Prelude.{◌≡◌, ◌-◌, ◌∷◌, [], true, flat_map, OnOk};
 ghost use Rattle.picture_core.specs.Legend.{AddsSamples, fills_of_legend, sample_of, top_of_samples};
 ghost use Rattle.picture_core.specs.Shapes.{told_on, is_bar_fill, waits_on};
@@ -11,18 +11,18 @@ use crate::word::words_of;
 use point_core::Usage;
 use std::alloc::AllocError;
 
-/// What the legend takes.
+/// The width of the legend.
 pub(crate) const LEGEND_WIDTH: u64 = 860;
 
 pub(crate) const LEGEND_HEIGHT: u64 = 66;
 
-/// The heights of its two lines.
+/// The baselines of its two lines.
 const FIRST: u64 = 20;
 
 const SECOND: u64 = 46;
 /// Half the height of a sample of a bar.
 const HALF_SAMPLE: u64 = 7;
-/// The width of a sign, and what stands between a text and the next sign.
+/// The width of a sign, and the gap between a text and the next sign.
 const SIGN: u64 = 30;
 
 const MIDDLE: u64 = SIGN / 2 - 4;
@@ -104,7 +104,7 @@ fn push_mark(mark: Mark, x: u64, y: u64, canvas: &mut Canvas) -> Result<(), Allo
     canvas.mark(mark, x.saturating_add(MIDDLE), y)
 }
 
-/// A letter stands in a mark for the usage or the access.
+/// The letters in a mark: the usage or the access.
 fn push_letters(x: u64, y: u64, canvas: &mut Canvas) -> Result<(), AllocError>
     ensures told { OnOk result (AddsSamples (y - HALF_SAMPLE) [] (told_on canvas.old) (told_on canvas.new)) }
     ensures waits { waits_on canvas.new ≡ waits_on canvas.old }

@@ -1,5 +1,5 @@
-//! Pictures and graphs of a script's run: its history by columns and lanes, the shapes of a picture of it, a graph of what
-//! waits for what, and writers of SVG and DOT.
+//! Pictures and graphs of a script's run: its history by columns and lanes, the shapes of a picture of it, the graph of
+//! its waiters, and writers of SVG and DOT.
 #![tactic(auto)]
 
 mod bar;

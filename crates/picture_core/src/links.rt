@@ -1,4 +1,4 @@
-// From what commands used to what they made or changed.
+//! Draws links: arrows from the lanes that a command reads to the one that it makes or changes.
 ghost use Rattle.std.specs.Prelude.{◌≡◌, ◌++◌, true, OnOk};
 ghost use Rattle.picture_core.specs.Shapes.{arrow, arrow_of, arrow_to, arrows_of_all, is_told_mark, room_at, told_on, waits_on};
 ghost use Rattle.picture_core.specs.Sheet.{height_of_lane, middle_of};
@@ -9,7 +9,7 @@ use crate::shapes::{Canvas, Mark, Spot, Stroke};
 use crate::sheet::Sheet;
 use std::alloc::AllocError;
 
-/// Half the height of a mark on a buffer's lane, and of one on a watch's.
+/// Half the height of a mark on a buffer's lane, and of a mark on a watch's.
 const HALF_SIGN: u64 = 10;
 
 const HALF_WATCH: u64 = 6;
@@ -29,7 +29,7 @@ pub(crate) fn push_links(
     Ok(())
 }
 
-/// From the middle of one lane to the edge of what stands on the other.
+/// An arrow from the middle of one lane to the edge of the mark on the other.
 fn push_link(sheet: &Sheet, link: &Link, canvas: &mut Canvas) -> Result<(), AllocError>
     ensures told { OnOk result (told_on canvas.new ≡ told_on canvas.old
         ++ arrow_of (middle_of sheet.now) (height_of_lane sheet.now) link.now) }
@@ -41,7 +41,7 @@ fn push_link(sheet: &Sheet, link: &Link, canvas: &mut Canvas) -> Result<(), Allo
     push_arrow_to(x, from, to, room_at(link.to), canvas)
 }
 
-/// To what reaches so far above and below its middle.
+/// An arrow to a mark that reaches so far above and below its middle.
 fn push_arrow_to(
     x: u64,
     from: u64,
@@ -75,7 +75,7 @@ fn push_arrow(
     canvas.mark(mark, x, end)
 }
 
-/// What stands on a lane above and below its middle.
+/// Half the height of the mark on a lane.
 fn room_at(lane: Lane) -> u64
     ensures { result ≡ room_at lane }
 {

@@ -1,13 +1,13 @@
-// How long texts are.
+//! The width of texts, which are drawn with characters of equal width.
 
 use crate::waiting::Waiting;
 use itoa::Buffer;
 use point_core::Name;
 
-/// The width of a character, which each text is drawn with.
+/// The width of a character.
 const CHARACTER: u64 = 7;
 
-/// How many characters a number has.
+/// The number of characters of a number.
 pub(crate) fn digits(number: u64) -> u64 {
     Buffer::new().format(number).len() as u64
 }
@@ -16,7 +16,7 @@ pub(crate) fn name_length(name: &Name) -> u64 {
     name.as_bytes().len() as u64
 }
 
-/// As in `gpu 5: 3 to go`.
+/// The length of a text as `gpu 5: 3 to go`.
 pub(crate) fn waiting_length(waiting: &Waiting) -> u64 {
     name_length(&waiting.timeline)
         .saturating_add(digits(waiting.point))

@@ -1,20 +1,20 @@
-// Documents that are put together of parts.
+//! `Part`: a piece of a document, so that writers escape every text that isn't theirs.
 
 use crate::escape::push_escaped;
 use itoa::Buffer;
 use point_core::Refusal;
 
-/// A part of a document.
+/// A piece of a document.
 #[derive(Clone, Copy)]
 pub(crate) enum Part<'a> {
-    /// The document's own words.
+    /// The writer's own markup.
     Own(&'static str),
     Number(u64),
-    /// A text that stays within its place.
+    /// A text, which is escaped.
     Text(&'a [u8]),
 }
 
-/// Writes the parts to a document.
+/// Writes the pieces to a document.
 ///
 /// Fails only with `Memory`.
 pub(crate) fn push_parts(parts: &[Part<'_>], out: &mut Vec<u8>) -> Result<(), Refusal> {

@@ -1,4 +1,4 @@
-// The picture of a history.
+//! Draws a history: lays out its sheet, and puts the shapes of each lane, link and mark on a canvas.
 ghost use Rattle.std.specs.Prelude.{◌≡◌, ◌+◌, ◌++◌, ◌<◌, ◌^◌, IfErr, IfOk, OnOk, length, map};
 ghost use Rattle.std.specs.List.{range_with_len};
 ghost use Rattle.point_core.specs.declared.refusal.Refusal.TheVariants.{Memory};
@@ -15,7 +15,7 @@ use crate::sheet::{HEADING, PAD, Sheet};
 use point_core::Refusal;
 use std::alloc::{AllocError, Global};
 
-/// The heights of the lines' numbers, their words, and the marks of those that were refused.
+/// The baselines of the lines' numbers and words, and the marks of refused lines.
 const NUMBERS: u64 = 16;
 
 const WORDS: u64 = 32;
@@ -72,7 +72,7 @@ fn push_all(
     push_legend(sheet.bottom, canvas)
 }
 
-/// The kinds of lanes from top to bottom, and how many there are of each.
+/// The kinds of lanes from top to bottom, and the number of each.
 fn kinds_of(history: &History) -> [(Heading, usize); 4] {
     [
         (Heading::Timelines, history.lanes.timelines.len()),
@@ -91,7 +91,7 @@ fn lane_of(kind: Heading, place: usize) -> Lane {
     }
 }
 
-/// Every other lane, counted from the first of its kind.
+/// A stripe for every other lane, counted from the first of its kind.
 fn push_stripes(
     history: &History,
     sheet: &Sheet,
@@ -156,7 +156,7 @@ fn push_heading(sheet: &Sheet, kind: Heading, canvas: &mut Canvas) -> Result<(),
     canvas.text(Face::Heading, PAD, y, &Label::Heading(kind))
 }
 
-/// The head of each column: its line's number and word, and whether that was refused.
+/// The head of each column: its line's number and word, and a mark if it was refused.
 fn push_heads(history: &History, sheet: &Sheet, canvas: &mut Canvas) -> Result<(), AllocError>
     ensures told { told_on canvas.new ≡ told_on canvas.old }
     ensures waits { waits_on canvas.new ≡ waits_on canvas.old }

@@ -1,4 +1,4 @@
-// The shapes that a picture is made of.
+//! `Shape` and `Text`: the elements of a picture, in pixels, independent of SVG.
 ghost use Rattle.std.specs.Prelude.{◌≡◌, ◌∷◌, ◌++◌, [], true, false, OnOk, None, option_to_list};
 ghost use Rattle.picture_core.specs.Shapes.{is_bar_fill, is_link, is_told_mark, told_on, waiting_in, waits_on};
 
@@ -15,10 +15,10 @@ pub struct Spot {
     pub y: u64,
 }
 
-/// What an area is filled with.
+/// The fill of an area.
 #[derive(Clone, Copy)]
 pub enum Fill {
-    /// Nothing: the page.
+    /// The page itself: no fill.
     Page,
     /// Every other lane.
     Stripe,
@@ -29,7 +29,7 @@ pub enum Fill {
     Cancelled,
 }
 
-/// How a line is drawn.
+/// The style of a line.
 #[derive(Clone, Copy)]
 pub enum Stroke {
     /// The lane of a buffer.
@@ -57,7 +57,7 @@ pub enum Mark {
     Shut,
     /// A file is closed.
     Closed,
-    /// Nothing closed it: it goes on.
+    /// Nothing closed it: it continues.
     GoesOn,
     /// Where a link begins.
     From,
@@ -67,13 +67,13 @@ pub enum Mark {
     Up,
 }
 
-/// How a text stands at its place, and how it looks.
+/// The alignment and style of a text.
 #[derive(Clone, Copy)]
 pub enum Face {
-    /// It begins there.
+    /// It starts there.
     Name,
     Heading,
-    /// Its middle is there.
+    /// It is centred there.
     Number,
     Word,
     RefusedWord,
@@ -81,7 +81,7 @@ pub enum Face {
     Letter,
 }
 
-/// What stands over the lanes of a kind.
+/// The heading over the lanes of a kind.
 #[derive(Clone, Copy)]
 pub enum Heading {
     Timelines,
@@ -90,7 +90,7 @@ pub enum Heading {
     Watches,
 }
 
-/// What the legend explains.
+/// The meaning of a sample in the legend.
 #[derive(Clone, Copy)]
 pub enum Meaning {
     Pending,
@@ -110,7 +110,7 @@ pub enum Meaning {
 /// A text.
 #[derive(Clone, Copy)]
 pub enum Label {
-    /// The word of the command of a column, by its place in the history, from 0.
+    /// The word of the command of a column, by its index in the history.
     Command(usize),
     Heading(Heading),
     Access(Access),
@@ -119,7 +119,7 @@ pub enum Label {
     Number(u64),
     /// A watch, by its cookie.
     Watch(u64),
-    /// What is waited for, as `gpu 5: 3 to go`.
+    /// A point and how far it is to go, as `gpu 5: 3 to go`.
     Waiting(Waiting),
 }
 
@@ -131,7 +131,7 @@ pub struct Text {
     pub label: Label,
 }
 
-/// A shape. Later ones lie over earlier ones.
+/// A shape. Later shapes cover earlier ones.
 #[derive(Clone, Copy)]
 pub enum Shape {
     Area {
@@ -158,7 +158,7 @@ pub enum Shape {
     },
 }
 
-/// Shapes that are put one over another, and texts over them. Each call fails only if memory is refused.
+/// Shapes, drawn in order, and texts above them. Each call fails only if memory is refused.
 #[derive(Drop)]
 pub(crate) struct Canvas {
     pub(crate) shapes: Vec<Shape>,
@@ -276,7 +276,7 @@ impl Canvas {
 /// The area of a column, over which its note shows.
 #[derive(Clone, Copy)]
 pub struct ColumnArea {
-    /// The place of the column in the history, from 0.
+    /// The index of the column in the history.
     pub column: usize,
     pub x: u64,
     pub width: u64,
@@ -288,7 +288,7 @@ pub struct Picture {
     pub width: u64,
     pub height: u64,
     pub shapes: Vec<Shape>,
-    /// They lie over the shapes.
+    /// They are drawn above the shapes.
     pub texts: Vec<Text>,
     pub columns: Vec<ColumnArea>,
 }

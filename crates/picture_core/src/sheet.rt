@@ -1,4 +1,5 @@
-// Where columns and lanes lie.
+//! `Sheet`: the layout of a picture: the edges of its columns and the tops of its lanes, in pixels. Columns don't
+//! overlap, and neither do lanes.
 ghost use Rattle.std.specs.Prelude.{◌≡◌, ℕ, ◌+◌, ◌≤◌, All, IfErr, IfOk, get_or, length};
 ghost use Rattle.point_core.specs.declared.refusal.Refusal.TheVariants.{Memory};
 ghost use Rattle.picture_core.specs.Sheet.{AreApart, AreLanes, AreEdges, IsSheetOf, below, end_of_lanes, height_of_bar, height_of_lane, left_of, middle_of, top_of_lane};
@@ -21,30 +22,30 @@ const BAR: u64 = 24;
 const BUFFER: u64 = 30;
 
 const WATCH: u64 = 24;
-/// Where the axis of a timeline lies in its lane.
+/// The axis of a timeline in its lane.
 pub(crate) const AXIS: u64 = 44;
 /// The height of a line of text.
 pub(crate) const LINE: u64 = 16;
-/// What lies left of a text.
+/// The gap left of a text.
 pub(crate) const PAD: u64 = 10;
-/// The least width of a column, and what it has beside its text.
+/// The least width of a column, and the gap beside its text.
 const NARROW: u64 = 30;
 
 const BESIDE: u64 = 14;
-/// What lies between two kinds of lanes.
+/// The gap between two kinds of lanes.
 const APART: u64 = 10;
 
-/// Where columns and lanes lie, in pixels.
+/// The layout of columns and lanes, in pixels.
 #[derive(Drop)]
 pub(crate) struct Sheet {
     /// The left edge of each column, from column 0 on, and the right edge of the last.
     edges: Vec<u64>,
     /// The right edge of the last column.
     pub(crate) end: u64,
-    /// What the lanes and the texts beside them take.
+    /// The width of the lanes and the texts beside them.
     pub(crate) width: u64,
     pub(crate) timelines: u64,
-    /// The top of each bar's lane, and what lies under the last.
+    /// The top of each bar's lane, and the bottom of the last.
     bars: Vec<u64>,
     pub(crate) buffers: u64,
     pub(crate) watches: u64,
@@ -87,7 +88,7 @@ impl Sheet {
         self.left(column.saturating_add(1))
     }
 
-    /// The middle of a column. What stood before the first column begins at the left edge.
+    /// The middle of a column. Column 0, before the first, begins at the left edge.
     pub(crate) fn middle(&self, column: usize) -> u64
         ensures { result ≡ middle_of self.now column }
     {
@@ -98,7 +99,7 @@ impl Sheet {
         left.saturating_add(self.right(column).saturating_sub(left) / 2)
     }
 
-    /// The middle of what stands in a column, where 0 has room for what stood before the first.
+    /// The middle of the texts in a column; column 0 has room for the state before the first line.
     pub(crate) fn text_middle(&self, column: usize) -> u64 {
         let left = self.left(column);
         left.saturating_add(self.right(column).saturating_sub(left) / 2)
@@ -116,7 +117,7 @@ impl Sheet {
         }
     }
 
-    /// How high a lane is.
+    /// The height of a lane.
     pub(crate) fn lane_height(&self, lane: Lane) -> u64 {
         match lane {
             Lane::Timeline(_) => TIMELINE,
@@ -129,7 +130,7 @@ impl Sheet {
         }
     }
 
-    /// The height of a lane's name.
+    /// The vertical middle of a lane's name.
     pub(crate) fn middle_of(&self, lane: Lane) -> u64 {
         match lane {
             Lane::Timeline(_) => self.top(lane).saturating_add(TIMELINE / 2 + 5),
@@ -137,7 +138,7 @@ impl Sheet {
         }
     }
 
-    /// The height where links meet a lane.
+    /// The y at which links meet a lane.
     pub(crate) fn height_of(&self, lane: Lane) -> u64
         ensures { result ≡ height_of_lane self.now lane }
     {
@@ -149,7 +150,7 @@ impl Sheet {
         }
     }
 
-    /// The height of the middle of a bar.
+    /// The y of the middle of a bar.
     pub(crate) fn height_of_bar(&self, place: usize) -> u64
         ensures { result ≡ height_of_bar self.now place }
     {
@@ -170,7 +171,7 @@ fn below(top: u64, place: usize, height: u64) -> u64
     top.saturating_add((place as u64).saturating_mul(height))
 }
 
-/// The top of the first of `count` lanes, and what lies under them all.
+/// The top of the first of `count` lanes, and the bottom of the last.
 fn lanes(top: u64, count: usize, height: u64) -> (u64, u64)
     ensures first { top ≤ result.0 }
     ensures end { end_of_lanes result.0 count height ≤ result.1 }
@@ -183,7 +184,7 @@ fn lanes(top: u64, count: usize, height: u64) -> (u64, u64)
     (first, below(first, count, height).saturating_add(APART))
 }
 
-/// The lane of each bar, which is as high as what it waits for, and what lies under them all.
+/// The lane of each bar, as high as the texts of its waits, and the bottom of the last.
 fn bars_of(alloc: Global, history: &History, top: u64) -> Result<(Vec<u64>, u64), Refusal>
     ensures ok { IfOk result (λ lanes. AreLanes history.now lanes.0.items lanes.1) }
     ensures first { IfOk result (λ lanes. All (λ lane. top ≤ lane) lanes.0.items) }
@@ -198,7 +199,7 @@ fn bars_of(alloc: Global, history: &History, top: u64) -> Result<(Vec<u64>, u64)
     Ok((tops, end.saturating_add(APART)))
 }
 
-/// How high the lane of each bar is.
+/// The height of each bar's lane.
 fn heights_of(alloc: Global, history: &History) -> Result<Vec<u64>, AllocError>
     ensures count { IfOk result (λ heights. length heights.items ≡ length history.now.bars.items) }
     ensures least { IfOk result (λ heights. All (λ height. BAR ≤ height) heights.items) }
@@ -209,7 +210,7 @@ fn heights_of(alloc: Global, history: &History) -> Result<Vec<u64>, AllocError>
     Ok(heights)
 }
 
-/// A line of text for each point that a bar waits for.
+/// Adds a line of text for each point for which a bar waits.
 fn add_lines(heights: &mut [u64], waits: &[BarWait]) {
     for wait in waits {
         if let Some(height) = heights.get_mut(wait.bar) {
@@ -259,10 +260,10 @@ fn word_widths(alloc: Global, columns: &[Column]) -> Result<Vec<u64>, AllocError
     Ok(widths)
 }
 
-/// Places things of these lengths one after another: where each begins, then the end of the last, which is also returned by
-/// itself.
+/// The places of things of these lengths one after another: the start of each, then the end of the last, which is also
+/// returned by itself.
 ///
-/// Fails only with `Memory`, also where a place is too great a number.
+/// Fails only with `Memory`, also if a place is too great a number.
 fn places_of(alloc: Global, first: u64, lengths: &[u64]) -> Result<(Vec<u64>, u64), Refusal>
     ensures count { IfOk result (λ places. length places.0.items ≡ length lengths.now + 1) }
     ensures apart { IfOk result (λ places. (gap : ℕ) → All (λ l. gap ≤ l) lengths.now → AreApart gap places.0.items) }
@@ -281,7 +282,7 @@ fn places_of(alloc: Global, first: u64, lengths: &[u64]) -> Result<(Vec<u64>, u6
     Ok((places, next))
 }
 
-/// The width of a column that has its line's number and word.
+/// The width of a column that fits its line's number and word.
 fn width_of(column: &Column) -> u64
     ensures { 1 ≤ result }
 {
@@ -289,7 +290,7 @@ fn width_of(column: &Column) -> u64
     NARROW.max(text_width(length).saturating_add(BESIDE))
 }
 
-/// Makes the columns so wide that the values of a timeline fit.
+/// Widens the columns until the values of a timeline fit.
 fn widen(widths: &mut [u64], steps: &[ValueStep])
     ensures { All (λ width. 1 ≤ width) widths.old → All (λ width. 1 ≤ width) widths.new }
 {
@@ -299,7 +300,7 @@ fn widen(widths: &mut [u64], steps: &[ValueStep])
     }
 }
 
-/// Makes a column at least so wide.
+/// Widens a column to at least this width.
 fn widen_one(widths: &mut [u64], column: usize, width: u64)
     ensures { All (λ w. 1 ≤ w) widths.old → All (λ w. 1 ≤ w) widths.new }
 {
@@ -331,7 +332,7 @@ fn watch_length(lane: &WatchLane) -> u64 {
     digits(lane.cookie).saturating_add(6)
 }
 
-/// The width of what bars wait for, right of the columns.
+/// The width of the texts of waits, right of the columns.
 fn beside(history: &History) -> u64 {
     let mut length = 0;
     for wait in &history.waits {

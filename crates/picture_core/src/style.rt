@@ -1,7 +1,7 @@
-// How a picture looks.
+//! The style sheet of a picture, for light and dark schemes.
 
-/// What stands before the shapes. The colours of bars are of a palette that red-green blind readers can distinguish, and bars have
-/// patterns too. A reader without style sheets for dark schemes shows the light one.
+/// The markup before the shapes. The colours of bars are from a palette that red-green blind readers can distinguish,
+/// and bars have patterns too. A reader without style sheets for dark schemes shows the light one.
 pub(crate) fn style() -> &'static str {
     STYLE
 }

@@ -1,4 +1,4 @@
-// SVG.
+//! Writes a picture as an SVG document. Every text is escaped.
 
 use crate::escape::push_byte;
 use crate::history::{Column, History};
@@ -73,7 +73,7 @@ fn push_note(
     push_parts(&[Part::Own("</title></rect>\n")], out)
 }
 
-/// A text whose line feeds are line feeds.
+/// A text with one line for each line feed.
 fn push_lines(text: &[u8], out: &mut Vec<u8>) -> Result<(), AllocError> {
     for byte in text {
         match *byte {
@@ -137,7 +137,7 @@ fn fill_words(fill: Fill) -> &'static str {
     }
 }
 
-/// From the right end round the left one, and back where it is not open.
+/// The edge of a bar: from the right end round the left one, and back unless the bar is open.
 fn push_edge(
     at: &Spot,
     width: u64,
@@ -203,7 +203,7 @@ fn push_mark(mark: Mark, at: &Spot, out: &mut Vec<u8>) -> Result<(), Refusal> {
     push_parts(&parts, out)
 }
 
-/// How a mark looks, and its path from its middle.
+/// The class of a mark, and its path relative to its middle.
 fn path_of(mark: Mark) -> (&'static str, &'static str) {
     match mark {
         Mark::Add => ("sign", "m-9 0a9 9 0 1 0 18 0a9 9 0 1 0-18 0z"),
@@ -251,7 +251,7 @@ fn face_words(face: Face) -> &'static str {
     }
 }
 
-/// How many characters a label has.
+/// The number of characters of a label.
 fn length_of(history: &History, label: &Label) -> u64 {
     match label {
         Label::Command(place) => command_word(history, *place).len() as u64,
@@ -293,7 +293,7 @@ fn push_name(name: &Name, out: &mut Vec<u8>) -> Result<(), Refusal> {
     push_parts(&[Part::Text(name.as_bytes())], out)
 }
 
-/// As `gpu 5: 3 to go`.
+/// A text as `gpu 5: 3 to go`.
 fn push_waiting(waiting: &Waiting, out: &mut Vec<u8>) -> Result<(), Refusal> {
     let parts = [
         Part::Text(waiting.timeline.as_bytes()),

@@ -1,4 +1,4 @@
-// What is waited for.
+//! `Waiting`: a point that is not reached, and how far its timeline has to go.
 
 use point_core::Name;
 

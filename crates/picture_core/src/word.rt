@@ -1,10 +1,10 @@
-// The words of a picture.
+//! The words and letters in a picture.
 
 use crate::history::Access;
 use crate::shapes::{Heading, Meaning};
 use point_core::Usage;
 
-/// The letter of what a command did with a buffer.
+/// The letter for a command's action on a buffer.
 pub(crate) fn letter_of(access: Access) -> &'static str {
     match access {
         Access::Add(usage) => letter_of_usage(usage),
