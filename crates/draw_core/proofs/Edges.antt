@@ -1,4 +1,4 @@
--- What waits for what, found by loops, by the desk and by its history.
+-- The graph of waiters, built by loops, from the desk and from its history.
 use Rattle.std.proofs.Common.{◌≡◌, ◌∙◌, ℕ, ◌+◌, ◌<◌, Bool, true, false, cond, refl, sym, ap, subst, List, [], ◌∷◌, ◌++◌, length, get_or, take, map, filter, Option, inl, inr, append-nil, append_assoc}
 use Rattle.std.specs.Prelude.{flat_map, unwrap_or}
 use Rattle.std.proofs.lemmas.List.{map-append}
@@ -27,7 +27,7 @@ use Rattle.draw_core.specs.Drawn.{IsToGo, IsWaitingFor}
 use Rattle.draw_core.specs.Found.{IsReportOf, edges_by, edges_of, file_edges}
 use Rattle.draw_core.specs.Waiting.{active_edges, buffer_edges, edges_in, made_edges, points_named, put_edges, watches_edges}
 
--- what a test keeps of a list, one by one
+-- the elements that a test keeps, one by one
 
 module _ {X Y : Type 0} (test : X → Bool) (f : X → Y) (old : List Y) (xs : List X) (i : ℕ) (x : X) (low : i < length xs) (at : x ≡ get_or xs i x) where
   abbrev kept : ℕ → List Y
@@ -62,7 +62,7 @@ pub edge-row : (desk : DeskState) (w : Waiter) (timeline : List ℕ) (value : �
     → edge_to w waiting.timeline waiting.point ≡ edge_to w timeline value
 edge-row desk w timeline value waiting h = λ j. edge_to w (h.timeline_is j) (h.point_is j)
 
--- by the world of a history
+-- from the world of a history
 
 flat_map-map : {X Y Z : Type 0} (f : Y → List Z) (g : X → Y) (h : X → List Z) → ((x : X) → f (g x) ≡ h x) → (xs : List X) → flat_map f (map g xs) ≡ flat_map h xs
 flat_map-map f g h same [] = refl
@@ -95,7 +95,7 @@ tables_in d (answer.Raised n fired) = d
 tables_in d (answer.Info i) = d
 tables_in d (answer.Show rows) = d
 
--- the report that a desk gives is that of its history
+-- the report of a desk is its history's
 report-is : (desk : DeskState) (history : List Command) (report : Tables) → HasHistory desk history → Answers desk Report (answer.Report report) → report ≡ report_of (world_of history)
 report-is desk history report stands answers = elim (answers history stands).reported [
   | inl same ↦ ap (tables_in report) same

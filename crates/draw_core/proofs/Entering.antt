@@ -1,4 +1,4 @@
--- What becomes of bars as a command is entered, and as they are asked for their status after it.
+-- Bars as a command is entered, and as they are asked for their status after it.
 use Rattle.std.proofs.Common.{◌≡◌, ℕ, zero, suc, ◌<◌, ◌≤◌, Bool, true, false, not, ◌&&◌, nat_le, cond, refl, sym, ap, subst, ◌∙◌, List, [], ◌∷◌, ◌++◌, length, map, get_or, filter, Option, None, Some, is_some, is_none, IsSome, option_map, All, arith}
 use Rattle.std.specs.Prelude.{if◌then◌else◌, IfSome}
 use Rattle.std.specs.Cmp.Lexicographic.{nat_list_eq_equiv}
@@ -44,7 +44,7 @@ is_none-None : {X : Type 0} (o : Option X) → is_none o ≡ true → o ≡ None
 is_none-None None is = refl
 is_none-None (Some x) is = absurd (cc)
 
--- a bar that is there, by a column that it is past, is not closed
+-- an open bar, past its column, is not closed
 not_closed : (column : ℕ) (o : Option ℕ) → IfSome o (λ c. c ≤ column) → not (is_closed_by column o) ≡ true → o ≡ None
 not_closed column None past is = refl
 not_closed column (Some c) past is = absurd (false≢true (sym (ap not (le-leb c column past)) ∙ is))
@@ -56,7 +56,7 @@ closed_later : (n column : ℕ) (o : Option ℕ) → n ≤ column → IfSome o (
 closed_later n column None more past = refl
 closed_later n column (Some c) more past = le-leb c column (omega arith) ∙ sym (le-leb c n past)
 
--- in a later column the same bars are there
+-- in a later column the same bars are open
 there_later : (n column : ℕ) (b : Bar) → n ≤ column → IsPast n b → is_there column b ≡ is_there n b
 there_later n column b more past =
     let made = past.made in
@@ -76,7 +76,7 @@ IsPast-later n column more b past =
     let made = past.made in
     record { made = omega arith; settled = settled_later n column b.settled more past.settled; closed = IfSome-later n column b.closed more past.closed }
 
--- the names of two lists of bars, of which the same are there
+-- the names of two lists of bars with the same open ones
 names_if : (test : Bar → Bool) (a b : Bool) (x y : Bar) (xs ys : List Bar) → b ≡ a → y.name ≡ x.name → map (λ (z : Bar). z.name) ys ≡ map (λ (z : Bar). z.name) xs
     → map (λ (z : Bar). z.name) (cond b (y ∷ ys) ys) ≡ map (λ (z : Bar). z.name) (cond a (x ∷ xs) xs)
 names_if test true true x y xs ys same name rest = cc
@@ -95,7 +95,7 @@ names-same k j (x ∷ xs) (y ∷ ys) long each =
     names_if (is_there k) (is_there k x) (is_there j y) x y (filter (is_there k) xs) (filter (is_there j) ys) here.0 here.1
     (names-same k j xs ys (omega (arith, long)) (λ i d low. each (suc i) d (omega arith)))
 
--- nothing is done, and a column is passed
+-- nothing happens, and a column is passed
 pub AreBarsOf-later : (w : World) (n column : ℕ) (bars : List Bar) → n ≤ column → AreBarsOf w n bars → AreBarsOf w column bars
 AreBarsOf-later w n column bars more h = record {
   past = All-weaker (IsPast n) (IsPast column) (IsPast-later n column more) bars h.past;
@@ -119,7 +119,7 @@ makes (command.Merge f a b) = Some f
 makes (command.Export f b flags) = Some f
 makes _ = None
 
--- what holds of each bar, of a new one, and of one that is closed holds after the command
+-- a property of each bar, of a new one, and of one that is closed, holds after the command
 module _ (P Q : Bar → Type 0) (column : ℕ)
     (shut : (b : Bar) → b.closed ≡ None → P b → Q (record b { closed = Some column })) where
   closed_by : (name : List ℕ) (b : Bar) → ((b.closed ≡ None → same_name name b.name ≡ false) → P b → Q b) → (is : Bool) → is_open_of name b ≡ is → P b → Q (if is then record b { closed = Some column } else b)
@@ -146,7 +146,7 @@ module _ (P Q : Bar → Type 0) (column : ℕ)
   All-entered (command.Close f) bars made keep all = All-with_closed column refl f bars keep all
   All-entered _ bars made keep all = All-weaker P Q (λ b. keep b (λ _. refl)) bars all
 
--- bars of that column and those closed in it
+-- bars of that column and bars that it closes
 
 made_there : (name : List ℕ) (column : ℕ) → is_there column (bar_of name column) ≡ true
 made_there name column = and_from (nat_le column column) true (le-leb column column (omega arith)) refl
@@ -157,12 +157,12 @@ made_later name k column low = ap (λ b. b && true) (lt-leb column k low)
 shut_gone : (column : ℕ) (b : Bar) → is_there column (record b { closed = Some column }) ≡ false
 shut_gone column b = and_right (nat_le b.made column) (not (nat_le column column)) (ap not (le-leb column column (omega arith)))
 
--- one that is closed in a later column is there as before
+-- a bar that is closed in a later column is unchanged in earlier ones
 shut_earlier : (k column : ℕ) (b : Bar) → k < column → b.closed ≡ None → is_there k (record b { closed = Some column }) ≡ is_there k b
 shut_earlier k column b low still =
     ap (λ c. nat_le b.made k && not c) (lt-leb column k low) ∙ sym (ap (λ o. nat_le b.made k && not (is_closed_by k o)) still)
 
--- all that a bar was up to an earlier column stays
+-- bars keep what they were in earlier columns
 pub IsShown-entered : (w : World) (k column : ℕ) → k < column → (c : Command) (bars : List Bar) → All (IsShown w k) bars → All (IsShown w k) (bars_after column c bars)
 IsShown-entered w k column low c bars all =
     All-entered (IsShown w k) (IsShown w k) column
@@ -217,7 +217,7 @@ names-without : (fs : List MadeFile) (name : List ℕ) → map (λ (g : MadeFile
 names-without [] name = refl
 names-without (f ∷ fs) name = names-without_if name (same_name f.name name) f (files_without fs name) (map (λ (g : MadeFile). g.name) fs) refl (names-without fs name)
 
--- one bar more, which is there or not, of that name or not, and closed or not
+-- another bar, open or not, with that name or not, and closed or not
 dropped_if : (test : Bar → Bool) (name : List ℕ) (t o : Bool) (b : Bar) (left there : List Bar) → test b ≡ t → (t ≡ true → same_name b.name name ≡ o)
     → map (λ (z : Bar). z.name) (filter test left) ≡ others name (map (λ (z : Bar). z.name) there)
     → map (λ (z : Bar). z.name) (filter test (cond (not o) (b ∷ left) left)) ≡ others name (map (λ (z : Bar). z.name) (cond t (b ∷ there) there))
@@ -302,7 +302,7 @@ found_new w c f name is named none =
     ap (λ fs. is_some (file_named fs name)) is
     ∙ ap is_some (find-new (is_named (λ (m : MadeFile). m.name) name) w.files f none (nat_list_eq_equiv.symm f.name name ∙ ap (same_name name) named ∙ nat_list_eq_equiv.refl name))
 
--- the file that an accepted command makes is there
+-- the file that an accepted command makes is open
 kept-new : (w : World) (c : Command) (name : List ℕ) → first_of (causes w c) ≡ None → makes c ≡ Some name → is_some (file_named (after w c).files name) ≡ true
 kept-new w (command.Fence f t p) name is makes =
     let rest = (first_of-none (not (has_timeline w.timelines t)) NoEntry (making_file w f ++ cause (is_closed w.timelines t) AlreadyClosed ∷ []) is).1 in
@@ -325,7 +325,7 @@ IsPast-made name column = record { made = omega arith; settled = tt; closed = tt
 IsPast-shut : (column : ℕ) (b : Bar) → IsPast column b → IsPast column (record b { closed = Some column })
 IsPast-shut column b past = record { made = past.made; settled = past.settled; closed = omega arith }
 
--- after an accepted command, the bars are those of its world
+-- after an accepted command, the bars belong to its world's files
 pub AreBarsOf-entered : (w : World) (column : ℕ) (c : Command) (bars : List Bar) → first_of (causes w c) ≡ None → AreBarsOf w column bars → AreBarsOf (after w c) column (bars_after column c bars)
 AreBarsOf-entered w column c bars accepted h = record {
   past = All-entered (IsPast column) (IsPast column) column (λ b _ past. IsPast-shut column b past) c bars (λ name _. IsPast-made name column) (λ b _ past. past) h.past;
@@ -333,13 +333,13 @@ AreBarsOf-entered w column c bars accepted h = record {
   names = names-entered w column c bars h;
 }
 
--- what is settled
+-- settled bars
 
--- a bar that is there and settled has the status of its file
+-- an open, settled bar has the status of its file
 abbrev pub IsCarried : World → ℕ → Bar → Type 0
 IsCarried w column b = is_there column b ≡ true → IfSome b.settled (λ s. status_in w b.name ≡ Some s.status)
 
--- what was drawn before
+-- columns that were drawn before
 drawn_settled : (n : ℕ) (o : Option Settled) (found : Option Status) → IfSome o (λ s. (s.column ≤ n) × (is_signalled s.status ≡ true)) → found ≡ Some (settled_at o n) → IfSome o (λ s. found ≡ Some s.status)
 drawn_settled n None found past is = tt
 drawn_settled n (Some s) found past is = is ∙ ap (λ b. Some (if b then s.status else Active)) (le-leb s.column n past.0)
@@ -373,7 +373,7 @@ IsCarried-entered w column c bars sound accepted past all =
     (λ b stays h is. carried-stays w c b.name column b.settled sound accepted (stays (there_open column b h.0 is)) h.0.settled (h.1 is))
     (λ k d low. (past k d low, all k d low))
 
--- unsettled bars stay so
+-- unsettled bars remain unsettled
 pub unsettled-entered : (column : ℕ) (c : Command) (bars : List Bar) → All (λ (b : Bar). b.settled ≡ None) bars → All (λ (b : Bar). b.settled ≡ None) (bars_after column c bars)
 unsettled-entered column c bars all =
     All-entered (λ (b : Bar). b.settled ≡ None) (λ (b : Bar). b.settled ≡ None) column (λ b _ is. is) c bars (λ name _. refl) (λ b _ is. is) all
@@ -427,7 +427,7 @@ module _ (desk : DeskState) (column : ℕ) (old new : List Bar) (asked : AreAske
   pub names-asked : (k : ℕ) → names_there k new ≡ names_there k old
   names-asked k = names-same k k old new asked.count (λ i d low. (there_asked k (get_or old i d) (get_or new i d) (asked.each i d low), (asked.each i d low).name))
 
-  -- earlier columns stay
+  -- earlier columns are unchanged
   pub IsShown-asked_earlier : (w : World) (k : ℕ) → k < column → All (IsShown w k) old → All (IsShown w k) new
   IsShown-asked_earlier w k low all = All-asked (IsShown w k) (IsShown w k) (λ x y a shown is. ap (status_in w) a.name ∙ shown (sym (there_asked k x y a) ∙ is) ∙ ap Some (sym (a.before k low))) all
 

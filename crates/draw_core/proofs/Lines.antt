@@ -1,4 +1,4 @@
--- The lines of a script rise, and what their histories are as one line follows another.
+-- The lines of a script rise, and the histories between them.
 use Rattle.std.proofs.Common.{◌≡◌, ℕ, zero, suc, ◌+◌, ◌<◌, ◌≤◌, Bool, true, false, nat_le, nat_lt, refl, sym, ap, subst, ◌∙◌, cond, List, [], ◌∷◌, ◌++◌, length, map, get_or, take, filter, All, arith}
 use Rattle.std.specs.Prelude.{if◌then◌else◌}
 use Rattle.std.proofs.lemmas.Bool.{le-leb, lt-leb, leb-true, lt-ltb, le-ltb, and_left}
@@ -54,7 +54,7 @@ below-take n (l ∷ ls) (suc i) d h low =
     let later = above (l.number + 1) ls i d h.1 (omega arith) in
     All-cons (IsBelow (get_or ls i d).number) l (take i ls) (omega arith) (below-take (l.number + 1) ls i d h.1 (omega arith))
 
--- the lines that are run, with one more
+-- the lines that are run, with another one
 
 run_if : (b : Bool) (l : Line) → b ≡ true → cond b (l ∷ []) [] ≡ l ∷ []
 run_if b l is = ap (λ c. cond c (l ∷ []) []) is
@@ -73,12 +73,12 @@ lines_run-past window done l past =
 pub below-run : (window : Window) (number : ℕ) (done : List Line) → All (IsBelow number) done → All (IsBelow number) (lines_run window done)
 below-run window number done all = All-filter (λ (m : Line). nat_le m.number window.last) (IsBelow number) done all
 
--- none that is run is past the window
+-- no run line is past the window
 pub run-within : (window : Window) (done : List Line) → All (IsBelow (window.last + 1)) (lines_run window done)
 run-within window done =
     All-weaker (λ (m : Line). nat_le m.number window.last ≡ true) (IsBelow (window.last + 1)) (λ m is. let low = leb-true m.number window.last is in omega arith) (lines_run window done) (filter_passes (λ (m : Line). nat_le m.number window.last) done)
 
--- the lines that are drawn, with one more
+-- the lines that are drawn, with another one
 
 drawn_if : (window : Window) (done : List Line) (l : Line) (b : Bool) → is_in_window window l.number ≡ b → drawn_lines window (done ++ l ∷ []) ≡ drawn_lines window done ++ cond b (l.number ∷ []) []
 drawn_if window done l b is =
@@ -98,7 +98,7 @@ below-drawn window number done all = All-filter (is_in_window window) (λ n. n <
 early_if : (b : Bool) (n : ℕ) (ns : List ℕ) → b ≡ false → cond b (n ∷ ns) ns ≡ ns
 early_if b n ns is = ap (λ c. cond c (n ∷ ns) ns) is
 
--- before the window none is drawn
+-- before the window no line is drawn
 pub drawn_lines-early : (window : Window) (number : ℕ) (done : List Line) → number < window.first → All (IsBelow number) done → drawn_lines window done ≡ []
 drawn_lines-early window number [] first all = refl
 drawn_lines-early window number (l ∷ done) first all =
@@ -106,7 +106,7 @@ drawn_lines-early window number (l ∷ done) first all =
     early_if (is_in_window window l.number) l.number (drawn_lines window done) (and_left (nat_le window.first l.number) (nat_le l.number window.last) (lt-leb window.first l.number (omega arith)))
     ∙ drawn_lines-early window number done first (All-tail (IsBelow number) l done all)
 
--- histories, with one more line
+-- histories, with another line
 
 -- before a line that isn't past the new one, nothing changes
 pub history_before-earlier : (number : ℕ) (history : List Command) (ls : List Line) (given : List Answer) (l : Line) (a : Answer) → AreLineAnswers history ls given → number ≤ l.number → history_before number history (ls ++ l ∷ []) (given ++ a ∷ []) ≡ history_before number history ls given
@@ -126,7 +126,7 @@ history_before-all number history (m ∷ ls) (g ∷ given) answers all =
     ap (λ b. if b then history_before number (history_after_line history m.body g) ls given else history) (lt-ltb m.number number (All-head (IsBelow number) m ls all))
     ∙ history_before-all number (history_after_line history m.body g) ls given answers.1 (All-tail (IsBelow number) m ls all)
 
--- the lines at which columns end, with one column more
+-- the lines at which columns end, with another column
 
 pub line_after-earlier : (window : Window) (old new : List Column) (line column : ℕ) → lines_drawn new ≡ lines_drawn old ++ line ∷ [] → column ≤ length old → line_after window new column ≡ line_after window old column
 line_after-earlier window old new line zero is low = refl
@@ -151,7 +151,7 @@ pub length-drawn : (old new : List Column) (line : ℕ) → lines_drawn new ≡ 
 length-drawn old new line is =
     sym (length-map new (λ (c : Column). c.line)) ∙ ap length is ∙ length_push (lines_drawn old) line ∙ ap (λ (n : ℕ). n + 1) (length-map old (λ (c : Column). c.line))
 
--- one line more of a list
+-- another line of a list
 pub take_line : (lines : List Line) (i : ℕ) (l : Line) (number : ℕ) (body : Body) → i < length lines → l ≡ get_or lines i l → number ≡ l.number → body ≡ l.body → take (i + 1) lines ≡ take i lines ++ record { number = number; body = body } ∷ []
 take_line lines i l number body low at same same' =
     take_more lines i l low ∙ ap (λ (m : Line). take i lines ++ m ∷ []) (sym at ∙ (λ j. record { number = sym same j; body = sym same' j }))

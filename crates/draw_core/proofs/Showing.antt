@@ -30,7 +30,7 @@ use Rattle.draw_core.specs.Progress.{AreAskedFirst, AreBarsOf, HasDrawn, bars_af
 use Rattle.draw_core.proofs.Lines.{IsBelow, below-run, below-drawn, drawn_lines-early, drawn_lines-in, drawn_lines-out, history_before-all, history_before-earlier, length-drawn, line_after-earlier, line_after-low, line_after-new, lines_run-past, lines_run-push}
 use Rattle.draw_core.proofs.Entering.{AreBarsOf-asked, AreBarsOf-entered, AreBarsOf-later, IsCarried, IsCarried-entered, IsCarried-shown, IsCarried-unsettled, IsShown-asked, IsShown-asked_earlier, IsShown-entered, names-asked, names-entered_earlier, unsettled-entered}
 
--- what a line does
+-- the effect of a line
 
 -- an accepted command has no cause to be refused
 accepted : (history : List Command) (c : Command) (given : Answer) → IsAnswer history c given → is_refused given ≡ false → first_of (causes (world_of history) c) ≡ None
@@ -39,7 +39,7 @@ accepted history c given is fine = elim is.reported [
   | inr memory ↦ absurd (cc (sym (ap is_refused memory.0) ∙ fine))
 ]
 
--- a line leaves all as it was, or is an accepted command
+-- a line changes nothing, or is an accepted command
 module _ (R : List Command → List Command → (ℕ → List Bar → List Bar) → Type 0)
     (none : (history : List Command) → R history history (λ column bars. bars))
     (one : (history : List Command) (c : Command) → first_of (causes (world_of history) c) ≡ None → R history (history ++ c ∷ []) (λ column bars. bars_after column c bars)) where
@@ -205,7 +205,7 @@ HasShown-asked window done desk columns bars asked first h = elim (zero_or (leng
       rw same (record { given = h.given; answers = h.answers; stands = h.stands; lines = h.lines; kept = h.kept; last = h.last some; shown = h.shown some })
 ]
 
--- one column more
+-- another column
 column_or : (column n : ℕ) → column ≤ n + 1 → (column ≤ n) ⊎ (column ≡ suc n)
 column_or column n low = elim (cases_lt n column) [
   | inl more ↦ inr (omega arith)
@@ -319,6 +319,6 @@ module _ (window : Window) (done : List Line) (desk later : DeskState) (old new 
     shown = λ _. each_shown;
   }
 
--- what is drawn of the whole run
+-- all that is drawn of the run
 pub ShowsRun-shown : (window : Window) (lines : List Line) (desk : DeskState) (columns : List Column) (bars : List Bar) (waits : List BarWait) → (h : HasShown window lines desk columns bars) → All (IsWaitIn (last_world window lines h.given) bars) waits → ShowsRun window lines columns bars waits
 ShowsRun-shown window lines desk columns bars waits h all = record { given = h.given; answers = h.answers; files = h.shown; waited = all }

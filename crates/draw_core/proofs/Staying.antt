@@ -1,4 +1,4 @@
--- A file that an accepted command doesn't close stays, and once it is signalled its status stays.
+-- A file that an accepted command doesn't close stays open, and once it is signalled its status never changes.
 use Rattle.std.proofs.Common.{◌≡◌, ℕ, ◌+◌, ◌-◌, ◌<◌, ◌≤◌, Bool, true, false, not, ◌&&◌, ◌||◌, cond, find, refl, sym, ap, ◌∙◌, List, [], ◌∷◌, ◌++◌, length, get_or, set, Option, None, Some, inl, inr, arith}
 use Rattle.std.specs.Prelude.{if◌then◌else◌, nat_le}
 use Rattle.std.specs.List.{list_all, list_any}
@@ -32,12 +32,12 @@ use Rattle.desk_core.proofs.Sound.{first_of-none, not-false, IsAtLeast-raised, I
 use Rattle.std.proofs.Common.{◌^◌}
 use Rattle.point_core.specs.declared.refusal.Refusal.{Refusal}
 
--- which file a command closes
+-- the file that a command closes
 abbrev pub closes : Command → List ℕ → Bool
 closes (command.Close f) name = same_name f name
 closes _ name = false
 
--- what is found
+-- files that are found
 
 cond_push : {X : Type 0} (b : Bool) (y x : X) (rest more : Option X) → (rest ≡ Some x → more ≡ Some x) → cond b (Some y) rest ≡ Some x → cond b (Some y) more ≡ Some x
 cond_push true y x rest more later is = is
@@ -56,7 +56,7 @@ find-new test (z ∷ xs) y none is =
     let both = or_parts (test z) (list_any test xs) none in
     ap (λ b. cond b (Some z) (find test (xs ++ y ∷ []))) both.0 ∙ find-new test xs y both.1 is
 
--- a name isn't that of another file
+-- a name differs from another file's
 apart : (name other here : List ℕ) → same_name other name ≡ false → same_name here name ≡ true → same_name here other ≡ false
 apart name other here far is =
     nat_list_eq_equiv.symm here other ∙ ap (same_name other) (same_text here name (sym is)) ∙ far
@@ -76,7 +76,7 @@ file_named-without [] name other g far is = absurd (cc)
 file_named-without (f ∷ fs) name other g far is =
     found_without name other (same_name f.name name) (same_name f.name other) f g fs (files_without fs other) refl refl (apart name other f.name far) (file_named-without fs name other g far) is
 
--- a file that isn't closed stays
+-- a file that isn't closed stays open
 pub file_named-after : (w : World) (c : Command) (name : List ℕ) (g : MadeFile) → closes c name ≡ false → file_named w.files name ≡ Some g → file_named (after w c).files name ≡ Some g
 file_named-after w (command.Fence f t p) name g stays is = find-push (is_named (λ (m : MadeFile). m.name) name) w.files _ g is
 file_named-after w (command.Merge f a b) name g stays is = find-push (is_named (λ (m : MadeFile). m.name) name) w.files _ g is
@@ -84,7 +84,7 @@ file_named-after w (command.Export f b flags) name g stays is = find-push (is_na
 file_named-after w (command.Close f) name g stays is = file_named-without w.files name f g stays is
 file_named-after w _ name g stays is = is
 
--- clocks that only go on: a closed one stays as it is, and no value falls
+-- clocks that only advance: a closed one stays as it is, and no value falls
 
 pub record GoesOn (old new : List Clock) : Type 0 where
   pub closed : (ctx : ℕ) → (clock_at old ctx).closed ≡ true → clock_at new ctx ≡ clock_at old ctx
@@ -134,7 +134,7 @@ some_cancelled-later {old} {new} on (p ∷ ps) is =
     ap (λ b. b || some_cancelled new ps) (is_cancelled-later on p both.0)
     ∙ ap (λ b. is_cancelled old p || b) (some_cancelled-later on ps both.1)
 
--- each accepted command lets clocks and values go on
+-- each accepted command only advances clocks and values
 
 GoesOn-after : (w : World) (c : Command) → IsSound w → first_of (causes w c) ≡ None → GoesOn (clocks_of w.timelines) (clocks_of (after w c).timelines)
 GoesOn-after w (command.Timeline t) s is =
@@ -179,7 +179,7 @@ file_status-after w c s accepted f made is =
     ap (λ b. status_of b (some_cancelled (clocks_of (after w c).timelines) (listed_points f))) (still ∙ sym is)
     ∙ ap (λ b. status_of (all_reached (reach_of w.timelines) 0 f.put) b) (some_cancelled-later (GoesOn-after w c s accepted) (listed_points f) listed)
 
--- a file that is made is found by its name
+-- a new file is found by its name
 
 pub has_file-free : (w : World) (f : List ℕ) (more : List (Bool × Refusal)) → first_of (making_file w f ++ more) ≡ None → has_file w.files f ≡ false
 has_file-free w f more is = (first_of-none (has_file w.files f) Exists (cause (nat_le FILES (length w.files)) (Limit Files) ∷ more) is).0

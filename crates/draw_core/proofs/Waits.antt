@@ -1,4 +1,4 @@
--- What bars wait for, by the desk and by its history.
+-- The points for which bars wait, by the desk and by its history.
 use Rattle.std.proofs.Common.{◌≡◌, false, ℕ, ◌<◌, refl, sym, ap, subst, ◌∙◌, List, [], ◌∷◌, ◌++◌, length, get_or, Option, None, Some, option_map, All}
 use Rattle.std.specs.Prelude.{Contains, OnOk, Result, Ok, Err, is_some}
 use Rattle.std.proofs.lemmas.List.{append-nil, append_assoc}
@@ -39,7 +39,7 @@ AddsWaits-one {old} {now} {new} desk bar points i p waiting h low at waits is = 
   each = All-push (IsAdded desk bar points) h.more (record { bar = bar; waiting = waiting }) h.each (refl, (p, (i, low, sym at), waits));
 }
 
--- the waits of one bar, beside those of others
+-- the waits of one bar, beside others
 pub IsWaitBy-added : {old new : List BarWait} (desk : DeskState) (bars : List Bar) (place : ℕ) (b : Bar) (f : File) (points : List Point) → place < length bars → get_or bars place b ≡ b → b.settled ≡ None → b.closed ≡ None → file_at desk.files b.name ≡ Some f → f.points ≡ points
     → AddsWaits desk place points old new → All (IsWaitBy desk bars) old → All (IsWaitBy desk bars) new
 IsWaitBy-added {old} {new} desk bars place b f points low at unsettled unclosed file same h all =
@@ -87,7 +87,7 @@ ShowsRun-finished window lines desk columns bars asked waits drawn first all =
     let h = HasShown-asked window lines desk columns bars asked first drawn in
     ShowsRun-shown window lines desk columns asked waits h (All-weaker (IsWaitBy desk asked) (IsWaitIn _ asked) (λ wait by. IsWaitIn-by desk _ asked (Keeps-stands h.stands) wait by) waits all)
 
--- what a call that answers a Result says of what it did
+-- the contract of a call by its Result
 
 pub on_ok : {T E : Type 0} (r : Result T E) (P Q : Type 0) → OnOk r P → (P → Q) → OnOk r Q
 on_ok (Ok x) P Q p f = f p

@@ -1,4 +1,4 @@
--- Which lines have a column.
+-- The lines that have a column.
 use Rattle.std.specs.Prelude.{ℕ, Bool, ◌&&◌, nat_le, List, map, filter}
 use Rattle.line_core.specs.declared.line.Line.{Line}
 use Rattle.draw_core.specs.declared.window.Window.{Window}

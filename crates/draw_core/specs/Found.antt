@@ -1,4 +1,4 @@
--- What a desk finds to wait for what.
+-- The graph of waiters, as a desk's report gives it.
 use Rattle.std.specs.Prelude.{ℕ, Bool, ◌&&◌, not, List, [], ◌++◌, map, filter, flat_map, option_map, unwrap_or, is_some}
 use Rattle.point_core.specs.Clocks.{status_at}
 use Rattle.point_core.specs.Status.{is_signalled}
@@ -20,7 +20,7 @@ use Rattle.picture_core.specs.declared.graph.Waiter.TheVariants as waiter
 use Rattle.picture_core.specs.declared.history.WatchLane.{WatchLane}
 use Rattle.draw_core.specs.Waiting.{buffer_edges, is_to_come, watches_edges}
 
--- a point of a timeline that was made is active, and its timeline has not reached it
+-- a point of a timeline that exists is active, and its timeline has not reached it
 abbrev pub is_waited_for : List Timeline → Point → Bool
 is_waited_for ts p =
     is_some (name_at ts p.ctx) && not (is_signalled (status_at (clocks_of ts) p)) && is_to_come ts (name_of ts p.ctx) p.value
@@ -46,7 +46,7 @@ edges_by desk report watches =
     files_edges desk report.files
     ++ (buffers_edges desk.timelines report.buffers ++ watches_edges (edges_of desk.timelines) watches)
 
--- an answer that reports tables, of which that holds
+-- the answer is a report, and `holds` is true of its tables
 abbrev pub IsReportOf : Answer → (Tables → Type 0) → Type 0
 IsReportOf (answer.Report report) holds = holds report
 IsReportOf (answer.Refused r) holds = ⊥

@@ -14,12 +14,12 @@ use Rattle.draw_core.specs.declared.window.Window.{Window}
 use Rattle.draw_core.specs.Columns.{drawn_lines, lines_drawn}
 use Rattle.draw_core.specs.Shown.{ShowsRun, status_in, world_shown}
 
--- a file that is there is seen as one fill, the fill of its status
+-- an open file is seen as one fill, the fill of its status
 abbrev pub fills_of_status : Option Status → List Fill
 fills_of_status None = []
 fills_of_status (Some s) = fill_of s ∷ []
 
--- what has to be seen of a bar if a column shows that world: its file's status, or nothing if it isn't there
+-- what has to be seen of a bar if a column shows that world: its file's status, or nothing if the file isn't open
 abbrev pub fills_in : World → ℕ → Bar → List Fill
 fills_in w column b = if is_there column b then fills_of_status (status_in w b.name) else []
 

@@ -1,4 +1,4 @@
--- How far a run has come, and what its bars are then.
+-- The state of a run after its first lines, and its bars then.
 use Rattle.std.specs.Prelude.{◌≡◌, ◌<◌, ◌≤◌, ℕ, true, if◌then◌else◌, List, [], All, length, None, is_some, IfSome}
 use Rattle.command_core.specs.declared.answer.Answer.{Answer}
 use Rattle.line_core.specs.declared.line.Body.{Body}
@@ -22,12 +22,12 @@ use Rattle.draw_core.specs.Columns.{drawn_lines, lines_drawn}
 use Rattle.draw_core.specs.Drawn.{AreAsked, IsSettledBy, IsWaitingFor}
 use Rattle.draw_core.specs.Shown.{ShowFiles, file_names, last_world, lines_run, names_there, world_shown}
 
--- the bars after a line that was answered so
+-- the bars after a line with this answer
 abbrev pub bars_after_line : ℕ → Body → Answer → List Bar → List Bar
 bars_after_line column (Cmd command) given bars = if is_refused given then bars else bars_after column command bars
 bars_after_line column (Bad refusal) given bars = bars
 
--- before the first column the bars are asked, and else they stay
+-- before the first column the bars are asked, and later they are unchanged
 pub record AreAskedFirst (columns : List Column) (desk : DeskState) (old new : List Bar) : Type 0 where
   pub none : length columns ≡ 0 → AreAsked desk 0 old new
   pub some : 0 < length columns → new ≡ old
@@ -38,11 +38,11 @@ pub record IsPast (column : ℕ) (b : Bar) : Type 0 where
   pub settled : IsSettledBy column b
   pub closed : IfSome b.closed (λ c. c ≤ column)
 
--- the file of a bar that is there is there
+-- an open bar has an open file
 abbrev pub IsKept : World → ℕ → Bar → Type 0
 IsKept w column b = is_there column b ≡ true → is_some (file_named w.files b.name) ≡ true
 
--- the bars, up to that column, are those of a world's files
+-- the bars, up to that column, belong to a world's files
 pub record AreBarsOf (w : World) (column : ℕ) (bars : List Bar) : Type 0 where
   pub past : All (IsPast column) bars
   pub kept : All (IsKept w column) bars
@@ -63,7 +63,7 @@ pub record HasDrawn (window : Window) (done : List Line) (desk : DeskState) (col
   pub shown : 0 < length columns → (column : ℕ) → column ≤ length columns
       → ShowFiles (world_shown window done given columns column) column bars
 
--- what a bar that is neither settled nor closed waits for, by its file's points
+-- the point for which a bar that is neither settled nor closed waits, by its file's points
 pub record IsWaitBy (desk : DeskState) (bars : List Bar) (wait : BarWait) : Type 0 where
   pub bar : Bar
   pub within : wait.bar < length bars
@@ -76,7 +76,7 @@ pub record IsWaitBy (desk : DeskState) (bars : List Bar) (wait : BarWait) : Type
   pub listed : Contains file.points point
   pub waits : IsWaitingFor desk point wait.waiting
 
--- for points of a bar's file, each that is waited for was added
+-- for the points of a bar's file, each one that is waited for was added
 pub record AddsWaits (desk : DeskState) (bar : ℕ) (points : List Point) (old new : List BarWait) : Type 0 where
   pub more : List BarWait
   pub added : new ≡ old ++ more

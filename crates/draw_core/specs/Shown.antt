@@ -1,4 +1,5 @@
--- What a picture shows of a run: in each column the files of the history so far, and at the end what they wait for.
+-- What a picture shows of a run: in each column the files of the history so far, and at the end the points for which
+-- they wait.
 use Rattle.std.specs.Prelude.{◌≡◌, ◌<◌, ◌≤◌, ◌-◌, ◌+◌, ℕ, zero, suc, nat_le, nat_lt, true, if◌then◌else◌, List, [], ◌∷◌, All, Contains, filter, map, length, get_or, Option, None, Some, option_map, ⊤}
 use Rattle.point_core.specs.declared.entry.Point.{Point}
 use Rattle.point_core.specs.declared.status.Status.{Status}
@@ -21,7 +22,7 @@ use Rattle.picture_core.specs.declared.history.Column.{Column}
 use Rattle.picture_core.specs.declared.waiting.Waiting.{Waiting}
 use Rattle.draw_core.specs.Columns.{lines_drawn}
 
--- each line has a greater number than the one ahead of it, and the first has that number or a greater one
+-- line numbers rise, and the first is at least this one
 abbrev pub AreRising : ℕ → List Line → Type 0
 AreRising number [] = ⊤
 AreRising number (l ∷ ls) = (number ≤ l.number) × AreRising (l.number + 1) ls
@@ -30,7 +31,7 @@ AreRising number (l ∷ ls) = (number ≤ l.number) × AreRising (l.number + 1) 
 abbrev pub lines_run : Window → List Line → List Line
 lines_run window lines = filter (λ (l : Line). nat_le l.number window.last) lines
 
--- the history once the lines before the one of that number were answered so
+-- the history before line `number`, by the answers of the lines
 abbrev pub history_before : ℕ → List Command → List Line → List Answer → List Command
 history_before number history [] given = history
 history_before number history (l ∷ ls) [] = history
@@ -70,7 +71,7 @@ pub record ShowFiles (w : World) (column : ℕ) (bars : List Bar) : Type 0 where
   pub names : names_there column bars ≡ file_names w
   pub each : All (IsShown w column) bars
 
--- what is waited for is an active point; its value less the value of its timeline is to go
+-- the wait is for an active point; its distance is the point less the value of its timeline
 pub record IsPending (ts : List Timeline) (point : Point) (waiting : Waiting) : Type 0 where
   pub timeline : name_at ts point.ctx ≡ Some waiting.timeline
   pub active : status_at (clocks_of ts) point ≡ Active
@@ -78,7 +79,7 @@ pub record IsPending (ts : List Timeline) (point : Point) (waiting : Waiting) : 
   pub to_go : waiting.to_go ≡ point.value - value_of ts waiting.timeline
   pub some : 0 < waiting.to_go
 
--- a text beside a bar that is still pending says what is to go of a point that its file lists
+-- a text beside a bar that is still pending gives the distance of a point that its file lists
 pub record IsWaitIn (w : World) (bars : List Bar) (wait : BarWait) : Type 0 where
   pub bar : Bar
   pub within : wait.bar < length bars
@@ -91,8 +92,8 @@ pub record IsWaitIn (w : World) (bars : List Bar) (wait : BarWait) : Type 0 wher
   pub listed : Contains (listed_points file) point
   pub waits : IsPending w.timelines point wait.waiting
 
--- A picture shows the run of the lines: they have answers so that each column shows the files of the history up to its line, and
--- each text at the end what is to go after the last line that was run.
+-- A picture shows the run of the lines: they have answers so that each column shows the files of the history up to its
+-- line, and each text at the end gives a distance after the last line that was run.
 pub record ShowsRun (window : Window) (lines : List Line) (columns : List Column) (bars : List Bar)
     (waits : List BarWait) : Type 0 where
   pub given : List Answer

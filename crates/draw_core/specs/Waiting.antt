@@ -1,4 +1,4 @@
--- What waits for what after the lines that were run.
+-- The graph of waiters after the lines that were run.
 use Rattle.std.specs.Prelude.{ℕ, Bool, ◌&&◌, not, nat_lt, List, [], ◌++◌, map, filter, flat_map, option_map, unwrap_or, is_some}
 use Rattle.point_core.specs.Clocks.{status_at}
 use Rattle.point_core.specs.Status.{is_signalled}
@@ -25,11 +25,11 @@ use Rattle.draw_core.specs.Shown.{lines_run}
 
 -- files: each waits for the active points that it lists
 
--- a point of a timeline that was made is active
+-- a point of a timeline that exists is active
 abbrev pub is_active_point : List Timeline → Point → Bool
 is_active_point ts p = is_some (name_at ts p.ctx) && not (is_signalled (status_at (clocks_of ts) p))
 
--- an edge to each of the points that is active
+-- an edge to each active point
 abbrev pub active_edges : List Timeline → Waiter → List Point → List Edge
 active_edges ts w ps = map (λ (p : Point). edge_to w (name_of ts p.ctx) p.value) (filter (is_active_point ts) ps)
 
@@ -42,7 +42,7 @@ made_edges w f = active_edges w.timelines (waiter.File f.name) (points_named w f
 
 -- buffers: each waits, at the usage of a row of its table, for the row's point
 
--- the timeline of that name has not reached the value
+-- the timeline with that name has not reached the value
 abbrev pub is_to_come : List Timeline → List ℕ → ℕ → Bool
 is_to_come ts timeline value = has_timeline ts timeline && nat_lt (value_of ts timeline) value
 
@@ -56,14 +56,14 @@ buffer_edges ts b =
 abbrev pub put_edges : World → MadeBuffer → List Edge
 put_edges w b = buffer_edges w.timelines (buffer_rows w b)
 
--- watches: each that is pending waits for the points that its file listed when it was registered
+-- watches: each pending one waits for the points that its file listed when it was registered
 
 abbrev pub if_pending : WatchEnd → List Edge → List Edge
 if_pending end.Pending edges = edges
 if_pending (end.Fired column) edges = []
 if_pending (end.Removed column) edges = []
 
--- to those of the points to which `edges` leads
+-- edges to the points to which `edges` leads
 abbrev pub watch_edges : (Waiter → List Point → List Edge) → WatchLane → List Edge
 watch_edges edges w = if_pending w.end (edges (waiter.Watch w.cookie) w.points.items)
 
@@ -76,7 +76,7 @@ edges_in w watches =
     flat_map (made_edges w) w.files
     ++ (flat_map (put_edges w) w.buffers ++ watches_edges (active_edges w.timelines) watches)
 
--- the desk is as the lines that were run left it
+-- the desk is as the run lines left it
 pub record StandsAfter (window : Window) (lines : List Line) (desk : DeskState) : Type 0 where
   pub given : List Answer
   pub answers : AreLineAnswers [] (lines_run window lines) given

@@ -1,4 +1,4 @@
-// The column at which each file becomes signalled.
+//! Settles bars: finds the column in which each file becomes signalled, by asking the desk after every command.
 ghost use Rattle.std.specs.Prelude.{◌≡◌};
 ghost use Rattle.point_core.specs.Clocks.{common_status};
 ghost use Rattle.timeline_core.specs.Timeline.{clocks_of};

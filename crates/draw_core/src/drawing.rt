@@ -1,4 +1,4 @@
-// A script's run, drawn.
+//! `Drawing`: a recorded run and its picture. `fencectl draw` writes it as SVG.
 ghost use Rattle.std.specs.Prelude.{◌≡◌, IfOk};
 ghost use Rattle.line_core.specs.Script.{script_of};
 ghost use Rattle.draw_core.specs.Pictured.{ShowsScript};
@@ -9,7 +9,7 @@ use picture_core::{History, Picture, picture_of, svg_text};
 use point_core::Refusal;
 use std::alloc::Global;
 
-/// A run of a script, and the picture of what it did.
+/// A run of a script, and its picture.
 #[derive(Drop)]
 pub struct Drawing {
     run: Run,
@@ -17,8 +17,8 @@ pub struct Drawing {
 }
 
 impl Drawing {
-    /// Runs the lines of a script up to the window's last, and draws those in the window, a column for each that has an
-    /// answer. Refused lines are drawn too.
+    /// Runs the lines of a script up to the window's last, and draws those in the window, one column for each that has
+    /// an answer. Refused lines are drawn too.
     ///
     /// Fails only with `Memory`.
     pub fn of(alloc: Global, script: &[u8], window: &Window) -> Result<Drawing, Refusal>
@@ -29,7 +29,7 @@ impl Drawing {
         Ok(Drawing { run, picture })
     }
 
-    /// What the run did.
+    /// The recorded history.
     pub fn history(&self) -> &History
         ensures { result.now ≡ self.now.run.history }
     {

@@ -1,4 +1,4 @@
-// What waits for what, asked of a desk.
+//! Builds the graph of waiters from a desk's report.
 ghost use Rattle.std.specs.Prelude.{◌≡◌, ◌++◌, OnOk};
 ghost use Rattle.draw_core.specs.Found.{buffers_edges, edges_by, edges_of, file_edges, files_edges};
 ghost use Rattle.draw_core.specs.Waiting.{buffer_edges, watch_edges, watches_edges};

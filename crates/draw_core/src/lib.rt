@@ -1,6 +1,6 @@
-//! A script's run for its picture: its history column by column, and what waits for what at its end.
+//! Records a script's run for its picture: its history column by column, and the graph of waiters at its end.
 //!
-//! A drawing is made only of the desk and its answers.
+//! A drawing depends only on the desk and its answers.
 #![tactic(auto)]
 
 mod asking;

@@ -1,4 +1,4 @@
-// What hovering over a column shows.
+//! The note of a column, which shows on hovering: the line, its answer, and the reason if it was refused.
 
 use command_core::{Answer, Command};
 use desk_core::Desk;
@@ -8,7 +8,7 @@ use reason_core::{Book, Look, Place, explain_bad_line, explain_command};
 use script_core::print;
 use std::alloc::Global;
 
-/// The most bytes of an answer in a note. More are cut.
+/// The most bytes of an answer in a note. A longer answer is cut.
 const NOTE_BYTES: usize = 2048;
 
 /// Writes a line and its answer, which ends with a line feed.
@@ -29,7 +29,7 @@ pub(crate) fn push_answer(
     Ok(())
 }
 
-/// Writes why a command was refused.
+/// Writes the reason why a command was refused.
 ///
 /// Fails only with `Memory`.
 pub(crate) fn push_reason(
@@ -44,7 +44,7 @@ pub(crate) fn push_reason(
     explain_command(desk, book, &place, command, refusal, note).map_err(|_| Refusal::Memory)
 }
 
-/// Writes why a line is no command.
+/// Writes the reason why a line is no command.
 ///
 /// Fails only with `Memory`.
 pub(crate) fn push_fault(

@@ -1,4 +1,4 @@
-// A run of a script, recorded.
+//! `Run`: a script's run, recorded as a history. Lines before the window only change the desk.
 ghost use Rattle.std.specs.Prelude.{◌≡◌, ◌<◌, ◌≤◌, ◌+◌, ◌∷◌, ◌++◌, [], List, All, length, true, IfOk, OnOk};
 ghost use Rattle.desk_core.specs.Answer.{is_refused};
 ghost use Rattle.desk_core.specs.Desk.{HasHistory};
@@ -29,10 +29,10 @@ use reason_core::Book;
 use script_core::answer_line;
 use std::alloc::Global;
 
-/// The most columns of a picture whose lines are not chosen.
+/// The most columns of a picture if no lines were chosen.
 pub const COLUMNS: usize = 500;
 
-/// How many lines of a script have an answer.
+/// The number of lines of a script that have an answer.
 ///
 /// Fails only with `Memory`.
 pub fn count_lines(alloc: Global, script: &[u8]) -> Result<usize, Refusal>
@@ -42,7 +42,7 @@ pub fn count_lines(alloc: Global, script: &[u8]) -> Result<usize, Refusal>
     Ok(lines.len())
 }
 
-/// A run of a script up to the last line that is drawn: the desk as it left it, and what it did.
+/// A run of a script up to the last line that is drawn: the desk, and the recorded history.
 #[derive(Drop)]
 pub struct Run {
     alloc: Global,
@@ -53,8 +53,8 @@ pub struct Run {
 }
 
 impl Run {
-    /// Runs the lines of a script up to the window's last, and records those in the window, a column for each that has an answer.
-    /// Refused lines are recorded too.
+    /// Runs the lines of a script up to the window's last, and records those in the window, one column for each that
+    /// has an answer. Refused lines are recorded too.
     ///
     /// Fails only with `Memory`.
     pub fn of(alloc: Global, script: &[u8], window: &Window) -> Result<Run, Refusal>
@@ -71,14 +71,14 @@ impl Run {
         Ok(run)
     }
 
-    /// What it did.
+    /// The recorded history.
     pub fn history(&self) -> &History
         ensures { result.now ≡ self.now.history }
     {
         &self.history
     }
 
-    /// What waits for what after the last line that was run.
+    /// The graph of waiters after the last line that was run.
     ///
     /// Fails only with `Memory`.
     pub fn graph(&mut self) -> Result<Graph, Refusal>
@@ -136,7 +136,7 @@ impl Run {
         Ok(())
     }
 
-    /// Answers a line up to the window's last, which has a column of its own if it is in the window.
+    /// Answers a line up to the window's last, with a column of its own if it is in the window.
     ///
     /// Fails only with `Memory`.
     fn take(&mut self, line: &RawLine<'_>, body: &Body) -> Result<(), Refusal>
@@ -184,7 +184,7 @@ impl Run {
         self.record(line, body, &answer)
     }
 
-    /// Before the first column, settles the bars of the files that are there and signalled.
+    /// Before the first column, settles the bars of open files that are signalled.
     fn ask_first(&mut self)
         ensures asked { AreAskedFirst self.old.history.columns.items self.old.desk
             self.old.history.bars.items self.new.history.bars.items }
@@ -198,7 +198,7 @@ impl Run {
         }
     }
 
-    /// One column more, for a line that was answered so.
+    /// Adds a column for a line with its answer.
     fn record(&mut self, line: &RawLine<'_>, body: &Body, answer: &Answer) -> Result<(), Refusal>
         ensures columns { OnOk result (lines_drawn self.new.history.columns.items
             ≡ lines_drawn self.old.history.columns.items ++ line.now.number ∷ []) }
@@ -222,7 +222,7 @@ impl Run {
         Ok(())
     }
 
-    /// Enters what a line did that has this answer, in its column.
+    /// Enters a line with its answer in its column.
     fn enter(
         &mut self,
         column: usize,
@@ -267,7 +267,7 @@ impl Run {
             .enter(self.alloc, column, command, answer, points)
     }
 
-    /// The line, its answer, and, if it was refused, why.
+    /// The line, its answer, and the reason if it was refused.
     fn note_of(
         &self,
         line: &RawLine<'_>,
@@ -302,7 +302,7 @@ impl Run {
         }
     }
 
-    /// Enters what the pending files wait for.
+    /// Enters the points for which the pending files wait.
     fn finish(&mut self) -> Result<(), Refusal>
         requires none { self.old.history.waits.items ≡ [] }
         ensures asked { OnOk result (AreAskedFirst self.old.history.columns.items self.old.desk
@@ -348,7 +348,7 @@ impl Run {
     }
 }
 
-/// The points of the file that a watch is registered on, and none of another command.
+/// The points of the file on which a watch is registered; none for another command.
 fn points_of<'a>(desk: &'a Desk, command: &Command) -> &'a [Point] {
     match command {
         Command::Watch(file, _) => desk.file_points(file).unwrap_or(&[]),

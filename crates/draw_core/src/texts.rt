@@ -1,11 +1,11 @@
-// The texts of a script's lines.
+//! An iterator over the texts of a script's lines, by number.
 use line_core::first_line;
 
 /// The lines of a script, by rising number.
 #[derive(Drop)]
 pub(crate) struct Texts<'a> {
     rest: &'a [u8],
-    // of the line that `rest` begins with
+    // the number of the first line of `rest`
     number: u32,
 }
 
@@ -17,7 +17,7 @@ impl<'a> Texts<'a> {
         }
     }
 
-    /// The line of that number. Numbers must not fall from call to call.
+    /// The line with this number. Numbers must not fall from call to call.
     pub(crate) fn line(&mut self, number: u32) -> &'a [u8] {
         for _ in self.number..number {
             if let Some((_, rest)) = first_line(self.rest) {

@@ -1,4 +1,4 @@
-// What a pending file still waits for.
+//! How far a pending file's points are from being reached.
 ghost use Rattle.std.specs.Prelude.{◌≡◌, IfSome, is_some};
 ghost use Rattle.draw_core.specs.Drawn.{IsToGo, IsWaitingFor};
 ghost use Rattle.draw_core.specs.Found.{is_waited_for};
@@ -8,7 +8,7 @@ use desk_core::Desk;
 use picture_core::Waiting;
 use point_core::{Name, Point};
 
-/// How far a point is from being reached. None of a point that is, or that is cancelled.
+/// How far a point is from being reached. None for a point that is reached or cancelled.
 pub fn waiting_for(desk: &Desk, point: &Point) -> Option<Waiting>
     ensures waits { IfSome result (λ waiting. IsWaitingFor desk.now point.now waiting) }
     ensures some { is_some result ≡ is_waited_for desk.now.timelines point.now }
@@ -20,7 +20,7 @@ pub fn waiting_for(desk: &Desk, point: &Point) -> Option<Waiting>
     waiting_on(desk, &timeline, point.value)
 }
 
-/// How far a timeline is from that value. None if it is there.
+/// How far a timeline is from a value. None if the timeline has reached it.
 pub fn waiting_on(desk: &Desk, timeline: &Name, point: u64) -> Option<Waiting>
     ensures waits { IfSome result (λ waiting. IsToGo desk.now timeline.now point waiting) }
     ensures some { is_some result ≡ is_to_come desk.now.timelines timeline.now point }

@@ -1,8 +1,8 @@
-// Which lines of a script are drawn.
+//! `Window`: the range of lines that are drawn.
 ghost use Rattle.std.specs.Prelude.{◌≡◌, ◌≤◌, IfSome};
 ghost use Rattle.draw_core.specs.Columns.{is_in_window};
 
-/// The lines of these numbers, both of them too.
+/// The lines from `first` to `last`, both included.
 #[derive(Clone, Copy)]
 pub struct Window {
     pub first: u32,
@@ -18,7 +18,7 @@ impl Window {
         }
     }
 
-    /// No line, after that one.
+    /// No line after this one.
     pub fn after(line: u32) -> Window
         ensures { result.last ≡ line }
     {
@@ -28,7 +28,7 @@ impl Window {
         }
     }
 
-    /// Reads `A..B`, two numbers of lines, the first not above the second.
+    /// Reads `A..B`, two line numbers, the first not above the second.
     pub fn read(text: &str) -> Option<Window>
         ensures { IfSome result (λ window. (1 ≤ window.first) × (window.first ≤ window.last)) }
     {
@@ -41,7 +41,7 @@ impl Window {
         Some(Window { first, last })
     }
 
-    /// Whether it has the line of that number.
+    /// Whether it contains the line with this number.
     pub fn has(&self, line: u32) -> bool
         ensures { result ≡ is_in_window self.now line }
     {
