@@ -31,7 +31,7 @@ module _ (old new : DeskHandle) (room out : List ℕ) (count : ℕ) (returned : 
   abbrev Same : Type 0
   Same = (history : List Command) → HasHistory old.service.desk history → HasHistory new.service.desk history
 
-  -- what is reported as it was given
+  -- an answer that is reported unchanged
   reported-number : (given : Answer) (t : IsReporting given room out count returned) → t.reported ≡ given → returned ≡ number_of_answer given
   reported-number given t same = t.number ∙ ap number_of_answer same
 
@@ -99,7 +99,7 @@ module _ (old new : DeskHandle) (room out : List ℕ) (count : ℕ) (returned : 
   asked-open true body given is asked = asked
   asked-open false body given is asked = absurd (cc)
 
-  -- what an open handle was asked for by a line was answered and reported
+  -- the line that an open handle was asked to run was answered and reported
   pub line-call : (body : Body) (given : Answer) → is_open old ≡ true → IsAsked old new (asked_by body) given → IsReporting given room out count returned → IsLineCall old new body room out count returned
   line-call (Cmd c) given opened asked t = of_command c given (asked-open (is_open old) (Cmd c) given opened asked) t
   line-call (Bad r) given opened asked t = of_refusal r given opened (asked-open (is_open old) (Bad r) given opened asked) t

@@ -1,4 +1,4 @@
--- Commands whose answers have rows: they take memory, and change nothing.
+-- Commands whose answers have rows: they allocate, and change nothing.
 use Rattle.std.proofs.Common.{◌≡◌, ◌++◌, ◌∷◌, [], sym, ap, subst, ◌∙◌, refl, true, false, Bool, List, Option, None, Some, inl, inr}
 use Rattle.std.specs.Prelude.{if◌then◌else◌}
 use Rattle.point_core.specs.declared.refusal.Refusal.{Refusal}
@@ -55,7 +55,7 @@ module _ (new : DeskState) (c : Command) (a : Answer) (rows : has_rows a ≡ tru
       let accepted : is_refused (answer_to w c) ≡ false = ap is_refused (sym is_answer) ∙ rows-accepted a rows in
       record { reported = inr (refl, look.1, accepted) }
 
-  -- the desk still stands for the history
+  -- the desk still refines the history
   pub same-history : HasHistory new (history_after history c a) → (desk : DeskState) → HasHistory desk history → HasHistory new history
   same-history stands desk before =
       let more : HasHistory new (history ++ c ∷ []) = subst (λ (b : Bool). HasHistory new (if b then history else history ++ c ∷ [])) (rows-accepted a rows) stands in

@@ -12,6 +12,6 @@ nul-at (x ∷ text) (y ∷ old) (suc n) zero wide fits = absurd (omega (arith, f
 nul-at (x ∷ text) (y ∷ old) zero (suc room) wide fits = absurd (omega (arith, fits))
 nul-at (x ∷ text) (y ∷ old) (suc n) (suc room) wide fits = ap (λ l. x ∷ l) (nul-at text old n room (omega (arith, wide)) (omega (arith, fits)))
 
--- what of a text there is room for is written, and a NUL after it
+-- as much of a text as there is room for is written, and a NUL after it
 pub over-nul : (text old : List ℕ) (n : ℕ) → 1 ≤ length old → n ≡ min (length text) (length old - 1) → slice_set (take n text ++ drop n old) n 0 ≡ over (take (length old - 1) text ++ 0 ∷ []) old
 over-nul text old n wide fits = nul-at text old n (length old - 1) (omega (arith, wide)) fits

@@ -27,11 +27,11 @@ same_length R [] (y ∷ ys) all = absurd all
 same_length R (x ∷ xs) [] all = absurd all
 same_length R (x ∷ xs) (y ∷ ys) all = ap suc (same_length R xs ys all.1)
 
--- a desk keeps as many watches as are pending
+-- a desk has as many watches as are pending
 pub pending-held : {desk : DeskState} {history : List Command} → HasHistory desk history → length desk.watches.pending ≡ length (world_of history).watches
 pending-held {desk} {history} stands = same_length _ desk.watches.pending (world_of history).watches stands.holds.watches
 
--- an accepted watch found that not all watches are pending
+-- an accepted watch found a free place among the watches
 full_by : (a b full : Bool) (x y z : Refusal) (rest : Option Refusal) (given : Answer)
     → is_refused (refused_or (if a then Some x else (if b then Some y else (if full then Some z else rest))) given) ≡ false → full ≡ false
 full_by true b full x y z rest given is = absurd (cc)
@@ -44,7 +44,7 @@ less-full n made is =
     let less = leb-false WATCHES n (or_parts (nat_le WATCHES n) (nat_le WATCHES_EVER made) is).0 in
     omega (arith, less)
 
--- what fires leaves its places to the cookies
+-- the watches that fire leave their room to the cookies
 fired-room : (due : MadeWatch → Bool) (ws : List MadeWatch) (len capacity : ℕ) → len + length ws ≤ capacity
     → (len + length (made_cookies (filter due ws))) + length (filter (λ x. not (due x)) ws) ≤ capacity
 fired-room due ws len capacity room =

@@ -1,4 +1,4 @@
--- A signed answer, as the machine has it.
+-- A signed number, as the machine represents it.
 use Rattle.std.proofs.Common.{◌≡◌, ℤ, ap, refl, w32, to_z, of_z, ◌∙◌}
 use Rattle.point_core.specs.declared.refusal.Refusal.{Refusal}
 use Rattle.point_core.specs.declared.refusal.Refusal.TheVariants as refusal

@@ -1,4 +1,4 @@
--- What a refused step leaves.
+-- A refused step changes nothing.
 use Rattle.std.proofs.Common.{◌≡◌, ◌∙◌, ℕ, List, ◌++◌}
 use Rattle.std.proofs.lemmas.List.{append-nil}
 use Rattle.command_core.specs.declared.answer.Answer.{Answer}

@@ -1,5 +1,5 @@
--- The command that the arguments of a call ask for, or what they are refused as: Syntax for a name that is none, Flags for a
--- number that is no usage.
+-- The command that the arguments of a call ask for, or their error: Syntax for an invalid name, Flags for a number that
+-- is no usage.
 use Rattle.std.specs.Prelude.{ℕ, ℤ, nat_le, Bool, ◌&&◌, if◌then◌else◌, List, length, ok_or, Result, Ok, Err}
 use Rattle.std.specs.List.{list_all}
 use Rattle.point_core.specs.declared.name.TheConstants.{NAME_BYTES}
@@ -15,15 +15,15 @@ use Rattle.command_core.specs.declared.command.Command.TheVariants as command
 abbrev pub is_name : List ℕ → Bool
 is_name bytes = nat_le 1 (length bytes) && nat_le (length bytes) NAME_BYTES && list_all is_name_byte bytes
 
--- the name of those bytes
+-- the name with these bytes
 abbrev pub name_of : List ℕ → Result (List ℕ) Refusal
 name_of bytes = if is_name bytes then Ok bytes else Err Syntax
 
--- the usage of that number, as Linux's enum dma_resv_usage counts
+-- the usage with this number, as Linux's enum dma_resv_usage counts
 abbrev pub usage_of : ℤ → Result Usage Refusal
 usage_of number = ok_or (usage_at number) Flags
 
--- the first refusal, or what is made of the value
+-- the first error, or the function of the value
 abbrev pub then_of : {A B : Type 0} → Result A Refusal → (A → Result B Refusal) → Result B Refusal
 then_of (Ok a) next = next a
 then_of (Err refusal) next = Err refusal

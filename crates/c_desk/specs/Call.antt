@@ -1,4 +1,4 @@
--- What a call from C comes to: an answer, its number, and what it stores.
+-- The result of a call from C: an answer, its number, and the stored values.
 use Rattle.std.specs.Prelude.{◌≡◌, ◌⊎◌, ℕ, ℤ, pos, ◌==◌, Bool, true, false, if◌then◌else◌, List, [], length, drop, min, Result, Ok, Err}
 use Rattle.point_core.specs.Refusal.{refusal_number}
 use Rattle.point_core.specs.declared.refusal.Refusal.{Refusal}
@@ -25,7 +25,7 @@ number_of_answer (answer.Refused r) = pos (refusal_number r)
 abbrev pub number_of : Refusal → ℤ
 number_of refusal = pos (refusal_number refusal)
 
--- the number that the answer reports, or what stood there
+-- the number that the answer reports, or the old value
 abbrev pub reported_or : Answer → ℕ → ℕ
 reported_or answer.Done old = old
 reported_or (answer.Value n) old = n
@@ -35,7 +35,7 @@ reported_or (answer.Show rows) old = old
 reported_or (answer.Report report) old = old
 reported_or (answer.Refused r) old = old
 
--- 1 for an answer of yes, 0 for one of no, or what stood there
+-- 1 for an answer of yes, 0 for one of no, or the old value
 abbrev pub yes_or : Answer → ℤ → ℤ
 yes_or answer.Done old = old
 yes_or (answer.Value n) old = if n == 1 then pos 1 else pos 0
@@ -68,20 +68,20 @@ IsAskedIf false old new asked given = IsRefusal NoEntry old new given
 abbrev pub IsAsked : DeskHandle → DeskHandle → Result Command Refusal → Answer → Type 0
 IsAsked old new asked given = IsAskedIf (is_open old) old new asked given
 
--- what the call was answered, the number that it returns, and what it stores
+-- the answer of the call, the number that it returns, and the values that it stores
 pub record IsCall (old new : DeskHandle) (asked : Result Command Refusal) (returned : ℤ) (Stores : Answer → Type 0) : Type 0 where
   pub given : Answer
   pub answered : IsAsked old new asked given
   pub number : returned ≡ number_of_answer given
   pub stores : Stores given
 
--- an open handle, with nothing in its desk
+-- an open handle with an empty desk
 pub record IsNew (h : DeskHandle) : Type 0 where
   pub opened : is_open h ≡ true
   pub desk : HasHistory h.service.desk []
   pub fired : h.service.fired ≡ []
 
--- an open handle is refused as Exists; a closed one is open then, or stays closed for want of memory
+-- an open handle is refused as Exists; a closed one is then open, or stays closed for lack of memory
 abbrev pub IsOpeningIf : Bool → DeskHandle → DeskHandle → ℤ → Type 0
 IsOpeningIf true old new number = (number ≡ number_of Exists) × (new ≡ old)
 IsOpeningIf false old new number = ((number ≡ pos 0) × IsNew new) ⊎ ((number ≡ number_of Memory) × (new ≡ old))
@@ -89,7 +89,7 @@ IsOpeningIf false old new number = ((number ≡ pos 0) × IsNew new) ⊎ ((numbe
 abbrev pub IsOpening : DeskHandle → DeskHandle → ℤ → Type 0
 IsOpening old new number = IsOpeningIf (is_open old) old new number
 
--- the first cookies that waited were written over the start of the room, and the others still wait
+-- the first queued cookies were written over the start of the room, and the others are still queued
 pub record IsTakingOf (old new : DeskHandle) (room cookies : List ℕ) (returned : ℕ) : Type 0 where
   pub opened : is_open new ≡ true
   pub count : returned ≡ min (length room) (length old.service.fired)

@@ -1,4 +1,4 @@
--- A line of a script that a C program gives a desk: what it says, its answer, and the text of that.
+-- A line of a script that a C program gives a desk: its body, its answer, and the answer's text.
 use Rattle.std.specs.Prelude.{◌≡◌, ◌⊎◌, ℕ, ◌<◌, ◌-◌, ℤ, Bool, true, false, List, [], ◌∷◌, ◌++◌, length, take, Option, None, Some, Result, Ok, Err}
 use Rattle.point_core.specs.declared.refusal.Refusal.{Refusal}
 use Rattle.point_core.specs.declared.refusal.Refusal.TheVariants.{Syntax, Memory}
@@ -20,7 +20,7 @@ use Rattle.c_desk.specs.Handle.{is_open}
 use Rattle.c_handle.specs.Rows.{over}
 use Rattle.c_desk.specs.Service.{cookies_of}
 
--- one line, which a line feed may end; more than one is refused as Syntax
+-- one line, with or without its line feed; more than one is refused as Syntax
 abbrev pub body_of_lines : List (List ℕ) → Option Body
 body_of_lines [] = None
 body_of_lines (line ∷ []) = body_of line
@@ -28,7 +28,7 @@ body_of_lines (line ∷ [] ∷ []) = body_of line
 body_of_lines (line ∷ (b ∷ bytes) ∷ more) = Some (Bad Syntax)
 body_of_lines (line ∷ [] ∷ next ∷ more) = Some (Bad Syntax)
 
--- what the bytes say, which are to be one line
+-- the body of the bytes, which are to be one line
 abbrev pub body_of_bytes : List ℕ → Option Body
 body_of_bytes bytes = body_of_lines (lines_of bytes)
 
@@ -37,7 +37,7 @@ abbrev pub asked_by : Body → Result Command Refusal
 asked_by (Cmd command) = Ok command
 asked_by (Bad refusal) = Err refusal
 
--- the answer without the cookies that it fires, which wait in the queue
+-- the answer without the cookies that it fires, which are queued
 abbrev pub without_cookies : Answer → Answer
 without_cookies (answer.Raised n fired) = answer.Value n
 without_cookies answer.Done = answer.Done
@@ -47,11 +47,11 @@ without_cookies (answer.Show rows) = answer.Show rows
 without_cookies (answer.Report report) = answer.Report report
 without_cookies (answer.Refused r) = answer.Refused r
 
--- the text that a script has of that, if the line is its first
+-- the text that a script would print for the answer, if the line is its first
 abbrev pub answer_text : Answer → List ℕ
 answer_text given = text_of LINE (without_cookies given)
 
--- the text of the answer is of as many lines as it has rows
+-- the text of the answer has a line for each of its rows
 abbrev pub has_rows : Answer → Bool
 has_rows (answer.Info i) = true
 has_rows (answer.Show rows) = true
@@ -61,7 +61,7 @@ has_rows (answer.Value n) = false
 has_rows (answer.Raised n fired) = false
 has_rows (answer.Refused r) = false
 
--- the text and a NUL over the start of what stood there, and of the text as much as there is room for
+-- the text and a NUL over the start of the old bytes, as much of the text as there is room for
 abbrev pub over_with_nul : List ℕ → List ℕ → List ℕ
 over_with_nul text old = over (take (length old - 1) text ++ 0 ∷ []) old
 
@@ -70,7 +70,7 @@ pub record StoresText (text old new : List ℕ) (count : ℕ) : Type 0 where
   pub bytes : new ≡ over_with_nul text old
   pub whole : count ≡ length text
 
--- The answer was reported by its number and its text. If it has rows, and no memory was found for their text, Memory was
+-- The answer was reported by its number and its text. If it has rows, and their text could not be allocated, Memory was
 -- reported in its place.
 pub record IsReporting (given : Answer) (old new : List ℕ) (count : ℕ) (returned : ℤ) : Type 0 where
   pub reported : Answer
@@ -79,8 +79,8 @@ pub record IsReporting (given : Answer) (old new : List ℕ) (count : ℕ) (retu
   pub text : StoresText (answer_text reported) old new count
   pub few : has_rows reported ≡ false → count < ANSWER_ROOM
 
--- The line was answered as a line of a script is, except that what it fires was put into the queue, and the answer was reported by
--- its number and its text. A line whose text found too little room has changed nothing.
+-- The line was answered as a line of a script is, except that the cookies that it fires were queued, and the answer was
+-- reported by its number and its text. If there was too little room for a text, nothing has changed.
 pub record IsLineCall (old new : DeskHandle) (body : Body) (room out : List ℕ) (count : ℕ) (returned : ℤ) : Type 0 where
   pub given : Answer
   pub opened : is_open new ≡ true

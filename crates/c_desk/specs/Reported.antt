@@ -1,4 +1,4 @@
--- What an answer reports, as C programs see it.
+-- The out-parameters of an answer.
 use Rattle.std.specs.Prelude.{◌≡◌, ℕ, ℤ, pos, ◌-◌, if◌then◌else◌, List, ◌++◌, length, map, replicate, codes}
 use Rattle.point_core.specs.Status.{status_number}
 use Rattle.point_core.specs.Usage.{usage_number}
@@ -22,7 +22,7 @@ use Rattle.c_desk.specs.declared.rows.BufferInfo.{BufferInfo}
 use Rattle.c_desk.specs.declared.rows.Counts.{Counts}
 use Rattle.c_handle.specs.Rows.{over}
 
--- the text, and zeros after it
+-- the text, padded with zeros
 abbrev pub filled_to : ℕ → List ℕ → List ℕ
 filled_to room text = text ++ replicate (room - length text) 0
 
@@ -49,7 +49,7 @@ file_info r = record { file = filled r.name; fences = r.count; status = status_n
 abbrev pub buffer_info : BufferRows → BufferInfo
 buffer_info b = record { buffer = filled b.name; rows = length b.rows }
 
--- what is made of file information if the answer is that, or what stood there
+-- a function of file information if the answer is one, or the old value
 abbrev pub info_or : {A : Type 0} → Answer → (Info → A) → A → A
 info_or (answer.Info i) made old = made i
 info_or answer.Done made old = old
@@ -59,7 +59,7 @@ info_or (answer.Show rows) made old = old
 info_or (answer.Report report) made old = old
 info_or (answer.Refused r) made old = old
 
--- what is made of a buffer's table if the answer is that, or what stood there
+-- a function of a buffer's table if the answer is one, or the old value
 abbrev pub table_or : {A : Type 0} → Answer → (List ShowRow → A) → A → A
 table_or (answer.Show rows) made old = made rows
 table_or answer.Done made old = old
@@ -81,7 +81,7 @@ pub record StoresTable (given : Answer) (old_rows new_rows : List BufferRow) (ol
   pub rows : new_rows ≡ table_or given (λ table. over (map buffer_row table) old_rows) old_rows
   pub count : new_count ≡ table_or given (λ table. length table) old_count
 
--- what is made of a report if the answer is that, or what stood there
+-- a function of a report if the answer is one, or the old value
 abbrev pub report_or : {A : Type 0} → Answer → (Tables → A) → A → A
 report_or (answer.Report report) made old = made report
 report_or answer.Done made old = old
@@ -91,7 +91,7 @@ report_or (answer.Info i) made old = old
 report_or (answer.Show rows) made old = old
 report_or (answer.Refused r) made old = old
 
--- how many rows a report has of each kind
+-- the number of rows of each kind in a report
 abbrev pub counts_of : Tables → Counts
 counts_of t = record { timelines = length t.timelines; files = length t.files; buffers = length t.buffers }
 

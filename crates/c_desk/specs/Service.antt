@@ -1,4 +1,4 @@
--- A desk and the cookies that wait to be taken, and what one command makes of both.
+-- A desk with its queue of cookies, and one command on both.
 use Rattle.std.specs.Prelude.{◌≡◌, ℕ, ◌+◌, ◌≤◌, Bool, true, false, List, [], ◌++◌, length}
 use Rattle.command_core.specs.declared.command.Command.{Command}
 use Rattle.command_core.specs.declared.command.Command.TheVariants as command
@@ -33,7 +33,7 @@ pub record HasRoom (desk : DeskState) (len capacity : ℕ) : Type 0 where
   pub stands : HasHistory desk history
   pub room : len + length desk.watches.pending ≤ capacity
 
--- the command was answered as a desk answers it, and what it fired waits after what waited before
+-- the command was answered as a desk answers it, and the cookies that it fired are queued after the earlier ones
 pub record IsStep (old new : ServiceState) (command : Command) (given : Answer) : Type 0 where
   pub answered : Answers old.desk command given
   pub stands : (history : List Command) → HasHistory old.desk history → HasHistory new.desk (history_after history command given)

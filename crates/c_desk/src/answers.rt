@@ -1,4 +1,5 @@
-// What an answer says to a C program.
+//! Stores an answer into the out-parameters of a C call. Parameters for which an answer has no value keep their old
+//! ones.
 ghost use Rattle.std.specs.Prelude.{◌≡◌};
 ghost use Rattle.c_desk.specs.Reported.{StoresInfo, StoresReport, StoresTable};
 ghost use Rattle.c_desk.specs.Call.{number_of, number_of_answer, reported_or, yes_or};
@@ -26,7 +27,7 @@ pub fn refused(refusal: Refusal) -> i32
     i32::from(refusal.number())
 }
 
-/// Stores the number that the answer has, and nothing if it has none.
+/// Stores the answer's number, if it has one.
 #[inline(always)]
 pub fn store(answer: &Answer, value: &mut u64)
     ensures { value.new ≡ reported_or answer.now value.old }
@@ -36,7 +37,7 @@ pub fn store(answer: &Answer, value: &mut u64)
     }
 }
 
-/// Stores 1 for yes and 0 for no, and nothing if the answer is neither.
+/// Stores 1 for yes and 0 for no, if the answer is one of these.
 #[inline(always)]
 pub fn store_if(answer: &Answer, yes: &mut i32)
     ensures { yes.new ≡ yes_or answer.now yes.old }
@@ -46,7 +47,7 @@ pub fn store_if(answer: &Answer, yes: &mut i32)
     }
 }
 
-/// Stores file information, as much as there is room for, and nothing if the answer is none.
+/// Stores file information, as many fences as there is room for, if the answer is one.
 pub fn store_info(answer: &Answer, status: &mut i32, rows: &mut [FenceInfo], count: &mut usize)
     ensures { StoresInfo answer.now status.old status.new rows.old rows.new count.old count.new }
 {
@@ -58,7 +59,7 @@ pub fn store_info(answer: &Answer, status: &mut i32, rows: &mut [FenceInfo], cou
     }
 }
 
-/// Stores a buffer's table, as much as there is room for, and nothing if the answer is none.
+/// Stores a buffer's table, as many rows as there is room for, if the answer is one.
 pub fn store_table(answer: &Answer, rows: &mut [BufferRow], count: &mut usize)
     ensures { StoresTable answer.now rows.old rows.new count.old count.new }
 {
@@ -69,7 +70,7 @@ pub fn store_table(answer: &Answer, rows: &mut [BufferRow], count: &mut usize)
     }
 }
 
-/// Stores a report, as much as there is room for, and nothing if the answer is none.
+/// Stores a report, as many rows as there is room for, if the answer is one.
 pub fn store_report(
     answer: &Answer,
     timelines: &mut [TimelineInfo],

@@ -1,4 +1,4 @@
-// The commands that the arguments of calls ask for.
+//! Builds the command of a call from its arguments, or the refusal for a bad argument.
 ghost use Rattle.std.specs.Prelude.{◌≡◌, ok_or};
 ghost use Rattle.c_desk.specs.Asked.{name_of, usage_of, asked_timeline, asked_inc, asked_shut, asked_value, asked_fence, asked_merge, asked_close, asked_wait, asked_info, asked_buffer, asked_add, asked_import, asked_export, asked_test, asked_trim, asked_show, asked_watch};
 
@@ -6,9 +6,9 @@ use c_handle::usage_of;
 use command_core::Command;
 use point_core::{Name, Refusal, Usage};
 
-// A name is never part of a `Result` with a refusal, beside which it would be taken apart into bytes.
+// A name is never part of a `Result` with a refusal: the compiler would take it apart into bytes.
 
-/// The name of those bytes, if they are one.
+/// The name with these bytes, if it is valid.
 #[inline(always)]
 fn name(bytes: &[u8]) -> Option<Name>
     ensures { ok_or result Refusal.Syntax ≡ name_of bytes.now }
@@ -16,7 +16,7 @@ fn name(bytes: &[u8]) -> Option<Name>
     Name::read(bytes)
 }
 
-/// The usage of that number, as Linux's `enum dma_resv_usage` counts.
+/// The usage with this number, as Linux's `enum dma_resv_usage` counts.
 #[inline(always)]
 fn usage(number: i32) -> Result<Usage, Refusal>
     ensures { result ≡ usage_of number }

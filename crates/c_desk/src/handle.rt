@@ -1,4 +1,4 @@
-// A desk in a handle.
+//! `DeskHandle`: the C struct that owns a desk. It owns a service exactly while its pointer isn't null.
 ghost use Rattle.std.specs.Prelude.{◌≡◌, true, false};
 ghost use Rattle.c_handle.specs.Owning.{handle_owns};
 ghost use Rattle.c_desk.specs.Held.{service_coded, service_row};
@@ -11,7 +11,7 @@ use point_core::Refusal;
 use std::alloc::Global;
 use std::marker::Model;
 
-/// A desk that C programs reach: `struct bim_desk { void *at; }`. It is closed while the pointer is null.
+/// A desk that C programs use: `struct bim_desk { void *at; }`. It is closed while the pointer is null.
 #[repr(C)]
 #[derive(Drop)]
 pub struct DeskHandle {
@@ -65,8 +65,8 @@ impl DeskHandle {
         self.handle().get_mut()
     }
 
-    /// The answer of a call: `NoEntry` if the handle is closed, else the refusal of its arguments, else the
-    /// command's answer.
+    /// The answer of a call: `NoEntry` if the handle is closed, else the error of its arguments, else the command's
+    /// answer.
     #[inline(always)]
     pub fn ask(&mut self, asked: Result<Command, Refusal>) -> Answer
         ensures { IsAsked self.old self.new asked result }
@@ -80,7 +80,7 @@ impl DeskHandle {
         }
     }
 
-    // Converts the C struct to `Owned<Desk>`.
+    // Casts the C struct to a `Handle<Service>`, which has the same fields.
     #[inline(always)]
     fn handle(&mut self) -> &mut Handle<Service>
         ensures* writes_back { sem 𝓛 (LendsHandle self.entry result) }

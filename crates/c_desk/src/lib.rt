@@ -26,7 +26,7 @@ use command_core::Command;
 use point_core::{LimitKind, Refusal};
 use std::alloc::Global;
 
-/// Opens a desk with nothing in it at a closed handle.
+/// Opens an empty desk at a closed handle.
 ///
 /// Fails with `Exists` if the handle is open, then with `Memory`; the handle stays as it was then.
 #[unsafe(no_mangle)]
@@ -58,7 +58,7 @@ fn open(alloc: Global, desk: &mut DeskHandle) -> Result<(), Refusal>
     }
 }
 
-/// Closes a desk, with all that is in it. Its memory is free again. A closed handle stays closed.
+/// Closes a desk, and frees its memory. A closed handle stays closed.
 #[unsafe(no_mangle)]
 pub extern "C" fn bim_desk_close(alloc: Global, desk: &mut DeskHandle)
     ensures { is_open desk.new ≡ false }
@@ -152,8 +152,8 @@ pub extern "C" fn bim_wait_n(desk: &mut DeskHandle, file: &[u8]) -> i32
     number(&desk.ask(asked::wait(file)))
 }
 
-/// `info F`, as libsync's `sync_file_info`: stores the file's status, the number of its fences, and the first of them, as many
-/// as there is room for.
+/// `info F`, as libsync's `sync_file_info`: stores the file's status, the number of its fences, and as many of them as
+/// there is room for.
 #[unsafe(no_mangle)]
 pub extern "C" fn bim_info_n(
     desk: &mut DeskHandle,
@@ -232,8 +232,8 @@ pub extern "C" fn bim_trim_n(desk: &mut DeskHandle, buffer: &[u8]) -> i32
     number(&desk.ask(asked::trim(buffer)))
 }
 
-/// `show B`, as Linux's debugfs lists a buffer's reservation: stores the number of the rows of its table, and the first of
-/// them, as many as there is room for.
+/// `show B`, as Linux's debugfs lists a buffer's reservation: stores the number of rows in its table, and as many of
+/// them as there is room for.
 #[unsafe(no_mangle)]
 pub extern "C" fn bim_show_n(
     desk: &mut DeskHandle,
@@ -249,8 +249,8 @@ pub extern "C" fn bim_show_n(
     number(&answer)
 }
 
-/// `report`, as Linux's debugfs lists what it knows: stores the numbers of the timelines, files and buffers, and the first
-/// of each, as many as there is room for.
+/// `report`, as Linux's debugfs lists its objects: stores the numbers of timelines, files and buffers, and as many of
+/// each as there is room for.
 #[unsafe(no_mangle)]
 pub extern "C" fn bim_report_n(
     desk: &mut DeskHandle,
@@ -287,7 +287,7 @@ pub extern "C" fn bim_unwatch(desk: &mut DeskHandle, cookie: u64, was_there: &mu
     number(&answer)
 }
 
-/// Takes the first cookies that fired, as many as there is room for, and returns how many. A closed handle has none.
+/// Takes cookies that fired, in order, as many as there is room for, and returns how many. A closed handle has none.
 #[unsafe(no_mangle)]
 pub extern "C" fn bim_take_fired(desk: &mut DeskHandle, cookies: &mut [u64]) -> usize
     ensures { IsTaking desk.old desk.new cookies.old cookies.new result }
@@ -299,12 +299,12 @@ pub extern "C" fn bim_take_fired(desk: &mut DeskHandle, cookies: &mut [u64]) -> 
     }
 }
 
-/// Answers a line of a script, which a line feed may end, as a script's first line: stores the length of its answer's text,
-/// and of the text what there is room for with a NUL after it. A line without an answer has the empty text. What the line
-/// fires waits in the queue, and is not in the text.
+/// Runs a line of a script, with or without its line feed, as a script's first line: stores the length of its answer's
+/// text, and as much of the text as there is room for, with a NUL after it. A line without an answer has the empty
+/// text. The cookies that the line fires are queued, and are not in the text.
 ///
 /// Fails with `NoEntry` if the handle is closed, and then with `Limit` if the room is less than `ANSWER_ROOM`; nothing
-/// is done or stored then. A refused line has a text, as any other.
+/// is done or stored then. A refused line has a text like any other.
 #[unsafe(no_mangle)]
 pub extern "C" fn bim_line(
     alloc: Global,

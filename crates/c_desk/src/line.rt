@@ -1,4 +1,4 @@
-// A line of a script, and the text of its answer.
+//! Runs one line of a script for a C program, and stores its answer's text.
 ghost use Rattle.std.specs.Prelude.{◌≡◌, ◌≤◌, true, false, length, MatchOption};
 ghost use Rattle.c_desk.specs.Handle.{is_open};
 ghost use Rattle.c_desk.specs.Line.{body_of_bytes, asked_by, has_rows, answer_text, IsReporting, IsLineCall, StoresText};
@@ -12,15 +12,15 @@ use report_core::{TEXT_LINE_BYTES, TextLine};
 use script_core::{done_line, print, refusal_line, value_line};
 use std::alloc::Global;
 
-/// A line's number in the text of its refusal: a script of only this line would give it that number.
+/// The line number in the text of a refusal: in a script of only this line it is line 1.
 pub const LINE: u32 = 1;
 
-/// The least room of an answer: the text of one without rows fits into it, with its NUL.
+/// The least room of an answer: the text of every answer without rows fits, with its NUL.
 pub const ANSWER_ROOM: usize = 96;
 
 const _: () = prove!(TEXT_LINE_BYTES < ANSWER_ROOM);
 
-/// What the bytes say, which are one line: one line feed may end them.
+/// The body of the bytes, which are one line, with or without its line feed.
 pub fn body_of_bytes(bytes: &[u8]) -> Option<Body>
     ensures { result ≡ body_of_bytes bytes.now }
 {
@@ -36,7 +36,7 @@ pub fn body_of_bytes(bytes: &[u8]) -> Option<Body>
     }
 }
 
-/// Answers a line, and reports the answer.
+/// Answers a line, and stores the answer.
 pub fn answer_line(
     alloc: Global,
     desk: &mut DeskHandle,
@@ -61,8 +61,8 @@ fn asked_by(body: Body) -> Result<Command, Refusal>
     }
 }
 
-/// Stores the text of the answer, and gives its number. Where it has rows, and there is no memory for their text, `Memory`
-/// is reported in its place.
+/// Stores the text of the answer, and returns its number. If the answer has rows and their text can't be allocated,
+/// `Memory` is stored in its place.
 fn report(alloc: Global, answer: &Answer, out: &mut [u8], count: &mut usize) -> i32
     requires room { ANSWER_ROOM ≤ length out.old }
     ensures { IsReporting answer.now out.old out.new count.new result }

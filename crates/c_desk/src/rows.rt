@@ -1,4 +1,4 @@
-// Rows, as C programs see them.
+//! The rows of answers as C structs.
 ghost use Rattle.std.specs.Prelude.{◌≡◌, map};
 ghost use Rattle.c_handle.specs.Rows.{over};
 ghost use Rattle.c_desk.specs.Reported.{filled, driver_text, fence_info, buffer_row, timeline_info, file_info, buffer_info};
@@ -9,10 +9,10 @@ use point_core::{Name, TimelineRow};
 /// A name, NUL-terminated and NUL-padded.
 pub const NAME_ROOM: usize = 32;
 
-/// The bytes of a driver's name, likewise.
+/// The bytes of a driver's name, NUL-terminated and NUL-padded.
 pub const DRIVER_ROOM: usize = 8;
 
-/// A row that C programs see, which is made of a row of an answer.
+/// A C row that is made from a row of an answer.
 pub trait RowOf<T>: Copy + Drop {
     ghost made_of: { T → Self };
 
@@ -65,7 +65,7 @@ pub struct BufferInfo {
     pub rows: u64,
 }
 
-/// How many rows a report has of each kind: `struct bim_counts`.
+/// The number of rows of each kind in a report: `struct bim_counts`.
 #[repr(C)]
 #[derive(Clone, Copy, Drop)]
 pub struct Counts {
@@ -134,7 +134,7 @@ impl RowOf<BufferRows> for BufferInfo {
     }
 }
 
-/// Stores the first rows, as many as there is room for.
+/// Stores rows, as many as there is room for.
 pub fn put<T, R: RowOf<T>>(given: &[T], rows: &mut [R])
     ensures { rows.new ≡ over (map R.made_of given.now) rows.old }
 {

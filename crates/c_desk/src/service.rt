@@ -1,4 +1,4 @@
-// A desk, and the cookies that it fired.
+//! `Service`: a desk with a queue of fired cookies, which always has room for every pending watch.
 ghost use Rattle.std.specs.Prelude.{◌≡◌, ◌≤◌, ◌+◌, [], ◌++◌, length, drop, min, IsOk, IfOk, IfErr, OnOk};
 ghost use Rattle.std.specs.VecDeque.{deque_len, deque_capacity};
 ghost use Rattle.command_core.specs.declared.command.Command.{Command};
@@ -17,7 +17,7 @@ use std::collections::VecDeque;
 use std::marker::Model;
 
 /// A desk, and the cookies of its fired watches until they are taken. The queue has room for each pending watch, so a
-/// watch that fires takes no memory.
+/// watch that fires does not allocate.
 #[derive(Drop)]
 pub struct Service {
     desk: Desk,
@@ -36,7 +36,7 @@ impl Model for Service {
 }
 
 impl Service {
-    /// A desk with nothing in it. It takes no memory yet, so it is never refused.
+    /// An empty desk. Never refused, since it does not allocate.
     pub fn new(alloc: Global) -> Result<Service, Refusal>
         ensures taken { IsOk result }
         ensures empty { IfOk result (λ service. HasHistory service.desk [] × (service.fired ≡ [])) }
@@ -47,7 +47,7 @@ impl Service {
         })
     }
 
-    /// The answer of one command, as `Desk::step`. What it fires waits in the queue.
+    /// The answer of one command, as `Desk::step`. The cookies that it fires are queued.
     #[inline(always)]
     pub fn step(&mut self, command: Command) -> Answer
         ensures { IsStep self.old self.new command result }
@@ -60,7 +60,7 @@ impl Service {
         answer
     }
 
-    /// Takes the first cookies that fired, as many as there is room for, and returns how many.
+    /// Takes cookies that fired, in order, as many as there is room for, and returns how many.
     pub fn take(&mut self, cookies: &mut [u64]) -> usize
         ensures count { result ≡ min (length cookies.old) (length self.old.fired) }
         ensures taken { cookies.new ≡ over self.old.fired cookies.old }
@@ -73,7 +73,7 @@ impl Service {
 
 /// Makes room for all watches that can be pending, if the command registers one.
 ///
-/// Fails with what the desk refuses the watch for, and with `Memory` if that is nothing.
+/// Fails with the desk's own cause to refuse the watch, and without one with `Memory`.
 #[inline(always)]
 fn reserve(fired: &mut VecDeque<u64>, desk: &Desk, command: &Command) -> Result<(), Refusal>
     ensures items { fired.new.items ≡ fired.old.items }
@@ -90,7 +90,7 @@ fn reserve(fired: &mut VecDeque<u64>, desk: &Desk, command: &Command) -> Result<
     Ok(())
 }
 
-/// Puts what the answer fired into the queue.
+/// Queues the cookies that the answer fired.
 #[inline(always)]
 fn keep(fired: &mut VecDeque<u64>, answer: &Answer)
     requires room { deque_len fired.old + length (cookies_of answer.now) ≤ deque_capacity fired.old }
