@@ -1,10 +1,10 @@
--- What an open handle is once its member was written through.
+-- An open handle after a write to its member.
 use Rattle.std.proofs.Common.{◌≡◌, ap, ◌∙◌}
 use Rattle.c_words.specs.Member.{MemberModel}
 use Rattle.c_words.specs.Seats.{with_held}
 use Rattle.c_words.specs.declared.seat_handle.SeatHandle.{SeatHandle}
 
--- h is the handle, h' that which lent m, and m' what m became
+-- h is the handle, h' the one that lent m, and m' the last value of m
 module _ {h h' : SeatHandle} {m m' : MemberModel} where
   pub same : h' ≡ h → m ≡ h'.held → m' ≡ m → with_held h' m' ≡ h
   same e f g = ap (with_held h') (g ∙ f) ∙ e

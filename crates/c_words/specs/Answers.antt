@@ -1,4 +1,4 @@
--- What calls from C answer: 0, or the number of a refusal.
+-- The numbers that calls from C return: 0, or the number of a refusal.
 use Rattle.std.specs.Prelude.{ℤ, pos}
 use Rattle.point_core.specs.declared.refusal.Refusal.{Refusal}
 use Rattle.point_core.specs.Refusal.{refusal_number}

@@ -1,4 +1,4 @@
--- What an export of a buffer of the board does.
+-- The effect of an export of a buffer of the board.
 use Rattle.std.specs.Prelude.{◌≡◌, ℕ, List, true, All}
 use Rattle.point_core.specs.Agreement.{HasContexts}
 use Rattle.point_core.specs.Usage.{usage_number}
@@ -12,8 +12,8 @@ use Rattle.clients_core.specs.Looks.{shows_all}
 use Rattle.c_words.specs.FileCalls.{HasLooked, file_name}
 use Rattle.c_words.specs.Member.{MemberModel}
 
--- each clock was loaded once, then each place of the buffer up to the usage was looked at once, and the listing has what
--- was pending there; it shows what the seat itself has raised
+-- each clock was loaded once, then each entry of the buffer up to the usage was loaded once, and the listing has the
+-- points that were pending there; it shows what the seat itself has raised
 pub record HasExported (old new : MemberModel) (buffer : ℕ) (usage : Usage) (listing : Listing) : Type 0 where
   pub looked : HasLooked old new
   pub listed : HasLookedAt old.words buffer usage old.seat new.seat listing
@@ -24,13 +24,13 @@ pub record HasExported (old new : MemberModel) (buffer : ℕ) (usage : Usage) (l
 abbrev pub listed_file : Listing → File
 listed_file listing = file_of file_name listing.points listing.floor
 
--- the file was made of the listing that was exported
+-- the file was made from the exported listing
 pub record HasExportedFile (old new : MemberModel) (buffer : ℕ) (usage : Usage) (f : File) : Type 0 where
   pub listing : Listing
   pub file : f ≡ listed_file listing
   pub exported : HasExported old new buffer usage listing
 
--- the seat has looked on, and nothing else was done
+-- the seat has made loads, and nothing else was done
 pub record HasOnlyLooked (old new : MemberModel) : Type 0 where
   pub looked : HasLooked old new
   pub stepped : HasStepped old.seat new.seat

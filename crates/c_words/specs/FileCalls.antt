@@ -1,4 +1,4 @@
--- What the calls of files do.
+-- The effects of the calls on files.
 use Rattle.std.specs.Prelude.{◌≡◌, ◌≢◌, ◌↔◌, ℕ, ℤ, List, ◌++◌, codes}
 use Rattle.point_core.specs.Agreement.{merged, IsReached}
 use Rattle.point_core.specs.Clocks.{common_status}
@@ -10,15 +10,15 @@ use Rattle.syncfile_core.specs.SyncFile.{File, StandsFor, file_of, plain_file}
 use Rattle.words_core.specs.Loads.{clocks_seen, reach_seen, HasLoadedAll, HasLoadedClocks}
 use Rattle.c_words.specs.Member.{MemberModel}
 
--- the name of a file of C's, which no call shows
+-- the name of every file of C programs; no call shows it
 abbrev pub file_name : List ℕ
 file_name = codes "file"
 
--- the file of that point
+-- the file of this point
 abbrev pub IsPlain : ℕ → ℕ → File → Type 0
 IsPlain context point f = f ≡ plain_file file_name (record { ctx = context; value = point })
 
--- nothing changed but the seat to look with
+-- only the seat to look with has changed
 abbrev pub HasLooked : MemberModel → MemberModel → Type 0
 HasLooked old new = new ≡ record old { seat = new.seat }
 
@@ -31,7 +31,7 @@ pub record ReportsStatus (old new : MemberModel) (f : File) (number : ℤ) : Typ
   pub stands : (set : List Entry) → StandsFor f set →
       ((common_status (clocks_seen new.seat) f.points ≢ Active) ↔ IsReached set 0 (reach_seen new.seat))
 
--- one poll found that the words do not bear the file out
+-- one poll found that the file is not consistent with the words
 pub record FindsForeign (old new : MemberModel) (f : File) : Type 0 where
   pub looked : HasLooked old new
   pub loaded : HasLoadedClocks old.seat new.seat (clocks_seen new.seat)
@@ -56,7 +56,7 @@ pub record TurnsForeign (old new : MemberModel) (f : File) (tries : ℕ) : Type 
   pub polled : HasPolled f tries old.seat new.seat
   pub foreign : ¬ IsBorneOut new.seat f
 
--- each clock was loaded once, and the file is the merge of both by what was loaded
+-- each clock was loaded once, and the file is the merge of both by the loaded clocks
 pub record HasMerged (old new : MemberModel) (a b f : File) : Type 0 where
   pub looked : HasLooked old new
   pub loaded : HasLoadedAll old.seat new.seat (reach_seen new.seat)

@@ -1,4 +1,4 @@
--- What an open handle of a seat has.
+-- The member of an open seat handle.
 use base.Stored.{Coded}
 use denote.RattleType.{RattleType}
 use Rattle.c_words.specs.Member.{MemberModel}

@@ -1,4 +1,4 @@
--- What an open handle of a file has.
+-- The file of an open handle.
 use base.Stored.{Coded}
 use denote.RattleType.{RattleType}
 use Rattle.syncfile_core.specs.SyncFile.{File}

@@ -1,4 +1,4 @@
--- What an open seat of C's has: the words, a seat on them to look with, and the driver, if it drives a timeline.
+-- The contents of an open seat: the words, a seat on them to look with, and the driver, if it drives a timeline.
 use Rattle.std.specs.Prelude.{◌≡◌, ℕ, ◌+◌, ◌<◌, ◌≤◌, [], ◌++◌, Option, None, Some}
 use Rattle.point_core.specs.declared.context.TheConstants.{CONTEXTS}
 use Rattle.point_core.specs.declared.entry.Usage.{Usage}
@@ -18,12 +18,12 @@ pub record MemberModel : Type 0 where
   pub seat : SeatModel
   pub driver : Option DriverModel
 
--- the driver's seat is another of these words; if there is none, the seat has parts enough for one
+-- the driver's seat is another one of these words; without a driver, the seat has parts enough for one
 abbrev pub CanDrive : WordsModel → SeatModel → Option DriverModel → Type 0
 CanDrive words seat None = LEAST_PARTS ≤ seat.parts
 CanDrive words seat (Some driver) = (driver.seat.words ≡ words) × (1 ≤ seat.parts) × (1 ≤ driver.seat.parts)
 
--- the seat and the driver are of these words, and have their parts
+-- the seat and the driver belong to these words, and have their parts
 pub record IsMember (words : WordsModel) (seat : SeatModel) (driver : Option DriverModel) : Type 0 where
   pub own : seat.words ≡ words
   pub parts : CanDrive words seat driver
@@ -57,7 +57,7 @@ pub record IsParted (old new other : MemberModel) : Type 0 where
   pub given : other ≡ record { words = old.words; seat = parted old.seat (share_of old.seat.parts); driver = None }
 
 -- a part of the seat won the claim of the context, which the seat had not seen claimed, and drives it from 0; the seat
--- looks on with the others
+-- keeps the other parts
 pub record IsDriving (old new : MemberModel) (context : ℕ) : Type 0 where
   pub words_are : new.words ≡ old.words
   pub looks : new.seat ≡ without_parts old.seat 1
@@ -68,7 +68,7 @@ pub record IsDriving (old new : MemberModel) (context : ℕ) : Type 0 where
   })
   pub free : tests_of (parted old.seat 1) (claim_word context) ≡ 0
 
--- the seat, after some of its parts went and came back: its start has what it knew once more
+-- the seat, after some of its parts went and came back: its start has what it knew again
 abbrev pub come_back : SeatModel → SeatModel
 come_back seat = record seat { start = seat.start ++ (seat.start ++ seat.trace) }
 
@@ -88,12 +88,13 @@ pub record HasAdded (old new : MemberModel) (n value : ℕ) : Type 0 where
     });
   }
 
--- the seat has loaded the value of the context, which is none below what it had seen there, and nothing else was done
+-- the seat has loaded the value of the context, which is no less than any that it had seen there, and nothing else was
+-- done
 pub record HasLoaded (old new : MemberModel) (context value : ℕ) : Type 0 where
   pub step : new ≡ record old { seat = with_step old.seat (load (value_word context) value) }
   pub later : seen old.seat (value_word context) ≤ value
 
--- the driver has closed its context, which nobody had closed, at the value, and its seat came back
+-- the driver has closed its context, which was open, at the value, and its seat was joined again
 pub record HasShut (old new : MemberModel) (value : ℕ) : Type 0 where
   pub driver : DriverModel
   pub drove : old.driver ≡ Some driver

@@ -1,4 +1,4 @@
--- What a merge that is refused has done.
+-- The effect of a merge that is refused.
 use Rattle.words_core.specs.Loads.{reach_seen, HasLoadedAll}
 use Rattle.syncfile_core.specs.Running.{IsBorneOut}
 use Rattle.syncfile_core.specs.SyncFile.{File}
@@ -10,7 +10,7 @@ pub record HasLoadedFor (old new : MemberModel) : Type 0 where
   pub looked : HasLooked old new
   pub loaded : HasLoadedAll old.seat new.seat (reach_seen new.seat)
 
--- by these loads the words do not bear both files out
+-- by these loads one of the files is not consistent with the words
 pub record FindsOneForeign (old new : MemberModel) (a b : File) : Type 0 where
   pub loads : HasLoadedFor old new
   pub foreign : ¬ (IsBorneOut new.seat a × IsBorneOut new.seat b)

@@ -1,7 +1,7 @@
--- How parts of seats are shared.
+-- How the parts of seats are divided.
 use Rattle.std.specs.Prelude.{ℕ, ◌/◌, max}
 use Rattle.c_words.specs.declared.limits.TheConstants.{LEAST_PARTS, SHARE}
 
--- how many of its parts a seat gives to the next one
+-- the number of parts that a seat gives to the next one
 abbrev pub share_of : ℕ → ℕ
 share_of parts = max LEAST_PARTS (parts / SHARE)

@@ -1,4 +1,4 @@
-// The export of a buffer of the board.
+//! The call that exports a buffer of the board to a file.
 ghost use Rattle.std.specs.Prelude.{◌≡◌, ◌⊎◌, pos, IfOk, IfErr, OnOk};
 ghost use Rattle.point_core.specs.Agreement.{HasRisingContexts};
 ghost use Rattle.point_core.specs.declared.entry.Usage.{Usage};
@@ -23,7 +23,7 @@ use std::alloc::Global;
 use std::mem;
 use syncfile_core::SyncFile;
 
-/// Makes a file of what is pending in a buffer of the board at a usage or a stronger one, as `Board::export` by the
+/// Makes a file of the pending points in a buffer of the board at a usage or a stronger one, as `Board::export` by the
 /// seat.
 ///
 /// Fails with `NoEntry` if the seat's handle is closed, with `Exists` if the file's is open, with `Flags` if the number

@@ -1,4 +1,4 @@
-// A sync file in a handle.
+//! `FileHandle`: the C struct that owns a sync file.
 ghost use Rattle.std.specs.Prelude.{◌≡◌, MatchBool};
 ghost use Rattle.c_handle.specs.Owning.{handle_owns};
 ghost use Rattle.c_words.specs.HeldFile.{file_coded, file_row};
@@ -61,7 +61,7 @@ impl FileHandle {
         self.handle().close(alloc);
     }
 
-    // The fields as a handle that Rattle code takes.
+    // Casts the C struct to a `Handle<SharedFile>`, which has the same fields.
     fn handle(&mut self) -> &mut Handle<SharedFile>
         ensures* writes_back { sem 𝓛 (LendsHandle self.entry result) }
         ensures value { result.now ≡ as_handle self.old }

@@ -1,4 +1,4 @@
-// The calls of sync files.
+//! The calls on sync files. Each works with the seat of its caller, so threads poll one file without locks.
 ghost use Rattle.std.specs.Prelude.{◌≡◌, ◌↔◌, ◌⊎◌, ◌≤◌, IfOk, IfErr, IsTrue};
 ghost use Rattle.point_core.specs.declared.context.TheConstants.{CONTEXTS};
 ghost use Rattle.point_core.specs.declared.refusal.Refusal.TheVariants as refusal;
@@ -17,7 +17,7 @@ use syncfile_core::SyncFile;
 
 /// Makes a file of one point.
 ///
-/// Fails with `Exists` if the handle is open, with `NoEntry` if there can be no such context, and with `Memory`.
+/// Fails with `Exists` if the handle is open, with `NoEntry` if no words can have the context, and with `Memory`.
 #[unsafe(no_mangle)]
 pub extern "C" fn bim_file_plain(
     alloc: Global,
@@ -72,7 +72,7 @@ pub extern "C" fn bim_file_copy(alloc: Global, file: &mut FileHandle, other: &mu
     }
 }
 
-/// Closes a handle of a file. The file's memory goes with its last handle.
+/// Closes a handle of a file. Closing the last handle frees the file.
 #[unsafe(no_mangle)]
 pub extern "C" fn bim_file_close(alloc: Global, file: &mut FileHandle)
     ensures closed { IsClosed file.new }
@@ -82,7 +82,7 @@ pub extern "C" fn bim_file_close(alloc: Global, file: &mut FileHandle)
 
 /// The status of a file, as `SyncFile::poll` by the seat.
 ///
-/// Fails with `NoEntry` if a handle is closed, and with `Foreign` if the words do not bear the file out.
+/// Fails with `NoEntry` if a handle is closed, and with `Foreign` if the file is not consistent with the words.
 #[unsafe(no_mangle)]
 pub extern "C" fn bim_file_poll(
     file: &mut FileHandle,
@@ -117,7 +117,7 @@ pub extern "C" fn bim_file_poll(
 /// Polls a file by the seat until it is no longer active, at most `tries` times, as `SyncFile::wait_for`.
 ///
 /// Fails with `NoEntry` if a handle is closed, with `TimedOut` after `tries` polls, and with `Foreign` if the file is
-/// inconsistent with the words.
+/// not consistent with the words.
 #[unsafe(no_mangle)]
 pub extern "C" fn bim_file_wait(file: &mut FileHandle, seat: &mut SeatHandle, tries: u32) -> i32
     ensures file_closed { IsClosed file.old → (result ≡ refused refusal.NoEntry) × (seat.new ≡ seat.old) }
@@ -153,7 +153,7 @@ fn plain(alloc: Global, context: u32, point: u64) -> Result<Box<SharedFile>, Ref
     boxed(alloc, SharedFile::of(alloc, file)?)
 }
 
-// The context of a number.
+// The context with this number.
 fn context_of(number: u32) -> Result<Context, Refusal>
     ensures value { IfOk result (λ ctx. (ctx ≡ number) × (1 ≤ number) × (number ≤ CONTEXTS)) }
     ensures refused { IfErr result (λ e. (e ≡ refusal.NoEntry) × (¬ ((1 ≤ number) × (number ≤ CONTEXTS)))) }
@@ -171,7 +171,7 @@ fn is_context(number: u32) -> bool
     number >= 1 && number as usize <= CONTEXTS
 }
 
-// Another of the same file, on the heap.
+// Another handle of the same file, on the heap.
 fn copied(alloc: Global, file: &SharedFile) -> Result<Box<SharedFile>, Refusal>
     ensures file { IfOk result (λ copy. copy.value ≡ file.now) }
     ensures memory { IfErr result (λ e. e ≡ refusal.Memory) }

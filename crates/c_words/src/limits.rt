@@ -1,6 +1,6 @@
-// How the parts of words are shared among C's seats.
+//! How the parts of a set of words are divided among the seats of C programs.
 
-/// The parts that each seat has at least: one to look with, and one to drive with.
+/// The least parts of each seat: one to look with, and one to drive with.
 pub const LEAST_PARTS: u32 = 2;
 
 const _: () = prove!(LEAST_PARTS == 2);

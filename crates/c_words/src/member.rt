@@ -1,4 +1,4 @@
-// A thread's place at a set of words.
+//! `Member`: a thread's seat at a set of words, with the driver of one timeline, if it drives one.
 ghost use Rattle.std.specs.Prelude.{◌≡◌, ◌↔◌, ◌+◌, ◌^◌, ◌<◌, ◌≤◌, ◌⊎◌, None, Err};
 ghost use Rattle.std.specs.Prelude.{IfOk, IfErr, IsOk, IsErr, OnErr, OnOk, IsTrue, IfSome, IsSome, MatchBool};
 ghost use Rattle.point_core.specs.declared.context.TheConstants.{CONTEXTS};
@@ -28,7 +28,7 @@ pub struct Member {
     words: Arc<Words>,
     seat: Seat,
     driver: Option<Driver>,
-    // what the last export listed, which the next one fills again
+    // the points of the last export; the next one reuses the memory
     listing: Listing,
 }
 
@@ -53,7 +53,7 @@ impl Member {
 
     /// The first member of new words.
     ///
-    /// Fails with `Limit` if the sizes are not within those of words, and then with `Memory`.
+    /// Fails with `Limit` if the sizes are out of range, and then with `Memory`.
     pub fn open(
         alloc: Global,
         contexts: usize,
@@ -101,7 +101,7 @@ impl Member {
         })
     }
 
-    /// Takes in the seat of another member of the same words.
+    /// Joins the seat of another member of the same words.
     pub fn take_back(&mut self, other: Member)
         requires own { other.words ≡ self.old.words }
         ensures both { self.new ≡ record self.old { seat = both_of self.old.seat other.seat } }
@@ -118,7 +118,7 @@ impl Member {
     /// Makes it the driver of a context, with one part of its seat.
     ///
     /// Fails with `NoEntry` if the words have no such context, and with `Exists` if it drives one already or the
-    /// context has or had a driver; then the seat has lost the claim, and is else as it was.
+    /// context has or had a driver; then the seat has lost the claim, and is otherwise as it was.
     pub fn drive(&mut self, number: u32) -> Result<(), Refusal>
         ensures driving { IfOk result (λ _. (self.old.driver ≡ None) × HasContext self.old number ×
             IsDriving self.old self.new number) }
@@ -146,7 +146,7 @@ impl Member {
         }
     }
 
-    /// Adds n to the context that it drives, and answers its value.
+    /// Adds n to the context that it drives, and returns its value.
     ///
     /// Fails with `NoEntry` if it drives none, and with `Overflow` if the value would pass the greatest u64.
     pub fn inc(&mut self, n: u64) -> Result<u64, Refusal>
@@ -162,9 +162,9 @@ impl Member {
         }
     }
 
-    /// Closes the context that it drives at its value, which it answers, and takes the driver's seat in again.
+    /// Closes the context that it drives, returns its value, and joins the driver's seat again.
     ///
-    /// Fails with `NoEntry` if it drives none, and with `Overflow` at the greatest value, as no point is left to
+    /// Fails with `NoEntry` if it drives none, and with `Overflow` at the greatest value, since no point is left to
     /// cancel.
     pub fn shut(&mut self) -> Result<u64, Refusal>
         ensures shut { IfOk result (λ value. HasShut self.old self.new value) }
@@ -189,7 +189,7 @@ impl Member {
         }
     }
 
-    /// Sets a flag, and answers whether it was the one that did.
+    /// Sets a flag, and returns whether this call set it.
     ///
     /// Fails with `NoEntry` if the words have no such flag.
     pub fn set_once(&mut self, flag: usize) -> Result<bool, Refusal>
@@ -208,7 +208,7 @@ impl Member {
         }
     }
 
-    /// Puts a fence into a buffer of the board, by one raise of its place.
+    /// Puts a fence into a buffer of the board, by one raise of its entry.
     ///
     /// Fails with `NoEntry` if the words have no such buffer or context.
     pub fn put(
@@ -246,7 +246,7 @@ impl Member {
 
     /// The status of a file, as `SyncFile::poll`.
     ///
-    /// Fails with `Foreign` if the words do not bear the file out.
+    /// Fails with `Foreign` if the file is not consistent with the words.
     pub fn poll(&mut self, file: &SyncFile) -> Result<Status, Refusal>
         ensures polled { IfOk result (λ status. ReportsStatus self.old self.new file.now (status_number status)) }
         ensures foreign { IfErr result (λ e. (e ≡ refusal.Foreign) × FindsForeign self.old self.new file.now) }
@@ -256,7 +256,7 @@ impl Member {
 
     /// Polls a file until it is no longer active, at most `tries` times, as `SyncFile::wait_for`.
     ///
-    /// Fails with `TimedOut` after `tries` polls, and with `Foreign` if the words do not bear the file out.
+    /// Fails with `TimedOut` after `tries` polls, and with `Foreign` if the file is not consistent with the words.
     pub fn wait(&mut self, file: &SyncFile, tries: u32) -> Result<(), Refusal>
         ensures waited { OnOk result (HasWaited self.old self.new file.now tries) }
         ensures refused { IfErr result (λ e. ((e ≡ refusal.TimedOut) × HasTimedOut self.old self.new file.now tries)
@@ -267,7 +267,7 @@ impl Member {
 
     /// The merge of two files, as `SyncFile::merge_with`.
     ///
-    /// Fails with `Foreign` if the words do not bear one of them out, and then with `Memory`.
+    /// Fails with `Foreign` if one of them is not consistent with the words, and then with `Memory`.
     pub fn merge(&mut self, alloc: Global, a: &SyncFile, b: &SyncFile) -> Result<SyncFile, Refusal>
         ensures looked { HasLooked self.old self.new }
         ensures loaded { HasLoadedAll self.old.seat self.new.seat (reach_seen self.new.seat) }
@@ -279,7 +279,7 @@ impl Member {
         SyncFile::merge_with(alloc, a.name, a, b, &self.words, &mut self.seat)
     }
 
-    /// What is pending in a buffer of the board at a usage or a stronger one, as `Board::export_into`.
+    /// The pending points in a buffer of the board at a usage or a stronger one, as `Board::export_into`.
     ///
     /// Fails with `NoEntry` if the words have no such buffer, and then with `Memory`.
     pub fn export(
@@ -311,7 +311,7 @@ impl Member {
         Ok(file)
     }
 
-    /// The context of that number.
+    /// The context with this number.
     ///
     /// Fails with `NoEntry` if the words have none.
     fn context(&self, number: u32) -> Result<Context, Refusal>
@@ -327,7 +327,7 @@ impl Member {
         }
     }
 
-    /// Whether the words have a context of that number.
+    /// Whether the words have a context with this number.
     fn has_context(&self, number: u32) -> bool
         ensures exact { IsTrue result ↔ HasContext self.now number }
         ensures limit { self.now.words.contexts ≤ CONTEXTS }
@@ -337,7 +337,7 @@ impl Member {
     }
 }
 
-/// How many of its parts a seat gives to the next one.
+/// The number of parts that a seat gives to the next one.
 fn share_of(parts: u32) -> u32
     ensures value { result ≡ share_of parts }
     ensures least { LEAST_PARTS ≤ result }

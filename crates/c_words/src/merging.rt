@@ -1,4 +1,4 @@
-// The merge of two files.
+//! The call that merges two files.
 ghost use Rattle.std.specs.Prelude.{◌≡◌, ◌⊎◌, IfOk, IfErr};
 ghost use Rattle.point_core.specs.declared.refusal.Refusal.TheVariants as refusal;
 ghost use Rattle.c_words.specs.Answers.{done, refused};
@@ -17,10 +17,10 @@ use point_core::Refusal;
 use std::alloc::Global;
 use syncfile_core::SyncFile;
 
-/// Merges two files, as `SyncFile::merge_with` by the seat. All handles are different ones.
+/// Merges two files, as `SyncFile::merge_with` by the seat. The handles must be distinct.
 ///
-/// Fails with `NoEntry` if the handle of either file or of the seat is closed, with `Exists` if the new file's is
-/// open, with `Foreign` if the words do not bear a file out, and with `Memory`.
+/// Fails with `NoEntry` if the handle of either file or of the seat is closed, with `Exists` if the new file's is open,
+/// with `Foreign` if a file is not consistent with the words, and with `Memory`.
 #[unsafe(no_mangle)]
 pub extern "C" fn bim_file_merge(
     alloc: Global,

@@ -1,10 +1,10 @@
-// The numbers that calls answer.
+//! The numbers that calls return.
 ghost use Rattle.std.specs.Prelude.{◌≡◌, pos};
 ghost use Rattle.point_core.specs.Refusal.{refusal_number};
 
 use point_core::Refusal;
 
-/// What a call answers that was not refused.
+/// The number of a call that succeeded.
 pub const OK: i32 = 0;
 
 const _: () = prove!(OK == 0);

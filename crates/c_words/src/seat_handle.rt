@@ -1,4 +1,4 @@
-// A member in a handle.
+//! `SeatHandle`: the C struct that owns a thread's seat.
 ghost use Rattle.std.specs.Prelude.{◌≡◌, MatchBool};
 ghost use Rattle.c_handle.specs.Owning.{handle_owns};
 ghost use Rattle.c_words.specs.Held.{held_coded, member_row};
@@ -61,7 +61,7 @@ impl SeatHandle {
         self.handle().close(alloc);
     }
 
-    // The fields as a handle that Rattle code takes.
+    // Casts the C struct to a `Handle<Member>`, which has the same fields.
     fn handle(&mut self) -> &mut Handle<Member>
         ensures* writes_back { sem 𝓛 (LendsHandle self.entry result) }
         ensures value { result.now ≡ as_handle self.old }

@@ -1,4 +1,4 @@
-// The calls of seats.
+//! The calls on seats: opening, dividing, driving, flags and the board.
 ghost use Rattle.std.specs.Prelude.{◌≡◌, ◌↔◌, ◌⊎◌, ◌+◌, ◌^◌, ◌<◌, ◌≤◌, pos, None, IfOk, IfErr, IfSome, IsSome};
 ghost use Rattle.point_core.specs.declared.entry.Usage.{Usage};
 ghost use Rattle.point_core.specs.Reach.{GREATEST};
@@ -21,8 +21,7 @@ use std::alloc::Global;
 
 /// Opens the first seat of new words.
 ///
-/// Fails with `Exists` if the handle is open, with `Limit` if the sizes are not within those of words, and with
-/// `Memory`.
+/// Fails with `Exists` if the handle is open, with `Limit` if the sizes are out of range, and with `Memory`.
 #[unsafe(no_mangle)]
 pub extern "C" fn bim_words_open(
     alloc: Global,
@@ -83,7 +82,7 @@ pub extern "C" fn bim_seat_part(alloc: Global, seat: &mut SeatHandle, other: &mu
     }
 }
 
-/// Closes a seat. What it drove stays at its value.
+/// Closes a seat. The timeline that it drove keeps its value.
 #[unsafe(no_mangle)]
 pub extern "C" fn bim_seat_close(alloc: Global, seat: &mut SeatHandle)
     ensures closed { IsClosed seat.new }
@@ -91,10 +90,10 @@ pub extern "C" fn bim_seat_close(alloc: Global, seat: &mut SeatHandle)
     seat.close(alloc);
 }
 
-/// Makes a seat the driver of a context. It looks on as before.
+/// Makes a seat the driver of a context. It can look as before.
 ///
-/// Fails with `NoEntry` if the handle is closed or the words have no such context, and with `Exists` if the seat
-/// drives one or the context has or had a driver; then the seat has lost the claim.
+/// Fails with `NoEntry` if the handle is closed or the words have no such context, and with `Exists` if the seat drives
+/// one or the context has or had a driver; then the seat has lost the claim.
 #[unsafe(no_mangle)]
 pub extern "C" fn bim_seat_drive(seat: &mut SeatHandle, context: u32) -> i32
     ensures closed { IsClosed seat.old → (result ≡ refused refusal.NoEntry) × (seat.new ≡ seat.old) }
@@ -142,9 +141,9 @@ pub extern "C" fn bim_seat_inc(seat: &mut SeatHandle, n: u64, value: &mut u64) -
     }
 }
 
-/// Closes the context that the seat drives, and gives its value. It drives none after that.
+/// Closes the context that the seat drives, and returns its value. The seat then drives none.
 ///
-/// Fails with `NoEntry` if the handle is closed or drives none, and with `Overflow` at the greatest value, as no
+/// Fails with `NoEntry` if the handle is closed or drives none, and with `Overflow` at the greatest value, since no
 /// point is left to cancel.
 #[unsafe(no_mangle)]
 pub extern "C" fn bim_seat_shut(seat: &mut SeatHandle, value: &mut u64) -> i32

@@ -1,4 +1,4 @@
-// A sync file that handles share.
+//! `SharedFile`: a reference-counted sync file, so that each thread of a C program has a handle of its own.
 ghost use Rattle.std.specs.Prelude.{◌≡◌, IfOk, IfErr};
 ghost use Rattle.point_core.specs.declared.refusal.Refusal.TheVariants as refusal;
 ghost use Rattle.c_words.specs.FileCalls.{file_name};
@@ -9,7 +9,7 @@ use std::marker::Model;
 use std::sync::Arc;
 use syncfile_core::SyncFile;
 
-/// A sync file, which nobody changes and all its handles share.
+/// A sync file that never changes, shared by all its handles.
 #[derive(Drop)]
 pub struct SharedFile {
     file: Arc<SyncFile>,
@@ -24,7 +24,7 @@ impl Model for SharedFile {
 }
 
 impl SharedFile {
-    /// The first of a file.
+    /// The first handle of a file.
     pub fn of(alloc: Global, file: SyncFile) -> Result<SharedFile, Refusal>
         ensures file { IfOk result (λ f. f ≡ file) }
         ensures memory { IfErr result (λ e. e ≡ refusal.Memory) }
@@ -35,7 +35,7 @@ impl SharedFile {
         }
     }
 
-    /// Another of the same file.
+    /// Another handle of the same file.
     pub fn copied(&self) -> Result<SharedFile, Refusal>
         ensures file { IfOk result (λ f. f ≡ self.now) }
         ensures memory { IfErr result (λ e. e ≡ refusal.Memory) }
@@ -52,9 +52,9 @@ impl SharedFile {
     }
 }
 
-/// The name of a file of C's, which no call shows.
+/// The name of every file of C programs; no call shows it.
 ///
-/// Fails only with `Memory`, which it never does: the name is one.
+/// Fails only with `Memory`, which it never does: the name is valid.
 pub fn file_name() -> Result<Name, Refusal>
     ensures name { IfOk result (λ name. name ≡ file_name) }
     ensures memory { IfErr result (λ e. e ≡ refusal.Memory) }
