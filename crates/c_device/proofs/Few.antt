@@ -1,4 +1,4 @@
--- Of different files that are open there are no more than files.
+-- Distinct open files are no more than all open files.
 use Rattle.std.proofs.Common.{◌≡◌, ℕ, ◌<◌, ◌≤◌, nat_eq, inl, inr, Bool, true, false, not, cond, is_some, refl, Option, Some, List, [], ◌∷◌, length, get_or, filter, Contains, arith}
 use Rattle.std.specs.List.Sorted.{IsStrictlyIncreasing}
 use Rattle.std.proofs.lemmas.Bool.{cases_lt, eqb-true, false≢true}
@@ -7,7 +7,7 @@ use Rattle.std.proofs.lemmas.List.Filters.{length-filter_both}
 use Rattle.std.proofs.lemmas.List.Kept.{AllPairs-from_increasing, IsStrictlyIncreasing-filter}
 use Rattle.device_core.specs.State.{at}
 
--- a number comes once
+-- a number occurs once
 once : (k : ℕ) (ns : List ℕ) → IsStrictlyIncreasing ns → length (filter (λ n. nat_eq n k) ns) ≤ 1
 once k ns rising =
     let same = filter (λ n. nat_eq n k) ns in

@@ -1,4 +1,4 @@
--- What waits in the queue when a request was answered.
+-- The queue after a request was answered.
 use Rattle.std.proofs.Common.{◌≡◌, ◌≢◌, ℕ, ◌<◌, ◌≤◌, inl, inr, Bool, true, false, cond, is_some, option_map, sym, ap, subst, ◌∙◌, refl, List, [], ◌∷◌, ◌++◌, length, Contains, Option, None, Some, Result, Ok, Err, OnOk, OnErr, arith}
 use Rattle.std.proofs.lemmas.Bool.{cases_Bool, cases_eq, false≢true}
 use Rattle.std.proofs.lemmas.List.Elements.{All-append, All-contains_itself, All-weaker}
@@ -22,7 +22,7 @@ use Rattle.device_core.proofs.Stepping.{file_given, IsSound-history}
 use Rattle.c_device.specs.Service.{AreGiven, may_wake, woken_of}
 use Rattle.c_device.proofs.Few.{few}
 
--- what a request leaves of the files that were there
+-- the files after a request
 module _ (d : Objects) where
   abbrev Stays : Objects → Type 0
   Stays e = (n : ℕ) → n < d.next → is_some (e.files n) ≡ true → is_some (d.files n) ≡ true
@@ -46,7 +46,7 @@ module _ (d : Objects) where
   closed-stays number now true n low is = signalled-stays _ _ _ (d.files n) is
   closed-stays number now false n low is = dropped-stays number n is
 
-  -- a file that is there after a request was there before, or is new
+  -- a file that is open after a request was open before, or is new
   pub files-stay : (r : Request) → Stays (after d r)
   files-stay (request.Open name) n low is = is
   files-stay (request.Fence t point now) n low is = new-stays _ n low is
@@ -80,12 +80,12 @@ module _ (d : Objects) where
   next-rises (request.Import buffer file flags) = omega arith
   next-rises (request.Test buffer usage) = omega arith
 
--- what a result that is Ok brings with it
+-- a consequence of a result that is Ok
 pub on-ok : {X : Type 0} (r : Result X Refusal) (P Q : Type 0) → (P → Q) → OnOk r P → OnOk r Q
 on-ok (Ok x) P Q f h = f h
 on-ok (Err e) P Q f h = tt
 
--- who is woken
+-- the files that are woken
 is-there : (o : Option FileState) → is_waiting o ≡ true → is_some o ≡ true
 is-there None is = is
 is-there (Some f) is = refl
@@ -98,7 +98,7 @@ nobody : (ns : List ℕ) → ((n : ℕ) → Contains ns n → ⊥) → ns ≡ []
 nobody [] none = refl
 nobody (n ∷ ns) none = absurd (none n (0, omega arith, refl))
 
--- a request that wakes no file wakes nobody
+-- a request that wakes no file has an empty list
 idle : (d e : Objects) (ns : List ℕ) → ((n : ℕ) → d.next ≤ n → d.files n ≡ None) → wakes_some d e ≡ false → AreWoken d e ns → ns ≡ []
 idle d e ns given none woken = nobody ns (λ n among.
     let both = (woken.all n).0 among in
@@ -144,12 +144,12 @@ module _ (d : DeviceState) (history : List Request) (had : HasHistory d history)
       | inr still ↦ let none = ap length (quiet d r given sound.files reports still) in omega (arith, none)
     ]
 
-  -- what a request wakes finds room
+  -- there is room for the files that a request wakes
   pub woken-fits : (r : Request) (given : Result Answer Refusal) (spare : ℕ) → IsAnswer (objects_of d) r given → (may_wake d r ≡ true → length d.files ≤ spare) → length (woken_of given) ≤ spare
   woken-fits r (Ok given) spare answered room = fits r given answered.1 spare room
   woken-fits r (Err refusal) spare answered room = omega arith
 
-  -- what waits then has numbers that were given
+  -- the queue then has only given numbers
   pub given-after : (r : Request) (given : Result Answer Refusal) (e : DeviceState) (queue : List ℕ) → IsAnswer (objects_of d) r given → OnOk given (objects_of e ≡ after (objects_of d) r) → OnErr given (e ≡ d)
       → AreGiven d.next queue → AreGiven e.next (queue ++ woken_of given)
   given-after r (Ok given) e queue answered done unchanged waits =

@@ -1,4 +1,4 @@
--- What waits to be taken once a request was answered.
+-- The queue that can be taken after a request was answered.
 use Rattle.std.proofs.Common.{◌≡◌, ◌∙◌, ℕ, ◌<◌, inl, inr, Bool, true, cond, sym, ap, subst, refl, List, [], ◌∷◌, ◌++◌, filter, is_some, All, Result, Ok, Err, OnOk, OnErr}
 use Rattle.std.proofs.lemmas.Bool.{cases_Bool, false≢true}
 use Rattle.std.proofs.lemmas.List.{append-nil}
@@ -12,7 +12,7 @@ use Rattle.device_core.specs.History.{HasHistory, history_after}
 use Rattle.c_device.specs.Service.{ServiceState, IsStep, AreGiven, open_among, woken_of}
 use Rattle.c_device.proofs.Queued.{files-stay}
 
--- what passes one test passes the other, so only the first counts
+-- elements that pass one test pass the other, so only the first matters
 module _ (p q : ℕ → Bool) where
   pub filter-both : (ns : List ℕ) → All (λ n. p n ≡ true → q n ≡ true) ns → filter p (filter q ns) ≡ filter p ns
   filter-both [] all = refl
@@ -27,7 +27,7 @@ module _ (p q : ℕ → Bool) where
         ]
       ]
 
--- a queue without what was released
+-- a queue without closed files
 pub open-dropped : (d : DeviceState) (queue left : List ℕ) → left ≡ open_among d queue → open_among d left ≡ open_among d queue
 open-dropped d queue left is =
     let test : ℕ → Bool = λ n. is_some (file_at d n) in
@@ -44,7 +44,7 @@ module _ (d e : DeviceState) (r : Request) where
   stays (Ok answer) done unchanged n low is = files-stay (objects_of d) r n low (sym (ap (λ (o : Objects). is_some (o.files n)) done) ∙ is)
   stays (Err refusal) done unchanged n low is = sym (ap (λ (x : DeviceState). is_some (file_at x n)) unchanged) ∙ is
 
-  -- of what waited, what is open now was open before
+  -- a queued file that is open now was open before
   pub kept-after : (given : Result Answer Refusal) (queue : List ℕ) → OnOk given (objects_of e ≡ after (objects_of d) r) → OnErr given (e ≡ d) → AreGiven d.next queue
       → open_among e (queue ++ woken_of given) ≡ open_among e (open_among d queue ++ woken_of given)
   kept-after given queue done unchanged waits =
@@ -55,7 +55,7 @@ module _ (d e : DeviceState) (r : Request) where
       ∙ ap (λ ns. ns ++ filter now (woken_of given)) (sym both)
       ∙ sym (filter-append now (filter before queue) (woken_of given))
 
-  -- a refused request leaves all as it was
+  -- a refused request changes nothing
   pub unchanged-after : (given : Result Answer Refusal) (queue old : List ℕ) → OnErr given (e ≡ d) → open_among d queue ≡ open_among d old → OnErr given (state e (open_among e (queue ++ woken_of given)) ≡ state d (open_among d old))
   unchanged-after (Ok answer) queue old unchanged kept = tt
   unchanged-after (Err refusal) queue old unchanged kept =
@@ -73,7 +73,7 @@ module _ (d e : DeviceState) (r : Request) where
     kept = kept-after given queue done unchanged waits ∙ ap (λ ns. open_among e (ns ++ woken_of given)) kept;
   }
 
--- one for which no room was found
+-- a request for which there was no room
 pub refused-step : (d : DeviceState) (r : Request) (refusal : Refusal) (queue old : List ℕ) → IsAnswer (objects_of d) r (Err refusal) → open_among d queue ≡ open_among d old
     → IsStep (state d (open_among d old)) (state d (open_among d queue)) r (Err refusal)
 refused-step d r refusal queue old answer kept =

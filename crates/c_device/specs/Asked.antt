@@ -1,4 +1,4 @@
--- The requests of calls that not every number is an argument of.
+-- The requests of calls that take a usage as a number.
 use Rattle.std.specs.Prelude.{ℕ, ℤ, ok_or, Result, Ok, Err}
 use Rattle.point_core.specs.declared.entry.Usage.{Usage}
 use Rattle.c_handle.specs.Usages.{usage_of as usage_at}
@@ -7,7 +7,7 @@ use Rattle.device_core.specs.declared.refusal.Refusal.TheVariants.{Invalid}
 use Rattle.device_core.specs.declared.request.Request.{Request}
 use Rattle.device_core.specs.declared.request.Request.TheVariants as request
 
--- the usage of that number, as Linux's enum dma_resv_usage counts
+-- the usage with this number, as Linux's enum dma_resv_usage counts
 abbrev pub usage_of : ℤ → Result Usage Refusal
 usage_of number = ok_or (usage_at number) Invalid
 

@@ -1,4 +1,4 @@
--- What a call from C comes to: an answer, its number, and what it stores.
+-- The result of a call from C: an answer, its number, and the stored values.
 use Rattle.std.specs.Prelude.{◌≡◌, ◌⊎◌, ℕ, ℤ, pos, Bool, true, false, List, [], length, drop, min, Option, None, Some, Result, Ok, Err}
 use Rattle.device_core.specs.declared.refusal.Refusal.{Refusal}
 use Rattle.device_core.specs.declared.refusal.Refusal.TheVariants.{NoEntry, NoMemory, Invalid, WrongKind, NoNumber, Overflow}
@@ -10,7 +10,7 @@ use Rattle.c_device.specs.Handle.{is_open}
 use Rattle.c_handle.specs.Rows.{over}
 use Rattle.c_device.specs.Service.{IsStep}
 
--- what a call is answered: nothing by a closed handle
+-- the answer of a call: none from a closed handle
 abbrev pub Given : Type 0
 Given = Option (Result Answer Refusal)
 
@@ -23,7 +23,7 @@ errno_of WrongKind = pos 25
 errno_of NoNumber = pos 28
 errno_of Overflow = pos 75
 
--- 0 if the request was accepted, else why it was refused: a closed handle with EBADF
+-- 0 if the request was accepted, else the errno of the refusal: EBADF for a closed handle
 abbrev pub number_of : Given → ℤ
 number_of None = pos 9
 number_of (Some (Ok answer)) = pos 0
@@ -59,7 +59,7 @@ IsAskedIf false old new asked given = IsClosed old new given
 abbrev pub IsAsked : DeviceHandle → DeviceHandle → Result Request Refusal → Given → Type 0
 IsAsked old new asked given = IsAskedIf (is_open old) old new asked given
 
--- what the call was answered, the number that it returns, and what it stores
+-- the answer of the call, the number that it returns, and the values that it stores
 pub record IsCall (old new : DeviceHandle) (asked : Result Request Refusal) (returned : ℤ) (Stores : Given → Type 0)
     : Type 0 where
   pub given : Given
@@ -67,13 +67,13 @@ pub record IsCall (old new : DeviceHandle) (asked : Result Request Refusal) (ret
   pub number : returned ≡ number_of given
   pub stores : Stores given
 
--- an open handle, with nothing in its device
+-- an open handle with an empty device
 pub record IsNew (h : DeviceHandle) : Type 0 where
   pub opened : is_open h ≡ true
   pub device : h.service.device ≡ nothing
   pub woken : h.service.woken ≡ []
 
--- an open handle is refused with EEXIST; a closed one is open then, or stays closed for want of memory
+-- an open handle is refused with EEXIST; a closed one is then open, or stays closed for lack of memory
 abbrev pub IsOpeningIf : Bool → DeviceHandle → DeviceHandle → ℤ → Type 0
 IsOpeningIf true old new returned = (returned ≡ pos 17) × (new ≡ old)
 IsOpeningIf false old new returned =
@@ -82,7 +82,7 @@ IsOpeningIf false old new returned =
 abbrev pub IsOpening : DeviceHandle → DeviceHandle → ℤ → Type 0
 IsOpening old new returned = IsOpeningIf (is_open old) old new returned
 
--- the first files that waited were written over the start of the room, and the others still wait
+-- the first queued files were written over the start of the room, and the others are still queued
 pub record IsTakingOf (old new : DeviceHandle) (room files : List ℕ) (returned : ℕ) : Type 0 where
   pub opened : is_open new ≡ true
   pub count : returned ≡ min (length room) (length old.service.woken)

@@ -1,4 +1,4 @@
--- What an open handle has.
+-- The value of an open handle.
 use base.Stored.{Coded}
 use denote.RattleType.{RattleType}
 use Rattle.c_device.specs.Service.{ServiceState}

@@ -1,4 +1,4 @@
--- What a handle becomes when its service is written through.
+-- A handle after a write to its service.
 use Rattle.std.specs.Borrow.{Lends, MutBor, Fml}
 use Rattle.c_handle.specs.declared.handle.Handle.{Handle}
 use Rattle.c_handle.specs.contracts.handle.Handle.{the_row as handle_row}

@@ -1,4 +1,4 @@
--- What an answer reports, as C programs see it.
+-- The out-parameters of an answer.
 use Rattle.std.specs.Prelude.{◌≡◌, ℕ, ℤ, pos, ◌-◌, if◌then◌else◌, List, ◌++◌, length, map, replicate, None, Some, Ok, Err}
 use Rattle.point_core.specs.Status.{status_number}
 use Rattle.device_core.specs.declared.request.Answer.{Answer}
@@ -13,7 +13,7 @@ use Rattle.c_device.specs.declared.rows.FileRow.{FileRow}
 use Rattle.c_device.specs.Call.{Given}
 use Rattle.c_handle.specs.Rows.{over}
 
--- what an answer says in place of what stood there; a refusal leaves that
+-- the value that an answer gives for the old one; a refusal keeps the old one
 abbrev said_or : {A : Type 0} → (Answer → A → A) → Given → A → A
 said_or said None old = old
 said_or said (Some (Ok given)) old = said given old
@@ -27,7 +27,7 @@ number_in (answer.Signalled signalled) old = old
 number_in (answer.Info info) old = old
 number_in answer.Done old = old
 
--- the number of what was made, or what stood there
+-- the number of the new object, or the old value
 abbrev pub number_or : Given → ℕ → ℕ
 number_or given old = said_or number_in given old
 
@@ -39,7 +39,7 @@ status_in (answer.Signalled signalled) old = old
 status_in (answer.Info info) old = old
 status_in answer.Done old = old
 
--- the status of a file, or what stood there
+-- the status of a file, or the old value
 abbrev pub status_or : Given → ℤ → ℤ
 status_or given old = said_or status_in given old
 
@@ -51,11 +51,11 @@ yes_in (answer.Signalled signalled) old = if signalled then pos 1 else pos 0
 yes_in (answer.Info info) old = old
 yes_in answer.Done old = old
 
--- 1 for an answer of yes, 0 for one of no, or what stood there
+-- 1 for an answer of yes, 0 for one of no, or the old value
 abbrev pub yes_or : Given → ℤ → ℤ
 yes_or given old = said_or yes_in given old
 
--- the name of a driver, and zeros after it
+-- the name of a driver, padded with zeros
 abbrev pub driver_text : Driver → List ℕ
 driver_text driver = driver_name driver ++ replicate (DRIVER_TEXT_BYTES - length (driver_name driver)) 0
 
@@ -67,7 +67,7 @@ fence_row f = record {
   status = status_number f.status;
 }
 
--- the number of a file's fences is that of all, however many there is room for
+-- the number of a file's fences counts all of them, however many there is room for
 abbrev pub file_row : FileInfo → FileRow
 file_row i = record { name = i.name.bytes; fences = length i.fences.items; status = status_number i.status }
 
@@ -79,7 +79,7 @@ info_in said (answer.Signalled signalled) old = old
 info_in said (answer.Info info) old = said info old
 info_in said answer.Done old = old
 
--- what is reported of a file and of as many of its fences as there is room for, or what stood there
+-- the information on a file and on as many of its fences as there is room for, or the old values
 pub record StoresInfo (given : Given) (old_info new_info : FileRow) (old_rows new_rows : List FenceRow) : Type 0 where
   pub info : new_info ≡ said_or (info_in (λ i old. file_row i)) given old_info
   pub rows : new_rows ≡ said_or (info_in (λ i old. over (map fence_row i.fences.items) old)) given old_rows

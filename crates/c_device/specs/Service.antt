@@ -1,4 +1,4 @@
--- A device and the files that it woke, and what one request makes of both.
+-- A device with its queue of woken files, and one request on both.
 use Rattle.std.specs.Prelude.{◌≡◌, ℕ, ◌<◌, Bool, false, List, ◌++◌, filter, is_some, All, Result, OnErr}
 use Rattle.device_core.specs.declared.refusal.Refusal.{Refusal}
 use Rattle.device_core.specs.declared.request.Request.{Request}
@@ -9,12 +9,12 @@ use Rattle.device_core.specs.Request.{IsAnswer, takes_memory}
 use Rattle.device_core.specs.History.{HasHistory, history_after}
 use Rattle.device_core.specs.Times.{in_accepted, woken_in}
 
--- the files that were woken, in their order, but those that were taken or released since
+-- the files that were woken, in order, without those that were taken or closed since
 pub record ServiceState : Type 0 where
   pub device : DeviceState
   pub woken : List ℕ
 
--- the numbers that are those of open files
+-- the numbers of open files in the list
 abbrev pub open_among : DeviceState → List ℕ → List ℕ
 open_among d numbers = filter (λ n. is_some (file_at d n)) numbers
 
@@ -26,7 +26,7 @@ woken_of given = in_accepted woken_in given
 abbrev pub AreGiven : ℕ → List ℕ → Type 0
 AreGiven next numbers = All (λ n. n < next) numbers
 
--- the request was answered as a device answers it, and the files that it woke wait after those that waited before
+-- the request was answered as a device answers it, and the files that it woke are queued after the earlier ones
 pub record IsStep (old new : ServiceState) (asked : Request) (given : Result Answer Refusal) : Type 0 where
   pub answered : IsAnswer (objects_of old.device) asked given
   pub stands : (history : List Request) →
@@ -34,7 +34,7 @@ pub record IsStep (old new : ServiceState) (asked : Request) (given : Result Ans
   pub unchanged : OnErr given (new ≡ old)
   pub kept : new.woken ≡ open_among new.device (old.woken ++ woken_of given)
 
--- what a service keeps: its device has come about, and what waits has numbers that were given
+-- the invariant of a service: its device has a history, and the queue has only given numbers
 pub record IsKept (d : DeviceState) (queue : List ℕ) : Type 0 where
   pub history : List Request
   pub stands : HasHistory d history

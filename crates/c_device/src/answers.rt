@@ -1,4 +1,5 @@
-// What an answer says to a C program.
+//! Stores an answer into the out-parameters of a C call, and returns Linux's errno. Parameters for which an answer has
+//! no value keep their old ones.
 ghost use Rattle.std.specs.Prelude.{◌≡◌};
 ghost use Rattle.c_device.specs.Call.{errno_of, number_of};
 ghost use Rattle.c_device.specs.Reported.{StoresInfo, number_or, status_or, yes_or};
@@ -7,13 +8,13 @@ use crate::handle::Given;
 use crate::rows::{FenceRow, FileRow, put};
 use device_core::{Answer, Refusal};
 
-/// Of a closed handle, as of a bad descriptor.
+/// The errno for a closed handle, as for a bad descriptor.
 const EBADF: i32 = 9;
 
-/// Of an open handle that is to be opened.
+/// The errno for opening a handle that is open.
 pub const EEXIST: i32 = 17;
 
-/// 0, or why the call is refused.
+/// 0, or the errno of the refusal.
 #[inline(always)]
 pub fn number(given: &Given) -> i32
     ensures { result ≡ number_of given.now }
@@ -33,7 +34,7 @@ pub fn errno(refusal: Refusal) -> i32
     refusal as i32
 }
 
-/// Stores the number of what was made, and nothing if nothing was.
+/// Stores the number of the new object, if the answer has one.
 #[inline(always)]
 pub fn store(given: &Given, number: &mut u64)
     ensures { number.new ≡ number_or given.now number.old }
@@ -43,7 +44,7 @@ pub fn store(given: &Given, number: &mut u64)
     }
 }
 
-/// Stores a status, and nothing if the answer is none.
+/// Stores a status, if the answer is one.
 #[inline(always)]
 pub fn store_status(given: &Given, status: &mut i32)
     ensures { status.new ≡ status_or given.now status.old }
@@ -53,7 +54,7 @@ pub fn store_status(given: &Given, status: &mut i32)
     }
 }
 
-/// Stores 1 for yes and 0 for no, and nothing if the answer is neither.
+/// Stores 1 for yes and 0 for no, if the answer is one of these.
 #[inline(always)]
 pub fn store_if(given: &Given, yes: &mut i32)
     ensures { yes.new ≡ yes_or given.now yes.old }
@@ -63,8 +64,7 @@ pub fn store_if(given: &Given, yes: &mut i32)
     }
 }
 
-/// Stores what is reported of a file, and of its fences as many as there is room for, and nothing if the answer is no
-/// report.
+/// Stores information on a file, with as many fences as there is room for, if the answer is one.
 pub fn store_info(given: &Given, info: &mut FileRow, rows: &mut [FenceRow])
     ensures { StoresInfo given.now info.old info.new rows.old rows.new }
 {

@@ -1,4 +1,4 @@
-// The request that the arguments of a call ask for, if not each number is an argument of it.
+//! Builds the requests of calls that take a usage as a number.
 ghost use Rattle.std.specs.Prelude.{◌≡◌};
 ghost use Rattle.c_device.specs.Asked.{asked_test, usage_of};
 
@@ -6,7 +6,7 @@ use c_handle::usage_of;
 use device_core::{Refusal, Request};
 use point_core::Usage;
 
-/// The usage of that number, as Linux's `enum dma_resv_usage` counts.
+/// The usage with this number, as Linux's `enum dma_resv_usage` counts.
 #[inline(always)]
 fn usage(number: i32) -> Result<Usage, Refusal>
     ensures { result ≡ usage_of number }

@@ -1,4 +1,4 @@
-// A device in a handle.
+//! `DeviceHandle`: the C struct that owns a device. It owns a service exactly while its pointer isn't null.
 ghost use Rattle.std.specs.Prelude.{◌≡◌, true, false};
 ghost use Rattle.c_handle.specs.Owning.{handle_owns};
 ghost use Rattle.c_device.specs.Held.{service_coded, service_row};
@@ -13,7 +13,7 @@ use std::marker::Model;
 /// The answer of a call, or none if its handle is closed.
 pub type Given = Option<Result<Answer, Refusal>>;
 
-/// A device that C programs reach: `struct bim_device { void *at; }`. It is closed while the pointer is null.
+/// A device that C programs use: `struct bim_device { void *at; }`. It is closed while the pointer is null.
 #[repr(C)]
 #[derive(Drop)]
 pub struct DeviceHandle {
@@ -65,7 +65,7 @@ impl DeviceHandle {
         self.handle().get_mut()
     }
 
-    /// The answer of a call: none if the handle is closed, else the refusal of its arguments, else that to the
+    /// The answer of a call: none if the handle is closed, else the error of its arguments, else the answer to the
     /// request.
     #[inline(always)]
     pub fn ask(&mut self, asked: Result<Request, Refusal>) -> Given
@@ -80,7 +80,7 @@ impl DeviceHandle {
         }
     }
 
-    // The same fields, as a handle of Rattle's.
+    // Casts the C struct to a `Handle<Service>`, which has the same fields.
     fn handle(&mut self) -> &mut Handle<Service>
         ensures* writes_back { sem 𝓛 (LendsHandle self.entry result) }
         ensures value { result.now ≡ as_handle self.old }

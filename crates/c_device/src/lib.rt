@@ -1,4 +1,5 @@
-//! The device for C programs: one export for each request, and one that takes the files that were woken.
+//! The device for C programs: one export for each request, and one that takes the files that were woken. `bimphlai-run`
+//! serves its processes with it.
 //!
 //! `include/bimphlai.h` has the signatures. A name is a pointer and a length.
 #![tactic(auto)]
@@ -25,7 +26,7 @@ use crate::service::Service;
 use device_core::{Refusal, Request, Text};
 use std::alloc::Global;
 
-/// Opens a device with nothing in it at a closed handle.
+/// Opens an empty device at a closed handle.
 ///
 /// Fails with EEXIST if the handle is open, then with ENOMEM; the handle stays as it was then.
 #[unsafe(no_mangle)]
@@ -56,7 +57,7 @@ fn open(alloc: Global, device: &mut DeviceHandle) -> Result<(), Refusal>
     }
 }
 
-/// Closes a device, with all that is in it. Its memory is free again. A closed handle stays closed.
+/// Closes a device, and frees its memory. A closed handle stays closed.
 #[unsafe(no_mangle)]
 pub extern "C" fn bim_device_close(alloc: Global, device: &mut DeviceHandle)
     ensures { is_open device.new ≡ false }
@@ -65,7 +66,7 @@ pub extern "C" fn bim_device_close(alloc: Global, device: &mut DeviceHandle)
 }
 
 /// Opens a timeline at 0, as opening `sync/sw_sync` does, and stores its number. The name of the task is cut as the
-/// kernel's is.
+/// kernel cuts it.
 #[unsafe(no_mangle)]
 pub extern "C" fn bim_device_timeline_n(
     device: &mut DeviceHandle,
@@ -97,7 +98,7 @@ pub extern "C" fn bim_device_fence(
     number(&given)
 }
 
-/// `SW_SYNC_IOC_INC`. The files that signal by it wait to be taken.
+/// `SW_SYNC_IOC_INC`. The files that it signals are queued.
 #[unsafe(no_mangle)]
 pub extern "C" fn bim_device_inc(device: &mut DeviceHandle, timeline: u64, n: u32, now: u64) -> i32
     ensures { IsCall device.old device.new (Ok (request.Inc timeline n now)) result (λ _. ⊤) }
@@ -105,7 +106,8 @@ pub extern "C" fn bim_device_inc(device: &mut DeviceHandle, timeline: u64, n: u3
     number(&device.ask(Ok(Request::Inc(timeline, n, now))))
 }
 
-/// `SYNC_IOC_MERGE`: makes a file of what two files wait for, and stores its number. The name is cut as the kernel's is.
+/// `SYNC_IOC_MERGE`: makes a file of the pending fences of two files, and stores its number. The name is cut as the
+/// kernel cuts it.
 #[unsafe(no_mangle)]
 pub extern "C" fn bim_device_merge_n(
     device: &mut DeviceHandle,
@@ -122,7 +124,7 @@ pub extern "C" fn bim_device_merge_n(
     number(&given)
 }
 
-/// The status that `SYNC_IOC_FILE_INFO` reports of a file.
+/// The status that `SYNC_IOC_FILE_INFO` reports on a file.
 #[unsafe(no_mangle)]
 pub extern "C" fn bim_device_status(device: &mut DeviceHandle, file: u64, status: &mut i32) -> i32
     ensures { IsCall device.old device.new (Ok (request.Status file)) result (λ given.
@@ -133,7 +135,7 @@ pub extern "C" fn bim_device_status(device: &mut DeviceHandle, file: u64, status
     number(&given)
 }
 
-/// A look at a file, as poll's: stores 1 for yes and 0 for no.
+/// A poll of a file: stores 1 if it is signalled, and 0 if not.
 #[unsafe(no_mangle)]
 pub extern "C" fn bim_device_is_signalled(
     device: &mut DeviceHandle,
@@ -148,8 +150,8 @@ pub extern "C" fn bim_device_is_signalled(
     number(&given)
 }
 
-/// `SYNC_IOC_FILE_INFO`: stores what is reported of a file, the number of its fences with it, and the first of them, as
-/// many as there is room for.
+/// `SYNC_IOC_FILE_INFO`: stores the information on a file with the number of its fences, and as many of these as there
+/// is room for.
 #[unsafe(no_mangle)]
 pub extern "C" fn bim_device_info_n(
     device: &mut DeviceHandle,
@@ -165,7 +167,7 @@ pub extern "C" fn bim_device_info_n(
     number(&given)
 }
 
-/// The last close of a timeline, a file or a buffer. The files that signal by it wait to be taken.
+/// The last close of a timeline, a file or a buffer. The files that it signals are queued.
 #[unsafe(no_mangle)]
 pub extern "C" fn bim_device_release(device: &mut DeviceHandle, object: u64, now: u64) -> i32
     ensures { IsCall device.old device.new (Ok (request.Close object now)) result (λ _. ⊤) }
@@ -184,7 +186,8 @@ pub extern "C" fn bim_device_buffer(device: &mut DeviceHandle, now: u64, buffer:
     number(&given)
 }
 
-/// `DMA_BUF_IOCTL_EXPORT_SYNC_FILE`: makes a file of what an access with these flags waits for, and stores its number.
+/// `DMA_BUF_IOCTL_EXPORT_SYNC_FILE`: makes a file of the fences for which an access with these flags waits, and stores
+/// its number.
 #[unsafe(no_mangle)]
 pub extern "C" fn bim_device_export(
     device: &mut DeviceHandle,
@@ -213,7 +216,8 @@ pub extern "C" fn bim_device_import(
     number(&device.ask(Ok(Request::Import(buffer, file, flags))))
 }
 
-/// A look at a buffer, as poll's: stores 1 for yes and 0 for no. The usage is a number of Linux's `enum dma_resv_usage`.
+/// A poll of a buffer: stores 1 if its fences are signalled, and 0 if not. The usage is a number of Linux's `enum
+/// dma_resv_usage`.
 #[unsafe(no_mangle)]
 pub extern "C" fn bim_device_test(
     device: &mut DeviceHandle,
@@ -229,8 +233,8 @@ pub extern "C" fn bim_device_test(
     number(&given)
 }
 
-/// Takes the first files that were woken and are still open, as many as there is room for, and returns how many. A closed
-/// handle has none.
+/// Takes files that were woken and are still open, in order, as many as there is room for, and returns how many. A
+/// closed handle has none.
 #[unsafe(no_mangle)]
 pub extern "C" fn bim_device_take_woken(device: &mut DeviceHandle, files: &mut [u64]) -> usize
     ensures { IsTaking device.old device.new files.old files.new result }

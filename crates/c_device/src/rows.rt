@@ -1,4 +1,4 @@
-// Rows, as C programs see them.
+//! Information on files and fences as C structs.
 ghost use Rattle.std.specs.Prelude.{◌≡◌, map};
 ghost use Rattle.c_handle.specs.Rows.{over};
 ghost use Rattle.c_device.specs.Reported.{driver_text, fence_row};
@@ -8,7 +8,7 @@ use device_core::{Driver, FenceInfo, TEXT_BYTES};
 /// A driver name, NUL-terminated and NUL-padded.
 pub const DRIVER_TEXT_BYTES: usize = 8;
 
-/// What is reported of a fence: `struct bim_device_fence_info`.
+/// Information on a fence: `struct bim_device_fence_info`.
 #[repr(C)]
 #[derive(Clone, Copy, Drop)]
 pub struct FenceRow {
@@ -18,7 +18,7 @@ pub struct FenceRow {
     pub status: i32,
 }
 
-/// What is reported of a file: `struct bim_device_file_info`.
+/// Information on a file: `struct bim_device_file_info`.
 #[repr(C)]
 #[derive(Clone, Copy, Drop)]
 pub struct FileRow {
@@ -27,7 +27,7 @@ pub struct FileRow {
     pub status: i32,
 }
 
-/// Stores the first rows, as many as there is room for.
+/// Stores rows, as many as there is room for.
 pub fn put(fences: &[FenceInfo], rows: &mut [FenceRow])
     ensures { rows.new ≡ over (map fence_row fences.now) rows.old }
 {

@@ -1,4 +1,5 @@
-// A device, and the files that it woke.
+//! `Service`: a device with a queue of the files that it woke. The queue has room for every open file before a request
+//! that may wake one, and shrinks with their number.
 ghost use Rattle.std.specs.Prelude.{◌≡◌, ◌≤◌, ◌-◌, ℕ, [], ◌++◌, true, length, drop, min, option_to_list, IfErr, IfNone, OnOk, Err};
 ghost use Rattle.std.specs.VecDeque.{deque_len, deque_capacity};
 ghost use Rattle.device_core.specs.declared.request.Request.TheVariants as request;
@@ -12,10 +13,10 @@ use std::alloc::Global;
 use std::collections::VecDeque;
 use std::marker::Model;
 
-/// For fewer open files the queue has the room of so many.
+/// With fewer open files than this, the queue has the room of this many.
 const LEAST_FILES: usize = 16;
 
-/// A device, and the files that it woke, until they are taken or released.
+/// A device, and the files that it woke, until they are taken or closed.
 #[derive(Drop)]
 pub struct Service {
     device: Device,
@@ -33,7 +34,7 @@ impl Model for Service {
 }
 
 impl Service {
-    /// A device with nothing in it. It takes no memory yet.
+    /// An empty device. Does not allocate.
     pub fn new(alloc: Global) -> Service
         ensures device { result.device ≡ nothing }
         ensures woken { result.woken ≡ [] }
@@ -44,7 +45,7 @@ impl Service {
         }
     }
 
-    /// The answer to one request, as `Device::serve`. The files that it wakes wait in the queue.
+    /// The answer to one request, as `Device::serve`. The files that it wakes are queued.
     #[inline(always)]
     pub fn step(&mut self, request: Request) -> Result<Answer, Refusal>
         ensures { IsStep self.old self.new request result }
@@ -57,7 +58,7 @@ impl Service {
         given
     }
 
-    /// Takes the first files that were woken and are still open, as many as there is room for, and returns how many.
+    /// Takes files that were woken and are still open, in order, as many as there is room for, and returns how many.
     pub fn take(&mut self, files: &mut [u64]) -> usize
         ensures count { result ≡ min (length files.old) (length self.old.woken) }
         ensures taken { files.new ≡ over self.old.woken files.old }
@@ -68,9 +69,9 @@ impl Service {
     }
 }
 
-/// Makes room in the queue for what the request may wake.
+/// Makes room in the queue for the files that the request may wake.
 ///
-/// Fails with what the device refuses the request for, and with `NoMemory` if that is nothing.
+/// Fails with the device's own cause to refuse the request, and without one with `NoMemory`.
 #[inline(always)]
 fn make_room(woken: &mut VecDeque<u64>, device: &Device, request: &Request) -> Result<(), Refusal>
     ensures kept { open_among device.now woken.new.items ≡ open_among device.now woken.old.items }
@@ -107,7 +108,7 @@ fn room_for_inc(
     device.inc_without_memory(timeline, n)
 }
 
-// The closing of a file or a buffer wakes nothing, so no room is made for it. It may leave the queue with too much room.
+// Closing a file or a buffer wakes nothing, so no room is made for it. It may leave the queue with too much room.
 #[inline(always)]
 fn room_for_close(woken: &mut VecDeque<u64>, device: &Device, number: u64) -> Result<(), Refusal>
     ensures kept { open_among device.now woken.new.items ≡ open_among device.now woken.old.items }
@@ -138,7 +139,7 @@ fn has_room(woken: &VecDeque<u64>, device: &Device) -> bool
     device.open_files() <= woken.capacity() - woken.len()
 }
 
-/// Drops what was released, and makes room. Returns whether there is some for every open file.
+/// Drops closed files from the queue, and makes room. Returns whether there is room for every open file.
 #[cold]
 fn grow(woken: &mut VecDeque<u64>, device: &Device) -> bool
     ensures kept { open_among device.now woken.new.items ≡ open_among device.now woken.old.items }
@@ -149,13 +150,13 @@ fn grow(woken: &mut VecDeque<u64>, device: &Device) -> bool
     woken.reserve(usual_room(device)).is_ok()
 }
 
-/// Whether the queue has so much room that the open files have no use for most of it.
+/// Whether the queue has much more room than the open files need.
 #[inline(always)]
 fn has_too_much(woken: &VecDeque<u64>, device: &Device) -> bool {
     woken.capacity() / 2 > usual_room(device)
 }
 
-/// Drops what was released, and gives room back.
+/// Drops closed files from the queue, and gives room back.
 #[cold]
 fn give_room_back(woken: &mut VecDeque<u64>, device: &Device)
     ensures kept { open_among device.now woken.new.items ≡ open_among device.now woken.old.items }
@@ -165,8 +166,8 @@ fn give_room_back(woken: &mut VecDeque<u64>, device: &Device)
     woken.shrink_to(usual_room(device));
 }
 
-/// Room for twice the open files: so the queue is gone through only when their number has doubled or halved, or as many
-/// have been woken.
+/// Room for twice the open files: the queue is cleaned only after their number has doubled or halved, or after as many
+/// were woken.
 #[inline(always)]
 fn usual_room(device: &Device) -> usize
     ensures { length device.now.files ≤ result }
@@ -180,7 +181,7 @@ fn drop_released(woken: &mut VecDeque<u64>, device: &Device)
     woken.retain(|file| device.is_file(*file));
 }
 
-/// Puts the files that the answer wakes into the queue.
+/// Queues the files that the answer wakes.
 #[inline(always)]
 fn keep(woken: &mut VecDeque<u64>, given: &Result<Answer, Refusal>)
     requires room { length (woken_of given.now) ≤ deque_capacity woken.old - deque_len woken.old }
@@ -216,7 +217,7 @@ fn take(woken: &mut VecDeque<u64>, device: &Device, files: &mut [u64]) -> usize
     files.len()
 }
 
-/// Takes the first file that is still open out of the queue, and those before it.
+/// Takes the first file that is still open off the queue, and drops the closed ones before it.
 fn next_open(woken: &mut VecDeque<u64>, device: &Device) -> Option<u64>
     ensures first { open_among device.now woken.old.items
         ≡ option_to_list result ++ open_among device.now woken.new.items }
