@@ -1,4 +1,4 @@
--- What a handle and its parts own, as a box at the same types.
+-- The ownership of a handle and its parts, as a box at the same types.
 use mathlib.Core.Path.{◌≡◌, refl}
 use mathlib.Core.Bool.{Bool, true, false, not}
 use mathlib.Core.List.{[], ◌∷◌}
@@ -56,7 +56,7 @@ pub answer : (p : Ptr) → (y : Bool) × (op2_val ptr_eq (ptr_val p) vnull ≡ v
 answer (block_ptr b o) = (false, refl, refl)
 answer null_ptr = (true, refl, refl)
 
--- whoever owns a handle may compare its pointer with null
+-- an owner of a handle may compare its pointer with null
 module _ {M : Type 1} {𝓤 : Ura M} (𝓛 : Logic 𝓤) (row : RattleType) (alloc : Global) (x : row.Denot) where
   pub tested : (p : Ptr) → ent 𝓤 (sem 𝓛 (handle_owns row alloc p x)) (guard 𝓤 (Testable p) (sem 𝓛 (handle_owns row alloc p x)))
   tested (block_ptr b o) =

@@ -10,7 +10,7 @@ module _ {A : Type 0} where
   from-suc (y ∷ new) (z ∷ old) rest zero x is room = let same : x ≡ y = cc in ap (λ v. v ∷ old) same
   from-suc (y ∷ new) (z ∷ old) rest (suc i) x is room = ap (λ l. y ∷ l) (from-suc new old rest i x is (omega (arith, room)))
 
-  -- one more is written
+  -- another element is written
   pub over-more : (new old rest : List A) (i : ℕ) (x : A) → drop i new ≡ x ∷ rest → i < length old → set (over (take i new) old) i x ≡ over (take (i + 1) new) old
   over-more new old rest i x is room =
       let next : suc i ≡ i + 1 = omega arith in
@@ -25,7 +25,7 @@ module _ {A : Type 0} where
   pub left-more : (new rest : List A) (i : ℕ) (x : A) → drop i new ≡ x ∷ rest → rest ≡ drop (i + 1) new
   left-more new rest i x is = let next : suc i ≡ i + 1 = omega arith in left-suc new rest i x is ∙ ap (λ k. drop k new) next
 
-  -- as many are written as fit, and as there are
+  -- as many elements are written as fit, and as there are
   pub over-least : (new old : List A) (i : ℕ) → min (length old) (length new) ≤ i → over (take i new) old ≡ over new old
   over-least [] old zero past = refl
   over-least [] old (suc i) past = refl
@@ -41,7 +41,7 @@ module _ {A B : Type 0} (f : A → B) where
   map-suc (x ∷ new) (y ∷ old) zero d inside room = refl
   map-suc (x ∷ new) (y ∷ old) (suc i) d inside room = ap (λ l. f x ∷ l) (map-suc new old i d (omega (arith, inside)) (omega (arith, room)))
 
-  -- one more is written of what is made of each
+  -- another element is written, made from its source
   pub map-more : (new : List A) (old : List B) (i : ℕ) (d : A) → i < length new → i < length old → set (over (take i (map f new)) old) i (f (get_or new i d)) ≡ over (take (i + 1) (map f new)) old
   map-more new old i d inside room =
       let next : suc i ≡ i + 1 = omega arith in

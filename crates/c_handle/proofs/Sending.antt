@@ -1,4 +1,4 @@
--- What a handle owns may go to another thread, if its value may.
+-- A handle can be sent to another thread if its value can.
 use base.Shift.{Keyless}
 use mir.Raw.{raw}
 use denote.Memory.{lone}

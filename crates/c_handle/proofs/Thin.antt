@@ -30,7 +30,7 @@ use denote.Triple.Spec.{Meets}
 use denote.Triple.Walked.{says, Stays, stay_dropped, walk_of, ends_at, walked, walk_Meets, Goes-spent_ref}
 use Rattle.std_alloc.proofs.VecSteps.Shapes.{after}
 
--- the code, where A stands for the result's type and B for the parameter's
+-- the code, where A is the result's type and B the parameter's
 abbrev pub code : Ty → Ty → Fn
 code A B = record {
   lifetimes = 1;
@@ -43,7 +43,7 @@ code A B = record {
       (seq (assign (place 0 []) (rv_opd (copy (place 2 [])))) return);
 }
 
--- both types, and what tells that they are the same but for their names
+-- both types, and the proof that they differ only in their names
 pub record Two : Type 2 where
   pub S : RattleType
   pub T : RattleType

@@ -1,4 +1,4 @@
--- Whether a handle is open, and what it becomes when its value is written through.
+-- Whether a handle is open, and the handle after a write to its value.
 use Rattle.std.specs.Prelude.{Bool}
 use Rattle.std.specs.Borrow.{Lends, MutBor, Fml}
 use denote.RattleType.{RattleType}

@@ -1,4 +1,4 @@
--- What a handle owns: a value in a box of its own if it is open, and nothing if it is closed.
+-- Ownership of a handle: a boxed value if it is open, and nothing if it is closed.
 use Rattle.std.specs.Prelude.{Bool, true, false}
 use base.Fml.{Fml, ftrue}
 use denote.RattleType.{RattleType}

@@ -1,9 +1,9 @@
--- Usages by number.
+-- Usages by the numbers of Linux's enum dma_resv_usage.
 use Rattle.std.specs.Prelude.{◌≡◌, ◌⊎◌, zero, suc, ℤ, pos, negsuc, Option, None, Some}
 use Rattle.point_core.specs.declared.entry.Usage.{Usage}
 use Rattle.point_core.specs.declared.entry.Usage.TheVariants.{Kernel, Write, Read, Bookkeep}
 
--- the usage of that number, as Linux's enum dma_resv_usage counts
+-- the usage with this number, if there is one
 abbrev pub usage_of : ℤ → Option Usage
 usage_of (pos zero) = Some Kernel
 usage_of (pos (suc zero)) = Some Write

@@ -1,4 +1,5 @@
-// A handle that C programs keep.
+//! `Handle`: a pointer that C programs own. It owns a boxed value exactly while it isn't null; the handles of `c_desk`,
+//! `c_device` and `c_words` are cast to it.
 ghost use Rattle.std.specs.Prelude.{◌≡◌, true, false};
 ghost use Rattle.c_handle.specs.Owning.{handle_owns};
 
@@ -7,8 +8,8 @@ use std::alloc::Global;
 use std::marker::Model;
 use std::ptr::null_mut;
 
-/// A pointer to a value on the heap, or null while the handle is closed. A drop frees nothing: C owns its handles, and
-/// only a closed one is written over.
+/// A pointer to a value on the heap, or null while the handle is closed. Dropping a handle frees nothing: C owns its
+/// handles, and only a closed one is overwritten.
 #[repr(C)]
 #[derive(Drop)]
 pub struct Handle<T> {
@@ -69,7 +70,7 @@ impl<T> Handle<T> {
         Handle { at: ptr, alloc }
     }
 
-    // Closes an open handle, and gives the box that it had.
+    // Closes an open handle, and returns the parts of its box.
     fn take(&mut self, alloc: Global) -> Parts<T, Global>
         requires { is_open self.old ≡ true }
         ensures { (is_open self.new ≡ false) × (result.value ≡ self.old.held) }

@@ -1,5 +1,5 @@
-//! What static libraries for C programs share: handles, boxes by their fields, and the numbers of usages. `specs/` has
-//! what a caller's array holds once rows were stored into it.
+//! The common part of the static libraries for C programs: handles, boxes by their fields, and the numbers of usages.
+//! `specs/` defines a caller's array after rows were stored into it.
 #![tactic(auto)]
 
 mod handle;

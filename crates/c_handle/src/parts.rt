@@ -1,4 +1,4 @@
-// A `Box` by its fields.
+//! `Parts`: a `Box` taken apart, so that its pointer can be kept by C.
 ghost use Rattle.std.specs.Prelude.{◌≡◌};
 ghost use Rattle.std.specs.Box.Ownership.{box_owns};
 
@@ -27,7 +27,7 @@ impl<T, A: Allocator> Parts<T, A> {
         Parts { ptr, alloc }
     }
 
-    /// The box that they are parts of.
+    /// The box with these parts.
     pub fn into_box(self) -> Box<T, A>
         ensures { result.value ≡ self.value }
     {

@@ -1,11 +1,11 @@
-// Usages by number.
+//! Usages by the numbers of Linux's `enum dma_resv_usage`.
 ghost use Rattle.std.specs.Prelude.{◌≡◌, pos, IfSome, IfNone};
 ghost use Rattle.point_core.specs.Usage.{usage_number};
 ghost use Rattle.c_handle.specs.Usages.{IsUsage, usage_of};
 
 use point_core::Usage;
 
-/// The usage of that number, as Linux's `enum dma_resv_usage` counts, or none.
+/// The usage with this number, if there is one.
 #[inline(always)]
 pub fn usage_of(number: i32) -> Option<Usage>
     ensures is { result ≡ usage_of number }
