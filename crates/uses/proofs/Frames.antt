@@ -1,4 +1,4 @@
--- What the example's display finds, by the commands before it.
+-- The frames that the example's display finds, by the commands before each refresh.
 use Rattle.std.proofs.Common.{◌≡◌, ◌↔◌, ℕ, true, false, List, [], ◌∷◌, ◌++◌, codes, refl}
 use Rattle.point_core.specs.declared.entry.Usage.TheVariants.{Write}
 use Rattle.command_core.specs.declared.command.Command.{Command}
@@ -13,7 +13,7 @@ abbrev pub begun : List ℕ → List ℕ → List ℕ → List Command
 begun gpu buffer drawn =
     [] ++ command.Timeline gpu ∷ [] ++ command.Buffer buffer ∷ [] ++ command.Add buffer gpu 1 Write ∷ [] ++ command.Export drawn buffer 1 ∷ []
 
--- those before the second
+-- the commands before the second
 abbrev pub ended : List ℕ → List ℕ → List ℕ → List Command
 ended gpu buffer drawn = begun gpu buffer drawn ++ command.Inc gpu 1 ∷ []
 

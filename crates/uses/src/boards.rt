@@ -1,4 +1,4 @@
-// A gate, and a board of one buffer, by their own calls.
+//! Calls on a gate, and on a board with one buffer.
 ghost use Rattle.std.specs.Prelude.{◌≡◌};
 
 use crate::buffers::show_listing;

@@ -1,4 +1,4 @@
-// Imports into a buffer, and what is exported from it.
+//! Calls of `dmabuf_core`: imports into a buffer, and exports from it.
 use crate::calls::{Calls, name, plain, point};
 use dmabuf_core::Buffers;
 use point_core::{Listing, Name, Reach, Refusal};
@@ -32,7 +32,7 @@ fn create(rt: &HostRuntime, calls: &mut Calls, buffers: &mut Buffers, buffer: Na
     calls.tell(rt, "create", &created);
 }
 
-/// Imports a file into one buffer by each of these flags, and into another, which is not there.
+/// Imports a file into one buffer with each of these flags, and into another, which doesn't exist.
 fn import_plain(
     rt: &HostRuntime,
     calls: &mut Calls,

@@ -1,4 +1,4 @@
-// The calls: which are left out, and what each answers.
+//! `Calls`: which calls are left out, and the printed answer of each. Every caller of this program goes through it.
 ghost use Rattle.std.specs.Prelude.{◌<◌};
 
 use point_core::{Context, Name, Point, Reach, Refusal};
@@ -6,7 +6,7 @@ use std::fmt::Debug;
 use std::io::Read;
 use syncfile_core::SyncFile;
 
-/// More calls than are made.
+/// A bound on the number of calls.
 const MOST: usize = 256;
 
 const LEFT_OUT: u8 = b'x';
@@ -14,9 +14,9 @@ const LEFT_OUT: u8 = b'x';
 #[derive(Drop)]
 pub(crate) struct Calls {
     marks: [u8; MOST],
-    // of the next call
+    // the number of the next call
     number: usize,
-    /// Whether the marks could not be read, or an answer not be printed.
+    /// Whether the marks could not be read, or an answer could not be printed.
     pub(crate) failed: bool,
 }
 
@@ -46,7 +46,7 @@ impl Calls {
         self.failed |= println!(rt; "{call}: {answer:?}").is_err();
     }
 
-    /// Prints whether a call has made something.
+    /// Prints whether a call has made an object.
     pub(crate) fn tell_made<A>(
         &mut self,
         rt: &HostRuntime,
@@ -66,7 +66,7 @@ pub(crate) fn name(letter: u8) -> Result<Name, Refusal> {
     Name::read(&[letter]).ok_or(Refusal::Syntax)
 }
 
-/// A point of the context at a place.
+/// A point of the context at an index.
 pub(crate) fn point(place: usize, value: u64) -> Point
     requires few { place < 3 }
 {

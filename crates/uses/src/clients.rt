@@ -1,4 +1,4 @@
-// Plans of clients, on threads.
+//! Plans of clients, on threads.
 use crate::calls::{Calls, point};
 use clients_core::{ACTS, CLIENTS, OpenGate, run_clients};
 use point_core::{Refusal, Usage};
@@ -9,7 +9,7 @@ use std::thread::Threads;
 
 const REFUSED: Result<(), Refusal> = Err(Refusal::Memory);
 
-/// Runs plans that are refused, and plans that are worked off, against one buffer of such a table.
+/// Runs plans that are refused, and plans that succeed, against one buffer of a table of this type.
 pub(crate) fn make_calls<R: Threads + Wait + Sync, T: SharedTable>(
     rt: &HostRuntime,
     threads: &R,
@@ -74,7 +74,7 @@ fn run_listed<R: Threads + Wait + Sync, T: SharedTable>(
     calls.tell(rt, "run_clients", &settled);
 }
 
-/// What clients of these acts settle.
+/// The settled end of clients with these acts.
 fn settled<R: Threads + Wait + Sync, T: SharedTable>(
     threads: &R,
     alloc: Global,

@@ -1,5 +1,5 @@
-// A caller of the libraries, to read and copy: it steps a desk through a frame and reads its answers, and it merges sync files
-// while a timeline runs on another thread.
+//! A caller of the libraries, to read and copy: it steps a desk through a frame and reads its answers, and it merges
+//! sync files while a timeline runs on another thread.
 mod frame;
 mod running;
 

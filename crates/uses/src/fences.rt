@@ -1,4 +1,4 @@
-// A fence that threads share, and its callbacks.
+//! Calls on a fence that threads share, and on its callbacks.
 ghost use Rattle.std.specs.Prelude.{◌≡◌, ◌<◌, ◌≤◌, IfOk, IfSome};
 ghost use Rattle.fence_core.specs.SharedFence.{token_of};
 
@@ -9,7 +9,7 @@ use point_core::{Point, Refusal};
 use std::sync::Wait;
 use words_core::{Seat, Won, Words};
 
-/// How many callbacks are added before a signal, and how many with those after it. Some of the latter take memory.
+/// The number of callbacks that are added before a signal, and the number after it. Some of the latter allocate.
 const BEFORE: u64 = 4;
 
 const ALL: u64 = 9;
@@ -128,7 +128,7 @@ fn add<T: Wait>(
     calls.tell(rt, "add_callback", &added);
 }
 
-/// Signals the fence, and gives its token the first time.
+/// Signals the fence, and returns its token the first time.
 fn signal(
     rt: &HostRuntime,
     calls: &mut Calls,

@@ -1,4 +1,4 @@
-// Merges of many files, and a listing that becomes a file.
+//! Calls of `syncfile_core`: merges of many files, and a file from a listing.
 ghost use Rattle.std.specs.Prelude.{IfOk};
 ghost use Rattle.point_core.specs.Agreement.{HasRisingContexts};
 
@@ -62,7 +62,7 @@ fn show_floor(rt: &HostRuntime, calls: &mut Calls, files: &Files, file: &Name) {
     }
 }
 
-/// A file of a listing, which is closed.
+/// Makes a file of a listing, and closes it.
 fn adopt_and_close(rt: &HostRuntime, calls: &mut Calls, files: &mut Files) -> Result<(), Refusal> {
     let m = name(b'm')?;
     adopt(rt, calls, files, m);

@@ -1,8 +1,9 @@
-//! Calls of the libraries, as a caller makes them, each with its answer on a line. What is below `example` is a caller to read
-//! and copy.
+//! Calls of the libraries, as users make them, each with its answer on a line. The callers below `example` are to be
+//! read and copied.
 //!
-//! Standard input has a byte for each call, in order: one that is an `x` is left out, and answered Memory. So a run in which
-//! memory was refused to some calls prints what a run does that leaves them out, if they leave nothing after them.
+//! Standard input has a byte for each call, in order: a call whose byte is an `x` is left out, and answered Memory. So
+//! a run in which some calls fail for lack of memory prints the same as a run that leaves these calls out, provided
+//! that they change nothing.
 #![tactic(auto)]
 
 mod boards;

@@ -1,4 +1,4 @@
-// One reservation.
+//! Calls on a reservation.
 ghost use Rattle.std.specs.Prelude.{◌≤◌};
 
 use crate::calls::{Calls, point, reach_at};

@@ -1,4 +1,4 @@
-// Files beside running timelines, and on words that do not bear them out.
+//! Calls on files beside running timelines, and with words that are not consistent with them.
 ghost use Rattle.std.specs.Prelude.{◌≡◌, ◌<◌, ◌≤◌};
 
 use crate::calls::{Calls, plain, point};
@@ -13,7 +13,7 @@ pub(crate) fn make_calls(rt: &HostRuntime, calls: &mut Calls) {
     }
 }
 
-/// Merges a file of the first context with one of the second, and looks at what comes of it on other words.
+/// Merges a file of the first context with one of the second, and polls the result with other words.
 fn merge_and_look(rt: &HostRuntime, calls: &mut Calls, words: &Words, seat: &mut Seat)
     requires own { (seat.old.words ≡ words.now) × (1 < seat.old.parts) }
     requires context { 1 ≤ words.now.contexts }
@@ -111,7 +111,7 @@ fn show_merged(rt: &HostRuntime, calls: &mut Calls, merged: &Result<SyncFile, Re
     }
 }
 
-/// Looks at a merged file on words of their own.
+/// Polls a merged file with words of their own.
 fn look_elsewhere(rt: &HostRuntime, calls: &mut Calls, m: &SyncFile, g: &SyncFile) {
     if let Ok((words, mut seat)) = words_of(rt, calls, 2, 0, 0) {
         look_at_unknown(rt, calls, &words, &mut seat);
@@ -119,7 +119,7 @@ fn look_elsewhere(rt: &HostRuntime, calls: &mut Calls, m: &SyncFile, g: &SyncFil
     }
 }
 
-/// Looks at a file of a context that the words do not have.
+/// Polls a file of a context that the words do not have.
 fn look_at_unknown(rt: &HostRuntime, calls: &mut Calls, words: &Words, seat: &mut Seat)
     requires own { seat.old.words ≡ words.now }
     ensures same { (seat.new.words ≡ seat.old.words) × (seat.new.parts ≡ seat.old.parts) }
@@ -129,7 +129,7 @@ fn look_at_unknown(rt: &HostRuntime, calls: &mut Calls, words: &Words, seat: &mu
     }
 }
 
-/// Looks at it below its floor, one increment before it, and there.
+/// Polls it below its floor, one increment before its point, and at its point.
 fn look_while_driven(
     rt: &HostRuntime,
     calls: &mut Calls,

@@ -1,4 +1,4 @@
-// Lines of a script, commands that are run, and the text of an answer.
+//! Calls of `script_core`: lines of a script, commands, and the text of an answer.
 use crate::calls::{Calls, name};
 use desk_core::{Answer, Command, run};
 use point_core::Refusal;

@@ -1,4 +1,4 @@
-// Words, their seats, and a seat that is lost.
+//! Calls on words and seats, and on a seat that is lost.
 ghost use Rattle.std.specs.Prelude.{◌≡◌, ◌<◌, ◌≤◌, IfOk, IfSome};
 ghost use Rattle.words_core.specs.declared.seat.TheConstants.{PARTS};
 
@@ -15,7 +15,7 @@ pub(crate) fn make_calls(rt: &HostRuntime, calls: &mut Calls) {
     }
 }
 
-/// Words of so many contexts, buffers and flags, and their first seat.
+/// Words with these numbers of contexts, buffers and flags, and their first seat.
 pub(crate) fn words_of(
     rt: &HostRuntime,
     calls: &mut Calls,
@@ -44,7 +44,7 @@ fn lose(rt: &HostRuntime, calls: &mut Calls, words: &Words, mut seat: Seat)
     }
 }
 
-/// Asks for the whole, and gives a seat back that is not.
+/// Gathers a seat; returns it if parts are missing.
 fn gather(rt: &HostRuntime, calls: &mut Calls, seat: Seat) -> Option<Seat> {
     match seat.gather() {
         Ok(_) => None,

@@ -1,4 +1,4 @@
-// Two timelines by name.
+//! Calls of `timeline_core`, on two timelines.
 use crate::calls::{Calls, name};
 use point_core::{Context, Name, Refusal};
 use timeline_core::Timelines;
@@ -34,7 +34,7 @@ fn create(rt: &HostRuntime, calls: &mut Calls, timelines: &mut Timelines, timeli
     calls.tell(rt, "create", &context);
 }
 
-/// What both timelines have reached, the context of one by its name, and the names of three contexts.
+/// The reach of both timelines, the context of one by its name, and the names of three contexts.
 fn show(rt: &HostRuntime, calls: &mut Calls, timelines: &Timelines, timeline: &Name) {
     let reach = timelines.reach();
     calls.tell(rt, "reach", &[reach.at(0), reach.at(1), reach.at(2)]);

@@ -1,4 +1,4 @@
-// One frame of a compositor, on a desk: all of the service on one thread.
+//! One frame of a compositor, on a desk: all of the service on one thread.
 ghost use Rattle.std.specs.Prelude.{◌≡◌, ◌↔◌, List, [], ◌∷◌, ◌++◌, true, IfOk, OnOk};
 ghost use Rattle.command_core.specs.declared.command.Command.{Command};
 ghost use Rattle.desk_core.specs.Answer.{is_signalled};
@@ -10,7 +10,7 @@ use desk_core::Desk;
 use point_core::{Name, Refusal, Usage};
 use std::alloc::Global;
 
-/// What becomes of a frame at a refresh of the display.
+/// The state of a frame at a refresh of the display.
 #[derive(Clone, Copy, Debug)]
 pub enum Frame {
     /// It is drawn, and may be shown.
@@ -22,7 +22,7 @@ pub enum Frame {
 /// The sync flag of a read, as `DMA_BUF_SYNC_READ`.
 const READ: u32 = 1;
 
-/// A renderer draws a frame into a buffer, and a display looks whether it may be shown: once before the renderer's job
+/// A renderer draws a frame into a buffer, and a display asks whether it may show it: once before the renderer's job
 /// ends, and once after it.
 pub fn draw(alloc: Global) -> Result<(Frame, Frame), Refusal>
     ensures { IfOk result (λ frames. (frames.0 ≡ Frame.Late) × (frames.1 ≡ Frame.Shown)) }
@@ -43,7 +43,7 @@ fn draw_on(desk: &mut Desk) -> Result<(Frame, Frame), Refusal>
     accept(desk, Command::Buffer(buffer))?;
     // The renderer's job writes the buffer, and ends at point 1 of its timeline.
     accept(desk, Command::Add(buffer, gpu, 1, Usage::Write))?;
-    // The display gets a file of what a reader has to wait for.
+    // The display gets a file of the fences for which a reader has to wait.
     accept(desk, Command::Export(drawn, buffer, READ))?;
     let early = refresh(desk, drawn)?;
     // The job ends.
@@ -51,8 +51,8 @@ fn draw_on(desk: &mut Desk) -> Result<(Frame, Frame), Refusal>
     Ok((early, refresh(desk, drawn)?))
 }
 
-/// Shows a frame if its file is signalled: after whatever commands, exactly when all that was ever put into the file
-/// is reached.
+/// Shows a frame if its file is signalled: after any commands, exactly if all points that were ever put into the file
+/// are reached.
 fn refresh(desk: &mut Desk, file: Name) -> Result<Frame, Refusal>
     ensures shown { (history : List Command) → HasHistory desk.old history →
         IfOk result (λ frame. (frame ≡ Frame.Shown) ↔ (is_signalled (world_of history) file ≡ true)) }
@@ -65,7 +65,7 @@ fn refresh(desk: &mut Desk, file: Name) -> Result<Frame, Refusal>
     }
 }
 
-/// Steps the desk. Fails if the answer is a refusal; any other answer will do.
+/// Steps the desk. Fails if the answer is a refusal; any other answer is accepted.
 fn accept(desk: &mut Desk, command: Command) -> Result<(), Refusal>
     ensures { OnOk result ((history : List Command) →
         HasHistory desk.old history → HasHistory desk.new (history ++ command ∷ [])) }

@@ -1,4 +1,4 @@
-// Sync files beside a running timeline, on two threads.
+//! Sync files beside a running timeline, on two threads.
 ghost use Rattle.std.specs.Prelude.{◌≡◌, ◌<◌, ◌≤◌, List, ◌++◌, IfOk};
 ghost use Rattle.point_core.specs.declared.entry.Entry.{Entry};
 ghost use Rattle.syncfile_core.specs.SyncFile.{StandsFor};
@@ -9,13 +9,13 @@ use std::thread::{Threads, join};
 use syncfile_core::SyncFile;
 use words_core::{Seat, Words};
 
-/// The renderer's timeline: its place among those of the words.
+/// The renderer's timeline: its index among the words' contexts.
 const RENDERER: usize = 0;
 
-/// The display's.
+/// The display's timeline.
 const DISPLAY: usize = 1;
 
-/// How many there are.
+/// The number of timelines.
 const TIMELINES: usize = 2;
 
 /// How far the renderer's timeline is driven, one step at a time.
@@ -28,10 +28,10 @@ const DRAWN: u64 = 500;
 const TRIES: u32 = 100_000_000;
 
 /// Drives the renderer's timeline on one thread. On another, waits until a frame is drawn, and merges its file with one
-/// of the display, whose timeline stands still. Gives how many points of the merged file are pending: the display's,
-/// whatever the schedule.
+/// of the display, whose timeline doesn't move. Returns the number of pending points in the merged file: only the
+/// display's, whatever the schedule.
 ///
-/// Fails with `TimedOut` if the frame was late, and with `Memory` if there is none.
+/// Fails with `TimedOut` if the frame was late, and with `Memory` if an allocation failed.
 pub fn merge_beside_a_driver(rt: &impl Threads, alloc: Global) -> Result<usize, Refusal> {
     let (words, mut seat) = Words::new(alloc, TIMELINES, 0, 0)?;
     let name = Name::read(b"frame").ok_or(Refusal::Syntax)?;
@@ -53,7 +53,7 @@ fn point(index: usize, value: u64) -> Point
     }
 }
 
-/// Drives on one thread, and merges on another. Each closure states what its call requires.
+/// Drives on one thread, and merges on another. Each closure states the requirements of its call.
 fn beside(
     rt: &impl Threads,
     alloc: Global,
@@ -77,7 +77,7 @@ fn beside(
     )
 }
 
-/// Advances a timeline that nobody drove yet by `STEPS`, one at a time, and gives its value.
+/// Advances a timeline that had no driver by `STEPS`, one at a time, and returns its value.
 ///
 /// Fails with `Exists` if it had a driver.
 fn drive(words: &Words, seat: Seat, ctx: Context) -> Result<u64, Refusal>
@@ -94,8 +94,8 @@ fn drive(words: &Words, seat: Seat, ctx: Context) -> Result<u64, Refusal>
 
 /// Waits for a file by polling it, and merges it with another.
 ///
-/// Fails with `TimedOut` if the file was not signalled in so many polls, with `Foreign` if a file is of other words,
-/// and as `Memory`.
+/// Fails with `TimedOut` if the file was not signalled after `TRIES` polls, with `Foreign` if a file belongs to other
+/// words, and with `Memory`.
 fn merge_once_drawn(
     alloc: Global,
     drawn: &SyncFile,
