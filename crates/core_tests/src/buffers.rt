@@ -1,4 +1,4 @@
-// A buffer with a fence of every context at every usage.
+//! Tests of a full buffer: a fence of every context at every usage.
 use crate::values::{EVERY_USAGE, are_full_rows, holds, name, numbered, value_of};
 use dmabuf_core::Buffers;
 use point_core::{CONTEXTS, Context, Name, Point, Reach};
@@ -18,7 +18,7 @@ fn create_of_each_context(rt: &impl Abort, files: &mut Files) {
     }
 }
 
-/// Merges the files of each context to the file `all`.
+/// Merges the files of all contexts into the file `all`.
 fn merge_all(rt: &impl Abort, alloc: Global, files: &mut Files) {
     let mut names = Vec::new(alloc);
     for index in 0..CONTEXTS {

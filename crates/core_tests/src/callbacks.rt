@@ -1,4 +1,4 @@
-// The callbacks of one fence.
+//! Tests of the callbacks of one fence.
 use crate::values::holds;
 use fence_core::{CALLBACKS, CallbackList};
 use point_core::{LimitKind, Refusal};
@@ -30,7 +30,7 @@ fn check(rt: &impl Abort, cookies: &[u64]) {
     }
 }
 
-/// Takes the callbacks, which are then taken for good.
+/// Takes the callbacks; they can't be taken again.
 fn take(rt: &impl Abort, list: &mut CallbackList) {
     check(rt, list.take().as_slice());
     add(rt, list, 5, Err(Refusal::Signalled));

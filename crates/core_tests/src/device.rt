@@ -1,4 +1,4 @@
-// Requests to a device, after Linux's sources.
+//! Tests of a device's requests, with answers derived from Linux's sources.
 mod answers;
 mod buffers;
 mod requests;

@@ -1,4 +1,4 @@
-// Fences of points of two contexts, and a watch.
+//! Tests of fences of two contexts' points, and of a watch.
 ghost use Rattle.std.specs.Prelude.{◌≡◌, replicate};
 ghost use Rattle.point_core.specs.declared.context.TheConstants.{CONTEXTS};
 
@@ -51,7 +51,7 @@ fn check_signalled(rt: &impl Abort, fence: &Fence, first: u64, second: u64, want
     holds(rt, fence.is_signalled(&reach_of(first, second)) == wanted);
 }
 
-/// How many members a fence of its kind has, where 2 stands for several.
+/// The number of a fence's members by its kind: none, one, or 2 for several.
 fn kind_of(fence: &Fence) -> usize {
     match fence {
         Fence::Stub => 0,
@@ -60,7 +60,7 @@ fn kind_of(fence: &Fence) -> usize {
     }
 }
 
-/// Checks of which kind a fence is, and what it lists.
+/// Checks the kind of a fence, and its points.
 fn check_members(rt: &impl Abort, fence: &Fence, members: &[Point]) {
     holds(
         rt,

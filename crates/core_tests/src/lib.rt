@@ -1,4 +1,4 @@
-//! Tests of what needs no threads: lists of points, refusals, fences, callbacks, reservations, buffers, and a device.
+//! Tests without threads: lists of points, refusals, fences, callbacks, reservations, buffers, and a device.
 #![tactic(auto)]
 
 #[cfg(test)]

@@ -1,4 +1,4 @@
-// What points are listed as.
+//! Tests of `canon`: listings that were worked out by hand.
 use crate::values::{LAST_CONTEXT, has_points, holds, points_of, reach_of};
 use point_core::{LatestPoints, Reach, canon};
 use std::alloc::Global;
@@ -8,7 +8,7 @@ type Rows = &'static [(u16, u64)];
 
 type Listed = (Rows, Rows, Rows);
 
-/// A reach, points, and what `canon` lists of them.
+/// A reach, points, and their listing.
 static LISTED: [Listed; 4] = [
     (&[], &[(1, 5), (1, 3), (2, 2)], &[(1, 5), (2, 2)]),
     (&[(1, 5)], &[(1, 5), (1, 3), (2, 2)], &[(2, 2)]),

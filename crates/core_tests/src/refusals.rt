@@ -1,4 +1,4 @@
-// The table of refusals, and the words of limits.
+//! Tests of the table of refusals, and of the words of limits.
 use crate::values::holds;
 use point_core::{LimitKind, Refusal};
 use std::alloc::Global;

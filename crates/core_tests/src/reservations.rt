@@ -1,4 +1,4 @@
-// Reservations: what replaces what.
+//! Tests of reservations: which entry a new one replaces.
 use crate::values::{holds, point, reach_at, row};
 use point_core::{Point, Reach, TopRow, Usage};
 use resv_core::{PLACES, Resv};

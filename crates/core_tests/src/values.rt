@@ -1,4 +1,4 @@
-// What the tests make of plain numbers and texts: a point is written as its context and its value.
+//! Values for tests, from plain numbers and texts: a point is written as its context and its value.
 use point_core::{CONTEXTS, Context, Name, Point, Reach, TopRow, Usage};
 use std::alloc::Global;
 use std::process::Abort;
@@ -25,7 +25,7 @@ fn digit(number: usize) -> u8 {
     b'0' + (number % 10) as u8
 }
 
-/// The name of that number below 10000, in four digits.
+/// The name of a number below 10000, in four digits.
 pub(crate) fn numbered(rt: &impl Abort, number: usize) -> Name {
     let digits = [
         digit(number / 1000),
@@ -63,7 +63,7 @@ pub(crate) fn row(rt: &impl Abort, usage: Usage, number: u16, point: u64) -> Top
     TopRow { usage, ctx, point }
 }
 
-/// The reach that has just come to these points.
+/// The reach that is exactly at these points.
 pub(crate) fn reach_of(rt: &impl Abort, rows: &[(u16, u64)]) -> Reach {
     let mut reach = Reach::zero();
     for (number, value) in rows {
@@ -98,7 +98,7 @@ pub(crate) fn are_full_rows(rows: &[TopRow]) -> bool {
     rows.len() == place
 }
 
-/// The next state of a row of numbers that look random.
+/// The next state of a pseudo-random sequence.
 pub(crate) fn stirred(state: u64) -> u64 {
     state
         .wrapping_mul(6364136223846793005)

@@ -1,4 +1,4 @@
-// What is answered, against what it should be.
+//! Compares a device's answers with the wanted ones.
 use crate::values::holds;
 use device_core::{Answer, Driver, FenceInfo, FileInfo, Kept, Refusal, Request};
 use point_core::Status;
@@ -16,7 +16,7 @@ pub(crate) enum Wanted {
     Refused(Refusal),
 }
 
-/// What is reported of a fence: the name of its timeline, its driver and status, and when it signalled.
+/// Information on a fence: the name of its timeline, its driver and status, and when it signalled.
 pub(crate) type Row = (&'static [u8], Driver, Status, u64);
 
 /// Checks that each answer is the one beside its request.
@@ -36,7 +36,7 @@ pub(crate) fn check(
     holds(rt, left.is_empty() && answers.len() == asked.len());
 }
 
-/// Checks how many timelines, files and buffers are kept, and at how many points files wait.
+/// Checks the numbers of timelines, files and buffers, and the number of points for which files wait.
 pub(crate) fn check_kept(rt: &impl Abort, kept: &Kept, wanted: [usize; 4]) {
     let counts = [kept.timelines, kept.files, kept.buffers, kept.waiting];
     holds(rt, counts == wanted);

@@ -1,4 +1,4 @@
-// A run of requests of buffers, with what is answered to each.
+//! Requests about buffers, each with its answer.
 use crate::device::answers::{Wanted, check, check_kept};
 use device_core::{Driver, Refusal, Request, Text, run};
 use point_core::{Status, Usage};
@@ -28,7 +28,7 @@ static ASKED: [(Request, Wanted); 48] = [
     (Request::Inc(2, 1, 20), Wanted::Woken(&[4, 6])),
     (Request::Test(5, Usage::Write), Wanted::Signalled(true)),
     (Request::Test(5, Usage::Read), Wanted::Signalled(false)),
-    // An export of what is idle is a stub of the time at which the buffer was made.
+    // An export of an idle buffer is a stub with the time at which the buffer was made.
     (Request::Export(5, 1), Wanted::Number(8)),
     (
         Request::Info(8),
@@ -40,7 +40,7 @@ static ASKED: [(Request, Wanted); 48] = [
     ),
     (Request::Inc(1, 1, 30), Wanted::Woken(&[3, 7])),
     (Request::Test(5, Usage::Read), Wanted::Signalled(true)),
-    // The buffer is looked at first, then the flags, then the file. A refusal takes no number.
+    // The buffer is checked first, then the flags, then the file. A refusal takes no number.
     (
         Request::Import(3, 3, 0),
         Wanted::Refused(Refusal::WrongKind),
@@ -49,7 +49,7 @@ static ASKED: [(Request, Wanted); 48] = [
     (Request::Export(5, 4), Wanted::Refused(Refusal::Invalid)),
     (Request::Import(5, 3, 0), Wanted::Refused(Refusal::Invalid)),
     (Request::Import(5, 99, 1), Wanted::Refused(Refusal::Invalid)),
-    // What a closed timeline cancels is waited for no more.
+    // A fence that a closed timeline has cancelled is no longer waited for.
     (Request::Fence(2, 5, 50), Wanted::Number(9)),
     (Request::Import(5, 9, 3), Wanted::Done),
     (Request::Test(5, Usage::Write), Wanted::Signalled(false)),
@@ -64,7 +64,7 @@ static ASKED: [(Request, Wanted); 48] = [
         Wanted::Refused(Refusal::NoEntry),
     ),
     (Request::Buffer(90), Wanted::Number(10)),
-    // An exported fence is waited for though each file that had it is closed.
+    // An exported fence is waited for even if each file that had it is closed.
     (Request::Open(Text::EMPTY), Wanted::Number(11)),
     (Request::Fence(11, 9, 100), Wanted::Number(12)),
     (Request::Import(10, 12, 2), Wanted::Done),

@@ -1,4 +1,4 @@
-// A run of requests, with what is answered to each.
+//! Requests about timelines and files, each with its answer.
 use crate::device::answers::{Wanted, check};
 use device_core::{Driver, Refusal, Request, Text, run};
 use point_core::Status;
@@ -24,7 +24,7 @@ static ASKED: [(Request, Wanted); 50] = [
     (Request::Fence(3, 3, 3), Wanted::Number(7)),
     (Request::IsSignalled(7), Wanted::Signalled(false)),
     (Request::Inc(3, 4, 4), Wanted::Woken(&[7])),
-    // A closing cancels what is pending, and leaves what is reached.
+    // A closing cancels the pending points, and keeps the reached ones signalled.
     (Request::Open(Text::EMPTY), Wanted::Number(8)),
     (Request::Fence(8, 1, 1), Wanted::Number(9)),
     (Request::Fence(8, 2, 1), Wanted::Number(10)),
@@ -34,7 +34,7 @@ static ASKED: [(Request, Wanted); 50] = [
     (Request::Status(10), Wanted::Status(Status::Cancelled)),
     (Request::Inc(8, 1, 4), Wanted::Refused(Refusal::NoEntry)),
     (Request::Fence(8, 9, 4), Wanted::Refused(Refusal::NoEntry)),
-    // The first fence that is pending or has an error gives the status; a merge leaves what has signalled out.
+    // The first fence that is pending or has an error gives the status; a merge drops fences that have signalled.
     (Request::Open(Text::EMPTY), Wanted::Number(11)),
     (Request::Open(Text::EMPTY), Wanted::Number(12)),
     (Request::Fence(11, 1, 1), Wanted::Number(13)),
@@ -53,7 +53,7 @@ static ASKED: [(Request, Wanted); 50] = [
     (Request::Inc(12, 1, 3), Wanted::Woken(&[14, 15, 16, 17])),
     (Request::Status(16), Wanted::Status(Status::Cancelled)),
     (Request::Status(17), Wanted::Status(Status::Signalled)),
-    // A number is gone once it is closed, and what is merged of signalled files is a stub.
+    // A number is gone once it is closed, and a merge of signalled files is a stub.
     (Request::Close(15, 4), Wanted::Woken(&[])),
     (Request::Status(15), Wanted::Refused(Refusal::NoEntry)),
     (Request::Merge(13, 16, Text::EMPTY), Wanted::Number(18)),

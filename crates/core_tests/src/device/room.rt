@@ -1,4 +1,4 @@
-// A map that has lost most of its entries.
+//! Tests of a map that has lost most of its entries.
 use crate::values::holds;
 use device_core::room::give_room_back;
 use std::collections::HashMap;
