@@ -1,4 +1,4 @@
-// Tables of words whose context is closed.
+//! Tests of tables whose words have a closed context.
 ghost use Rattle.std.specs.Prelude.{◌≡◌, length};
 ghost use Rattle.resv_core.specs.Settled.{ArePlansWithin};
 
@@ -34,7 +34,7 @@ fn driven(rt: &impl Abort, words: &Words, seat: Seat, closes: bool) -> Whole
     whole_of(rt, left(rt, words, driver, closes))
 }
 
-/// Checks as what a new table refuses the plan of that increment, or that it settles it.
+/// Checks that a new table refuses the plan of that increment, or settles it.
 fn check_settled<R: Wait + Abort, T: SharedTable>(
     rt: &R,
     alloc: Global,
@@ -72,7 +72,7 @@ fn check_tables<R: Wait + Abort>(
     check_settled::<R, Board>(rt, alloc, words, all, plans.as_slice(), refused);
 }
 
-/// The same of new words.
+/// Checks both tables of new words.
 fn check_words<R: Wait + Abort>(rt: &R, alloc: Global, closes: bool) {
     let (words, seat) = words_of(rt, alloc, 1, 0, 0);
     let mut all = driven(rt, &words, seat, closes);

@@ -1,4 +1,4 @@
-// A context that its driver closes, and files that are polled, waited for and merged beside it.
+//! Tests of a context that its driver closes, and of files that are polled, waited for and merged meanwhile.
 ghost use Rattle.std.specs.Prelude.{◌≡◌, ◌<◌, ◌≤◌};
 
 use crate::driving::drive_on;
@@ -11,7 +11,7 @@ use std::thread::{Threads, join};
 use syncfile_core::SyncFile;
 use words_core::{Driver, Seat, Words};
 
-/// Checks what each kind of load says of the first context, which was closed at 4.
+/// Checks the result of each kind of load on the first context, which was closed at 4.
 fn check_loads(rt: &impl Abort, words: &Words, seat: &mut Seat)
     requires own { seat.old.words ≡ words.now }
     requires context { 1 ≤ words.now.contexts }
@@ -78,7 +78,7 @@ fn drive_and_close(rt: &impl Abort, late: &SyncFile, words: &Words, seat: &mut S
     words.join(seat, closed);
 }
 
-/// Checks what the whole seat says of the first context.
+/// Checks the first context by the whole seat.
 fn check_whole(rt: &impl Abort, words: &Words, seat: Seat, value: u64)
     requires own { seat.words ≡ words.now }
     requires context { 1 ≤ words.now.contexts }
@@ -132,12 +132,12 @@ fn drive_to_the_end(rt: &impl Abort, words: &Words, driving: Seat) -> Seat
     close(rt, words, driver)
 }
 
-/// Whether these are a clock of the context before it was closed or after.
+/// Whether this is a clock of the context before or after it was closed.
 fn is_allowed(clock: Clock) -> bool {
     clock.value == 1_000 || !clock.closed && clock.value < 1_000
 }
 
-/// Merges and polls a file of a point that is never reached, and checks that no load takes a closing back. True once the
+/// Merges and polls a file of a point that is never reached, and checks that no load reverts a closing. True once the
 /// file is cancelled.
 fn look(rt: &impl Abort, alloc: Global, file: &SyncFile, words: &Words, seat: &mut Seat) -> bool
     requires own { seat.old.words ≡ words.now }
@@ -158,7 +158,7 @@ fn look(rt: &impl Abort, alloc: Global, file: &SyncFile, words: &Words, seat: &m
     status == Ok(Status::Cancelled)
 }
 
-/// Looks at a file until it is cancelled.
+/// Polls a file until it is cancelled.
 fn look_on(rt: &impl Abort, alloc: Global, file: &SyncFile, words: &Words, mut seat: Seat) -> Seat
     requires own { seat.words ≡ words.now }
     requires context { 1 ≤ words.now.contexts }
@@ -172,7 +172,7 @@ fn look_on(rt: &impl Abort, alloc: Global, file: &SyncFile, words: &Words, mut s
     panic!(rt; "the context was not closed")
 }
 
-/// Closes a context on one thread while another looks at it, and gives both seats.
+/// Closes a context on one thread while another looks at it, and returns both seats.
 fn close_beside<R: Threads + Abort + Sync>(
     rt: &R,
     alloc: Global,
@@ -198,7 +198,7 @@ fn close_beside<R: Threads + Abort + Sync>(
     )
 }
 
-/// Closes a context that another thread looks at, and checks what is left.
+/// Closes a context that another thread looks at, and checks the end.
 fn close_while_looking<R: Threads + Abort + Sync>(rt: &R, alloc: Global) {
     let (words, mut seat) = words_of(rt, alloc, 1, 0, 0);
     let driving = words.part(&mut seat, 1);

@@ -1,4 +1,4 @@
-// Sync files beside running timelines.
+//! Tests of sync files beside running timelines.
 ghost use Rattle.std.specs.Prelude.{◌≡◌, ◌<◌, ◌≤◌};
 
 use crate::driving::drive_on;
@@ -10,7 +10,7 @@ use std::thread::{Threads, join};
 use syncfile_core::SyncFile;
 use words_core::{Seat, Words};
 
-/// A file of one point of the context at a place.
+/// A file of one point of the context at an index.
 pub(crate) fn plain(rt: &impl Abort, alloc: Global, place: usize, value: u64) -> SyncFile
     requires few { place < 3 }
 {

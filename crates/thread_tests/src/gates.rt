@@ -1,4 +1,4 @@
-// Gates that hold clients back.
+//! Tests of gates that hold clients back.
 use crate::plans::{WRITTEN, check_one_table, check_refused, plans_of, point};
 use crate::seats::holds;
 use clients_core::{
@@ -82,7 +82,7 @@ impl Gate for CountingGate {
     }
 }
 
-/// Runs one client through rounds, and checks that each act of them was entered and left.
+/// Runs one client through rounds, and checks that each of its acts was entered and left.
 fn run_counted<R: Threads + Wait + Abort + Sync>(rt: &R, alloc: Global) {
     let plans = plans_of_rounds(alloc, 1, 3).expect(rt, "a plan");
     let gate = CountingGate {

@@ -1,5 +1,5 @@
-//! Tests of words that threads share, of sync files and fences beside the timelines that drivers advance, and of clients on
-//! threads: the tables that they share, and what they settle, as the program prints it.
+//! Tests with threads: shared words, sync files and fences while drivers advance timelines, and clients with the tables
+//! that they share and the settled end that the program prints.
 #![tactic(auto)]
 
 #[cfg(test)]

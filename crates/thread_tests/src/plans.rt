@@ -1,4 +1,4 @@
-// Plans, and what they settle.
+//! Plans for tests, and checks of their settled end.
 ghost use Rattle.std.specs.Prelude.{◌≡◌};
 
 use crate::seats::holds;
@@ -28,7 +28,7 @@ pub(crate) fn plans_of(rt: &impl Abort, alloc: Global, clients: &[&[Act]]) -> Ve
     plans
 }
 
-/// Checks that a call is refused for this cause.
+/// Checks that a call fails with this error.
 pub(crate) fn check_refused<A: Drop>(rt: &impl Abort, answer: Result<A, Refusal>, wanted: Refusal) {
     holds(rt, answer.err() == Some(wanted));
 }
@@ -37,7 +37,7 @@ fn is_row(row: &TopRow, usage: Usage, place: usize, point: u64) -> bool {
     row.usage == usage && row.ctx.index() == place && row.point == point
 }
 
-/// Checks that the first rows are of this usage and point, one for each client, and gives the rows after them.
+/// Checks that the first rows have this usage and point, one for each client, and returns the rest.
 fn rows_after<'a>(
     rt: &impl Abort,
     rows: &'a [TopRow],
@@ -71,10 +71,10 @@ pub(crate) fn check_rows(
     holds(rt, rest.is_empty());
 }
 
-/// The usages at which what was put for writing is pending.
+/// The usages at which a fence that was put for writing is pending.
 pub(crate) const WRITTEN: [Usage; 3] = [Usage::Write, Usage::Read, Usage::Bookkeep];
 
-/// The usages at which what was put for reading is pending.
+/// The usages at which a fence that was put for reading is pending.
 pub(crate) const READ: [Usage; 2] = [Usage::Read, Usage::Bookkeep];
 
 /// Checks the value of each client's timeline, and that one table has a row of this point for each usage and client.

@@ -1,4 +1,4 @@
-// Clients on threads against both tables.
+//! Tests of clients on threads, against both tables.
 ghost use Rattle.std.specs.Prelude.{◌≤◌};
 
 use crate::plans::{READ, WRITTEN, check_rows};
@@ -18,8 +18,7 @@ fn check_values(rt: &impl Abort, values: &[u64], clients: usize) {
     }
 }
 
-/// Checks what clients of 100 rounds settle: each timeline ends at 100, and of each the points of the last round are
-/// pending.
+/// Checks the end of clients of 100 rounds: each timeline ends at 100, and its points of the last round are pending.
 fn check_rounds(rt: &impl Abort, settled: &Settled, clients: usize) {
     check_values(rt, settled.values.as_slice(), clients);
     let [written, read] = settled.tables.as_slice() else {
@@ -29,7 +28,7 @@ fn check_rounds(rt: &impl Abort, settled: &Settled, clients: usize) {
     check_rows(rt, read.as_slice(), &READ, clients, 300);
 }
 
-/// Runs clients once, and checks what they settle.
+/// Runs clients once, and checks their end.
 fn run_once<R: Threads + Wait + Abort + Sync, T: SharedTable>(
     rt: &R,
     alloc: Global,
@@ -45,7 +44,7 @@ fn run_once<R: Threads + Wait + Abort + Sync, T: SharedTable>(
     check_rounds(rt, &settled, plans.len());
 }
 
-/// Runs clients of 100 rounds many times, which come to what only their plans say.
+/// Runs clients of 100 rounds many times; the end depends only on their plans.
 fn run_rounds<R: Threads + Wait + Abort + Sync, T: SharedTable>(
     rt: &R,
     alloc: Global,

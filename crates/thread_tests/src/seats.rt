@@ -1,4 +1,4 @@
-// Words, seats and drivers.
+//! Words, seats and drivers for tests.
 ghost use Rattle.std.specs.Prelude.{◌≡◌, ◌≤◌};
 ghost use Rattle.words_core.specs.declared.seat.TheConstants.{PARTS};
 
@@ -12,7 +12,7 @@ pub(crate) fn holds(rt: &impl Abort, condition: bool) {
     assert!(rt; condition);
 }
 
-/// Words of these numbers of contexts, buffers and flags, and their first seat.
+/// Words with these numbers of contexts, buffers and flags, and their first seat.
 pub(crate) fn words_of(
     rt: &impl Abort,
     alloc: Global,
@@ -26,7 +26,7 @@ pub(crate) fn words_of(
     Words::new(alloc, contexts, buffers, flags).expect(rt, "words")
 }
 
-/// The driver of a context that was not claimed.
+/// The driver of a context without a driver.
 pub(crate) fn driver_of(rt: &impl Abort, words: &Words, seat: Seat, ctx: Context) -> Driver
     requires own { seat.words ≡ words.now }
     requires context { ctx ≤ words.now.contexts }
@@ -38,7 +38,7 @@ pub(crate) fn driver_of(rt: &impl Abort, words: &Words, seat: Seat, ctx: Context
     driver
 }
 
-/// Closes a driver's context, and gives its seat.
+/// Closes a driver's context, and returns its seat.
 pub(crate) fn close(rt: &impl Abort, words: &Words, driver: Driver) -> Seat
     requires own { driver.seat.words ≡ words.now }
     ensures own { result.words ≡ words.now }

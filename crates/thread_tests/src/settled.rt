@@ -49,7 +49,7 @@ fn are_settled(ended: &Result<(), Refusal>, printed: &[u8]) -> bool {
     ended.is_ok() && printed == TWO_CLIENTS.as_bytes()
 }
 
-/// Takes what is written to it, and cannot be flushed.
+/// Accepts every write, and fails at a flush.
 #[derive(Drop)]
 struct Stuck {
     taken: usize,

@@ -1,4 +1,4 @@
-// A fence that four threads signal.
+//! Tests of a fence that up to four threads signal.
 ghost use Rattle.std.specs.Prelude.{◌≡◌, ◌+◌, ◌<◌, ◌≤◌};
 
 use crate::seats::{holds, words_of};
@@ -10,10 +10,10 @@ use std::sync::Wait;
 use std::thread::{Threads, join};
 use words_core::{Seat, Words};
 
-/// What a thread that signals a fence comes back with: the callbacks, or that it was not the first.
+/// The result of a thread that signals a fence: the callbacks, or that it was not the first.
 type Answer = Result<Vec<u64>, Signal>;
 
-/// Signals a fence by a seat of its own, and hands the callbacks out if no other call had set the flag.
+/// Signals a fence by a seat of its own, and returns the callbacks if no other call had set the flag.
 fn signal_by<R: Wait>(rt: &R, fence: &SharedFence, words: &Words, mut seat: Seat) -> Answer
     requires own { (words.now ≡ fence.now.words) × (seat.words ≡ words.now) }
 {

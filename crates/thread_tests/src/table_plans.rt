@@ -1,4 +1,4 @@
-// Plans of which the tables are settled, and whose buffers and contexts are known.
+//! Plans for tests of one table, whose buffers and contexts are known.
 ghost use Rattle.std.specs.Prelude.{◌≡◌, ◌∷◌, [], vec_len};
 ghost use Rattle.resv_core.specs.Settled.{ArePlansWithin};
 
@@ -17,7 +17,7 @@ pub(crate) fn second_point(value: u64) -> Point
     }
 }
 
-/// The plans of two clients, of which the first puts a point into the second buffer of two, and the other does nothing.
+/// The plans of two clients: the first puts a point into the second buffer of two, and the other does nothing.
 pub(crate) fn plans_of_a_put(rt: &impl Abort, alloc: Global) -> Vec<Plan>
     ensures within { ArePlansWithin 2 2 result.items }
     ensures count { vec_len result ≡ 2 }

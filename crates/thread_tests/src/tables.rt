@@ -1,4 +1,4 @@
-// One buffer of each table, and what lies under a lock.
+//! Tests of one buffer of each table, and of the buffer under a lock.
 ghost use Rattle.std.specs.Prelude.{◌≡◌, ◌<◌};
 
 use crate::plans::{check_refused, point};
@@ -12,7 +12,7 @@ use std::process::Abort;
 use std::sync::Wait;
 use words_core::{Seat, Whole, Words};
 
-/// Checks that these points are listed, and above which values.
+/// Checks the points of a listing, and its floor.
 fn check_listing(rt: &impl Abort, listing: &Listing, floor: &Reach, points: &[Point]) {
     holds(
         rt,
@@ -38,7 +38,7 @@ fn check_empty(rt: &impl Abort, buffer: &mut LockedBuffer, reach: &Reach) {
     holds(rt, rows.is_empty());
 }
 
-/// Checks what a buffer refuses, and that nothing is pending in it at a reach.
+/// Checks the errors of a buffer, and that nothing is pending in it at a reach.
 fn check_settled(rt: &impl Abort, buffer: &mut LockedBuffer, reach: &Reach) {
     let refused = buffer.export(Usage::Read, &Reach::zero());
     check_refused(rt, refused, Refusal::Torn);
@@ -50,7 +50,7 @@ fn check_settled(rt: &impl Abort, buffer: &mut LockedBuffer, reach: &Reach) {
     check_refused(rt, buffer.settle(&[later], reach), Refusal::Torn);
 }
 
-/// Checks puts, looks and what is settled of an empty buffer.
+/// Checks puts, looks and settlements of an empty buffer.
 fn check_buffer(rt: &impl Abort, buffer: &mut LockedBuffer) {
     let none = Reach::zero();
     let mut four = Reach::zero();

@@ -1,4 +1,4 @@
-// Words on two threads.
+//! Tests of words on two threads.
 ghost use Rattle.std.specs.Prelude.{◌≡◌, ◌+◌, ◌<◌, ◌≤◌};
 
 use crate::driving::drive_on;
@@ -8,7 +8,7 @@ use std::process::Abort;
 use std::thread::{Threads, join};
 use words_core::{Driver, Seat, Whole, Words};
 
-/// Whether a context is advanced before so many loads have found it at 0.
+/// Whether a context is advanced before all loads of a long loop have found it at 0.
 fn is_advanced(words: &Words, looking: &mut Seat, ctx: Context) -> bool
     requires own { looking.old.words ≡ words.now }
     requires context { ctx ≤ words.now.contexts }
@@ -42,7 +42,7 @@ fn drive_beside(
     drive_on(rt, words, driver, 999);
 }
 
-/// Drives one context beside the other. It takes both seats, and gives them back as one.
+/// Drives one context beside the other. Takes both seats, and returns them joined.
 fn drive(
     rt: &impl Abort,
     words: &Words,
@@ -61,7 +61,7 @@ fn drive(
     looking
 }
 
-/// Drives both contexts, each on a thread, and takes in the seats that come back.
+/// Drives both contexts, each on a thread, and joins the seats that come back.
 fn drive_both<R: Threads + Abort + Sync>(rt: &R, words: &Words, all: &mut Seat)
     requires own { (all.old.words ≡ words.now) × (4 < all.old.parts) }
     requires contexts { 2 ≤ words.now.contexts }
@@ -112,7 +112,7 @@ fn raise_on(words: &Words, mut seat: Seat, first: u64) -> Seat
     seat
 }
 
-/// Raises one entry on two threads, and takes in the seats that come back.
+/// Raises one entry on two threads, and joins the seats that come back.
 fn raise_by_both<R: Threads>(rt: &R, words: &Words, all: &mut Seat)
     requires own { (all.old.words ≡ words.now) × (2 < all.old.parts) }
     requires sizes { (1 ≤ words.now.buffers) × (1 ≤ words.now.contexts) }
@@ -134,7 +134,7 @@ fn raise_by_both<R: Threads>(rt: &R, words: &Words, all: &mut Seat)
     words.join(all, other);
 }
 
-/// Checks what both threads have come to.
+/// Checks the end of both threads.
 fn check_both(rt: &impl Abort, words: &Words, whole: &mut Whole)
     requires own { whole.old.words ≡ words.now }
     requires sizes { (words.now.contexts ≡ 2) × (words.now.buffers ≡ 1) }

@@ -1,4 +1,4 @@
-// Words, their parts and the board.
+//! Tests of words, their parts and the board.
 ghost use Rattle.std.specs.Prelude.{◌≡◌, ◌<◌};
 ghost use Rattle.words_core.specs.declared.flags.Once.TheVariants as once;
 ghost use Rattle.words_core.specs.declared.seat.TheConstants.{PARTS};
@@ -11,7 +11,7 @@ use words_core::{Driver, FLAGS, Once, PARTS, Seat, Words};
 
 type Sizes = (usize, usize, usize, Option<LimitKind>);
 
-/// Numbers of contexts, buffers and flags, and the limit that they pass.
+/// Numbers of contexts, buffers and flags, and the limit that they exceed.
 const SIZES: [Sizes; 6] = [
     (0, 0, 0, Some(LimitKind::Timelines)),
     (CONTEXTS + 1, 0, 0, Some(LimitKind::Timelines)),
@@ -61,7 +61,7 @@ fn lacks_one(rt: &impl Abort, seat: Seat) -> Seat
     seat
 }
 
-/// Drives the first context by a seat of one part, and takes that seat in again.
+/// Drives the first context by a seat of one part, and joins that seat again.
 fn drive_apart(rt: &impl Abort, words: &Words, mut first: Seat) -> Seat
     requires own { (first.words ≡ words.now) × (first.parts ≡ PARTS) }
     requires contexts { words.now.contexts ≡ 1 }
@@ -83,7 +83,7 @@ fn seats_are_parted_and_gathered(rt: HostRuntime) {
     holds(&rt, whole.value(&words, Context::at(0)) == 5);
 }
 
-/// Claims the first context by a seat, which is lost, and then asks for a second driver by another.
+/// Claims the first context by a seat that is lost, and then asks for a second driver by another seat.
 fn claim_twice(rt: &impl Abort, words: &Words, mut one: Seat)
     requires own { (one.words ≡ words.now) × (1 < one.parts) × (words.now.contexts ≡ 1) }
 {

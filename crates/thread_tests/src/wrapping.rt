@@ -1,4 +1,4 @@
-// A table round the one under locks: what a run does with its table.
+//! Tests of a run with a table that misbehaves: `OddTable` wraps the table under locks.
 ghost use Rattle.std.specs.Prelude.{◌≡◌, ◌<◌, IfErr};
 ghost use Rattle.point_core.specs.declared.refusal.Refusal.TheVariants as refusal;
 
@@ -130,7 +130,7 @@ fn plans_of_two(rt: &impl Abort, alloc: Global, usage: Usage) -> Vec<Plan> {
     plans_of(rt, alloc, &[&acts_of(0, usage), &acts_of(1, usage)])
 }
 
-/// The put of a client.
+/// The put of the client at an index.
 fn put_of(place: usize) -> Entry
     requires few { place < 2 }
 {
@@ -197,8 +197,8 @@ impl Gate for ClosedTo {
     }
 }
 
-/// Checks as what two clients are refused, of which one finds the gate closed at an act, and the other looks at a table that
-/// lists nothing; and that both acts of the other are left, and those before the closed one.
+/// Checks the error of two clients, one of which finds the gate closed at an act, while the other looks at a table that
+/// lists nothing; and that the other has left both its acts, and the first the acts before the closed one.
 fn check_least<R: Threads + Wait + Abort + Sync>(
     rt: &R,
     alloc: Global,
