@@ -1,4 +1,4 @@
-// A script from a reader, and its answers to a writer.
+//! Tests of scripts from readers in pieces, and of answers to writers in pieces.
 use crate::pipes::{PIECES, Sink, Source, assert_refusal, failing_source_of, sink_of, source_of};
 use line_core::SCRIPT_BYTES;
 use point_core::Refusal;
@@ -26,7 +26,7 @@ ok n 0 1
 fence a sw_sync 5 0
 ";
 
-// The answers of that many of its lines.
+// The answers of the first `lines` lines.
 fn first_answers(lines: usize) -> &'static [u8] {
     match lines {
         0 => b"",
@@ -164,8 +164,8 @@ fn assert_refused(
     assert_refusal(rt, result.err(), refusal);
 }
 
-// The script's answers are the wanted ones, in whatever pieces it comes and they go. They are flushed once, after the last
-// byte.
+// The script's answers are the wanted ones, in whatever pieces the reader and the writer work. They are flushed once,
+// after the last byte.
 fn assert_answers(
     rt: &impl Abort,
     alloc: Global,
@@ -220,7 +220,7 @@ fn answers_in_pieces(rt: HostRuntime) {
     }
 }
 
-// The first bytes, and so many copies of a text after them.
+// The first bytes, followed by `count` copies of a text.
 pub(crate) fn repeated(
     rt: &impl Abort,
     alloc: Global,
@@ -235,7 +235,7 @@ pub(crate) fn repeated(
     copies
 }
 
-// More lines than one block, one of which ends it, and more answers than are written at once.
+// More lines than one block, one of which ends at the block's end, and more answers than one write.
 #[test]
 fn many_answers(rt: HostRuntime) {
     let first = b"timeline a\n\n\n\n\n\n";

@@ -1,4 +1,4 @@
-// Checks of scripts piece by piece.
+//! Tests of `check` with scripts in pieces.
 use crate::pipes::{PIECES, sink_of, source_of};
 use check_core::{CheckForm, Place, check};
 

@@ -1,4 +1,4 @@
-// Explanations of scripts.
+//! Tests of `explain`.
 use crate::answering::assert_totals;
 use crate::pipes::{sink_of, source_of};
 use command_core::Command;
@@ -8,7 +8,7 @@ use reason_core::{Book, Look, Place, explain, explain_command};
 use std::alloc::Global;
 use std::process::Abort;
 
-// A script of refused lines; of each its answer, and its note.
+// A script of refused lines, with the answer and the note of each.
 const REFUSED: &[u8] = b"value a\nvalue b\nvalue c\n";
 
 const ANSWERS: &[u8] = b"err 2 NoEntry\nerr 2 NoEntry\nerr 2 NoEntry\n";
@@ -23,7 +23,7 @@ const NOTES_IN_BOLD: &[u8] = b"\x1b[1mline 1:\x1b[0m there is no timeline named 
 \x1b[1mline 3:\x1b[0m there is no timeline named c
 ";
 
-// All of the answers and of the notes are written, and the answers are flushed once.
+// All answers and notes are written, and the answers are flushed once.
 fn assert_explained(rt: &impl Abort, alloc: Global, look: Look, wanted: &[u8]) {
     let mut answers = sink_of(ANSWERS, 7, usize::MAX);
     let mut notes = sink_of(wanted, 7, usize::MAX);
@@ -41,7 +41,7 @@ fn numbers_in_bold(rt: HostRuntime) {
     assert_explained(&rt, rt.alloc(), Look::Bold, NOTES_IN_BOLD);
 }
 
-// What is written when a command was refused so.
+// The text for a command with this refusal.
 fn assert_reason(rt: &impl Abort, alloc: Global, desk: &Desk, refusal: Refusal, wanted: &[u8]) {
     let book = Book::new(alloc);
     let place = Place {
@@ -55,7 +55,7 @@ fn assert_reason(rt: &impl Abort, alloc: Global, desk: &Desk, refusal: Refusal, 
     notes.assert_whole(rt);
 }
 
-// Refusals that a script's line does not show: there was no memory, or these are no flags.
+// Refusals that no line of a script produces: a lack of memory, or invalid flags.
 #[test]
 fn refusals_beside_scripts(rt: HostRuntime) {
     let desk = Desk::new(rt.alloc()).expect(&rt, "a desk");

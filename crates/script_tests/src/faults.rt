@@ -1,4 +1,4 @@
-// The line of a fault, and its status.
+//! Tests of the line and the exit status of a fault.
 use point_core::Refusal;
 use run_core::{FAULT, tell_fault};
 use std::io;
@@ -27,7 +27,7 @@ fn a_closed_writer_changes_no_status(rt: HostRuntime) {
     assert!(rt; are_faults(&[Refusal::Read], &mut Closed));
 }
 
-/// Whether each of them has the status of a fault.
+/// Whether each refusal has the exit status of a fault.
 fn are_faults<W: Write>(refusals: &[Refusal], writer: &mut W) -> bool {
     let mut are = true;
     for refusal in refusals {
@@ -36,7 +36,7 @@ fn are_faults<W: Write>(refusals: &[Refusal], writer: &mut W) -> bool {
     are
 }
 
-/// Takes nothing.
+/// A writer that accepts nothing.
 #[derive(Drop)]
 struct Closed;
 

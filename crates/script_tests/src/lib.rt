@@ -1,4 +1,4 @@
-//! Tests of what no script of a program shows: totals, flushes, readers and writers that fail, and the lines of faults.
+//! Tests beyond the scripts of a program: totals, flushes, readers and writers that fail, and the lines of faults.
 #![tactic(auto)]
 
 #[cfg(test)]

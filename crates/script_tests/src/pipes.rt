@@ -1,13 +1,13 @@
-// Readers and writers that go piece by piece, and fail.
+//! Readers and writers that work piece by piece, and fail.
 use point_core::Refusal;
 use std::io;
 use std::io::{Read, Write};
 use std::process::Abort;
 
-/// The bytes that a read or a write is given at most, by turns.
+/// The most bytes of a read or a write, in turn.
 pub(crate) const PIECES: [usize; 4] = [1, 2, 7, 16384];
 
-/// Gives a script, at most `piece` bytes a read. Fails at its end if it is to fail.
+/// Returns a script, at most `piece` bytes for each read. Fails at its end if it is to fail.
 #[derive(Drop)]
 pub(crate) struct Source<'a> {
     pub(crate) script: &'a [u8],
@@ -44,18 +44,19 @@ impl<'a> Read for Source<'a> {
     }
 }
 
-/// Compares what is written with a text, and takes at most `piece` bytes a write. Once it has taken `room` bytes it fails.
+/// Compares the written bytes with a text, and accepts at most `piece` bytes for each write. Fails once it has accepted
+/// `room` bytes.
 #[derive(Drop)]
 pub(crate) struct Sink<'a> {
-    // what is still to come of the text
+    // the part of the text that is still to be written
     pub(crate) rest: &'a [u8],
-    // whether something else came
+    // whether other bytes were written
     pub(crate) strange: bool,
     pub(crate) piece: usize,
     pub(crate) room: usize,
     pub(crate) flush_fails: bool,
     pub(crate) flushes: usize,
-    // how many bytes were still to come at the last flush
+    // the number of bytes still to be written at the last flush
     pub(crate) unflushed: usize,
 }
 
@@ -72,7 +73,7 @@ pub(crate) fn sink_of(text: &[u8], piece: usize, room: usize) -> Sink<'_> {
 }
 
 impl<'a> Sink<'a> {
-    /// All of the text was written, and nothing else.
+    /// The whole text was written, and nothing else.
     pub(crate) fn assert_whole(&self, rt: &impl Abort) {
         assert!(rt; self.rest.is_empty());
         assert!(rt; !self.strange);
