@@ -118,7 +118,7 @@ module _ (old new : DeskState) (c : Command) (given : Answer) (history : List Co
         | inr memory ↦ let refused : is_refused given ≡ true = ap is_refused memory.0 in absurd (cc)
       ]
 
-  -- after a command the queue, with what it fired, still has room for each pending watch
+  -- after a command the queue has the cookies that it fired, and still room for each pending watch
   pub room-after : IsAnswer history c given → IsReadyFor c len capacity → len + length old.watches.pending ≤ capacity → HasHistory old history
       → HasHistory new (history_after history c given) → (len + length (cookies_of given)) + length new.watches.pending ≤ capacity
   room-after answered ready room stands held = room-by (is_refused given) refl answered ready room stands held

@@ -26,7 +26,7 @@ pub enum Answer {
     Refused(Refusal),
 }
 
-/// What Linux's `SYNC_IOC_FILE_INFO` reports of a file.
+/// File information, as Linux's `SYNC_IOC_FILE_INFO` reports it.
 #[derive(Debug, Drop, PartialEq, Eq)]
 pub struct Info {
     pub name: Name,

@@ -36,7 +36,7 @@ fn reach_of(first: u64, second: u64) -> Reach {
     reach
 }
 
-/// The fence of a point of the first context and one of the second, where 0 stands for none.
+/// The fence of a point of the first context and one of the second; 0 means none.
 fn fence_of(alloc: Global, first: u64, second: u64) -> Result<Fence, Refusal> {
     match (first, second) {
         (0, 0) => Fence::of(alloc, &[]),

@@ -213,7 +213,7 @@ IsSound-with_new_buffer w time h =
       ];
     }
 
--- a buffer that is there is another, of fences of timelines that were opened, and agrees with what is put into it
+-- an open buffer is replaced by one with fences of timelines that were opened, which agrees with what is put into it
 pub IsSound-with_buffer : (w : World) (number : ℕ) (was new : BufferState) (put : List Entry) → IsSound w
     → w.objects.buffers number ≡ Some was → AreBufferFences w.objects new.fences → AgreesAbove (reach_of w.objects) (entries_of new.fences) put
     → IsSound (world (with_buffer w.objects number (Some new)) (with_at w.put number put))

@@ -26,7 +26,7 @@ pub record HasSameEntries (es fs : List Entry) : Type 0 where
   pub there : (e : Entry) → Contains es e → Contains fs e
   pub back : (e : Entry) → Contains fs e → Contains es e
 
--- what the timelines have reached after a history
+-- the reach of the timelines after a history
 abbrev pub reach_after : List Request → List ℕ
 reach_after history = reach_of (world_of history).objects
 
@@ -46,7 +46,7 @@ pub record ReportsWhatWasPut (d : DeviceState) (history : List Request) : Type 0
   -- a file is signalled exactly when each point put in is reached, or its timeline is closed
   pub signalled : (n : ℕ) (f : FileState) → file_at d n ≡ Some f →
       ((are_signalled f.fences ≡ true) ↔ IsReached (put_into history n) 0 (reach_after history))
-  -- its pending fences are at the latest pending point of each timeline of which a point was put in, by rising timeline
+  -- its pending fences are, by rising timeline, the latest pending point of each timeline with a point that was put in
   pub pending : (n : ℕ) (f : FileState) → file_at d n ≡ Some f →
       map point_in (pending_of f.fences) ≡ pending_points (reach_after history) (put_into history n) 0
   -- each of its fences is at a point that was put in
@@ -74,8 +74,8 @@ pub record ReportsBuffers (d : DeviceState) (history : List Request) : Type 0 wh
   pub signalled : (n : ℕ) (b : BufferState) (usage : Usage) → buffer_at d n ≡ Some b →
       ((none_waits (timeline_at d) usage b.fences ≡ true)
       ↔ IsReached (put_into history n) (usage_number usage) (reach_after history))
-  -- an export at a usage lists the latest pending point of each timeline of which a point was put in at it or a stronger
-  -- one, by rising timeline
+  -- an export at a usage lists, by rising timeline, the latest pending point of each timeline with a point that was put
+  -- in at it or a stronger one
   pub lists : (n : ℕ) (b : BufferState) (usage : Usage) → buffer_at d n ≡ Some b →
       map point_in (exported (timeline_at d) usage b.fences)
       ≡ pending_points (reach_after history) (put_into history n) (usage_number usage)

@@ -108,7 +108,7 @@ reached_by (Some t) = t.value
 abbrev pub reach_of : Objects → List ℕ
 reach_of d = map (λ n. reached_by (d.timelines n)) (range_with_len 1 (d.next - 1))
 
--- what a request adds to the timeline of that number
+-- the amount that a request adds to the timeline with that number
 abbrev pub added_by : ℕ → Request → ℕ
 added_by number (request.Inc timeline n now) = if nat_eq timeline number then n else 0
 added_by number (request.Open name) = 0

@@ -26,7 +26,7 @@ pub trait Takes {
         ensures { takes self.old body result self.new };
 }
 
-/// Passes on what the line says, if it has an answer: in the order of `body_of`.
+/// Passes on the body of the line, if it has an answer. The checks are in the order of `body_of`.
 #[inline(always)]
 pub fn take_raw_line<V: Takes>(line: &RawLine<'_>, to: &mut V) -> Option<V::Given>
     requires ready { V.can_take to.old }

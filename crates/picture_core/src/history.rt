@@ -107,7 +107,7 @@ impl WatchLane {
     }
 }
 
-/// A lane, by its index among those of its kind.
+/// A lane, by its index among the lanes of its kind.
 #[derive(Clone, Copy)]
 pub enum Lane {
     Timeline(usize),

@@ -20,7 +20,7 @@ abbrev pub reservation_of : Option Tops → Reservation
 reservation_of None = record { entries = []; room = 0 }
 reservation_of (Some tops) = record { entries = entries_of tops; room = 0 }
 
--- a weaker usage has what the stronger ones have
+-- a weaker usage's table includes the stronger ones'
 pub record AreRising (tops : Tops) : Type 0 where
   pub each : (ctx : ℕ) → 1 ≤ ctx → ctx ≤ CONTEXTS → IsRising tops [] ctx
 

@@ -8,8 +8,8 @@ use crate::tops::{USAGES, push_rows, put_at, put_each};
 use point_core::{CONTEXTS, Entry, LatestPoints, Reach, Refusal, TopRow, Usage};
 use std::alloc::Global;
 
-/// The pending top of each context at each usage: from the strongest usage to the weakest, and by rising context. One table of
-/// latest points serves all usages, since a weaker one has what the stronger ones have.
+/// The pending top of each context at each usage: from the strongest usage to the weakest, and by rising context. One
+/// table of latest points serves all usages, since a weaker usage's points include the stronger ones'.
 pub(crate) fn rows_of(
     alloc: Global,
     entries: &[Entry],

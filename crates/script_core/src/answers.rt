@@ -20,8 +20,7 @@ use std::alloc::Global;
 use std::io::Write;
 use std::marker::Model;
 
-/// A desk, and the text of its answers up to the next write. It keeps what the desk holds, and the text that is not yet
-/// written.
+/// A desk, and the text of its answers up to the next write. Nothing else is kept of the script.
 #[derive(Drop)]
 pub struct Answers {
     desk: Desk,

@@ -15,7 +15,7 @@ use std::sync::{Mutex, Wait};
 use std::thread::Threads;
 use words_core::{Seat, Whole, Words};
 
-/// A put of this value waits until another is recorded, or so many turns have passed.
+/// A put of this value waits until another is recorded, or a fixed number of turns has passed.
 const SLOW: u64 = 9;
 
 const TURNS: u32 = 1_000_000;
@@ -236,7 +236,7 @@ fn is_slow_first(puts: &[Entry]) -> bool {
     }
 }
 
-/// Checks that the slow put, of the first client, is recorded before that of the second.
+/// Checks that the first client's slow put is recorded before the second client's.
 fn check_slow_first<R: Threads + Wait + Abort + Sync>(rt: &R, alloc: Global, plans: &[Plan]) {
     let gate = HoldGate::new(2, 1);
     let (_, table) = run_clients::<R, OddTable, HoldGate>(rt, alloc, 1, plans, &gate).expect(

@@ -49,7 +49,7 @@ clock_seen-other seat ctx c clock low low' other =
 pub clock_marked-closed : (m v : ℕ) → 0 < m → clock_marked m v ≡ clock_of (m - 1) true
 clock_marked-closed m v set = ap (λ (b : Bool). cond b (open_clock v) (clock_of (m - 1) true)) (ne_eqb m 0 (λ bad. absurd (omega arith)))
 
--- a step on the value leaves what is seen of the mark
+-- a step on the value doesn't change what is seen of the mark
 pub seen_mark-loaded : (seat : SeatModel) (ctx v : ℕ) → seen (with_steps seat (load (value_word ctx) v ∷ [])) (mark_word ctx) ≡ seen seat (mark_word ctx)
 seen_mark-loaded seat ctx v = seen_unloaded seat (mark_word ctx) (load (value_word ctx) v ∷ []) (on-append_other (mark_word ctx) [] (load (value_word ctx) v) (λ bad. absurd (omega arith)))
 

@@ -90,7 +90,7 @@ IsValue-added w n k traces id t at h won own =
     (IsTraced-grown is_add_to is_load_of n (n + k) traces id t s at h.traced (omega arith) (omega arith) (inr (let a = add_value w k (n + k) in omega arith)) (λ x pos bad. absurd (omega arith)))
     refl (λ _. omega arith) (λ idle. absurd (omega arith))
 
--- a step on the claim leaves what the value is traced by
+-- a step on the claim keeps the trace of the value
 IsTraced-claimed : (leaves finds : ℕ → Step → ℕ) (n : ℕ) (traces : List WordTrace) (id : ℕ) (t : WordTrace) (s : Step) → get_elem? traces id ≡ some t → IsTraced leaves finds n traces → IsTraced leaves finds n (set traces id (claimed t s))
 IsTraced-claimed leaves finds n traces id t s at h =
     let u : WordTrace = claimed t s in

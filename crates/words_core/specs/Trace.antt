@@ -73,7 +73,7 @@ is_load_of x s = if_kind Load s.kind (if s.value == x then 1 else 0)
 abbrev pub is_add_to : ℕ → Step → ℕ
 is_add_to x s = if_kind Add s.kind (if s.value == x then 1 else 0)
 
--- what a step raised the word to, or 0
+-- the value to which a step raised the word, or 0
 abbrev pub target_of : Step → ℕ
 target_of s = if_kind Raise s.kind s.operand
 
@@ -157,7 +157,7 @@ WasShown w x steps = 0 < total (is_sight_of x) (on w steps)
 abbrev pub WasRaised : ℕ → ℕ → List Step → Type 0
 WasRaised w x steps = 0 < total (is_raise_to x) (on w steps)
 
--- each value of the word w that was shown is 0 or what it was raised to
+-- each value of the word w that was shown is 0 or a value to which it was raised
 abbrev pub SightsWereRaised : ℕ → List Step → Type 0
 SightsWereRaised w steps = (x : ℕ) → 0 < x → WasShown w x steps → WasRaised w x steps
 

@@ -20,7 +20,7 @@ returns-in-Err c =
       kept = ap (λ (s : ServiceState). s.fired) same ∙ sym (append-nil c.args.self.now.fired);
     }
 
--- the queue has room after the step for what it fired, and for what is pending still
+-- after the step the queue has room for the cookies that it fired, and still for each pending watch
 room_then : (c : goal.After-answer-1)
     → (deque_len c.reserve.new.fired + length (cookies_of c.step-answer.result)) + length c.step-answer.new.self.watches.pending ≤ deque_capacity c.reserve.new.fired
 room_then c =
