@@ -1,5 +1,4 @@
-//! `Buffers`: the buffers by name, each with its reservation. No call changes another buffer than the one that it
-//! names.
+//! `Buffers`: the buffers by name, each with its reservation. Each call changes only the buffer that it names.
 ghost use Rattle.std.specs.Prelude.{◌≡◌, ℕ, false, ◌↔◌, ◌++◌, [], ◌∷◌, List, map, IfErr, IfNone, IfOk, IfSome, IsOk, IsOkAnd, IsTrue, MatchBool, MatchOption, MatchResult, Ok, Err, OnErr, OnOk, Some};
 ghost use Rattle.point_core.specs.declared.refusal.Refusal.TheVariants.{Memory, NoEntry};
 ghost use Rattle.point_core.specs.Agreement.{AgreesAbove, as_entries, HasRisingContexts, IsReached, listing};

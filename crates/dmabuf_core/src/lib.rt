@@ -1,7 +1,7 @@
 //! Buffers by name, as Linux's DMA buffers: each has a reservation, from which sync files are exported, and into which
 //! they are imported.
 //!
-//! An export and an import take the kernel's sync flags. No call changes another buffer than the one that it names.
+//! An export and an import take the kernel's sync flags. Each call changes only the buffer that it names.
 #![tactic(auto)]
 
 mod buffers;

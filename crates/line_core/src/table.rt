@@ -1,5 +1,5 @@
-//! The table of commands: the word of each, and the operands that follow it in a line. The parser, `explain` and the
-//! documents all take the commands from it.
+//! The table of commands: the word of each, and the operands that follow it in a line. `explain` names wrong words by
+//! it, and `command.rt` is proved to agree with it.
 ghost use Rattle.std.specs.Prelude.{◌≡◌, map, option_map};
 ghost use Rattle.line_core.specs.Table.{form_at, forms, matches, form_of};
 

@@ -1,4 +1,5 @@
-//! `Reach`: the signalled value of each timeline. Every question of what is pending is asked above one.
+//! `Reach`: the signalled value of each timeline, a vector of sequence numbers. A point is pending if it is above the
+//! reach.
 ghost use Rattle.std.specs.Prelude.{◌≡◌, ℕ, ◌+◌, ◌^◌, ◌<◌, ◌≤◌, ◌↔◌, length, slice_index, IsTrue, IsSome, IfSome};
 ghost use Rattle.point_core.specs.declared.context.TheConstants.{CONTEXTS};
 ghost use Rattle.point_core.specs.Reach.{value_at};

@@ -1,5 +1,5 @@
-//! The tables of one buffer, from its first fence to its end: points are put into them, and points that are reached are
-//! dropped. `TopTable` owns them.
+//! The tables of a buffer that has had a fence: points are put into them, and points that are reached are dropped.
+//! `TopTable` owns them.
 ghost use Rattle.std.specs.Prelude.{◌≡◌, ℕ, ◌≤◌, ◌↔◌, ◌++◌, ◌∷◌, [], IsTrue, List, MatchOption, replicate};
 ghost use Rattle.point_core.specs.declared.context.TheConstants.{CONTEXTS};
 ghost use Rattle.point_core.specs.declared.entry.Entry.{Entry};

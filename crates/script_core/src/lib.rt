@@ -1,4 +1,5 @@
-//! Runs a script: `line_core` parses its lines, `desk_core` answers them, and `report_core` prints the answers.
+//! Runs a script: `line_core` parses its lines, `desk_core` answers them, and this crate prints the answers with
+//! `report_core`.
 //!
 //! `specs/` defines the text of each answer.
 #![tactic(auto)]

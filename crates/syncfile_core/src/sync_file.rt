@@ -1,4 +1,5 @@
-//! `SyncFile`: a list of points in normal form. A file never changes; polls compare its points with the clocks.
+//! `SyncFile`: at most one point of each context, by rising context, above a floor. A file never changes; polls compare
+//! its points with the clocks.
 ghost use Rattle.std.specs.Prelude.{◌≡◌, IfOk, IfErr};
 ghost use Rattle.point_core.specs.declared.refusal.Refusal.TheVariants.{Memory};
 ghost use Rattle.syncfile_core.specs.SyncFile.{plain_file};

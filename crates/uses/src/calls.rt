@@ -1,4 +1,4 @@
-//! `Calls`: which calls are left out, and the printed answer of each. Every caller of this program goes through it.
+//! `Calls`: which calls are left out, and how many were made. It prints the answer of each.
 ghost use Rattle.std.specs.Prelude.{◌<◌};
 
 use point_core::{Context, Name, Point, Reach, Refusal};
