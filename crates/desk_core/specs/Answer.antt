@@ -185,18 +185,23 @@ refused_or (Some r) a = answer.Refused r
 abbrev pub takes_memory : (Command → Bool) → Command → Bool
 takes_memory fires (command.Timeline t) = true
 takes_memory fires (command.Inc t n) = fires (command.Inc t n)
+takes_memory fires (command.Value t) = false
 takes_memory fires (command.Shut t) = fires (command.Shut t)
 takes_memory fires (command.Fence f t p) = true
 takes_memory fires (command.Merge f a b) = true
+takes_memory fires (command.Close f) = false
+takes_memory fires (command.Wait f) = false
 takes_memory fires (command.Info f) = true
 takes_memory fires (command.Buffer b) = true
 takes_memory fires (command.Add b t p u) = true
 takes_memory fires (command.Import b f flags) = true
 takes_memory fires (command.Export f b flags) = true
+takes_memory fires (command.Test b u) = false
+takes_memory fires (command.Trim b) = false
 takes_memory fires (command.Watch f cookie) = true
+takes_memory fires (command.Unwatch cookie) = false
 takes_memory fires (command.Show b) = true
 takes_memory fires command.Report = true
-takes_memory fires _ = false
 
 -- the one answer of the command
 abbrev pub answer_to : World → Command → Answer

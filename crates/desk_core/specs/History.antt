@@ -27,10 +27,27 @@ AreAccepted w (c ∷ cs) = (is_refused (answer_to w c) ≡ false) × AreAccepted
 abbrev pub IsHistory : List Command → Type 0
 IsHistory history = AreAccepted empty_world history
 
--- what the command adds
+-- the increment that the command makes
 abbrev pub increment_in : Command → List Increment
+increment_in (command.Timeline t) = []
 increment_in (command.Inc t n) = increment t n ∷ []
-increment_in _ = []
+increment_in (command.Value t) = []
+increment_in (command.Shut t) = []
+increment_in (command.Fence f t p) = []
+increment_in (command.Merge f a b) = []
+increment_in (command.Close f) = []
+increment_in (command.Wait f) = []
+increment_in (command.Info f) = []
+increment_in (command.Buffer b) = []
+increment_in (command.Add b t p u) = []
+increment_in (command.Import b f flags) = []
+increment_in (command.Export f b flags) = []
+increment_in (command.Test b u) = []
+increment_in (command.Trim b) = []
+increment_in (command.Watch f cookie) = []
+increment_in (command.Unwatch cookie) = []
+increment_in (command.Show b) = []
+increment_in command.Report = []
 
 -- the accepted increments
 abbrev pub increments_in : List Command → List Increment

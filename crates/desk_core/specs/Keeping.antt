@@ -12,7 +12,8 @@ use Rattle.point_core.specs.declared.entry.Entry.{Entry}
 use Rattle.point_core.specs.declared.clocks.Clock.{Clock}
 use Rattle.point_core.specs.Clocks.{common_status}
 use Rattle.std.specs.List.{list_any}
-use Rattle.timeline_core.specs.Timeline.{Timeline, has_timeline, clocks_of, reach_of, value_of, is_closed, raised, shut, rows_of as timeline_rows}
+use Rattle.std.specs.Option.{option_map_or}
+use Rattle.timeline_core.specs.Timeline.{Timeline, has_timeline, clocks_of, reach_of, value_of, is_closed, rows_of as timeline_rows}
 use Rattle.syncfile_core.specs.SyncFile.{File}
 use Rattle.syncfile_core.specs.Files.{has_file as has_sync_file, file_at as sync_file_at, cause_to_refuse}
 use Rattle.syncfile_core.specs.Merge.{cause_to_refuse_merge}
@@ -28,7 +29,7 @@ use Rattle.command_core.specs.declared.answer.Answer.{Answer}
 use Rattle.command_core.specs.declared.answer.Answer.TheVariants as answer
 use Rattle.command_core.specs.declared.command.Command.{Command}
 use Rattle.command_core.specs.declared.command.Command.TheVariants as command
-use Rattle.desk_core.specs.World.{World, after}
+use Rattle.desk_core.specs.World.{World, after, reach_by}
 use Rattle.desk_core.specs.Answer.{reported, is_refused, fence_row, or_stub, show_rows, fence_count}
 use Rattle.desk_core.specs.Desk.{DeskState, Holds}
 use Rattle.desk_core.specs.Sound.{IsSound}
@@ -68,15 +69,13 @@ pub record Keeps (desk : DeskState) (world : World) : Type 0 where
 abbrev pub points_at : List File → List ℕ → List Point
 points_at fs name = unwrap_or (option_map (λ (f : File). f.points) (sync_file_at fs name)) []
 
--- whether a watch that the desk keeps is due if so much is reached
+-- whether a watch that the desk keeps is due at that reach
 abbrev pub keeps_due : DeskState → List ℕ → Bool
 keeps_due d reach = list_any (fires reach) d.watches.pending
 
 -- whether the command fires a watch that the desk keeps
 abbrev pub fires_kept : DeskState → Command → Bool
-fires_kept d (command.Inc t n) = keeps_due d (reach_of (raised d.timelines t n))
-fires_kept d (command.Shut t) = keeps_due d (reach_of (shut d.timelines t))
-fires_kept d _ = false
+fires_kept d c = option_map_or (keeps_due d) (reach_by d.timelines c) false
 
 -- each row is of a timeline that was made
 abbrev pub AreRowsMade : ℕ → List TopRow → Type 0

@@ -26,8 +26,13 @@ reports_one _ = false
 
 -- the cookies that are reported to have fired
 abbrev pub fired_reported : Answer → List ℕ
+fired_reported answer.Done = []
+fired_reported (answer.Value n) = []
 fired_reported (answer.Raised n fired) = fired
-fired_reported _ = []
+fired_reported (answer.Info info) = []
+fired_reported (answer.Show rows) = []
+fired_reported (answer.Report report) = []
+fired_reported (answer.Refused refusal) = []
 
 -- a `watch` of that cookie was accepted
 abbrev pub registers : ℕ → Command × Answer → Bool
@@ -43,7 +48,7 @@ times_registered cookie commands given = count_by (registers cookie) (zip comman
 abbrev pub times_removed : ℕ → List Command → List Answer → ℕ
 times_removed cookie commands given = count_by (removes cookie) (zip commands given)
 
--- how often the cookie stands among those that the answers tell to have fired
+-- how often the answers report that a watch of that cookie has fired
 abbrev pub times_fired : ℕ → List Answer → ℕ
 times_fired cookie given = count_by (λ k. k == cookie) (flat_map fired_reported given)
 

@@ -1,5 +1,6 @@
 -- What the accepted commands so far mean, object by object: all that was ever put into it, whatever was dropped since.
-use Rattle.std.specs.Prelude.{ℕ, ◌+◌, ◌==◌, Bool, true, false, not, if◌then◌else◌, List, [], ◌∷◌, ◌++◌, map, filter, Option, option_map, unwrap_or}
+use Rattle.std.specs.Prelude.{ℕ, ◌+◌, ◌==◌, Bool, true, false, not, if◌then◌else◌, List, [], ◌∷◌, ◌++◌, map, filter, Option, None, Some, option_map, unwrap_or}
+use Rattle.std.specs.Option.{option_map_or}
 use Rattle.std.specs.List.{list_any}
 use Rattle.point_core.specs.declared.entry.Entry.{Entry}
 use Rattle.point_core.specs.Agreement.{as_entry, point_of, all_reached}
@@ -117,11 +118,31 @@ fired_watches w name n = due_watches w (raised_reach w name n)
 abbrev pub shut_watches : World → List ℕ → List MadeWatch
 shut_watches w name = due_watches w (shut_reach w name)
 
--- whether the command fires a watch: an increment and a closing may
+-- what is reached once the command is accepted, if it raises a value or closes a timeline
+abbrev pub reach_by : List Timeline → Command → Option (List ℕ)
+reach_by ts (command.Timeline t) = None
+reach_by ts (command.Inc t n) = Some (reach_of (raised ts t n))
+reach_by ts (command.Value t) = None
+reach_by ts (command.Shut t) = Some (reach_of (shut ts t))
+reach_by ts (command.Fence f t p) = None
+reach_by ts (command.Merge f a b) = None
+reach_by ts (command.Close f) = None
+reach_by ts (command.Wait f) = None
+reach_by ts (command.Info f) = None
+reach_by ts (command.Buffer b) = None
+reach_by ts (command.Add b t p u) = None
+reach_by ts (command.Import b f flags) = None
+reach_by ts (command.Export f b flags) = None
+reach_by ts (command.Test b u) = None
+reach_by ts (command.Trim b) = None
+reach_by ts (command.Watch f cookie) = None
+reach_by ts (command.Unwatch cookie) = None
+reach_by ts (command.Show b) = None
+reach_by ts command.Report = None
+
+-- whether the command fires a watch
 abbrev pub fires_some : World → Command → Bool
-fires_some w (command.Inc t n) = has_due_watch w (raised_reach w t n)
-fires_some w (command.Shut t) = has_due_watch w (shut_reach w t)
-fires_some w _ = false
+fires_some w c = option_map_or (has_due_watch w) (reach_by w.timelines c) false
 
 abbrev pub cookies_of : List MadeWatch → List ℕ
 cookies_of xs = map (λ (x : MadeWatch). x.cookie) xs
