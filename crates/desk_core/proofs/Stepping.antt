@@ -10,7 +10,7 @@ use Rattle.point_core.specs.Agreement.{point_of, as_entries, listing, all_reache
 use Rattle.syncfile_core.specs.declared.files.TheConstants.{FILES}
 use Rattle.command_core.specs.declared.command.Command.{Command}
 use Rattle.command_core.specs.declared.command.Command.TheVariants as command
-use Rattle.timeline_core.specs.Timeline.{Timeline, new_timeline, has_timeline, context_of, reach_of, value_of, is_closed, raised, shut}
+use Rattle.timeline_core.specs.Timeline.{Timeline, new_timeline, has_timeline, context_of, reach_of, value_of, is_closed, raised, shut, cause_if_not_open, cause_to_refuse_inc}
 use Rattle.syncfile_core.specs.SyncFile.{File, plain_file, file_of}
 use Rattle.syncfile_core.specs.Files.{has_file as has_sync_file, without_file, cause_to_refuse}
 use Rattle.syncfile_core.specs.Merge.{merge_of}
@@ -86,10 +86,6 @@ cause_without-keeps {desk} {world} k b =
     if-not (has_made_buffer world.buffers b) (Some NoEntry) None
     ∙ ap (λ h. if h then None else Some NoEntry) (sym (has_buffer-names desk.buffers world.buffers b k.holds.buffers))
 
-first_cause-if : (b : Bool) (r : Refusal) (o : Option Refusal) → (if b then Some r else o) ≡ first_cause (if b then Some r else None) o
-first_cause-if true r o = refl
-first_cause-if false r o = refl
-
 first_of-append : (rs qs : List (Bool × Refusal)) → first_of (rs ++ qs) ≡ first_cause (first_of rs) (first_of qs)
 first_of-append [] qs = refl
 first_of-append (r ∷ rs) qs = ap (λ o. if r.0 then Some r.1 else o) (first_of-append rs qs) ∙ by r.0 r.1 (first_of rs) (first_of qs)
@@ -105,14 +101,13 @@ causes-keeps {desk} {world} k (command.Timeline t) =
     ∙ ap (λ ts. if has_timeline ts t then Some Exists else (if nat_lt (length ts) CONTEXTS then None else Some (Limit Timelines))) (sym k.holds.timelines)
 causes-keeps {desk} {world} k (command.Inc t n) =
     if-not (has_timeline world.timelines t) (Some NoEntry) (if is_closed world.timelines t then Some Cancelled else (if nat_le (2 ^ 64) (value_of world.timelines t + n) then Some Overflow else None))
-    ∙ ap (λ o. if has_timeline world.timelines t then o else Some NoEntry) (first_cause-if (is_closed world.timelines t) Cancelled (if nat_le (2 ^ 64) (value_of world.timelines t + n) then Some Overflow else None))
-    ∙ ap (λ ts. if has_timeline ts t then first_cause (if is_closed ts t then Some Cancelled else None) (if nat_le (2 ^ 64) (value_of ts t + n) then Some Overflow else None) else Some NoEntry) (sym k.holds.timelines)
+    ∙ ap (λ ts. cause_to_refuse_inc ts t n) (sym k.holds.timelines)
 causes-keeps {desk} {world} k (command.Value t) =
     if-not (has_timeline world.timelines t) (Some NoEntry) None
     ∙ ap (λ ts. if has_timeline ts t then None else Some NoEntry) (sym k.holds.timelines)
 causes-keeps {desk} {world} k (command.Shut t) =
     if-not (has_timeline world.timelines t) (Some NoEntry) (if is_closed world.timelines t then Some Cancelled else None)
-    ∙ ap (λ ts. if has_timeline ts t then (if is_closed ts t then Some Cancelled else None) else Some NoEntry) (sym k.holds.timelines)
+    ∙ ap (λ ts. cause_if_not_open ts t) (sym k.holds.timelines)
 causes-keeps {desk} {world} k (command.Fence f t p) =
     let closed = cause (is_closed world.timelines t) Cancelled ∷ [] in
     if-not (has_timeline world.timelines t) (Some NoEntry) (first_of (making_file world f ++ closed))

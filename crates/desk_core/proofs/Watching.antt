@@ -184,24 +184,6 @@ module _ (d : DeskState) (f : List ℕ) (cookie : ℕ) (clocks : List Clock) (r 
       ∙ ap if_reached (sym (is_signalled-of (are_reached (reach_of_clocks clocks) found.0.points) (some_cancelled clocks found.0.points)))
       ∙ ap signalled_cause (sym found.2)
 
--- the values after an increment, as the desk works them out beforehand
-pub raised_reach-is : (ts : List Timeline) (name : List ℕ) (n ctx value : ℕ) (reach : List ℕ) → reach ≡ reach_of ts → ctx ≡ context_of ts name → AreTimelines ts → has_timeline ts name ≡ true → (clock_named ts name).closed ≡ false → value ≡ value_of ts name + n → reaching reach (point_of ctx value) ≡ reach_of (raised ts name n)
-raised_reach-is ts name n ctx value reach at is kept has still sum =
-    let before : value_at (reach_of ts) ctx ≡ value_of ts name = ap (value_at (reach_of ts)) is ∙ value_at-open ts name still in
-    let greater : max (value_at (reach_of ts) ctx) value ≡ value_of ts name + n = omega arith in
-    ap (λ r. with_value r ctx (max (value_at r ctx) value)) at
-    ∙ ap (with_value (reach_of ts) ctx) greater
-    ∙ ap (λ c. with_value (reach_of ts) c (value_of ts name + n)) is
-    ∙ sym (reach_of-raised ts name n kept has still)
-
--- and those after a closing
-pub shut_reach-is : (ts : List Timeline) (name : List ℕ) (ctx value : ℕ) (reach : List ℕ) → reach ≡ reach_of ts → ctx ≡ context_of ts name → AreTimelines ts → has_timeline ts name ≡ true → (clock_named ts name).closed ≡ false → value_of ts name ≤ GREATEST → value ≡ GREATEST → reaching reach (point_of ctx value) ≡ reach_of (shut ts name)
-shut_reach-is ts name ctx value reach at is kept has still low greatest =
-    ap (λ r. reaching r (point_of ctx value)) at
-    ∙ ap (λ c. reaching (reach_of ts) (point_of c value)) is
-    ∙ ap (λ v. reaching (reach_of ts) (point_of (context_of ts name) v)) greatest
-    ∙ sym (reach_of-shut-reaching ts name kept has still low)
-
 -- if no watch is due, none is refused for want of memory
 pub sure-fired : {T : Type 0} (d : DeskState) (reach later : List ℕ) (r : Result T Refusal) (e : Refusal) → reach ≡ later → keeps_due d later ≡ false → (fired_by d.watches reach ≡ [] → IsOk r) → r ≡ Err e → ⊥
 sure-fired d reach later (Ok v) e at none ok err = absurd (cc)

@@ -1,9 +1,9 @@
 -- What the contracts of the single commands say, for the proof of `step`.
-use Rattle.std.specs.Prelude.{◌≡◌, ℕ, ◌+◌, ◌^◌, ◌≤◌, ◌<◌, Bool, false, nat_lt, nat_le, if◌then◌else◌, List, [], ◌∷◌, map, length, All, Option, None, Some, option_map, unwrap_or, Result, Ok, Err}
+use Rattle.std.specs.Prelude.{◌≡◌, ℕ, ◌≤◌, ◌<◌, Bool, false, nat_lt, if◌then◌else◌, List, [], ◌∷◌, map, length, All, Option, None, Some, option_map, unwrap_or, Result, Ok, Err}
 use Rattle.point_core.specs.declared.entry.Point.{Point}
 use Rattle.point_core.specs.declared.context.TheConstants.{CONTEXTS}
 use Rattle.point_core.specs.declared.refusal.Refusal.{Refusal}
-use Rattle.point_core.specs.declared.refusal.Refusal.TheVariants.{NoEntry, Exists, Overflow, Flags, Limit, TimedOut, Cancelled}
+use Rattle.point_core.specs.declared.refusal.Refusal.TheVariants.{NoEntry, Exists, Flags, Limit, TimedOut, Cancelled}
 use Rattle.point_core.specs.declared.refusal.LimitKind.TheVariants.{Timelines}
 use Rattle.point_core.specs.Agreement.{as_entries, all_reached, top}
 use Rattle.point_core.specs.Latest.{raised_to}
@@ -13,7 +13,7 @@ use Rattle.point_core.specs.declared.clocks.Clock.{Clock}
 use Rattle.point_core.specs.Clocks.{common_status}
 use Rattle.std.specs.List.{list_any}
 use Rattle.std.specs.Option.{option_map_or}
-use Rattle.timeline_core.specs.Timeline.{Timeline, has_timeline, clocks_of, reach_of, value_of, is_closed, rows_of as timeline_rows}
+use Rattle.timeline_core.specs.Timeline.{Timeline, has_timeline, clocks_of, reach_of, is_closed, cause_if_not_open, cause_to_refuse_inc, rows_of as timeline_rows}
 use Rattle.syncfile_core.specs.SyncFile.{File}
 use Rattle.syncfile_core.specs.Files.{has_file as has_sync_file, file_at as sync_file_at, cause_to_refuse}
 use Rattle.syncfile_core.specs.Merge.{cause_to_refuse_merge}
@@ -106,7 +106,7 @@ abbrev pub first_cause : Option Refusal → Option Refusal → Option Refusal
 first_cause None second = second
 first_cause (Some first) second = Some first
 
--- an accepted command would change a timeline that is closed
+-- a fence that could be made would be of a closed timeline
 abbrev pub cause_closed : DeskState → List ℕ → Option Refusal
 cause_closed d t = if is_closed d.timelines t then Some Cancelled else None
 
@@ -115,12 +115,9 @@ cause_closed d t = if is_closed d.timelines t then Some Cancelled else None
 abbrev pub cause_of : DeskState → Command → Option Refusal
 cause_of d (command.Timeline t) =
     if has_timeline d.timelines t then Some Exists else if nat_lt (length d.timelines) CONTEXTS then None else Some (Limit Timelines)
-cause_of d (command.Inc t n) =
-    if has_timeline d.timelines t
-    then first_cause (cause_closed d t) (if nat_le (2 ^ 64) (value_of d.timelines t + n) then Some Overflow else None)
-    else Some NoEntry
+cause_of d (command.Inc t n) = cause_to_refuse_inc d.timelines t n
 cause_of d (command.Value t) = if has_timeline d.timelines t then None else Some NoEntry
-cause_of d (command.Shut t) = if has_timeline d.timelines t then cause_closed d t else Some NoEntry
+cause_of d (command.Shut t) = cause_if_not_open d.timelines t
 cause_of d (command.Fence f t p) =
     if has_timeline d.timelines t then first_cause (cause_to_refuse d.files f) (cause_closed d t) else Some NoEntry
 cause_of d (command.Merge f a b) = cause_to_refuse_merge d.files f (a ∷ b ∷ [])

@@ -221,12 +221,7 @@ impl Desk {
         ensures done { IfOk result (λ given. IsDone self.old (Command.Inc name.now n) (Answer.Raised given.0 given.1) self.new) }
         ensures unchanged { OnErr result (self.new ≡ self.old) }
     {
-        let ctx = self.timelines.context(name).ok_or(Refusal::NoEntry)?;
-        let clock = self.timelines.as_clocks().clock(ctx);
-        if clock.closed {
-            return Err(Refusal::Cancelled);
-        }
-        let value = clock.value.checked_add(n).ok_or(Refusal::Overflow)?;
+        let Point { ctx, value } = self.timelines.next(name, n)?;
         let fired = self.watches.after_inc(Point { ctx, value })?;
         self.timelines.raise_to(Point { ctx, value });
         Ok((value, Items::of(fired)))
@@ -249,17 +244,13 @@ impl Desk {
         ensures done { IfOk result (λ given. IsDone self.old (Command.Shut name.now) (Answer.Raised given.0 given.1) self.new) }
         ensures unchanged { OnErr result (self.new ≡ self.old) }
     {
-        let ctx = self.timelines.context(name).ok_or(Refusal::NoEntry)?;
-        let clock = self.timelines.as_clocks().clock(ctx);
-        if clock.closed {
-            return Err(Refusal::Cancelled);
-        }
+        let Point { ctx, value: kept } = self.timelines.current(name)?;
         let last = Point {
             ctx,
             value: u64::MAX,
         };
         let fired = self.watches.after_inc(last)?;
-        let kept = self.timelines.shut(name)?;
+        self.timelines.close(ctx);
         Ok((kept, Items::of(fired)))
     }
 

@@ -123,6 +123,16 @@ reach_of-raised ts name n kept has still =
     ∙ reach_of_clocks-with (clocks_of ts) (context_of ts name - 1) (more_by n (clock_named ts name))
     ∙ ap (λ b. with_value (reach_of ts) (context_of ts name) (if b then GREATEST else value_of ts name + n)) still
 
+-- the increment's point reaches just what the increment does
+pub reaching-raised : (ts : List Timeline) (name : List ℕ) (n ctx value : ℕ) → ctx ≡ context_of ts name → AreTimelines ts → has_timeline ts name ≡ true → (clock_at (clocks_of ts) ctx).closed ≡ false → value ≡ value_of ts name + n → reaching (reach_of ts) (point_of ctx value) ≡ reach_of (raised ts name n)
+reaching-raised ts name n ctx value is kept has still sum =
+    let open_clock : (clock_named ts name).closed ≡ false = ap (λ x. (clock_at (clocks_of ts) x).closed) (sym is) ∙ still in
+    let before : value_at (reach_of ts) ctx ≡ value_of ts name = ap (value_at (reach_of ts)) is ∙ value_at-open ts name open_clock in
+    let greater : max (value_at (reach_of ts) ctx) value ≡ value_of ts name + n = omega arith in
+    ap (with_value (reach_of ts) ctx) greater
+    ∙ ap (λ c. with_value (reach_of ts) c (value_of ts name + n)) is
+    ∙ sym (reach_of-raised ts name n kept has open_clock)
+
 pub reach_of-shut : (ts : List Timeline) (name : List ℕ) → AreTimelines ts → has_timeline ts name ≡ true → reach_of (shut ts name) ≡ with_value (reach_of ts) (context_of ts name) GREATEST
 reach_of-shut ts name kept has =
     ap reach_of_clocks (clocks_of-shut ts name kept has)

@@ -13,7 +13,7 @@ use Rattle.point_core.specs.Clocks.{clock_at}
 use Rattle.point_core.specs.Named.{same_name}
 use Rattle.point_core.proofs.Named.{is_some-find}
 use Rattle.timeline_core.specs.Timeline.{Timeline, timeline_of, new_timeline, is_named, names_of, has_timeline, timeline_at, name_at, context_of, clocks_of, clock_named, value_of, is_closed, raised_by, closed_timeline, raised, shut, AreTimelines}
-use Rattle.timeline_core.specs.Run.{Call, Create, Inc, Shut, RaiseTo, Leaves, Step, missing_to, raised_if, IsRun, last_timelines}
+use Rattle.timeline_core.specs.Run.{Call, Create, Inc, Shut, RaiseTo, Close, Leaves, Step, missing_to, raised_if, shut_if, IsRun, last_timelines}
 use Rattle.timeline_core.proofs.Lookups.{has_timeline-names_of}
 use Rattle.timeline_core.proofs.Places.{place-of, name-place, context_of-place, has_timeline-place, timeline_at-clock_named}
 use Rattle.timeline_core.proofs.Raising.{AreTimelines-raised, AreTimelines-shut, is_closed-open, has_timeline-closed}
@@ -71,6 +71,10 @@ timeline_at-raised_if : (ts : List Timeline) (ctx n : ℕ) (name : Option (List 
 timeline_at-raised_if ts ctx n None other apart = refl
 timeline_at-raised_if ts ctx n (Some name) other apart = timeline_at-raised ts name other n (apart name refl)
 
+timeline_at-shut_if : (ts : List Timeline) (name : Option (List ℕ)) (other : List ℕ) → ((one : List ℕ) → name ≡ Some one → same_name other one ≡ false) → timeline_at (shut_if ts name) other ≡ timeline_at ts other
+timeline_at-shut_if ts None other apart = refl
+timeline_at-shut_if ts (Some name) other apart = timeline_at-shut ts name other (apart name refl)
+
 timeline_at-after : (call : Call) (accepted : Bool) (old new : List Timeline) (name : List ℕ) → AreTimelines old → Leaves call accepted old new → is_closed old name ≡ true → timeline_at new name ≡ timeline_at old name
 timeline_at-after call false old new name kept left closed = ap (λ ts. timeline_at ts name) left
 timeline_at-after (Create other) true old new name kept left closed =
@@ -83,10 +87,18 @@ timeline_at-after (RaiseTo ctx value) true old new name kept left closed =
     ap (λ ts. timeline_at ts name) left.1
     ∙ timeline_at-raised_if old ctx (missing_to old ctx value) (name_at old ctx) name
     (λ other at. closed_apart old other name closed (open_at old ctx other kept left.0.0 left.0.1 at left.0.2))
+timeline_at-after (Close ctx) true old new name kept left closed =
+    ap (λ ts. timeline_at ts name) left.1
+    ∙ timeline_at-shut_if old (name_at old ctx) name
+    (λ other at. closed_apart old other name closed (open_at old ctx other kept left.0.0 left.0.1 at left.0.2))
 
 AreTimelines-raised_if : (ts : List Timeline) (name : Option (List ℕ)) (n : ℕ) → AreTimelines ts → AreTimelines (raised_if ts name n)
 AreTimelines-raised_if ts None n kept = kept
 AreTimelines-raised_if ts (Some name) n kept = AreTimelines-raised ts name n kept
+
+AreTimelines-shut_if : (ts : List Timeline) (name : Option (List ℕ)) → AreTimelines ts → AreTimelines (shut_if ts name)
+AreTimelines-shut_if ts None kept = kept
+AreTimelines-shut_if ts (Some name) kept = AreTimelines-shut ts name kept
 
 AreTimelines-pushed : (ts : List Timeline) (name : List ℕ) → has_timeline ts name ≡ false → length ts < CONTEXTS → AreTimelines ts → AreTimelines (ts ++ new_timeline name ∷ [])
 AreTimelines-pushed ts name absent low kept = record {
@@ -102,6 +114,7 @@ AreTimelines-after (Inc name n) true old new kept left = subst AreTimelines (sym
 AreTimelines-after (Shut name) true old new kept left = subst AreTimelines (sym left.1) (AreTimelines-shut old name kept)
 AreTimelines-after (RaiseTo ctx value) true old new kept left =
     subst AreTimelines (sym left.1) (AreTimelines-raised_if old (name_at old ctx) (missing_to old ctx value) kept)
+AreTimelines-after (Close ctx) true old new kept left = subst AreTimelines (sym left.1) (AreTimelines-shut_if old (name_at old ctx) kept)
 
 -- if the same timeline is found by a name, its clock is the same
 module _ (old new : List Timeline) (name : List ℕ) (same : timeline_at new name ≡ timeline_at old name) (closed : is_closed old name ≡ true) where

@@ -7,7 +7,7 @@ use Rattle.std.proofs.lemmas.List.Elements.{All-nil, All-cons, All-head, All-tai
 use Rattle.point_core.specs.Named.{same_name}
 use Rattle.point_core.proofs.Named.{has_named-same_names, named-All}
 use Rattle.timeline_core.specs.Timeline.{Timeline, timeline_of, new_timeline, is_named, has_timeline, name_at, clock_named, value_of, raised_by, closed_timeline, raised, shut}
-use Rattle.timeline_core.specs.Run.{Increment, increment, incremented, AreSums, Call, Create, Inc, Shut, RaiseTo, Leaves, Step, missing_to, increments_if, raised_if, IsRun, last_timelines, increments_of, accepted_increments, all_increments}
+use Rattle.timeline_core.specs.Run.{Increment, increment, incremented, AreSums, Call, Create, Inc, Shut, RaiseTo, Close, Leaves, Step, missing_to, increments_if, raised_if, shut_if, IsRun, last_timelines, increments_of, accepted_increments, all_increments}
 use Rattle.timeline_core.proofs.Places.{timeline_at-clock_named, has_timeline-name}
 use Rattle.timeline_core.proofs.Raising.{names_of-raised, names_of-shut}
 
@@ -89,6 +89,10 @@ IsSummed-raised_if : (ts : List Timeline) (ctx n : ℕ) (is : List Increment) (n
 IsSummed-raised_if ts ctx n is None at before = subst (IsSummed ts) (sym (append-nil is)) before
 IsSummed-raised_if ts ctx n is (Some name) at before = IsSummed-raised ts name n is (has_timeline-name ts (ctx - 1) name at) before
 
+IsSummed-shut_if : (ts : List Timeline) (is : List Increment) (name : Option (List ℕ)) → IsSummed ts is → IsSummed (shut_if ts name) is
+IsSummed-shut_if ts is None before = before
+IsSummed-shut_if ts is (Some name) before = IsSummed-shut ts name is before
+
 IsSummed-Leaves : (call : Call) (accepted : Bool) (old new : List Timeline) (is : List Increment) → Leaves call accepted old new → IsSummed old is → IsSummed new (is ++ (if accepted then increments_of call old else []))
 IsSummed-Leaves call false old new is left before = subst (IsSummed new) (sym (append-nil is)) (subst (λ ts. IsSummed ts is) (sym left) before)
 IsSummed-Leaves (Create name) true old new is left before = subst (IsSummed new) (sym (append-nil is)) (subst (λ ts. IsSummed ts is) (sym left.1) (record {
@@ -101,6 +105,8 @@ IsSummed-Leaves (Shut name) true old new is left before =
 IsSummed-Leaves (RaiseTo ctx value) true old new is left before =
     let n = missing_to old ctx value in
     subst (λ ts. IsSummed ts (is ++ increments_if (name_at old ctx) n)) (sym left.1) (IsSummed-raised_if old ctx n is (name_at old ctx) refl before)
+IsSummed-Leaves (Close ctx) true old new is left before =
+    subst (λ ts. IsSummed ts (is ++ [])) (sym left.1) (subst (IsSummed (shut_if old (name_at old ctx))) (sym (append-nil is)) (IsSummed-shut_if old is (name_at old ctx) before))
 
 IsSummed-run : (old : List Timeline) (is : List Increment) (steps : List Step) → IsSummed old is → IsRun old steps → IsSummed (last_timelines old steps) (is ++ all_increments old steps)
 IsSummed-run old is [] before run = subst (IsSummed old) (sym (append-nil is)) before

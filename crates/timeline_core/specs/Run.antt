@@ -28,13 +28,19 @@ pub data Call : Type 0 where
   Inc : List ℕ → ℕ → Call
   Shut : List ℕ → Call
   RaiseTo : ℕ → ℕ → Call
+  Close : ℕ → Call
+
+-- a timeline of that context was made, and is open
+abbrev pub IsOpen : List Timeline → ℕ → Type 0
+IsOpen ts ctx = (1 ≤ ctx) × (ctx ≤ length ts) × ((clock_at (clocks_of ts) ctx).closed ≡ false)
 
 -- nothing refuses the call
 abbrev pub IsAllowed : Call → List Timeline → Type 0
 IsAllowed (Create name) ts = (has_timeline ts name ≡ false) × (length ts < CONTEXTS)
 IsAllowed (Inc name n) ts = (has_timeline ts name ≡ true) × (is_closed ts name ≡ false) × (value_of ts name + n < 2 ^ 64)
 IsAllowed (Shut name) ts = (has_timeline ts name ≡ true) × (is_closed ts name ≡ false)
-IsAllowed (RaiseTo ctx value) ts = (1 ≤ ctx) × (ctx ≤ length ts) × ((clock_at (clocks_of ts) ctx).closed ≡ false)
+IsAllowed (RaiseTo ctx value) ts = IsOpen ts ctx
+IsAllowed (Close ctx) ts = IsOpen ts ctx
 
 -- by how much the value of a context is below another
 abbrev pub missing_to : List Timeline → ℕ → ℕ → ℕ
@@ -50,12 +56,18 @@ abbrev pub raised_if : List Timeline → Option (List ℕ) → ℕ → List Time
 raised_if ts None n = ts
 raised_if ts (Some name) n = raised ts name n
 
+-- the timeline of that name, if there is one, is closed
+abbrev pub shut_if : List Timeline → Option (List ℕ) → List Timeline
+shut_if ts None = ts
+shut_if ts (Some name) = shut ts name
+
 -- the timelines after an accepted call
 abbrev pub after : Call → List Timeline → List Timeline
 after (Create name) ts = ts ++ new_timeline name ∷ []
 after (Inc name n) ts = raised ts name n
 after (Shut name) ts = shut ts name
 after (RaiseTo ctx value) ts = raised_if ts (name_at ts ctx) (missing_to ts ctx value)
+after (Close ctx) ts = shut_if ts (name_at ts ctx)
 
 -- what a call leaves, that was accepted or refused
 abbrev pub Leaves : Call → Bool → List Timeline → List Timeline → Type 0
@@ -83,6 +95,7 @@ increments_of (Create name) ts = []
 increments_of (Inc name n) ts = increment name n ∷ []
 increments_of (Shut name) ts = []
 increments_of (RaiseTo ctx value) ts = increments_if (name_at ts ctx) (missing_to ts ctx value)
+increments_of (Close ctx) ts = []
 
 abbrev pub accepted_increments : List Timeline → Step → List Increment
 accepted_increments ts step = if step.accepted then increments_of step.call ts else []

@@ -1,8 +1,10 @@
 -- Named timelines, in order of making.
-use Rattle.std.specs.Prelude.{ℕ, ◌+◌, ◌-◌, ◌≤◌, Bool, ◌&&◌, if◌then◌else◌, List, ◌++◌, length, map, replicate, Option, option_map, unwrap_or, slice_get}
+use Rattle.std.specs.Prelude.{ℕ, ◌+◌, ◌-◌, ◌^◌, ◌≤◌, nat_le, Bool, ◌&&◌, if◌then◌else◌, List, ◌++◌, length, map, replicate, Option, None, Some, option_map, unwrap_or, slice_get}
 use Rattle.std.specs.List.{position_from}
 use Rattle.point_core.specs.declared.context.TheConstants.{CONTEXTS}
 use Rattle.point_core.specs.declared.clocks.Clock.{Clock}
+use Rattle.point_core.specs.declared.refusal.Refusal.{Refusal}
+use Rattle.point_core.specs.declared.refusal.Refusal.TheVariants.{NoEntry, Cancelled, Overflow}
 use Rattle.point_core.specs.declared.timeline_row.TimelineRow.{TimelineRow}
 use Rattle.point_core.specs.Clocks.{clock_of, new_clock, closed_clock, clock_at, reach_of_clocks}
 use Rattle.point_core.specs.Named.{same_name, has_named, named, HasDistinctNames}
@@ -89,6 +91,18 @@ closed_timeline t = timeline_of t.name (closed_clock (own_clock t))
 -- the timeline of that name is closed, and no other changes
 abbrev pub shut : List Timeline → List ℕ → List Timeline
 shut ts name = map (λ t. if is_named name t then closed_timeline t else t) ts
+
+-- why the timeline of that name can't rise or close: there is none, or it is closed
+abbrev pub cause_if_not_open : List Timeline → List ℕ → Option Refusal
+cause_if_not_open ts name =
+    if has_timeline ts name then (if is_closed ts name then Some Cancelled else None) else Some NoEntry
+
+-- why an increment of the timeline of that name by n is refused
+abbrev pub cause_to_refuse_inc : List Timeline → List ℕ → ℕ → Option Refusal
+cause_to_refuse_inc ts name n =
+    if has_timeline ts name
+    then (if is_closed ts name then Some Cancelled else if nat_le (2 ^ 64) (value_of ts name + n) then Some Overflow else None)
+    else Some NoEntry
 
 abbrev pub row_of : Timeline → TimelineRow
 row_of t = record { name = t.name; value = t.value; closed = t.closed }

@@ -1,5 +1,5 @@
 // The timelines of a service, by name and by context.
-ghost use Rattle.std.specs.Prelude.{◌≡◌, List, ℕ, ◌+◌, ◌<◌, ◌≤◌, ◌^◌, ◌↔◌, [], ◌∷◌, ◌++◌, true, false, length, map, is_ok, IsTrue, IsSome, IsOk, IfSome, IfOk, IfErr, OnOk, OnErr};
+ghost use Rattle.std.specs.Prelude.{◌≡◌, List, ℕ, ◌+◌, ◌<◌, ◌≤◌, ◌^◌, ◌↔◌, [], ◌∷◌, ◌++◌, true, false, length, map, is_ok, IsTrue, IsSome, IsOk, IfSome, IfOk, IfErr, OnOk, OnErr, MatchOption};
 ghost use Rattle.point_core.specs.declared.context.TheConstants.{CONTEXTS};
 
 use indexmap::IndexSet;
@@ -34,8 +34,8 @@ impl Model for Timelines {
 impl Timelines {
     ghost use Rattle.timeline_core.specs.Timeline.{timeline_of, new_timeline, has_timeline, timeline_at, context_of};
     ghost use Rattle.timeline_core.specs.Timeline.{name_at, names_of, clocks_of, reach_of, value_of, is_closed, rows_of};
-    ghost use Rattle.timeline_core.specs.Timeline.{raised, shut, AreTimelines};
-    ghost use Rattle.timeline_core.specs.Run.{Leaves, Create, Inc, Shut, RaiseTo};
+    ghost use Rattle.timeline_core.specs.Timeline.{raised, shut, cause_if_not_open, cause_to_refuse_inc, AreTimelines};
+    ghost use Rattle.timeline_core.specs.Run.{Leaves, Create, Inc, Shut, RaiseTo, Close};
     ghost use Rattle.point_core.specs.Reach.{GREATEST, with_value, reaching, IsAtLeast};
     ghost use Rattle.point_core.specs.Clocks.{clock_of, clock_at};
     ghost use Rattle.point_core.specs.Agreement.{point_of};
@@ -81,6 +81,40 @@ impl Timelines {
         Ok(Context::at(index))
     }
 
+    /// The point that the open timeline of that name has reached.
+    ///
+    /// Fails with `NoEntry`, and with `Cancelled` if the timeline is closed.
+    pub fn current(&self, name: &Name) -> Result<Point, Refusal>
+        ensures point { IfOk result (λ p. p ≡ point_of (context_of self.now name.now) (value_of self.now name.now)) }
+        ensures known { IfOk result (λ p. IsTrue (has_timeline self.now name.now) × (p.ctx ≤ length self.now)) }
+        ensures not_closed { IfOk result (λ p. (clock_at (clocks_of self.now) p.ctx).closed ≡ false) }
+        ensures refused { MatchOption (cause_if_not_open self.now name.now) (IsOk result) (λ cause. result ≡ Err cause) }
+        ensures last { IfOk result (λ p. reaching (reach_of self.now) (point_of p.ctx GREATEST) ≡ reach_of (shut self.now name.now)) }
+        ensures timelines { OnOk result (AreTimelines self.now) }
+    {
+        let ctx = self.context(name).ok_or(Refusal::NoEntry)?;
+        let Clock { value, closed } = self.clocks.clock(ctx);
+        if closed {
+            return Err(Refusal::Cancelled);
+        }
+        Ok(Point { ctx, value })
+    }
+
+    /// The point that the timeline of that name reaches by an increment of n.
+    ///
+    /// Fails as `inc` does.
+    pub fn next(&self, name: &Name, n: u64) -> Result<Point, Refusal>
+        ensures point { IfOk result (λ p. p ≡ point_of (context_of self.now name.now) (value_of self.now name.now + n)) }
+        ensures known { IfOk result (λ p. IsTrue (has_timeline self.now name.now) × (p.ctx ≤ length self.now)) }
+        ensures not_closed { IfOk result (λ p. (clock_at (clocks_of self.now) p.ctx).closed ≡ false) }
+        ensures refused { MatchOption (cause_to_refuse_inc self.now name.now n) (IsOk result) (λ cause. result ≡ Err cause) }
+        ensures reach { IfOk result (λ p. reaching (reach_of self.now) p ≡ reach_of (raised self.now name.now n)) }
+    {
+        let Point { ctx, value } = self.current(name)?;
+        let value = value.checked_add(n).ok_or(Refusal::Overflow)?;
+        Ok(Point { ctx, value })
+    }
+
     /// Adds n to the value of that timeline, as libsync's `sw_sync_timeline_inc` does, and answers the new value.
     ///
     /// Fails with `NoEntry`, with `Cancelled` if the timeline is closed, and with `Overflow` if the value would pass the
@@ -101,13 +135,8 @@ impl Timelines {
             × (is_closed self.old name.now ≡ false) × (2 ^ 64 ≤ value_of self.old name.now + n)) }
         ensures err { OnErr result (self.new ≡ self.old) }
     {
-        let ctx = self.context(name).ok_or(Refusal::NoEntry)?;
-        let clock = self.clocks.clock(ctx);
-        if clock.closed {
-            return Err(Refusal::Cancelled);
-        }
-        let value = clock.value.checked_add(n).ok_or(Refusal::Overflow)?;
-        self.clocks.raise_to(Point { ctx, value });
+        let Point { ctx, value } = self.next(name, n)?;
+        self.raise_to(Point { ctx, value });
         Ok(value)
     }
 
@@ -128,17 +157,13 @@ impl Timelines {
         ensures cancelled { (result ≡ Err Refusal.Cancelled) ↔ IsTrue (is_closed self.old name.now) }
         ensures err { OnErr result (self.new ≡ self.old) }
     {
-        let ctx = self.context(name).ok_or(Refusal::NoEntry)?;
-        let Clock { value, closed } = self.clocks.clock(ctx);
-        if closed {
-            return Err(Refusal::Cancelled);
-        }
-        self.clocks.close(ctx);
+        let Point { ctx, value } = self.current(name)?;
+        self.close(ctx);
         Ok(value)
     }
 
-    /// Raises the value of the open timeline of that context to the point, if it is not there yet: what `inc` does, once the
-    /// name was looked up and the sum is known.
+    /// Raises the value of the open timeline of that context to the point, if it is not there yet: what `inc` does with the
+    /// point that `next` gives.
     pub fn raise_to(&mut self, point: Point)
         requires made { point.ctx ≤ length self.old }
         requires not_closed { (clock_at (clocks_of self.old) point.ctx).closed ≡ false }
@@ -150,6 +175,18 @@ impl Timelines {
             value_of self.old name + n ≡ point.value → self.new ≡ raised self.old name n }
     {
         self.clocks.raise_to(point);
+    }
+
+    /// Closes the open timeline of that context: what `shut` does, once `current` has found the name.
+    pub fn close(&mut self, ctx: Context)
+        requires made { ctx ≤ length self.old }
+        requires not_closed { (clock_at (clocks_of self.old) ctx).closed ≡ false }
+        ensures leaves { Leaves (Close ctx) true self.old self.new }
+        ensures reach { reach_of self.new ≡ with_value (reach_of self.old) ctx GREATEST }
+        ensures shut { (name : List ℕ) →
+            IsTrue (has_timeline self.old name) → context_of self.old name ≡ ctx → self.new ≡ shut self.old name }
+    {
+        self.clocks.close(ctx);
     }
 
     /// The value of that timeline, which its closing leaves.
