@@ -153,7 +153,7 @@ report_of w = record {
   buffers = map (buffer_rows w) w.buffers;
 }
 
--- what the command reports if it is accepted, which it is if none of its causes holds: what it names is there
+-- The report of an accepted command. None of its causes holds then, so each object that it names exists.
 abbrev pub reported : World → Command → Answer
 reported w (command.Timeline t) = answer.Value (length w.timelines + 1)
 reported w (command.Inc t n) = answer.Raised (value_of w.timelines t + n) (cookies_of (fired_watches w t n))
@@ -180,8 +180,8 @@ abbrev pub refused_or : Option Refusal → Answer → Answer
 refused_or None a = a
 refused_or (Some r) a = answer.Refused r
 
--- The command makes something or reports a list, and so may find no memory; no other command does. Of an increment and a closing
--- that is so if the command fires a watch, which `fires` says.
+-- Whether the command allocates, and so may find no memory: a command that makes something or reports a list does, and no other.
+-- An increment or a closing allocates only if it fires a watch, which `fires` says.
 abbrev pub takes_memory : (Command → Bool) → Command → Bool
 takes_memory fires (command.Timeline t) = true
 takes_memory fires (command.Inc t n) = fires (command.Inc t n)

@@ -22,7 +22,7 @@ fired_along history = fired_from empty_world history
 abbrev pub pending_after : List Command → List MadeWatch
 pending_after history = (world_of history).watches
 
--- the command does not remove the watch, and with it not all that was put is reached
+-- the command neither removes the watch nor reaches all that was put into its file
 abbrev pub IsLeftBy : World → MadeWatch → Command → Type 0
 IsLeftBy w x (command.Timeline t) = ⊤
 IsLeftBy w x (command.Inc t n) = is_due (raised_reach w t n) x ≡ false

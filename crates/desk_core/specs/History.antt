@@ -1,4 +1,4 @@
--- A history is the list of the accepted commands, and means a world.
+-- Histories: lists of accepted commands, and the worlds that they make.
 use Rattle.std.specs.Prelude.{◌≡◌, ◌⊎◌, true, false, if◌then◌else◌, List, [], ◌∷◌, ◌++◌, ⊤}
 use Rattle.std.specs.List.{flat_map}
 use Rattle.point_core.specs.declared.refusal.Refusal.TheVariants.{Memory}
@@ -14,7 +14,7 @@ abbrev pub world_from : World → List Command → World
 world_from w [] = w
 world_from w (c ∷ cs) = world_from (after w c) cs
 
--- the world that a history means
+-- the world that a history makes
 abbrev pub world_of : List Command → World
 world_of history = world_from empty_world history
 
@@ -59,11 +59,11 @@ pub record IsAnswer (history : List Command) (command : Command) (given : Answer
       ⊎ ((given ≡ answer.Refused Memory) × (takes_memory (fires_some (world_of history)) command ≡ true)
       × (is_refused (answer_to (world_of history) command) ≡ false))
 
--- the history after a command that was answered so
+-- the history after a command with that answer
 abbrev pub history_after : List Command → Command → Answer → List Command
 history_after history command given = if is_refused given then history else history ++ command ∷ []
 
--- the history after commands that were answered so
+-- the history after commands with these answers
 abbrev pub history_of : List Command → List Command → List Answer → List Command
 history_of history [] given = history
 history_of history (c ∷ cs) [] = history

@@ -1,4 +1,4 @@
--- What the contracts of the single commands say, for the proof of `step`.
+-- The contracts of the functions of single commands, for the proof of `step`.
 use Rattle.std.specs.Prelude.{◌≡◌, ℕ, ◌≤◌, ◌<◌, Bool, false, nat_lt, if◌then◌else◌, List, [], ◌∷◌, map, length, All, Option, None, Some, option_map, unwrap_or, Result, Ok, Err}
 use Rattle.point_core.specs.declared.entry.Point.{Point}
 use Rattle.point_core.specs.declared.context.TheConstants.{CONTEXTS}
@@ -52,7 +52,7 @@ pub record IsOfItsTimelines (d : DeskState) : Type 0 where
   pub buffers : (name : List ℕ) → HasNoneBehind (length d.timelines) (reach_of d.timelines) (entries_of d.buffers name)
   pub watches : d.watches.reach ≡ reach_of d.timelines
 
--- what is reported of a file that lists the points
+-- the report of a file that lists the points
 abbrev pub info_at : List Timeline → List ℕ → List Point → Info
 info_at ts name ps = record {
   name = name;
@@ -106,7 +106,7 @@ abbrev pub first_cause : Option Refusal → Option Refusal → Option Refusal
 first_cause None second = second
 first_cause (Some first) second = Some first
 
--- a fence that could be made would be of a closed timeline
+-- a closed timeline gets no new fence
 abbrev pub cause_closed : DeskState → List ℕ → Option Refusal
 cause_closed d t = if is_closed d.timelines t then Some Cancelled else None
 
@@ -148,7 +148,7 @@ pub record IsDone (old : DeskState) (c : Command) (given : Answer) (new : DeskSt
   pub reported : (world : World) → Keeps old world → given ≡ reported world c
   pub held : (world : World) → Keeps old world → Holds new (after world c)
 
--- what is answered: what was reported, or the refusal
+-- the answer: the report, or the refusal
 abbrev pub answer_of : Result Answer Refusal → Answer
 answer_of (Ok given) = given
 answer_of (Err refusal) = answer.Refused refusal

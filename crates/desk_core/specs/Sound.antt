@@ -1,4 +1,4 @@
--- What holds of the world of every history.
+-- Sound worlds: the invariant of the world of every history.
 use Rattle.std.specs.Prelude.{◌≡◌, ℕ, ◌≤◌, List, length, All}
 use Rattle.point_core.specs.declared.entry.Entry.{Entry}
 use Rattle.point_core.specs.declared.entry.Usage.TheVariants.{Kernel}

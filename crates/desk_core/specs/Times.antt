@@ -19,7 +19,7 @@ abbrev pub is_unwatch_of : ℕ → Command → Bool
 is_unwatch_of cookie (command.Unwatch other) = other == cookie
 is_unwatch_of cookie _ = false
 
--- an `unwatch` answers so if it took a watch out
+-- the answer of an `unwatch` that took a watch out
 abbrev pub reports_one : Answer → Bool
 reports_one (answer.Value n) = n == 1
 reports_one _ = false

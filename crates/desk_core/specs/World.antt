@@ -1,4 +1,4 @@
--- What the accepted commands so far mean, object by object: all that was ever put into it, whatever was dropped since.
+-- The world that accepted commands make: each object with all that was ever put into it, whatever a desk has dropped since.
 use Rattle.std.specs.Prelude.{ℕ, ◌+◌, ◌==◌, Bool, true, false, not, if◌then◌else◌, List, [], ◌∷◌, ◌++◌, map, filter, Option, None, Some, option_map, unwrap_or}
 use Rattle.std.specs.Option.{option_map_or}
 use Rattle.std.specs.List.{list_any}
@@ -47,7 +47,7 @@ has_file fs name = has_named (λ (f : MadeFile). f.name) fs name
 abbrev pub file_named : List MadeFile → List ℕ → Option MadeFile
 file_named fs name = named (λ (f : MadeFile). f.name) fs name
 
--- the files but the one of that name
+-- the files without the file of that name
 abbrev pub files_without : List MadeFile → List ℕ → List MadeFile
 files_without fs name = without_named (λ (f : MadeFile). f.name) fs name
 
@@ -82,7 +82,7 @@ watch_made cookie put number = record { cookie = cookie; put = put; number = num
 abbrev pub has_made_watch : List MadeWatch → ℕ → Bool
 has_made_watch xs cookie = list_any (λ (x : MadeWatch). x.cookie == cookie) xs
 
--- the watches but the one of that cookie
+-- the watches without the watch of that cookie
 abbrev pub watches_without : List MadeWatch → ℕ → List MadeWatch
 watches_without xs cookie = filter (λ (x : MadeWatch). not (x.cookie == cookie)) xs
 
@@ -98,15 +98,15 @@ raised_reach w name n = reach_of (raised w.timelines name n)
 abbrev pub shut_reach : World → List ℕ → List ℕ
 shut_reach w name = reach_of (shut w.timelines name)
 
--- the pending watches that are due if so much is reached, by registration
+-- the pending watches that are due at that reach, by registration
 abbrev pub due_watches : World → List ℕ → List MadeWatch
 due_watches w reach = filter (is_due reach) w.watches
 
--- those that are not
+-- the pending watches that are not due at that reach
 abbrev pub other_watches : World → List ℕ → List MadeWatch
 other_watches w reach = filter (λ x. not (is_due reach x)) w.watches
 
--- whether any is
+-- whether a pending watch is due at that reach
 abbrev pub has_due_watch : World → List ℕ → Bool
 has_due_watch w reach = list_any (is_due reach) w.watches
 
@@ -150,11 +150,11 @@ cookies_of xs = map (λ (x : MadeWatch). x.cookie) xs
 abbrev pub with_timeline : World → List ℕ → World
 with_timeline w name = record w { timelines = w.timelines ++ new_timeline name ∷ [] }
 
--- the timeline of that name has risen by n, and what this fires is no longer pending
+-- the timeline of that name has risen by n, and the watches that this fires are no longer pending
 abbrev pub with_raised : World → List ℕ → ℕ → World
 with_raised w name n = record w { timelines = raised w.timelines name n; watches = other_watches w (raised_reach w name n) }
 
--- the timeline of that name is closed, and what this fires is no longer pending
+-- the timeline of that name is closed, and the watches that this fires are no longer pending
 abbrev pub with_shut : World → List ℕ → World
 with_shut w name = record w { timelines = shut w.timelines name; watches = other_watches w (shut_reach w name) }
 

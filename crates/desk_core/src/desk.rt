@@ -12,9 +12,9 @@ use std::marker::Model;
 use syncfile_core::Files;
 use timeline_core::Timelines;
 
-/// All timelines, files, buffers and watches of a service. It keeps of each file what was pending when it was made, of each
-/// buffer a table of bounded size, and of each watch what its file listed; its answers are those of all that was ever put
-/// into them.
+/// All timelines, files, buffers and watches of a service. A desk keeps for each file the points that were pending when the
+/// file was made, for each buffer a table of bounded size, and for each watch the points that its file listed. It answers as
+/// if it kept all that was ever put into them.
 #[derive(Drop)]
 pub struct Desk {
     alloc: Global,
@@ -201,8 +201,8 @@ impl Desk {
         }
     }
 
-    // A function pays at its start for the locals of all that is inlined into it. So the commands with many of them, and the rare
-    // ones, have functions of their own.
+    // A function clears its locals on entry, also those of calls that are inlined into it. So commands with many locals, and
+    // rare commands, have functions of their own.
 
     #[inline(never)]
     fn timeline(&mut self, name: Name) -> Result<u64, Refusal>
@@ -236,7 +236,7 @@ impl Desk {
         Ok(value)
     }
 
-    // The watches are asked first, at the greatest value: if they find no memory, nothing has changed.
+    // The watches fire first, at the greatest value, since only that step can still fail.
     #[inline(never)]
     fn shut(&mut self, name: &Name) -> Result<(u64, Items<u64>), Refusal>
         ensures refused { IsRefusedFor (cause_of self.old (Command.Shut name.now)) result }

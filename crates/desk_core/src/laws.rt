@@ -28,8 +28,8 @@ pub fn a_watch_fires_once()
     ensures { (history : List Command) (number : ℕ) → count_by (nat_eq number) (fired_along history) ≤ 1 }
 {}
 
-/// A watch is registered with all that was put into its file so far. It stays so, whatever becomes of the file and of its
-/// name, until it is removed or an increment reaches all of that.
+/// A watch is registered with all that was put into its file so far. It keeps that put set, whatever becomes of the file and
+/// its name, until the watch is removed or an increment reaches the whole set.
 pub fn a_watch_keeps_what_was_put()
     ensures registered { (history : List Command) (file : List ℕ) (cookie : ℕ) →
         pending_after (history ++ Command.Watch file cookie ∷ [])

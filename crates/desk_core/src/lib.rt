@@ -1,7 +1,7 @@
 //! The desk: one command in, one answer out, and a run over a list of commands.
 //!
-//! What the accepted commands so far mean is said by put sets (`specs/World.antt`), in which nothing is ever dropped,
-//! replaced or compacted. The desk keeps less, and its answers are those of the put sets.
+//! The accepted commands make a world (`specs/World.antt`), and nothing in its put sets is ever dropped, replaced or
+//! compacted. The desk keeps less than its world, and answers as the world does.
 #![tactic(auto)]
 
 mod desk;
@@ -10,7 +10,7 @@ pub mod laws;
 mod report;
 mod runs;
 
-// What callers of a desk give and get.
+// The types in the signatures of `Desk`.
 pub use command_core::{
     Answer, BufferRows, Command, FenceRow, FileRow, Info, Maker, Report, ShowRow,
 };

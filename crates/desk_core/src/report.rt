@@ -13,7 +13,7 @@ use std::alloc::Global;
 use syncfile_core::{Files, SyncFile};
 use timeline_core::Timelines;
 
-/// Everything: the timelines by rising context, the files and the buffers in order of making. Each is looked at once.
+/// A report of the timelines by rising context, and of files and buffers in order of making, in one pass over each.
 pub fn of_all(
     alloc: Global,
     timelines: &Timelines,

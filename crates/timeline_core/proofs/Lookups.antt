@@ -38,11 +38,11 @@ context_of-position ts name i found =
     let at : position_from (is_named name) 0 ts ≡ Some i = sym (position_from-names_of ts name 0) ∙ sym (position_from-zero (pointwise nat_eq name) (names_of ts)) ∙ found in
     ap (λ o. unwrap_or o 0) (position_from-more (is_named name) 0 ts ∙ ap (option_map (λ k. k + 1)) at)
 
--- the same, of the names as they are stored
+-- a stored name is the name of a timeline
 pub has_timeline-stored : {names : List (List ℕ)} (ts : List Timeline) (name : List ℕ) → names ≡ names_of ts → list_any (pointwise nat_eq name) names ≡ has_timeline ts name
 has_timeline-stored {names} ts name e = ap (list_any (pointwise nat_eq name)) e ∙ has_timeline-names_of ts name
 
--- what a look-up told
+-- the result of a look-up among the stored names
 pub has_timeline-told : {names : List (List ℕ)} {found is : Bool} (ts : List Timeline) (name : List ℕ) → names ≡ names_of ts → found ≡ list_any (pointwise nat_eq name) names → found ≡ is → has_timeline ts name ≡ is
 has_timeline-told ts name e told was = sym (has_timeline-stored ts name e) ∙ sym told ∙ was
 

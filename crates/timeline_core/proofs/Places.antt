@@ -13,7 +13,7 @@ use Rattle.point_core.specs.Named.{same_name, HasDistinctNames}
 use Rattle.timeline_core.specs.Timeline.{Timeline, timeline_of, own_clock, is_named, names_of, own_clocks, has_timeline, timeline_at, context_of, clocks_of, clock_named}
 use Rattle.timeline_core.proofs.Lookups.{position_from-more}
 
--- the first timeline of that name stands at the place
+-- the first timeline of that name is at the place
 abbrev pub IsPlace : List Timeline → List ℕ → ℕ → Type 0
 IsPlace ts name k = position_from (is_named name) 0 ts ≡ Some k
 
@@ -24,7 +24,7 @@ place_before (Some j) k e = (j, refl, omega (arith, same_Some (j + 1) k e))
 module _ (name : List ℕ) (P : List Timeline → ℕ → Type 0)
     (here : (t : Timeline) (ts : List Timeline) → is_named name t ≡ true → P (t ∷ ts) 0)
     (there : (t : Timeline) (ts : List Timeline) (k : ℕ) → is_named name t ≡ false → IsPlace ts name k → P ts k → P (t ∷ ts) (suc k)) where
-  -- what holds of the first of them, and stays as others stand before it
+  -- a property of the first timeline of that name, which timelines before it keep
   pub at_place : (ts : List Timeline) (k : ℕ) → IsPlace ts name k → P ts k
   at_place [] k e = absurd (none-some k e)
   at_place (t ∷ ts) k e = by (at_place ts) (is_named name t) refl
@@ -65,13 +65,13 @@ timeline_at-place ts name k place =
     (λ t us is. ap (λ b. cond b (Some t) (timeline_at us name)) is ∙ ap (λ n. Some (timeline_of n (own_clock t))) (same_text t.name name (sym is)))
     (λ t us j isnt after rest. ap (λ b. cond b (Some t) (timeline_at us name)) isnt ∙ rest) ts k place
 
--- the clocks have that of the timeline of that name
+-- the clock of a timeline's context is the timeline's own
 pub timeline_at-clock_named : (ts : List Timeline) (name : List ℕ) → has_timeline ts name ≡ true → timeline_at ts name ≡ Some (timeline_of name (clock_named ts name))
 timeline_at-clock_named ts name has =
     let k = place_from-has_timeline ts name 0 has in
     timeline_at-place ts name k.0 k.1 ∙ ap (λ clock. Some (timeline_of name clock)) (sym (clock_named-place ts name k.0 k.1))
 
--- a name that is apart from all
+-- a name of no timeline differs from the name at a place
 apart-place : (ts : List Timeline) (name other : List ℕ) (k : ℕ) → IsPlace ts name k → AllByRecursion (λ m. same_name other m ≡ false) (names_of ts) → same_name other name ≡ false
 apart-place ts name other k place =
     at_place name (λ us j. AllByRecursion (λ m. same_name other m ≡ false) (names_of us) → same_name other name ≡ false)
@@ -79,7 +79,7 @@ apart-place ts name other k place =
     (λ t us j isnt after rest apart. rest apart.1)
     ts k place
 
--- if no name comes twice, each timeline stands at the place of its name
+-- if names are distinct, each timeline is at the place of its name
 pub place-of : (ts : List Timeline) (k : ℕ) → k < length ts → HasDistinctNames (λ (t : Timeline). t.name) ts → (name : List ℕ) × IsPlace ts name k
 place-of [] k low distinct = absurd (omega (arith, low))
 place-of (t ∷ ts) zero low distinct = (t.name, ap (λ b. cond b (Some 0) (position_from (is_named t.name) 1 ts)) (nat_list_eq_equiv.refl t.name))
@@ -108,7 +108,7 @@ name-place ts name k place =
     (λ t us j isnt after rest. rest)
     ts k place
 
--- a name that a place has is that of a timeline
+-- there is a timeline of the name that is at a place
 pub has_timeline-name : (ts : List Timeline) (k : ℕ) (name : List ℕ) → option_map (λ (t : Timeline). t.name) (slice_get ts k) ≡ Some name → has_timeline ts name ≡ true
 has_timeline-name [] k name at = absurd (none-some name at)
 has_timeline-name (t ∷ ts) zero name at = rw (← same_Some t.name name at, nat_list_eq_equiv.refl t.name) refl

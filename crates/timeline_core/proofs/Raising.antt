@@ -78,7 +78,7 @@ module _ (tick : Clock → Clock) where
     room = rw (length-changed ts name) kept.room;
   }
 
-  -- what is stored once that clock has changed
+  -- the stored clocks after that change
   changed-stored : {clocks clocks' : List Clock} {ctx : ℕ} (ts : List Timeline) (name : List ℕ) → clocks' ≡ with_clock clocks ctx (tick (clock_at clocks ctx)) → clocks ≡ clocks_of ts → ctx ≡ context_of ts name → AreTimelines ts → has_timeline ts name ≡ true → clocks' ≡ clocks_of (changed tick ts name)
   changed-stored {clocks} {clocks'} {ctx} ts name is before at kept has =
       is ∙ ap (λ cs. with_clock cs ctx (tick (clock_at cs ctx))) before
@@ -100,7 +100,7 @@ clocks_of-raised ts name n kept has = clocks_of-changed (more_by n) ts name kept
 pub clocks_of-shut : (ts : List Timeline) (name : List ℕ) → AreTimelines ts → has_timeline ts name ≡ true → clocks_of (shut ts name) ≡ with_clock (clocks_of ts) (context_of ts name) (closed_clock (clock_named ts name))
 clocks_of-shut ts name kept has = clocks_of-changed closed_clock ts name kept has
 
--- a closed timeline is one that there is
+-- if there is a timeline of that name, it is closed exactly if its clock is
 pub is_closed-open : (ts : List Timeline) (name : List ℕ) → has_timeline ts name ≡ true → is_closed ts name ≡ (clock_named ts name).closed
 is_closed-open ts name has = ap (λ b. b && (clock_named ts name).closed) has
 
@@ -123,7 +123,7 @@ reach_of-raised ts name n kept has still =
     ∙ reach_of_clocks-with (clocks_of ts) (context_of ts name - 1) (more_by n (clock_named ts name))
     ∙ ap (λ b. with_value (reach_of ts) (context_of ts name) (if b then GREATEST else value_of ts name + n)) still
 
--- the increment's point reaches just what the increment does
+-- the reach after an increment is the reach with the increment's point
 pub reaching-raised : (ts : List Timeline) (name : List ℕ) (n ctx value : ℕ) → ctx ≡ context_of ts name → AreTimelines ts → has_timeline ts name ≡ true → (clock_at (clocks_of ts) ctx).closed ≡ false → value ≡ value_of ts name + n → reaching (reach_of ts) (point_of ctx value) ≡ reach_of (raised ts name n)
 reaching-raised ts name n ctx value is kept has still sum =
     let open_clock : (clock_named ts name).closed ≡ false = ap (λ x. (clock_at (clocks_of ts) x).closed) (sym is) ∙ still in
@@ -138,7 +138,7 @@ reach_of-shut ts name kept has =
     ap reach_of_clocks (clocks_of-shut ts name kept has)
     ∙ reach_of_clocks-with (clocks_of ts) (context_of ts name - 1) (closed_clock (clock_named ts name))
 
--- if the value can be at most the greatest, the point of the greatest value is reached by the closing alone
+-- the reach after a closing is the reach with the point of the greatest value
 pub reach_of-shut-reaching : (ts : List Timeline) (name : List ℕ) → AreTimelines ts → has_timeline ts name ≡ true → (clock_named ts name).closed ≡ false → value_of ts name ≤ GREATEST → reach_of (shut ts name) ≡ reaching (reach_of ts) (point_of (context_of ts name) GREATEST)
 reach_of-shut-reaching ts name kept has still low =
     let before = value_at-open ts name still in
@@ -151,11 +151,11 @@ AreTimelines-raised ts name n kept = AreTimelines-changed (more_by n) ts name ke
 pub AreTimelines-shut : (ts : List Timeline) (name : List ℕ) → AreTimelines ts → AreTimelines (shut ts name)
 AreTimelines-shut ts name kept = AreTimelines-changed closed_clock ts name kept
 
--- a value that rises falls nowhere
+-- a reach with a value that rose is at least the reach before
 pub IsAtLeast-reaching : (reach : List ℕ) (ctx value : ℕ) → value_at reach ctx ≤ value → IsAtLeast (with_value reach ctx value) reach
 IsAtLeast-reaching reach ctx value low = record { values = λ other. get_or-set_at_least reach (ctx - 1) value (other - 1) low }
 
--- what is stored once the value has been raised
+-- the stored clocks after the value was raised by n
 pub raised-stored : {clocks clocks' : List Clock} {ctx value : ℕ} (ts : List Timeline) (name : List ℕ) (n : ℕ) → clocks' ≡ with_clock clocks ctx (raised_clock (clock_at clocks ctx) value) → clocks ≡ clocks_of ts → ctx ≡ context_of ts name → value ≡ value_of ts name + n → AreTimelines ts → has_timeline ts name ≡ true → clocks' ≡ clocks_of (raised ts name n)
 raised-stored {clocks} {clocks'} {ctx} {value} ts name n is before at sum kept has =
     let own : clock_at clocks ctx ≡ clock_named ts name = ap (λ cs. clock_at cs ctx) before ∙ ap (clock_at (clocks_of ts)) at in
@@ -163,7 +163,7 @@ raised-stored {clocks} {clocks'} {ctx} {value} ts name n is before at sum kept h
     let highest : max (clock_at clocks ctx).value value ≡ (clock_at clocks ctx).value + n = omega arith in
     changed-stored (more_by n) ts name (is ∙ ap (λ v. with_clock clocks ctx (clock_of v (clock_at clocks ctx).closed)) highest) before at kept has
 
--- the same, of the timeline at a place, by what its value is below another
+-- the stored clocks after the timeline at a place was raised to a value
 pub raised-missing : {clocks clocks' : List Clock} (ctx value : ℕ) (ts : List Timeline) (name : List ℕ) → clocks' ≡ with_clock clocks ctx (raised_clock (clock_at clocks ctx) value) → clocks ≡ clocks_of ts → 1 ≤ ctx → AreTimelines ts → IsPlace ts name (ctx - 1) → clocks' ≡ clocks_of (raised ts name (missing_to ts ctx value))
 raised-missing {clocks} {clocks'} ctx value ts name is before low kept place =
     let n = missing_to ts ctx value in
@@ -173,6 +173,6 @@ raised-missing {clocks} {clocks'} ctx value ts name is before low kept place =
     let highest : max (clock_at clocks ctx).value value ≡ max (clock_at clocks ctx).value (value_of ts name + n) = omega (arith, same, stored) in
     raised-stored {value = value_of ts name + n} ts name n (is ∙ ap (λ v. with_clock clocks ctx (clock_of v (clock_at clocks ctx).closed)) highest) before at refl kept (has_timeline-place ts name (ctx - 1) place)
 
--- what is stored once a timeline has been closed
+-- the stored clocks after the timeline was closed
 pub shut-stored : {clocks clocks' : List Clock} {ctx : ℕ} (ts : List Timeline) (name : List ℕ) → clocks' ≡ with_clock clocks ctx (closed_clock (clock_at clocks ctx)) → clocks ≡ clocks_of ts → ctx ≡ context_of ts name → AreTimelines ts → has_timeline ts name ≡ true → clocks' ≡ clocks_of (shut ts name)
 shut-stored ts name is before at kept has = changed-stored closed_clock ts name is before at kept has

@@ -18,7 +18,7 @@ use Rattle.timeline_core.proofs.Lookups.{has_timeline-names_of}
 use Rattle.timeline_core.proofs.Places.{place-of, name-place, context_of-place, has_timeline-place, timeline_at-clock_named}
 use Rattle.timeline_core.proofs.Raising.{AreTimelines-raised, AreTimelines-shut, is_closed-open, has_timeline-closed}
 
--- a change of the timelines of one name, which keeps names, is none for another name
+-- a change of the timelines of one name, which keeps names, leaves the timelines of another name
 module _ (change : Timeline → Timeline) (keeps : (t : Timeline) → (change t).name ≡ t.name) (name other : List ℕ) (apart : same_name other name ≡ false) where
   passed : (b : Bool) (t : Timeline) (rest before : Option Timeline) → is_named name t ≡ b → rest ≡ before
       → cond (is_named other (if b then change t else t)) (Some (if b then change t else t)) rest ≡ cond (is_named other t) (Some t) before

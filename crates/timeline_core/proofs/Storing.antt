@@ -15,7 +15,7 @@ pub timelines_of-columns : (ts : List Timeline) (zs : List Clock) → timelines_
 timelines_of-columns [] zs = refl
 timelines_of-columns (t ∷ ts) zs = ap (λ us. t ∷ us) (timelines_of-columns ts zs)
 
--- what is stored is seen as the timelines whose names and reach it holds
+-- the view of stored names and clocks is the timelines that have them
 pub timelines_of-stored : {names : List (List ℕ)} {clocks : List Clock} (ts : List Timeline) → names ≡ names_of ts → clocks ≡ clocks_of ts → timelines_of names clocks ≡ ts
 timelines_of-stored {names} {clocks} ts e f =
     ap (λ ns. timelines_of ns clocks) e ∙ ap (timelines_of (names_of ts)) f ∙ timelines_of-columns ts (replicate (CONTEXTS - length ts) new_clock)
@@ -47,7 +47,7 @@ AreTimelines-new ts name low e apart = record {
   room = rw (length-append ts (new_timeline name ∷ [])) (omega arith);
 }
 
--- what is known of the stored fields, said of what they are seen as
+-- the invariant of the stored fields, said of their view
 pub names-seen : {names : List (List ℕ)} {clocks : List Clock} {ts : List Timeline} → AreStored names clocks → timelines_of names clocks ≡ ts → names ≡ names_of ts
 names-seen h seen = h.names_are ∙ ap names_of seen
 
@@ -70,7 +70,7 @@ names-inserted {names} ts name e absent is =
     is ∙ ap (λ b. if b then names else names ++ name ∷ []) (has_timeline-stored ts name e ∙ absent)
     ∙ ap (λ ns. ns ++ name ∷ []) e ∙ sym (map-append (λ (t : Timeline). t.name) ts (new_timeline name ∷ []))
 
--- what a clause says of an `Ok`
+-- the fact of an `OnOk` whose result is `Ok`
 pub on_ok : {T E P : Type 0} (r : Result T E) → true ≡ is_ok r → OnOk r P → P
 on_ok (Ok x) is p = p
 on_ok (Err e) is p = absurd (true≢false is)

@@ -69,18 +69,18 @@ after (Shut name) ts = shut ts name
 after (RaiseTo ctx value) ts = raised_if ts (name_at ts ctx) (missing_to ts ctx value)
 after (Close ctx) ts = shut_if ts (name_at ts ctx)
 
--- what a call leaves, that was accepted or refused
+-- the call was accepted or refused on the old timelines, and left the new ones
 abbrev pub Leaves : Call → Bool → List Timeline → List Timeline → Type 0
 Leaves call true old new = IsAllowed call old × (new ≡ after call old)
 Leaves call false old new = new ≡ old
 
--- a call that was made, whether it was accepted, and the timelines that it left
+-- a call, whether it was accepted, and the timelines after it
 pub record Step : Type 0 where
   pub call : Call
   pub accepted : Bool
   pub left : List Timeline
 
--- each call was made on what the one before it left
+-- each call was made on the timelines that the call before it left
 abbrev pub IsRun : List Timeline → List Step → Type 0
 IsRun old [] = ⊤
 IsRun old (step ∷ steps) = Leaves step.call step.accepted old step.left × IsRun step.left steps
@@ -89,7 +89,7 @@ abbrev pub last_timelines : List Timeline → List Step → List Timeline
 last_timelines old [] = old
 last_timelines old (step ∷ steps) = last_timelines step.left steps
 
--- what an accepted call adds to these timelines
+-- the increments that an accepted call makes on these timelines
 abbrev pub increments_of : Call → List Timeline → List Increment
 increments_of (Create name) ts = []
 increments_of (Inc name n) ts = increment name n ∷ []

@@ -19,7 +19,7 @@ pub record Timeline : Type 0 where
 abbrev pub timeline_of : List ℕ → Clock → Timeline
 timeline_of name clock = record { name = name; value = clock.value; closed = clock.closed }
 
--- its value, and whether it is closed
+-- the timeline's value, and whether it is closed
 abbrev pub own_clock : Timeline → Clock
 own_clock t = clock_of t.value t.closed
 
@@ -51,7 +51,7 @@ timeline_at ts name = named (λ (t : Timeline). t.name) ts name
 abbrev pub context_of : List Timeline → List ℕ → ℕ
 context_of ts name = unwrap_or (position_from (is_named name) 1 ts) 0
 
--- the name of a context that there can be, which are numbered from 1; none if no timeline was made of it
+-- the name of the timeline of that context, a number from 1; none if no timeline was made of it
 abbrev pub name_at : List Timeline → ℕ → Option (List ℕ)
 name_at ts ctx = option_map (λ t. t.name) (slice_get ts (ctx - 1))
 
@@ -63,12 +63,12 @@ clocks_of ts = own_clocks ts ++ replicate (CONTEXTS - length ts) new_clock
 abbrev pub reach_of : List Timeline → List ℕ
 reach_of ts = reach_of_clocks (clocks_of ts)
 
--- The clock of the timeline of that name, of a name that there is. Clauses speak of it only when `has_timeline` holds: of any
--- other name, this would be the clock of context 1.
+-- The clock of the timeline of that name. Clauses speak of it only when `has_timeline` holds: for any other name it is the clock
+-- of context 1.
 abbrev pub clock_named : List Timeline → List ℕ → Clock
 clock_named ts name = clock_at (clocks_of ts) (context_of ts name)
 
--- its value
+-- the value of the timeline of that name
 abbrev pub value_of : List Timeline → List ℕ → ℕ
 value_of ts name = (clock_named ts name).value
 

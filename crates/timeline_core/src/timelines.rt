@@ -162,8 +162,8 @@ impl Timelines {
         Ok(value)
     }
 
-    /// Raises the value of the open timeline of that context to the point, if it is not there yet: what `inc` does with the
-    /// point that `next` gives.
+    /// Raises the value of the open timeline of that context to the point's, unless it is there already. `inc` calls it with
+    /// the point that `next` gives.
     pub fn raise_to(&mut self, point: Point)
         requires made { point.ctx ≤ length self.old }
         requires not_closed { (clock_at (clocks_of self.old) point.ctx).closed ≡ false }
@@ -177,7 +177,7 @@ impl Timelines {
         self.clocks.raise_to(point);
     }
 
-    /// Closes the open timeline of that context: what `shut` does, once `current` has found the name.
+    /// Closes the open timeline of that context. `shut` calls it once `current` has found the name.
     pub fn close(&mut self, ctx: Context)
         requires made { ctx ≤ length self.old }
         requires not_closed { (clock_at (clocks_of self.old) ctx).closed ≡ false }
@@ -189,7 +189,7 @@ impl Timelines {
         self.clocks.close(ctx);
     }
 
-    /// The value of that timeline, which its closing leaves.
+    /// The value of the timeline of that name. A closed timeline keeps its value.
     ///
     /// Fails with `NoEntry`. Takes no memory.
     pub fn value(&self, name: &Name) -> Result<u64, Refusal>
@@ -239,7 +239,7 @@ impl Timelines {
         self.clocks.reach()
     }
 
-    /// The same, by reference.
+    /// Borrows the reach instead of copying it.
     pub fn as_reach(&self) -> &Reach
         ensures value { result.now ≡ reach_of self.now }
         ensures timelines { AreTimelines self.now }
