@@ -1,5 +1,5 @@
 -- The watches that a desk keeps, and those of the world.
-use Rattle.std.proofs.Common.{◌≡◌, ◌≤◌, ℕ, ◌+◌, max, arith, Bool, true, false, not, ◌&&◌, ◌||◌, if◌then◌else◌, refl, sym, ap, ◌∙◌, List, [], length, nat_le, nat_lt, Option, None, Some, option_map, unwrap_or, is_some, Result, Ok, Err, IsOk}
+use Rattle.std.proofs.Common.{◌≡◌, ℕ, Bool, true, false, not, ◌&&◌, ◌||◌, if◌then◌else◌, refl, sym, ap, ◌∙◌, List, [], length, nat_le, nat_lt, Option, None, Some, option_map, unwrap_or, is_some, Result, Ok, Err, IsOk}
 use Rattle.std.specs.Prelude.{MatchOption}
 use Rattle.std.proofs.lemmas.Bool.{false≢true, leb-true, leb-false, lt-ltb, le-ltb}
 use Rattle.std.proofs.lemmas.Slice.Zip.{AllZip-long}
@@ -11,13 +11,11 @@ use Rattle.point_core.specs.declared.entry.Point.{Point}
 use Rattle.point_core.specs.declared.status.Status.{Status}
 use Rattle.point_core.specs.declared.clocks.Clock.{Clock}
 use Rattle.point_core.specs.Status.{is_signalled}
-use Rattle.point_core.specs.Agreement.{point_of}
 use Rattle.point_core.specs.Clocks.{reach_of_clocks, some_cancelled, common_status}
-use Rattle.point_core.specs.Reach.{GREATEST, value_at, with_value, reaching, IsAtLeast}
+use Rattle.point_core.specs.Reach.{IsAtLeast}
 use Rattle.point_core.proofs.Ticking.{is_signalled-of}
 use Rattle.point_core.proofs.Reached.{all_reached-points}
-use Rattle.timeline_core.specs.Timeline.{Timeline, AreTimelines, has_timeline, context_of, clocks_of, reach_of, clock_named, value_of, raised, shut}
-use Rattle.timeline_core.proofs.Raising.{reach_of-raised, reach_of-shut-reaching, value_at-open}
+use Rattle.timeline_core.specs.Timeline.{clocks_of, reach_of, raised, shut}
 use Rattle.syncfile_core.specs.SyncFile.{File}
 use Rattle.syncfile_core.specs.Files.{file_at as sync_file_at}
 use Rattle.fence_core.specs.declared.watches.TheConstants.{WATCHES, WATCHES_EVER}

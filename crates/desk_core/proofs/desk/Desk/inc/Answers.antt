@@ -1,8 +1,7 @@
-use Rattle.std.proofs.Common.{◌≡◌, ◌+◌, refl, sym, ap, ◌∙◌}
+use Rattle.std.proofs.Common.{sym, ap, ◌∙◌}
 use Rattle.point_core.specs.declared.entry.Point.{Point}
 use Rattle.point_core.specs.Agreement.{point_of}
 use Rattle.point_core.specs.Reach.{reaching}
-use Rattle.timeline_core.specs.Timeline.{context_of, value_of, reach_of, raised}
 use Rattle.desk_core.proofs.Doing.{IsDone-inc}
 use Rattle.desk_core.proofs.Inside.{inside-raised}
 use Rattle.desk_core.proofs.Watching.{sure-fired}

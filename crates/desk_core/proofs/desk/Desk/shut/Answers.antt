@@ -1,8 +1,8 @@
-use Rattle.std.proofs.Common.{◌≡◌, max, refl, sym, ap, subst, ◌∙◌, arith}
+use Rattle.std.proofs.Common.{max, sym, ap, subst, ◌∙◌, arith}
 use Rattle.point_core.specs.declared.entry.Point.{Point}
 use Rattle.point_core.specs.Agreement.{point_of}
 use Rattle.point_core.specs.Reach.{GREATEST, value_at, reaching, IsAtLeast}
-use Rattle.timeline_core.specs.Timeline.{context_of, value_of, reach_of, shut}
+use Rattle.timeline_core.specs.Timeline.{reach_of}
 use Rattle.timeline_core.proofs.Raising.{IsAtLeast-reaching}
 use Rattle.desk_core.proofs.Doing.{IsDone-shut}
 use Rattle.desk_core.proofs.Inside.{inside-shut}
