@@ -4,10 +4,10 @@ use command_line::Trace;
 use point_core::Refusal;
 use run_core::{ACCEPTED, FAULT, REFUSED};
 use source_core::Source;
-use trace_events::{Written, events_of_trace};
+use trace_report::{Written, events_of_trace};
 use trace_report::{Form, Outcome, report_trace};
 use trace_script::{Scripted, script_of_trace};
-use track_core::Span;
+use trace_core::Span;
 
 /// What is reported when a text has no event of a fence.
 const NO_EVENTS: &str = "\

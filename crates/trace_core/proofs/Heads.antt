@@ -16,7 +16,7 @@ use Rattle.trace_core.specs.Number.{numeral, number_at, microseconds, time_of, w
 use Rattle.trace_core.specs.Printing.{Spells, AreBlanks, IsDash, IsGroup, AreSomeFlags, AreFlags, IsTime, IsHead}
 use Rattle.trace_core.specs.Runs.{is_blank, is_of}
 use Rattle.trace_core.specs.Steps.{after, after_blanks}
-use Rattle.trace_core.proofs.Reading.{and_parts, and_then-some, map-some, if-some, EndsRun, run-append, drop-run, take-run, run-is, after-text, after-is, numeral-spelt, numeral-is, number-spelt, number-is, blanks-passed, blanks-is, blanks-no_digit, digits-no_blank, all-append, all-take, digits-dark, blanks-no_dark, darks-no_blank}
+use Rattle.trace_core.proofs.OneReading.{and_parts, and_then-some, map-some, if-some, EndsRun, run-append, drop-run, take-run, run-is, after-text, after-is, numeral-spelt, numeral-is, number-spelt, number-is, blanks-passed, blanks-is, blanks-no_digit, digits-no_blank, all-append, all-take, digits-dark, blanks-no_dark, darks-no_blank}
 
 -- ---- the thread
 

@@ -5,5 +5,12 @@ pub mod Lines
 pub mod Numbers
 pub mod Parts
 pub mod Passing
-pub mod Reading
+pub mod OneReading
 pub mod Records
+pub mod Puts
+pub mod Plain
+pub mod Same
+pub mod Numbering
+pub mod Seeing
+pub mod Naming
+pub mod Tracking

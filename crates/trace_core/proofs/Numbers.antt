@@ -15,7 +15,7 @@ use Rattle.std.proofs.lemmas.List.Folds.{length-prefix_len}
 use Rattle.std.proofs.lemmas.List.Sums.{prefix_len_passes}
 use Rattle.trace_core.specs.Number.{is_numeral, numeral, number_at}
 use Rattle.trace_core.specs.Printing.{Spells}
-use Rattle.trace_core.proofs.Reading.{run-all, numeral-spelt}
+use Rattle.trace_core.proofs.OneReading.{run-all, numeral-spelt}
 
 module _ (limit : ℕ) (word : List ℕ) where
   numeral-no : is_numeral limit word ≡ false → None ≡ numeral limit word

@@ -17,7 +17,7 @@ use Rattle.trace_core.specs.Printing.{Spells, IsEvent, IsFields, IsRecord}
 use Rattle.trace_core.specs.Record.{Printed, joined, record_with, record_from, record_of}
 use Rattle.trace_core.specs.Runs.{is_blank, is_of}
 use Rattle.trace_core.specs.Steps.{after, before, without_blanks, after_blanks, here_or, with_first, part_at}
-use Rattle.trace_core.proofs.Reading.{and_parts, and_then-some, map-some, if-some, EndsRun, drop-run, take-run, run-is, after-text, after-is, numeral-spelt, numeral-is, blanks-dropped, blanks-are, blanks-passed, blanks-is}
+use Rattle.trace_core.proofs.OneReading.{and_parts, and_then-some, map-some, if-some, EndsRun, drop-run, take-run, run-is, after-text, after-is, numeral-spelt, numeral-is, blanks-dropped, blanks-are, blanks-passed, blanks-is}
 use Rattle.trace_core.proofs.Heads.{head-printed, head-is}
 
 -- ---- the event

@@ -11,3 +11,17 @@ pub mod Piece
 pub mod Cutting
 pub mod Pieces
 pub mod Printing
+pub mod Keys
+pub mod Life
+pub mod Order
+pub mod Points
+pub mod Finding
+pub mod Tally
+pub mod Lives
+pub mod Contexts
+pub mod Timelines
+pub mod History
+pub mod Names
+pub mod Tracker
+pub mod Window
+pub mod Text

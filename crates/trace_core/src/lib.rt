@@ -1,24 +1,64 @@
-//! The reading of traces: the text that Linux's ftrace gives of its `dma_fence` events, to records.
+//! Traces: the text that Linux's ftrace gives of its `dma_fence` events, and what its records say of fences.
 //!
 //! It reads the text of tracefs (`trace`, `trace_pipe`), of `trace-cmd report` and of `perf script`. What a record is stands
-//! as functions and facts of the bytes (`specs/`).
+//! as functions and facts of the bytes (`specs/`). [`Tracker`] takes the records one by one, and holds what is alive: which
+//! fences were made and never signalled, who waits, and what each timeline did. What each number is stands as a fold over the
+//! events (`specs/History.antt`).
 #![tactic(auto)]
 
+mod contexts;
+mod delays;
 mod event;
 mod fields;
+mod finding;
 mod header;
 mod item;
 pub mod laws;
+mod ledger;
+mod life;
+mod lives;
 mod loss;
+mod names;
 mod number;
+mod order;
 mod piece;
 mod pieces;
+mod points;
+mod reading;
 mod record;
 mod runs;
+mod sighting;
 mod steps;
+mod summary;
+mod tally;
+mod task;
+mod text;
+mod timelines;
+mod tracker;
+mod waits;
+mod window;
 
+pub use contexts::{Context, Contexts, KEPT_CONTEXTS};
+pub use delays::{Delay, Delays};
 pub use event::Event;
+pub use finding::Finding;
 pub use item::{Item, PIECE_BYTES, item_of};
+pub use ledger::{Ledger, Sight};
+pub use life::Life;
+pub use lives::Lives;
+pub use names::Names;
+pub use order::Order;
 pub use piece::{Piece, RECORD_LINES};
 pub use pieces::{Pieces, Progress};
+pub use points::Points;
+pub use reading::read_on;
 pub use record::{Record, record_of};
+pub use sighting::{ContextKey, FenceKey, Sighting, TimelineKey};
+pub use summary::{Clock, Counts, Summary};
+pub use tally::{EventCounts, Tally};
+pub use task::{TASK_BYTES, TaskName};
+pub use text::{push_number, push_seconds};
+pub use timelines::Timelines;
+pub use tracker::{Seen, Tracker};
+pub use waits::{LONGEST_WAITS, Wait, WaitKey, WaitSum, Waits};
+pub use window::{Span, Stage};

@@ -1,1 +1,3 @@
 mod Writing
+mod Adding
+mod Growing

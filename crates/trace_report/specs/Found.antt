@@ -3,9 +3,9 @@ use Rattle.std.specs.Prelude.{Bool, not, ◌&&◌, List, map}
 use Rattle.std.specs.List.{filter}
 use Rattle.std.specs.List.Sorted.{IsPermutation}
 use Rattle.std.specs.Map.{keys_of}
-use Rattle.track_core.specs.declared.ledger.Ledger.{Ledger}
-use Rattle.track_core.specs.declared.sighting.FenceKey.{FenceKey}
-use Rattle.track_core.specs.History.{Step, hangs, is_unnumbered}
+use Rattle.trace_core.specs.declared.ledger.Ledger.{Ledger}
+use Rattle.trace_core.specs.declared.sighting.FenceKey.{FenceKey}
+use Rattle.trace_core.specs.History.{Step, hangs, is_unnumbered}
 use Rattle.trace_report.specs.declared.found.Pending.{Pending}
 
 abbrev pub key_of : Pending → FenceKey

@@ -18,7 +18,7 @@ use point_core::Refusal;
 use std::alloc::{AllocError, Global};
 use std::io::Write;
 use timelines::{write_contexts, write_timelines};
-use track_core::{FenceKey, Tracker};
+use trace_core::{FenceKey, Tracker};
 use waits::write_waits;
 use writing::Document;
 

@@ -3,13 +3,13 @@ ghost use Rattle.std.specs.Prelude.{◌≡◌, List, map, IfOk};
 ghost use Rattle.std.specs.List.{filter};
 ghost use Rattle.std.specs.List.Sorted.{IsPermutation};
 ghost use Rattle.std.specs.Map.{keys_of};
-ghost use Rattle.track_core.specs.History.{Step, IsLedgerOf};
+ghost use Rattle.trace_core.specs.History.{Step, IsLedgerOf};
 ghost use Rattle.trace_report.specs.Found.{AreHangs, is_reported, key_of};
 
 use indexmap::IndexMap;
 use point_core::Refusal;
 use std::alloc::Global;
-use track_core::{FenceKey, Ledger, Life, TimelineKey};
+use trace_core::{FenceKey, Ledger, Life, TimelineKey};
 
 /// A fence that is pending.
 #[derive(Clone, Copy, PartialEq, Eq, PartialOrd, Ord)]

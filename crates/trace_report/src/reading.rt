@@ -2,7 +2,7 @@
 use point_core::Refusal;
 use std::io::Read;
 use trace_core::Pieces;
-use track_core::{Tracker, read_on};
+use trace_core::{Tracker, read_on};
 
 /// Takes in a text to its end.
 ///

@@ -12,7 +12,7 @@ use crate::text::write_text;
 use point_core::Refusal;
 use std::alloc::Global;
 use std::io::{Read, Write};
-use track_core::Tracker;
+use trace_core::Tracker;
 
 /// How a report is written.
 #[derive(Clone, Copy, Debug)]

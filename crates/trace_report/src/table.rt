@@ -3,7 +3,7 @@ use crate::found::{Found, Pending};
 use indexmap::IndexMap;
 use point_core::Refusal;
 use std::alloc::Global;
-use track_core::{TimelineKey, Tracker};
+use trace_core::{TimelineKey, Tracker};
 
 /// What a report is of.
 #[derive(Clone, Copy)]

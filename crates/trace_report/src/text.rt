@@ -7,7 +7,7 @@ use page::{Page, Part};
 use point_core::Refusal;
 use std::alloc::Global;
 use std::io::Write;
-use track_core::{FenceKey, Summary, Tally, TimelineKey, Tracker, Wait};
+use trace_core::{FenceKey, Summary, Tally, TimelineKey, Tracker, Wait};
 
 /// Writes what was read, what hangs, who waits, which rules were broken, and what each timeline did.
 ///

@@ -4,7 +4,7 @@ use Rattle.std.specs.List.{flat_map}
 use Rattle.trace_script.specs.declared.line.Line.{Line}
 use Rattle.trace_script.specs.declared.line.Line.TheVariants as line
 use Rattle.trace_script.specs.declared.part.TheConstants.{NOTED_BYTES}
-use Rattle.track_core.specs.Text.{seconds}
+use Rattle.trace_core.specs.Text.{seconds}
 use Rattle.trace_script.specs.Part.{file_name, noted}
 
 -- what a line says, with the bytes of its names

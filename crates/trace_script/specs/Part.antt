@@ -1,7 +1,7 @@
 -- The parts of a script's lines, as bytes.
 use Rattle.std.specs.Prelude.{ℕ, ◌&&◌, nat_le, if◌then◌else◌, List, ◌∷◌, ◌++◌, take, map, decimal}
 use Rattle.std.specs.List.{flat_map}
-use Rattle.track_core.specs.Text.{seconds}
+use Rattle.trace_core.specs.Text.{seconds}
 use Rattle.trace_script.specs.declared.part.File.{File}
 use Rattle.trace_script.specs.declared.part.Part.{Part}
 use Rattle.trace_script.specs.declared.part.Part.TheVariants as part

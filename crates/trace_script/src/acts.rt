@@ -4,7 +4,7 @@ use indexmap::IndexMap;
 use line_core::SCRIPT_BYTES;
 use point_core::Refusal;
 use std::alloc::Global;
-use track_core::{FenceKey, Ledger, Life, TaskName, Tracker};
+use trace_core::{FenceKey, Ledger, Life, TaskName, Tracker};
 
 /// The bytes of the shortest line of a script that acts.
 const SHORTEST_LINE: usize = 8;

@@ -3,7 +3,7 @@ ghost use Rattle.std.specs.Prelude.{◌≡◌, ◌++◌, OnOk, map, take};
 ghost use Rattle.trace_script.specs.Part.{bytes_of, file_text, noted, text_of};
 
 use std::alloc::AllocError;
-use track_core::{push_number, push_seconds};
+use trace_core::{push_number, push_seconds};
 
 /// The bytes of a name that a note has, so that its line is short enough.
 const NOTED_BYTES: usize = 64;

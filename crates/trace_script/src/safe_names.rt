@@ -2,7 +2,7 @@
 use indexmap::{IndexMap, IndexSet};
 use point_core::Refusal;
 use std::alloc::Global;
-use track_core::{TimelineKey, push_number};
+use trace_core::{TimelineKey, push_number};
 
 /// The bytes that a timeline's name has at most, so that a file's name has room for a context and a seqno after it.
 pub(crate) const SAFE_BYTES: usize = 9;

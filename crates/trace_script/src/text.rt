@@ -13,7 +13,7 @@ use std::alloc::{AllocError, Global};
 use std::io::Read;
 use syncfile_core::FILES;
 use trace_core::{Event, Item, Piece, Pieces};
-use track_core::{Seen, Span, Stage, TaskName, Tracker, read_on};
+use trace_core::{Seen, Span, Stage, TaskName, Tracker, read_on};
 
 /// What a trace gave.
 #[derive(Drop)]

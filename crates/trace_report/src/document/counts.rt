@@ -6,7 +6,7 @@ use crate::document::part::Part;
 use crate::document::writing::Document;
 use crate::found::Found;
 use std::alloc::AllocError;
-use track_core::{Clock, Summary, Tally, Tracker};
+use trace_core::{Clock, Summary, Tally, Tracker};
 
 /// What was read, and what was lost.
 pub(crate) fn add_summary(document: &mut Document, summary: &Summary) -> Result<(), AllocError>

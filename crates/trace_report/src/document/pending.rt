@@ -9,7 +9,7 @@ use crate::document::writing::Document;
 use crate::found::Pending;
 use point_core::Refusal;
 use std::io::Write;
-use track_core::{FenceKey, Tracker, Wait};
+use trace_core::{FenceKey, Tracker, Wait};
 
 /// The member of that name, with the fences.
 pub(crate) fn write_pending<W: Write>(

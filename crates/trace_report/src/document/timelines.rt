@@ -9,7 +9,7 @@ use crate::table::Content;
 use point_core::Refusal;
 use std::alloc::AllocError;
 use std::io::Write;
-use track_core::{Context, ContextKey, Tally, TimelineKey, Tracker};
+use trace_core::{Context, ContextKey, Tally, TimelineKey, Tracker};
 
 /// The member on timelines.
 pub(crate) fn write_timelines<W: Write>(

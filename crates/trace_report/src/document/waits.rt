@@ -8,7 +8,7 @@ use crate::document::writing::Document;
 use point_core::Refusal;
 use std::alloc::AllocError;
 use std::io::Write;
-use track_core::{TimelineKey, Tracker, Wait, WaitSum};
+use trace_core::{TimelineKey, Tracker, Wait, WaitSum};
 
 /// The member on waits.
 pub(crate) fn write_waits<W: Write>(

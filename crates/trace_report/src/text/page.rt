@@ -3,7 +3,7 @@ use point_core::Refusal;
 use report_core::write_whole;
 use std::alloc::{AllocError, Global};
 use std::io::Write;
-use track_core::{push_number, push_seconds};
+use trace_core::{push_number, push_seconds};
 
 /// The bytes that are held at least before they are written.
 const BLOCK_BYTES: usize = 16384;

@@ -1,7 +1,7 @@
 use Rattle.std.proofs.Common.{◌≡◌, List, map, ◌++◌}
 use Rattle.std.specs.List.{filter}
 use Rattle.std.specs.Map.{keys_of}
-use Rattle.track_core.specs.History.{Step, IsLedgerOf}
+use Rattle.trace_core.specs.History.{Step, IsLedgerOf}
 use Rattle.trace_report.specs.Found.{is_reported, key_of}
 use Rattle.trace_report.proofs.found.hangs_of.Given as goal
 

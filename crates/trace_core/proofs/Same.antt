@@ -1,0 +1,38 @@
+-- Keys that compare as the same are equal.
+use Rattle.std.proofs.Common.{◌≡◌, nat_eq, Bool, true, false, ◌&&◌, cond, refl, ap}
+use Rattle.std.proofs.lemmas.Bool.{eqb-true, and_parts}
+use Rattle.trace_core.specs.declared.sighting.ContextKey.{ContextKey}
+use Rattle.trace_core.specs.declared.sighting.FenceKey.{FenceKey}
+use Rattle.trace_core.specs.declared.sighting.TimelineKey.{TimelineKey}
+use Rattle.trace_core.specs.Keys.{same_timeline, same_context, same_key}
+
+pub swap : {X Y : Type 0} (f : X → Y) (b : Bool) (x z : X) (y : Y) → (b ≡ true → x ≡ z) → cond b (f x) y ≡ cond b (f z) y
+swap f true x z y is = ap f (is refl)
+swap f false x z y is = refl
+
+pub same_timeline-is : (a b : TimelineKey) → same_timeline a b ≡ true → a ≡ b
+same_timeline-is a b same =
+    let parts = and_parts (nat_eq a.driver b.driver) (nat_eq a.timeline b.timeline) same in
+    let driver : a.driver ≡ b.driver = eqb-true a.driver b.driver parts.0 in
+    let timeline : a.timeline ≡ b.timeline = eqb-true a.timeline b.timeline parts.1 in
+    λ i. record { driver = driver i; timeline = timeline i }
+
+pub same_context-is : (a b : ContextKey) → same_context a b ≡ true → a ≡ b
+same_context-is a b same =
+    let parts = and_parts (nat_eq a.driver b.driver) (nat_eq a.timeline b.timeline && nat_eq a.context b.context) same in
+    let rest = and_parts (nat_eq a.timeline b.timeline) (nat_eq a.context b.context) parts.1 in
+    let driver : a.driver ≡ b.driver = eqb-true a.driver b.driver parts.0 in
+    let timeline : a.timeline ≡ b.timeline = eqb-true a.timeline b.timeline rest.0 in
+    let context : a.context ≡ b.context = eqb-true a.context b.context rest.1 in
+    λ i. record { driver = driver i; timeline = timeline i; context = context i }
+
+pub same_key-is : (a b : FenceKey) → same_key a b ≡ true → a ≡ b
+same_key-is a b same =
+    let parts = and_parts (nat_eq a.driver b.driver) (nat_eq a.timeline b.timeline && (nat_eq a.context b.context && nat_eq a.seqno b.seqno)) same in
+    let rest = and_parts (nat_eq a.timeline b.timeline) (nat_eq a.context b.context && nat_eq a.seqno b.seqno) parts.1 in
+    let last = and_parts (nat_eq a.context b.context) (nat_eq a.seqno b.seqno) rest.1 in
+    let driver : a.driver ≡ b.driver = eqb-true a.driver b.driver parts.0 in
+    let timeline : a.timeline ≡ b.timeline = eqb-true a.timeline b.timeline rest.0 in
+    let context : a.context ≡ b.context = eqb-true a.context b.context last.0 in
+    let seqno : a.seqno ≡ b.seqno = eqb-true a.seqno b.seqno last.1 in
+    λ i. record { driver = driver i; timeline = timeline i; context = context i; seqno = seqno i }

@@ -1,0 +1,39 @@
+-- What the fences of a context did.
+use Rattle.std.specs.Prelude.{ℕ, Bool, unwrap_or}
+use Rattle.std.specs.Map.{lookup}
+use Rattle.trace_core.specs.declared.contexts.Context.{Context}
+use Rattle.trace_core.specs.declared.contexts.Contexts.{Contexts}
+use Rattle.trace_core.specs.declared.finding.Finding.{Finding}
+use Rattle.trace_core.specs.declared.life.Life.{Life}
+use Rattle.trace_core.specs.declared.points.Points.TheVariants.{None}
+use Rattle.trace_core.specs.declared.sighting.ContextKey.{ContextKey}
+use Rattle.trace_core.specs.declared.sighting.Sighting.{Sighting}
+use Rattle.trace_core.specs.Finding.{finding_of}
+use Rattle.trace_core.specs.Keys.{same_context}
+use Rattle.trace_core.specs.Order.{no_order, order_after}
+use Rattle.trace_core.specs.Points.{points_after}
+use Rattle.trace_core.specs.Tally.{none, tally_after}
+
+-- nothing is known of the context
+abbrev pub no_context : Context
+no_context = record { order = no_order; points = None; tally = none }
+
+-- what the context did
+abbrev pub context_at : Contexts → ContextKey → Context
+context_at contexts key = unwrap_or (lookup (same_context key) contexts.by_key.entries) no_context
+
+-- what an event of one of its fences is, of whose key that was known, for sure or not
+abbrev pub found_of : Sighting → Life → Bool → Context → Finding
+found_of e life sure context = finding_of e.event e.key.seqno life context.points context.order sure
+
+-- with an event of one of its fences, which so many others came before, and of which that was found
+abbrev pub context_after : Sighting → ℕ → Finding → Context → Context
+context_after e at found context = record {
+  order = order_after e.event e.key.seqno at context.order;
+  points = points_after e.key.seqno context.points;
+  tally = tally_after found context.tally;
+}
+
+-- with an event of one of its fences, which so many others came before, and of whose key that was known, for sure or not
+abbrev pub context_seen : Sighting → ℕ → Life → Bool → Context → Context
+context_seen e at life sure context = context_after e at (found_of e life sure context) context

@@ -1,0 +1,143 @@
+// What each context did.
+ghost use Rattle.std.specs.Prelude.{◌≡◌, false, true, if◌then◌else◌, OnOk, IfOk, IfErr, nat_lt, length};
+ghost use Rattle.point_core.specs.declared.refusal.Refusal.TheVariants.{Memory};
+ghost use Rattle.trace_core.specs.declared.sighting.ContextKey.{ContextKey};
+ghost use Rattle.trace_core.specs.Contexts.{context_at, context_after, found_of, no_context};
+ghost use Rattle.trace_core.specs.Keys.{same_context, context_of};
+
+use crate::finding::Finding;
+use crate::life::Life;
+use crate::order::Order;
+use crate::points::Points;
+use crate::sighting::{ContextKey, Sighting};
+use crate::tally::Tally;
+use indexmap::IndexMap;
+use point_core::Refusal;
+use std::alloc::Global;
+
+/// How many contexts are kept, whether their fences are alive or not.
+pub const KEPT_CONTEXTS: usize = 4096;
+
+/// What the fences of a context did.
+#[derive(Clone, Copy, Debug)]
+pub struct Context {
+    pub order: Order,
+    pub points: Points,
+    pub tally: Tally,
+}
+
+impl Context {
+    /// A context of which nothing was seen.
+    pub const NONE: Context = Context {
+        order: Order::NONE,
+        points: Points::None,
+        tally: Tally::NONE,
+    };
+
+    /// Classifies an event, given what is known of its key (certain or only likely).
+    #[inline(always)]
+    fn found(&self, sighting: &Sighting, life: Life, sure: bool) -> Finding
+        ensures { result ≡ found_of sighting.now life sure self.now }
+    {
+        Finding::of(
+            sighting.event,
+            sighting.key.seqno,
+            life,
+            self.points,
+            self.order,
+            sure,
+        )
+    }
+
+    /// Takes in an event of one of its fences, which so many others came before, and of which that was found.
+    #[inline(always)]
+    fn see(&mut self, sighting: &Sighting, at: u64, found: &Finding)
+        ensures { self.new ≡ context_after sighting.now at found.now self.old }
+    {
+        let seqno = sighting.key.seqno;
+        self.order = self.order.after(sighting.event, seqno, at);
+        self.points = self.points.after(seqno);
+        self.tally.count(found);
+    }
+}
+
+/// The contexts, by first sight but for gaps that forgotten ones leave.
+#[derive(Drop)]
+pub struct Contexts {
+    by_key: IndexMap<ContextKey, Context>,
+}
+
+impl Contexts {
+    /// No contexts. It takes no memory.
+    pub fn new(alloc: Global) -> Contexts
+        ensures { (key : ContextKey) → context_at result key ≡ no_context }
+    {
+        Contexts {
+            by_key: IndexMap::new(alloc),
+        }
+    }
+
+    /// What the context did.
+    pub fn context(&self, key: &ContextKey) -> Context
+        ensures { result ≡ context_at self.now key.now }
+    {
+        match self.by_key.get(key) {
+            Some(context) => *context,
+            None => Context::NONE,
+        }
+    }
+
+    /// The contexts with what they did, by first sight but for gaps that forgotten ones leave.
+    pub fn by_key(&self) -> &IndexMap<ContextKey, Context>
+        ensures { result.now ≡ self.now.by_key }
+    {
+        &self.by_key
+    }
+
+    /// Takes in an event, which so many others came before, and of whose key that was known, for sure or not. Gives what it
+    /// is.
+    ///
+    /// Fails only with `Memory`, and then nothing has changed.
+    pub fn see(
+        &mut self,
+        sighting: &Sighting,
+        at: u64,
+        life: Life,
+        sure: bool,
+    ) -> Result<Finding, Refusal>
+        ensures found { IfOk result (λ f.
+            f ≡ found_of sighting.now life sure (context_at self.old (context_of sighting.now.key))) }
+        ensures seen { IfOk result (λ f. (key : ContextKey) → context_at self.new key ≡
+            (if same_context (context_of sighting.now.key) key
+            then context_after sighting.now at f (context_at self.old (context_of sighting.now.key))
+            else context_at self.old key)) }
+        ensures memory { IfErr result (λ e. e ≡ Memory) }
+    {
+        let key = sighting.key.context_key();
+        if let Some(context) = self.by_key.get_mut(&key) {
+            let found = context.found(sighting, life, sure);
+            context.see(sighting, at, &found);
+            return Ok(found);
+        }
+        let mut context = Context::NONE;
+        let found = context.found(sighting, life, sure);
+        context.see(sighting, at, &found);
+        let Ok(_old) = self.by_key.insert(key, context) else {
+            return Err(Refusal::Memory);
+        };
+        Ok(found)
+    }
+
+    /// Whether there are more than are kept.
+    pub fn are_crowded(&self) -> bool {
+        self.by_key.len() > KEPT_CONTEXTS
+    }
+
+    /// Forgets what the context did.
+    pub fn forget(&mut self, key: &ContextKey)
+        ensures forgot { (k : ContextKey) →
+            context_at self.new k ≡ (if same_context key.now k then no_context else context_at self.old k) }
+    {
+        self.by_key.swap_remove(key);
+    }
+}

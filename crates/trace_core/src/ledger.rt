@@ -1,0 +1,195 @@
+// What the events of a trace say of its fences.
+ghost use Rattle.std.specs.Prelude.{◌≡◌, List, [], ◌∷◌, true, false, OnOk, IfOk, IfErr};
+ghost use Rattle.point_core.specs.declared.refusal.Refusal.TheVariants.{Memory};
+ghost use Rattle.trace_core.specs.Contexts.{context_at};
+ghost use Rattle.trace_core.specs.Keys.{context_of};
+ghost use Rattle.trace_core.specs.History.{Step, Seen, Lost, Forgot, IsLedgerOf, events_in, every, found_in, hangs, is_of_timeline, is_past, is_unnumbered, life_in, tally_in};
+ghost use Rattle.trace_core.specs.Lives.{life_at};
+
+use crate::contexts::Contexts;
+use crate::finding::Finding;
+use crate::life::Life;
+use crate::lives::Lives;
+use crate::sighting::{FenceKey, Sighting, TimelineKey};
+use crate::tally::Tally;
+use crate::timelines::Timelines;
+use point_core::Refusal;
+use std::alloc::Global;
+use crate::event::Event;
+
+/// What an event came upon.
+#[derive(Clone, Copy, Debug)]
+pub struct Sight {
+    /// What was known of its key.
+    pub life: Life,
+    /// What it is, by that.
+    pub found: Finding,
+}
+
+/// What the events of a trace say of its fences, context by context and timeline by timeline.
+#[derive(Drop)]
+pub struct Ledger {
+    events: u64,
+    // how many events came before events were lost the last time: of what was made earlier, missing signals prove nothing
+    loss: u64,
+    lives: Lives,
+    contexts: Contexts,
+    timelines: Timelines,
+    total: Tally,
+}
+
+impl Ledger {
+    /// Nothing was seen. It takes no memory.
+    pub fn new(alloc: Global) -> Ledger
+        ensures { IsLedgerOf result [] }
+    {
+        Ledger {
+            events: 0,
+            loss: 0,
+            lives: Lives::new(alloc),
+            contexts: Contexts::new(alloc),
+            timelines: Timelines::new(alloc),
+            total: Tally::NONE,
+        }
+    }
+
+    /// Takes in an event. Gives what it came upon.
+    ///
+    /// Fails only with `Memory`; then it is not to be used further.
+    pub fn see(&mut self, sighting: &Sighting) -> Result<Sight, Refusal>
+        ensures known { IfOk result (λ sight. (steps : List Step) →
+            IsLedgerOf self.old steps → sight.life ≡ life_in steps sighting.now.key) }
+        ensures found { IfOk result (λ sight. (steps : List Step) →
+            IsLedgerOf self.old steps → sight.found ≡ found_in steps sighting.now) }
+        ensures seen { OnOk result ((steps : List Step) →
+            IsLedgerOf self.old steps → IsLedgerOf self.new (Seen sighting.now ∷ steps)) }
+        ensures memory { IfErr result (λ e. e ≡ Memory) }
+    {
+        let life = self.lives.see(sighting, self.events)?;
+        let sure = self.loss <= life.born;
+        let found = self.contexts.see(sighting, self.events, life, sure)?;
+        self.timelines.count(sighting.key.timeline_key(), &found)?;
+        self.total.count(&found);
+        self.events = self.events.saturating_add(1);
+        Ok(Sight { life, found })
+    }
+
+    /// Drops a context from the cache when the cache is over its limit, the context has seen only this key, and no
+    /// fence of the key is alive.
+    pub fn forget(&mut self, sighting: &Sighting, life: Life) -> bool
+        ensures forgot { result ≡ true → (steps : List Step) →
+            IsLedgerOf self.old steps → IsLedgerOf self.new (Forgot sighting.now.key ∷ steps) }
+        ensures kept { result ≡ false → self.new ≡ self.old }
+    {
+        if may_end(sighting.event, life) {
+            return self.forget_past(&sighting.key);
+        }
+        false
+    }
+
+    fn forget_past(&mut self, key: &FenceKey) -> bool
+        ensures forgot { result ≡ true → (steps : List Step) →
+            IsLedgerOf self.old steps → IsLedgerOf self.new (Forgot key.now ∷ steps) }
+        ensures kept { result ≡ false → self.new ≡ self.old }
+    {
+        if self.contexts.are_crowded() && self.is_past(key) {
+            self.contexts.forget(&key.context_key());
+            return true;
+        }
+        false
+    }
+
+    /// Whether no fence of the key is alive, and it is the only one of its context.
+    fn is_past(&self, key: &FenceKey) -> bool
+        ensures past { result ≡ is_past (life_at self.now.lives key.now)
+            (context_at self.now.contexts (context_of key.now)) key.now }
+    {
+        self.lives.life(key).is_over()
+            && self
+                .contexts
+                .context(&key.context_key())
+                .points
+                .is_only(key.seqno)
+    }
+
+    /// What is known of the key.
+    pub fn life(&self, key: &FenceKey) -> Life
+        ensures known { (steps : List Step) → IsLedgerOf self.now steps → result ≡ life_in steps key.now }
+    {
+        self.lives.life(key)
+    }
+
+    /// Whether a fence of the key hangs: one was made or emitted, none was signalled, and no events were lost since.
+    pub fn hangs(&self, key: &FenceKey) -> bool
+        ensures hangs { (steps : List Step) → IsLedgerOf self.now steps → result ≡ hangs steps key.now }
+    {
+        let life = self.lives.life(key);
+        life.is_pending() && self.loss <= life.born
+    }
+
+    /// Whether the key is that of fences to which their driver gives a number when it emits them, and has given none yet.
+    pub fn is_unnumbered(&self, key: &FenceKey) -> bool
+        ensures unnumbered { (steps : List Step) → IsLedgerOf self.now steps → result ≡ is_unnumbered steps key.now }
+    {
+        key.seqno == 0 && self.timeline(&key.timeline_key()).events.emit > 0
+    }
+
+    /// What the timeline did.
+    pub fn timeline(&self, key: &TimelineKey) -> Tally
+        ensures counted { (steps : List Step) → IsLedgerOf self.now steps →
+            result ≡ tally_in (is_of_timeline key.now) steps }
+    {
+        self.timelines.tally(key)
+    }
+
+    /// What all fences did.
+    pub fn total(&self) -> Tally
+        ensures counted { (steps : List Step) → IsLedgerOf self.now steps → result ≡ tally_in every steps }
+    {
+        self.total
+    }
+
+    /// How many events were seen.
+    pub fn events(&self) -> u64
+        ensures counted { (steps : List Step) → IsLedgerOf self.now steps → result ≡ events_in steps }
+    {
+        self.events
+    }
+
+    /// The keys of fences that are alive.
+    pub fn lives(&self) -> &Lives
+        ensures { result.now ≡ self.now.lives }
+    {
+        &self.lives
+    }
+
+    /// The contexts, by first sight.
+    pub fn contexts(&self) -> &Contexts
+        ensures { result.now ≡ self.now.contexts }
+    {
+        &self.contexts
+    }
+
+    /// The timelines, by first sight.
+    pub fn timelines(&self) -> &Timelines
+        ensures { result.now ≡ self.now.timelines }
+    {
+        &self.timelines
+    }
+
+    /// Takes in that events were lost here.
+    pub fn lose(&mut self)
+        ensures lost { (steps : List Step) → IsLedgerOf self.old steps → IsLedgerOf self.new (Lost ∷ steps) }
+    {
+        self.loss = self.events;
+    }
+}
+
+/// Whether the event, before which that was known of its key, may leave no fence of the key alive.
+fn may_end(event: Event, life: Life) -> bool {
+    match event {
+        Event::Destroy => true,
+        Event::Init | Event::Emit | Event::Signaled => false,
+        Event::EnableSignal | Event::WaitStart | Event::WaitEnd => life.is_over(),
+    }
+}

@@ -1,0 +1,138 @@
+// What a text was made of.
+use point_core::Refusal;
+use std::alloc::Global;
+use crate::item::Item;
+use crate::piece::Piece;
+
+/// The most processors that are kept whose buffers started late.
+const LATE_BUFFERS: usize = 4096;
+
+/// How many events the buffer had, how many were written to it, and how many processors there were, as a header says.
+#[derive(Clone, Copy, Debug)]
+pub struct Counts {
+    pub in_buffer: u64,
+    pub written: u64,
+    pub processors: u32,
+}
+
+/// The times of a text's records, in microseconds.
+#[derive(Clone, Copy, Debug)]
+pub struct Clock {
+    pub first: u64,
+    /// The greatest timestamp (not the last one: timestamps may go backwards).
+    pub latest: u64,
+    pub last: u64,
+    /// How often a time was earlier than the one before.
+    pub steps_back: u64,
+}
+
+/// What a text was made of.
+#[derive(Drop)]
+pub struct Summary {
+    pub bytes: u64,
+    pub lines: u64,
+    /// Records of other events.
+    pub others: u64,
+    /// Lines that are no records and no notes.
+    pub unread: u64,
+    /// Records whose timeline's name holds a line feed.
+    pub over_lines: u64,
+    /// Lines that say that events were lost.
+    pub loss_markers: u64,
+    /// How many events they say were lost.
+    pub lost_events: u64,
+    /// Lines that don't say how many.
+    pub unnumbered_losses: u64,
+    pub counts: Option<Counts>,
+    /// Processors of which all earlier events are missing.
+    pub late_buffers: Vec<u32>,
+    pub clock: Option<Clock>,
+}
+
+impl Summary {
+    /// Of no text. It takes no memory.
+    pub fn new(alloc: Global) -> Summary {
+        Summary {
+            bytes: 0,
+            lines: 0,
+            others: 0,
+            unread: 0,
+            over_lines: 0,
+            loss_markers: 0,
+            lost_events: 0,
+            unnumbered_losses: 0,
+            counts: None,
+            late_buffers: Vec::new(alloc),
+            clock: None,
+        }
+    }
+
+    /// Takes in a piece of the text.
+    ///
+    /// Fails only with `Memory`.
+    pub fn take(&mut self, piece: &Piece<'_>) -> Result<(), Refusal> {
+        self.bytes = self.bytes.saturating_add(piece.length as u64);
+        self.lines = self.lines.saturating_add(piece.lines as u64);
+        match piece.item {
+            Item::Event(record) => self.record(record.time, piece.lines > 1),
+            Item::Other => self.others = self.others.saturating_add(1),
+            Item::Unread => self.unread = self.unread.saturating_add(1),
+            Item::Lost { cpu: _, events } => self.lose(events),
+            Item::BufferStarted { cpu } => return self.start_late(cpu),
+            Item::Counts {
+                in_buffer,
+                written,
+                processors,
+            } => {
+                self.counts = Some(Counts {
+                    in_buffer,
+                    written,
+                    processors,
+                });
+            }
+            Item::Note => {}
+        }
+        Ok(())
+    }
+
+    fn record(&mut self, time: u64, over_lines: bool) {
+        if over_lines {
+            self.over_lines = self.over_lines.saturating_add(1);
+        }
+        self.clock = Some(match self.clock {
+            None => Clock {
+                first: time,
+                latest: time,
+                last: time,
+                steps_back: 0,
+            },
+            Some(clock) => Clock {
+                first: clock.first,
+                latest: clock.latest.max(time),
+                last: time,
+                steps_back: if time < clock.last {
+                    clock.steps_back.saturating_add(1)
+                } else {
+                    clock.steps_back
+                },
+            },
+        });
+    }
+
+    fn lose(&mut self, events: Option<u64>) {
+        self.loss_markers = self.loss_markers.saturating_add(1);
+        match events {
+            Some(events) => self.lost_events = self.lost_events.saturating_add(events),
+            None => self.unnumbered_losses = self.unnumbered_losses.saturating_add(1),
+        }
+    }
+
+    fn start_late(&mut self, cpu: u32) -> Result<(), Refusal> {
+        if self.late_buffers.len() < LATE_BUFFERS {
+            let Ok(()) = self.late_buffers.push(cpu) else {
+                return Err(Refusal::Memory);
+            };
+        }
+        Ok(())
+    }
+}

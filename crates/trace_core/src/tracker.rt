@@ -1,0 +1,164 @@
+// A trace, piece by piece.
+ghost use Rattle.std.specs.Prelude.{◌≡◌, List, [], ◌∷◌, IfOk, IfSome, OnOk, Some, None};
+ghost use Rattle.trace_core.specs.Item.{Meaning, meaning_of, Event as EventMeaning};
+ghost use Rattle.trace_core.specs.Record.{printed};
+ghost use Rattle.trace_core.specs.Tracker.{Keeps, Says, Tracks};
+
+use crate::delays::Delays;
+use crate::finding::Finding;
+use crate::ledger::{Ledger, Sight};
+use crate::life::Life;
+use crate::names::Names;
+use crate::sighting::{FenceKey, Sighting, TimelineKey};
+use crate::summary::Summary;
+use crate::task::TaskName;
+use crate::waits::{Wait, Waits};
+use point_core::Refusal;
+use std::alloc::Global;
+use crate::event::Event;
+use crate::item::Item;
+use crate::piece::Piece;
+use crate::record::Record;
+
+/// An event of a fence, as it was taken in.
+#[derive(Clone, Copy, Debug)]
+pub struct Seen {
+    pub sighting: Sighting,
+    /// What was known of its key before it.
+    pub life: Life,
+    /// What it is, by that.
+    pub found: Finding,
+    /// The wait that it ends, where the start of that was seen.
+    pub ended: Option<Wait>,
+}
+
+/// What a trace says, as far as it was read.
+#[derive(Drop)]
+pub struct Tracker {
+    pub summary: Summary,
+    /// The names of drivers and of timelines, by the numbers that keys have.
+    pub drivers: Names,
+    pub timelines: Names,
+    pub ledger: Ledger,
+    pub waits: Waits,
+    pub delays: Delays,
+}
+
+impl Tracker {
+    /// Nothing was read. It takes no memory.
+    pub fn new(alloc: Global) -> Tracker
+        ensures none { Tracks result [] }
+    {
+        Tracker {
+            summary: Summary::new(alloc),
+            drivers: Names::new(alloc),
+            timelines: Names::new(alloc),
+            ledger: Ledger::new(alloc),
+            waits: Waits::new(alloc),
+            delays: Delays::new(alloc),
+        }
+    }
+
+    /// Takes in the next piece of the text. Gives the event that it is a record of, where it is one.
+    ///
+    /// Fails only with `Memory`; then it is not to be used further.
+    pub fn take(&mut self, piece: &Piece<'_>) -> Result<Option<Seen>, Refusal>
+        ensures more { OnOk result ((items : List Meaning) →
+            Tracks self.old items → Tracks self.new (meaning_of piece.now.item ∷ items)) }
+    {
+        self.summary.take(piece)?;
+        match &piece.item {
+            Item::Event(record) => return Ok(Some(self.see(record)?)),
+            Item::Lost { cpu: _, events: _ } | Item::BufferStarted { cpu: _ } => self.ledger.lose(),
+            Item::Other
+            | Item::Unread
+            | Item::Counts {
+                in_buffer: _,
+                written: _,
+                processors: _,
+            }
+            | Item::Note => {}
+        }
+        Ok(None)
+    }
+
+    /// The names of the timeline's driver and of the timeline, each empty if it was not seen.
+    pub fn names(&self, key: &TimelineKey) -> (&[u8], &[u8]) {
+        let driver = self.drivers.name(key.driver).unwrap_or(b"");
+        let timeline = self.timelines.name(key.timeline).unwrap_or(b"");
+        (driver, timeline)
+    }
+
+    /// The latest time of an event, in microseconds, or 0 if there was none.
+    pub fn latest(&self) -> u64 {
+        match self.summary.clock {
+            Some(clock) => clock.latest,
+            None => 0,
+        }
+    }
+
+    fn see(&mut self, event: &Record<'_>) -> Result<Seen, Refusal>
+        ensures seen { OnOk result ((items : List Meaning) →
+            Tracks self.old items → Tracks self.new (EventMeaning (printed event.now) ∷ items)) }
+    {
+        let sighting = self.sighting(event)?;
+        let Sight { life, found } = self.ledger.see(&sighting)?;
+        let ended = self.time(&sighting, life, event.task)?;
+        self.ledger.forget(&sighting, life);
+        Ok(Seen {
+            sighting,
+            life,
+            found,
+            ended,
+        })
+    }
+
+    /// The event, with its names by number.
+    ///
+    /// Fails only with `Memory`.
+    fn sighting(&mut self, event: &Record<'_>) -> Result<Sighting, Refusal>
+        ensures says { IfOk result (λ e. Says self.new.drivers self.new.timelines e (printed event.now)) }
+        ensures drivers { Keeps self.old.drivers self.new.drivers }
+        ensures timelines { Keeps self.old.timelines self.new.timelines }
+        ensures ledger { self.new.ledger ≡ self.old.ledger }
+    {
+        let driver = self.drivers.number(event.driver)?;
+        let timeline = self.timelines.number(event.timeline)?;
+        Ok(Sighting {
+            event: event.event,
+            key: FenceKey {
+                driver,
+                timeline,
+                context: event.context,
+                seqno: event.seqno,
+            },
+            time: event.time,
+            pid: event.pid,
+        })
+    }
+
+    /// What the event says of waits and of times, where that was known of its key. Gives the wait that it ends.
+    fn time(
+        &mut self,
+        sighting: &Sighting,
+        life: Life,
+        task: &[u8],
+    ) -> Result<Option<Wait>, Refusal>
+        ensures drivers { self.new.drivers ≡ self.old.drivers }
+        ensures timelines { self.new.timelines ≡ self.old.timelines }
+        ensures ledger { self.new.ledger ≡ self.old.ledger }
+    {
+        match sighting.event {
+            Event::WaitStart => self.waits.start(sighting, TaskName::new(task))?,
+            Event::WaitEnd => return self.waits.end(sighting, life.is_pending()),
+            Event::Signaled => {
+                if life.pending > 0 {
+                    let delay = sighting.time.saturating_sub(life.since);
+                    self.delays.add(sighting.key.timeline_key(), delay)?;
+                }
+            }
+            Event::Init | Event::Emit | Event::EnableSignal | Event::Destroy => {}
+        }
+        Ok(None)
+    }
+}

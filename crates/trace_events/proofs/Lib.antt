@@ -1,2 +1,0 @@
-mod Adding
-mod Growing

@@ -1,5 +1,0 @@
-use Rattle.trace_events.specs.Page.{Carries}
-use Rattle.trace_events.proofs.chart.Chart.add_each.Given as goal
-
-abbrev pub invariant-loop-fence : goal.invariant-loop-fence
-invariant-loop-fence g l = Carries l.initial.self.page l.self.page (g.W.Write.contents l.initial.writer) (g.W.Write.contents l.writer)

@@ -1,4 +1,0 @@
-use Rattle.trace_events.proofs.chart.Chart.add_rule.Goals as goal
-
-pub returns : goal.returns
-returns c = record { slices = c.in_ok-push.ensures.grown }

@@ -1,5 +1,0 @@
-use Rattle.trace_events.proofs.Growing.{grows-then}
-use Rattle.trace_events.proofs.chart.Chart.see.Goals as goal
-
-pub returns : goal.returns
-returns c = record { slices = grows-then _ _ _ _ _ c.in_ok-add_losses.ensures.slices c.in_ok-add.ensures.slices }

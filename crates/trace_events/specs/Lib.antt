@@ -1,4 +1,0 @@
-pub mod Part
-pub mod Event
-pub mod Slices
-pub mod Page

@@ -1,0 +1,5 @@
+use Rattle.trace_report.specs.EventPage.{Carries}
+use Rattle.trace_report.proofs.events.chart.Chart.add_each.Given as goal
+
+abbrev pub invariant-loop-fence : goal.invariant-loop-fence
+invariant-loop-fence g l = Carries l.initial.self.page l.self.page (g.W.Write.contents l.initial.writer) (g.W.Write.contents l.writer)

@@ -1,0 +1,139 @@
+// Rows, on which no two slices overlap.
+use crate::events::part::Row;
+use indexmap::IndexSet;
+use point_core::Refusal;
+use std::alloc::Global;
+use std::collections::BTreeSet;
+use trace_core::{ContextKey, TimelineKey};
+
+/// The numbers that Linux gives to threads are less than this one, its `PID_MAX_LIMIT`. Processes that stand for drivers have greater
+/// numbers.
+const PIDS: u64 = 4_194_304;
+
+/// Rows that stand for no thread of the kernel have this number or a greater one.
+const ROWS: u64 = 8_388_608;
+
+/// What has rows of its own.
+#[derive(Clone, Copy, PartialEq, Eq, Hash)]
+pub(crate) enum Track {
+    /// A timeline: of its fences those of its first context, and of contexts of one point.
+    Timeline(TimelineKey),
+    /// Another context.
+    Context(ContextKey),
+    /// A thread, whose waits it has.
+    Task(u32),
+}
+
+impl Track {
+    /// Pseudo-pid under which Perfetto groups this driver or task.
+    pub(crate) fn process(&self) -> u64 {
+        match self {
+            Track::Timeline(key) => process_of_driver(key.driver),
+            Track::Context(key) => process_of_driver(key.driver),
+            Track::Task(pid) => u64::from(*pid).min(PIDS),
+        }
+    }
+}
+
+/// The number of the process that stands for a driver.
+pub(crate) fn process_of_driver(driver: u32) -> u64 {
+    u64::from(driver).saturating_add(PIDS + 1)
+}
+
+/// A row, by its track and then by the end of its last slice.
+#[derive(Clone, Copy, PartialEq, Eq, PartialOrd, Ord)]
+struct Used {
+    track: u64,
+    end: u64,
+    thread: u64,
+}
+
+/// The row of a slice, and what is new of it.
+#[derive(Clone, Copy)]
+pub(crate) struct Place {
+    pub(crate) row: Row,
+    /// Whether it is the first slice of the row.
+    pub(crate) is_new: bool,
+    /// The place of its track among all, by first use.
+    pub(crate) track: u64,
+}
+
+/// The rows of each track.
+#[derive(Drop)]
+pub(crate) struct Rows {
+    tracks: IndexSet<Track>,
+    used: BTreeSet<Used>,
+}
+
+impl Rows {
+    /// No rows. It takes no memory.
+    pub(crate) fn new(alloc: Global) -> Rows {
+        Rows {
+            tracks: IndexSet::new(alloc),
+            used: BTreeSet::new(alloc),
+        }
+    }
+
+    /// A row of the track on which each slice ended before this one begins: of several, the one that was left last, and a new
+    /// one if there is none.
+    ///
+    /// Fails only with `Memory`.
+    pub(crate) fn place(&mut self, track: Track, begin: u64, end: u64) -> Result<Place, Refusal> {
+        let Ok((number, is_first)) = self.tracks.insert_full(track) else {
+            return Err(Refusal::Memory);
+        };
+        let number = number as u64;
+        let free = self.take_free(number, begin);
+        let thread = match free {
+            Some(thread) => thread,
+            None => self.next_thread(track, is_first),
+        };
+        self.keep(Used {
+            track: number,
+            end,
+            thread,
+        })?;
+        Ok(Place {
+            row: Row {
+                process: track.process(),
+                thread,
+            },
+            is_new: free.is_none(),
+            track: number,
+        })
+    }
+
+    /// Takes away the row of the track on which a slice ended last before that time. Gives its number.
+    fn take_free(&mut self, track: u64, begin: u64) -> Option<u64> {
+        let row = self.free(track, begin)?;
+        self.used.remove(&row);
+        Some(row.thread)
+    }
+
+    fn free(&self, track: u64, begin: u64) -> Option<Used> {
+        let limit = Used {
+            track,
+            end: begin,
+            thread: 0,
+        };
+        let row = *self.used.range(..limit).next_back()?;
+        if row.track == track { Some(row) } else { None }
+    }
+
+    fn keep(&mut self, row: Used) -> Result<(), Refusal> {
+        match self.used.insert(row) {
+            Ok(_) => Ok(()),
+            Err(_) => Err(Refusal::Memory),
+        }
+    }
+
+    /// The number of the next row: for the first row of a thread that of the thread.
+    fn next_thread(&self, track: Track, is_first: bool) -> u64 {
+        if let Track::Task(pid) = track {
+            if u64::from(pid) < PIDS && is_first {
+                return u64::from(pid);
+            }
+        }
+        ROWS.saturating_add(self.used.len() as u64)
+    }
+}

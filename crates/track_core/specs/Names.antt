@@ -1,7 +1,0 @@
--- Names by number.
-use Rattle.std.specs.Prelude.{ℕ, List, Option, option_map, slice_get}
-use Rattle.track_core.specs.declared.names.Names.{Names}
-
--- the name of that number
-abbrev pub name_at : Names → ℕ → Option (List ℕ)
-name_at names n = option_map (λ name. name.items) (slice_get names.names.keys n)
