@@ -4,10 +4,9 @@ use command_line::Trace;
 use point_core::Refusal;
 use run_core::{ACCEPTED, FAULT, REFUSED};
 use source_core::Source;
-use trace_report::{Written, events_of_trace};
-use trace_report::{Form, Outcome, report_trace};
-use trace_script::{Scripted, script_of_trace};
 use trace_core::Span;
+use trace_report::{Form, Outcome, Written, events_of_trace, report_trace};
+use trace_script::{Scripted, script_of_trace};
 
 /// What is reported when a text has no event of a fence.
 const NO_EVENTS: &str = "\

@@ -14,3 +14,4 @@ pub mod Numbering
 pub mod Seeing
 pub mod Naming
 pub mod Tracking
+pub mod Stepping

@@ -1,13 +1,17 @@
 -- What a tracker keeps, when names are added and an event is seen.
-use Rattle.std.proofs.Common.{◌≡◌, Bool, true, false, refl, sym, subst, List, [], ◌∷◌, Option, None, Some}
+use Rattle.std.proofs.Common.{◌≡◌, Bool, true, false, refl, sym, ap, ◌∙◌, subst, List, [], ◌∷◌, Option, None, Some, arith}
 use Rattle.trace_core.specs.Item.{Meaning, Event}
 use Rattle.trace_core.specs.Record.{Printed}
 use Rattle.trace_core.specs.declared.names.Names.{Names}
 use Rattle.trace_core.specs.declared.sighting.Sighting.{Sighting}
 use Rattle.trace_core.specs.declared.ledger.Ledger.{Ledger}
 use Rattle.trace_core.specs.declared.sighting.FenceKey.{FenceKey}
-use Rattle.trace_core.specs.History.{Step, Seen, Lost, Forgot, IsLedgerOf}
-use Rattle.trace_core.specs.Tracker.{Says, IsStep, AreSteps, Keeps, steps_of, unforgetting}
+use Rattle.trace_core.specs.declared.tracker.Seen.{Seen as SeenEvent}
+use Rattle.trace_core.specs.History.{Step, Seen, Lost, Forgot, IsLedgerOf, events_in, found_in, life_in}
+use Rattle.std.specs.Prelude.{IfSome}
+use Rattle.trace_core.specs.Names.{name_at}
+use Rattle.trace_core.specs.Waits.{IsWaitOf}
+use Rattle.trace_core.specs.Tracker.{AreSeen, IsSeen, Says, IsStep, AreSteps, Keeps, steps_of, unforgetting}
 
 module _ (d e t u : Names) (drivers : Keeps d e) (timelines : Keeps t u) where
   says-kept : (s : Sighting) (r : Printed) → Says d t s r → Says e u s r
@@ -43,16 +47,46 @@ seen d d1 d2 t t1 t2 items s r steps are drivers timelines says d-is t-is =
 pub record IsLedgerLike (l : Ledger) (steps : List Step) : Type 0 where
   pub more : List Step
   pub same : unforgetting more ≡ unforgetting steps
+  pub seen : (given : List (SeenEvent × Printed)) → AreSeen steps given → AreSeen more given
   pub ledger : IsLedgerOf l more
 
 pub maybe : (b : Bool) (l m : Ledger) (key : FenceKey) (steps : List Step) → IsLedgerOf l steps → (b ≡ true → (s : List Step) → IsLedgerOf l s → IsLedgerOf m (Forgot key ∷ s)) → (b ≡ false → m ≡ l) → IsLedgerLike m steps
 maybe true l m key steps h forgot kept = record {
   more = Forgot key ∷ steps;
   same = refl;
+  seen = λ given are. are;
   ledger = forgot refl steps h;
 }
 maybe false l m key steps h forgot kept = record {
   more = steps;
   same = refl;
+  seen = λ given are. are;
   ledger = subst (λ x. IsLedgerOf x steps) (sym (kept refl)) h;
 }
+
+pub is-seen : (earlier : List Step) (given : SeenEvent) → given.life ≡ life_in earlier given.sighting.key → given.found ≡ found_in earlier given.sighting → IfSome given.wait (IsWaitOf given.sighting) → IsSeen earlier given.sighting given
+is-seen earlier given life found wait = record { event = refl; life = life; found = found; wait = wait }
+
+-- the names of the newest event are those of its record
+pub named : (d t : Names) (printed : Printed) (items : List Meaning) (given : SeenEvent) (earlier : List (SeenEvent × Printed)) (steps : List Step) → AreSteps d t (steps_of (Event printed ∷ items)) (unforgetting steps) → AreSeen steps ((given, printed) ∷ earlier) → (name_at d given.sighting.key.driver ≡ Some printed.driver) × (name_at t given.sighting.key.timeline ≡ Some printed.timeline)
+named d t printed items given earlier [] are seen = elim are [ ]
+named d t printed items given earlier (Seen e ∷ steps) are seen = (
+  ap (λ s. name_at d s.key.driver) seen.0.event ∙ are.0.driver,
+  ap (λ s. name_at t s.key.timeline) seen.0.event ∙ are.0.timeline,
+)
+named d t printed items given earlier (Lost ∷ steps) are seen = elim are.0 [ ]
+named d t printed items given earlier (Forgot key ∷ steps) are seen = named d t printed items given earlier steps are seen
+
+-- no event was seen exactly where none was given
+pub none-given : (steps : List Step) (given : List (SeenEvent × Printed)) → AreSeen steps given → events_in steps ≡ 0 → given ≡ []
+none-given [] [] are none = refl
+none-given [] (seen ∷ more) are none = elim are [ ]
+none-given (Seen e ∷ steps) given are none = absurd (omega (arith, none))
+none-given (Lost ∷ steps) given are none = none-given steps given are none
+none-given (Forgot key ∷ steps) given are none = none-given steps given are none
+
+pub none-seen : (steps : List Step) → AreSeen steps [] → events_in steps ≡ 0
+none-seen [] are = refl
+none-seen (Seen e ∷ steps) are = elim are [ ]
+none-seen (Lost ∷ steps) are = none-seen steps are
+none-seen (Forgot key ∷ steps) are = none-seen steps are

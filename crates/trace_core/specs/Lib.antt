@@ -22,6 +22,9 @@ pub mod Contexts
 pub mod Timelines
 pub mod History
 pub mod Names
+pub mod Waits
+pub mod Pending
 pub mod Tracker
 pub mod Window
+pub mod Reading
 pub mod Text

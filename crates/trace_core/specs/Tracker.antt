@@ -1,12 +1,14 @@
 -- What a tracker keeps of the items of a text.
-use Rattle.std.specs.Prelude.{◌≡◌, ℕ, ⊤, List, [], ◌∷◌, Option, None, Some}
+use Rattle.std.specs.Prelude.{◌≡◌, ℕ, ⊤, Bool, true, false, IfSome, List, [], ◌∷◌, map, Option, None, Some}
 use Rattle.trace_core.specs.Item.{Meaning, Event, Other, Unread, Lost as LostEvents, BufferStarted, Counts, Note}
 use Rattle.trace_core.specs.Record.{Printed}
 use Rattle.trace_core.specs.declared.names.Names.{Names}
 use Rattle.trace_core.specs.declared.sighting.Sighting.{Sighting}
+use Rattle.trace_core.specs.declared.tracker.Seen.{Seen as SeenEvent}
 use Rattle.trace_core.specs.declared.tracker.Tracker.{Tracker}
-use Rattle.trace_core.specs.History.{Step, Seen, Lost, Forgot, IsLedgerOf}
+use Rattle.trace_core.specs.History.{Step, Seen, Lost, Forgot, IsLedgerOf, found_in, life_in}
 use Rattle.trace_core.specs.Names.{name_at}
+use Rattle.trace_core.specs.Waits.{IsWaitOf}
 
 -- the event is that of the record, with its names by number
 pub record Says (drivers timelines : Names) (e : Sighting) (r : Printed) : Type 0 where
@@ -55,8 +57,62 @@ AreSteps drivers timelines (said ∷ more) (step ∷ steps) =
 abbrev pub Keeps : Names → Names → Type 0
 Keeps old new = (n : ℕ) (name : List ℕ) → name_at old n ≡ Some name → name_at new n ≡ Some name
 
--- the ledger is that of the items' events and losses, each once and in order
-pub record Tracks (t : Tracker) (items : List Meaning) : Type 0 where
+-- what is given of an event: what was known of its key before it, what it is by that, and a wait of its task for its fence
+pub record IsSeen (earlier : List Step) (e : Sighting) (seen : SeenEvent) : Type 0 where
+  pub event : seen.sighting ≡ e
+  pub life : seen.life ≡ life_in earlier e.key
+  pub found : seen.found ≡ found_in earlier e
+  pub wait : IfSome seen.wait (IsWaitOf e)
+
+-- what was given of the events, each with its record; the newest first in both
+abbrev pub AreSeen : List Step → List (SeenEvent × Printed) → Type 0
+AreSeen [] [] = ⊤
+AreSeen [] (seen ∷ more) = ⊥
+AreSeen (Seen e ∷ earlier) [] = ⊥
+AreSeen (Seen e ∷ earlier) (seen ∷ more) = IsSeen earlier e seen.0 × AreSeen earlier more
+AreSeen (Lost ∷ earlier) seen = AreSeen earlier seen
+AreSeen (Forgot key ∷ earlier) seen = AreSeen earlier seen
+
+-- whether an item is the record of an event
+abbrev pub is_event : Meaning → Bool
+is_event (Event r) = true
+is_event (LostEvents cpu events) = false
+is_event (BufferStarted cpu) = false
+is_event Other = false
+is_event Unread = false
+is_event (Counts held written processors) = false
+is_event Note = false
+
+-- what is given of an item, with its record
+abbrev pub given : Option SeenEvent → Meaning → List (SeenEvent × Printed)
+given None item = []
+given (Some seen) (Event r) = (seen, r) ∷ []
+given (Some seen) (LostEvents cpu events) = []
+given (Some seen) (BufferStarted cpu) = []
+given (Some seen) Other = []
+given (Some seen) Unread = []
+given (Some seen) (Counts held written processors) = []
+given (Some seen) Note = []
+
+-- the records among the items
+abbrev pub records_in : List Meaning → List Printed
+records_in [] = []
+records_in (Event r ∷ items) = r ∷ records_in items
+records_in (LostEvents cpu events ∷ items) = records_in items
+records_in (BufferStarted cpu ∷ items) = records_in items
+records_in (Other ∷ items) = records_in items
+records_in (Unread ∷ items) = records_in items
+records_in (Counts held written processors ∷ items) = records_in items
+records_in (Note ∷ items) = records_in items
+
+-- The steps are the items' events and losses, each once and in order, and this was given of each event. The newest come first.
+pub record Saw (drivers timelines : Names) (items : List Meaning) (seen : List (SeenEvent × Printed)) (steps : List Step) : Type 0 where
+  pub are : AreSteps drivers timelines (steps_of items) (unforgetting steps)
+  pub seen_are : AreSeen steps seen
+  pub records : records_in items ≡ map (λ s. s.1) seen
+
+-- the ledger is that of the items' events and losses, and this was given of the events
+pub record Tracks (t : Tracker) (items : List Meaning) (seen : List (SeenEvent × Printed)) : Type 0 where
   pub steps : List Step
-  pub are : AreSteps t.drivers t.timelines (steps_of items) (unforgetting steps)
+  pub saw : Saw t.drivers t.timelines items seen steps
   pub ledger : IsLedgerOf t.ledger steps

@@ -1,5 +1,5 @@
 -- A window of a trace's time.
-use Rattle.std.specs.Prelude.{ℕ, nat_lt, if◌then◌else◌}
+use Rattle.std.specs.Prelude.{ℕ, Bool, true, false, nat_lt, if◌then◌else◌}
 use Rattle.trace_core.specs.declared.window.Span.{Span}
 use Rattle.trace_core.specs.declared.window.Stage.{Stage}
 use Rattle.trace_core.specs.declared.window.Stage.TheVariants.{Before, Within, After}
@@ -13,3 +13,8 @@ unfoldable pub stage_after : Span → ℕ → Stage → Stage
 stage_after span time Before = if nat_lt time span.from then Before else within span time
 stage_after span time Within = within span time
 stage_after span time After = After
+
+abbrev pub is_over : Stage → Bool
+is_over Before = false
+is_over Within = false
+is_over After = true

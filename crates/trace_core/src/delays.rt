@@ -1,4 +1,7 @@
 // How long fences took from making or emitting to signalling.
+ghost use Rattle.std.specs.Prelude.{◌≡◌, IfErr};
+ghost use Rattle.point_core.specs.declared.refusal.Refusal.TheVariants.{Memory};
+
 use crate::sighting::TimelineKey;
 use indexmap::IndexMap;
 use point_core::Refusal;
@@ -57,7 +60,9 @@ impl Delays {
     /// Counts a time.
     ///
     /// Fails only with `Memory`.
-    pub fn add(&mut self, timeline: TimelineKey, time: u64) -> Result<(), Refusal> {
+    pub fn add(&mut self, timeline: TimelineKey, time: u64) -> Result<(), Refusal>
+        ensures memory { IfErr result (λ e. e ≡ Memory) }
+    {
         let key = StepKey {
             timeline,
             step: step_of(time),
@@ -70,7 +75,9 @@ impl Delays {
         self.lengthen(timeline, time)
     }
 
-    fn lengthen(&mut self, timeline: TimelineKey, time: u64) -> Result<(), Refusal> {
+    fn lengthen(&mut self, timeline: TimelineKey, time: u64) -> Result<(), Refusal>
+        ensures memory { IfErr result (λ e. e ≡ Memory) }
+    {
         if let Some(span) = self.spans.get_mut(&timeline) {
             span.count = span.count.saturating_add(1);
             span.longest = span.longest.max(time);

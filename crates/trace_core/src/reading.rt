@@ -1,21 +1,181 @@
-// A trace from a reader.
+// A window of a trace, from a reader.
+ghost use Rattle.std.specs.Prelude.{◌≡◌, ◌⊎◌, [], List, ℕ, Option, IfOk, IfErr};
+ghost use Rattle.point_core.specs.declared.refusal.Refusal.TheVariants.{Read as ReadFault, Memory};
+ghost use Rattle.trace_core.specs.Item.{Meaning, meaning_of};
 ghost use Rattle.trace_core.specs.Pieces.{IsWaiting};
+ghost use Rattle.trace_core.specs.Record.{Printed};
+ghost use Rattle.trace_core.specs.Reading.{GoesOn, HasRead, event_at, is_end, loss_of, next_of, stage_with};
+ghost use Rattle.trace_core.specs.Tracker.{Tracks};
 
+use crate::tracker::{Seen, Tracker};
+use crate::window::{Span, Stage};
 use point_core::Refusal;
 use std::io::Read;
+use crate::item::Item;
 use crate::pieces::{Pieces, Progress};
 
-/// Reads more of a text after `next` of its pieces gave none. Gives false at the end of the text.
-///
-/// Fails with `Read` if the reader fails.
-pub fn read_on<R: Read>(pieces: &mut Pieces, reader: &mut R) -> Result<bool, Refusal>
-    requires waiting { IsWaiting pieces.old }
-{
-    if pieces.is_whole() {
-        return Ok(false);
+/// What a reading came upon.
+#[derive(Clone, Copy, Debug)]
+pub enum Next {
+    /// The window begins: what comes next is its first event, or its end.
+    Begin,
+    /// A line says that events were lost here, and how many where that is known.
+    Lost(Option<u64>),
+    /// A line says that of a processor all events before it are missing.
+    StartedLate,
+    /// An event before the window.
+    Before(Seen),
+    /// An event of the window.
+    Within(Seen),
+    /// Another line, or more of the text.
+    Other,
+    /// The end of the window, or of the text.
+    End,
+}
+
+impl Next {
+    /// Whether nothing comes after it.
+    pub fn is_end(&self) -> bool
+        ensures { result ≡ is_end self.now }
+    {
+        matches!(self, Next::End)
     }
-    match pieces.read(reader) {
-        Progress::More | Progress::Whole => Ok(true),
-        Progress::Failed => Err(Refusal::Read),
+}
+
+/// A trace from a reader, up to the end of a window. Each step takes in one piece, or reads once.
+///
+/// `next` gives `Begin` once, before the first event of the window and before `End`.
+#[derive(Drop)]
+pub struct Reading {
+    pieces: Pieces,
+    span: Span,
+    stage: Stage,
+    // whether `Begin` was given
+    has_begun: bool,
+}
+
+impl Reading {
+    /// Nothing was read. It takes no memory.
+    pub fn new(span: Span) -> Reading
+        ensures none { (now : Option (List ℕ)) → (tracker : Tracker) →
+            Tracks tracker [] [] → HasRead span result tracker now now [] [] }
+    {
+        Reading {
+            pieces: Pieces::new(),
+            span,
+            stage: Stage::Before,
+            has_begun: false,
+        }
+    }
+
+    /// Goes on to the next piece of the text, which the tracker takes in, or reads more.
+    ///
+    /// After a refusal neither is to be used further.
+    pub fn next<R: Read>(
+        &mut self,
+        tracker: &mut Tracker,
+        reader: &mut R,
+    ) -> Result<Next, Refusal>
+        ensures more { IfOk result (λ next. (span : Span) → (before : Option (List ℕ)) →
+            (items : List Meaning) → (seen : List (Seen × Printed)) →
+            HasRead span self.old tracker.old before (R.remaining reader.old) items seen →
+            GoesOn span self.new tracker.new before (R.remaining reader.new) items seen next) }
+        ensures refusals { IfErr result (λ e. (e ≡ ReadFault) ⊎ (e ≡ Memory)) }
+    {
+        let Some(piece) = self.pieces.next() else {
+            return self.read_on(reader);
+        };
+        let stage = stage_with(self.stage, self.span, &piece.item);
+        if stage != Stage::Before && !self.has_begun {
+            self.has_begun = true;
+            return Ok(Next::Begin);
+        }
+        if stage.is_over() {
+            return Ok(Next::End);
+        }
+        let seen = tracker.take(&piece)?;
+        let next = next_of(stage, seen, &piece.item);
+        let length = piece.length;
+        self.stage = stage;
+        self.pieces.pass(length);
+        Ok(next)
+    }
+
+    /// Reads once, or ends with the text.
+    fn read_on<R: Read>(&mut self, reader: &mut R) -> Result<Next, Refusal>
+        requires waiting { IsWaiting self.old.pieces }
+        ensures more { IfOk result (λ next. (span : Span) → (t : Tracker) → (before : Option (List ℕ)) →
+            (items : List Meaning) → (seen : List (Seen × Printed)) →
+            HasRead span self.old t before (R.remaining reader.old) items seen →
+            GoesOn span self.new t before (R.remaining reader.new) items seen next) }
+        ensures refusals { IfErr result (λ e. (e ≡ ReadFault) ⊎ (e ≡ Memory)) }
+    {
+        if !self.pieces.is_whole() {
+            return match self.pieces.read(reader) {
+                Progress::More | Progress::Whole => Ok(Next::Other),
+                Progress::Failed => Err(Refusal::Read),
+            };
+        }
+        if !self.has_begun {
+            self.has_begun = true;
+            return Ok(Next::Begin);
+        }
+        Ok(Next::End)
+    }
+}
+
+/// Where a reading is after the item.
+fn stage_with(stage: Stage, span: Span, item: &Item<'_>) -> Stage
+    ensures { result ≡ stage_with stage span (meaning_of item.now) }
+{
+    match item {
+        Item::Event(record) => stage.after(span, record.time),
+        Item::Other
+        | Item::Unread
+        | Item::Lost { cpu: _, events: _ }
+        | Item::BufferStarted { cpu: _ }
+        | Item::Counts {
+            in_buffer: _,
+            written: _,
+            processors: _,
+        }
+        | Item::Note => stage,
+    }
+}
+
+/// What is given of an item, at the stage after it.
+fn next_of(stage: Stage, seen: Option<Seen>, item: &Item<'_>) -> Next
+    ensures { result ≡ next_of stage seen (meaning_of item.now) }
+{
+    match seen {
+        Some(seen) => event_at(stage, seen),
+        None => loss_of(item),
+    }
+}
+
+fn event_at(stage: Stage, seen: Seen) -> Next
+    ensures { result ≡ event_at stage seen }
+{
+    match stage {
+        Stage::Before => Next::Before(seen),
+        Stage::Within | Stage::After => Next::Within(seen),
+    }
+}
+
+fn loss_of(item: &Item<'_>) -> Next
+    ensures { result ≡ loss_of (meaning_of item.now) }
+{
+    match item {
+        Item::Lost { cpu: _, events } => Next::Lost(*events),
+        Item::BufferStarted { cpu: _ } => Next::StartedLate,
+        Item::Event(_)
+        | Item::Other
+        | Item::Unread
+        | Item::Counts {
+            in_buffer: _,
+            written: _,
+            processors: _,
+        }
+        | Item::Note => Next::Other,
     }
 }

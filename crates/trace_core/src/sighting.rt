@@ -20,7 +20,7 @@ pub struct ContextKey {
 }
 
 /// What names a fence in a trace: its context and the lower 32 bits of its seqno. A trace may use a key again.
-#[derive(Clone, Copy, Debug, PartialEq, Eq, Hash)]
+#[derive(Clone, Copy, Debug, PartialEq, Eq, Hash, PartialOrd, Ord)]
 pub struct FenceKey {
     pub driver: u32,
     pub timeline: u32,

@@ -1,4 +1,7 @@
 // What a text was made of.
+ghost use Rattle.std.specs.Prelude.{◌≡◌, IfErr};
+ghost use Rattle.point_core.specs.declared.refusal.Refusal.TheVariants.{Memory};
+
 use point_core::Refusal;
 use std::alloc::Global;
 use crate::item::Item;
@@ -70,7 +73,9 @@ impl Summary {
     /// Takes in a piece of the text.
     ///
     /// Fails only with `Memory`.
-    pub fn take(&mut self, piece: &Piece<'_>) -> Result<(), Refusal> {
+    pub fn take(&mut self, piece: &Piece<'_>) -> Result<(), Refusal>
+        ensures memory { IfErr result (λ e. e ≡ Memory) }
+    {
         self.bytes = self.bytes.saturating_add(piece.length as u64);
         self.lines = self.lines.saturating_add(piece.lines as u64);
         match piece.item {
@@ -127,7 +132,9 @@ impl Summary {
         }
     }
 
-    fn start_late(&mut self, cpu: u32) -> Result<(), Refusal> {
+    fn start_late(&mut self, cpu: u32) -> Result<(), Refusal>
+        ensures memory { IfErr result (λ e. e ≡ Memory) }
+    {
         if self.late_buffers.len() < LATE_BUFFERS {
             let Ok(()) = self.late_buffers.push(cpu) else {
                 return Err(Refusal::Memory);

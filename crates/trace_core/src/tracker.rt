@@ -1,8 +1,11 @@
 // A trace, piece by piece.
-ghost use Rattle.std.specs.Prelude.{◌≡◌, List, [], ◌∷◌, IfOk, IfSome, OnOk, Some, None};
+ghost use Rattle.std.specs.Prelude.{◌≡◌, List, [], ◌∷◌, ◌++◌, is_some, IfOk, IfErr, IfSome};
+ghost use Rattle.point_core.specs.declared.refusal.Refusal.TheVariants.{Memory};
 ghost use Rattle.trace_core.specs.Item.{Meaning, meaning_of, Event as EventMeaning};
-ghost use Rattle.trace_core.specs.Record.{printed};
-ghost use Rattle.trace_core.specs.Tracker.{Keeps, Says, Tracks};
+ghost use Rattle.trace_core.specs.Record.{Printed, printed};
+ghost use Rattle.trace_core.specs.Names.{name_or_none};
+ghost use Rattle.trace_core.specs.Tracker.{Keeps, Says, Tracks, given, is_event};
+ghost use Rattle.trace_core.specs.Waits.{IsWaitOf};
 
 use crate::delays::Delays;
 use crate::finding::Finding;
@@ -28,8 +31,8 @@ pub struct Seen {
     pub life: Life,
     /// What it is, by that.
     pub found: Finding,
-    /// The wait that it ends, where the start of that was seen.
-    pub ended: Option<Wait>,
+    /// The wait that it begins, or the one that it ends, where the start of that was seen.
+    pub wait: Option<Wait>,
 }
 
 /// What a trace says, as far as it was read.
@@ -47,7 +50,7 @@ pub struct Tracker {
 impl Tracker {
     /// Nothing was read. It takes no memory.
     pub fn new(alloc: Global) -> Tracker
-        ensures none { Tracks result [] }
+        ensures none { Tracks result [] [] }
     {
         Tracker {
             summary: Summary::new(alloc),
@@ -61,10 +64,13 @@ impl Tracker {
 
     /// Takes in the next piece of the text. Gives the event that it is a record of, where it is one.
     ///
-    /// Fails only with `Memory`; then it is not to be used further.
+    /// After `Memory` it is not to be used further.
     pub fn take(&mut self, piece: &Piece<'_>) -> Result<Option<Seen>, Refusal>
-        ensures more { OnOk result ((items : List Meaning) →
-            Tracks self.old items → Tracks self.new (meaning_of piece.now.item ∷ items)) }
+        ensures more { IfOk result (λ seen. (items : List Meaning) → (earlier : List (Seen × Printed)) →
+            Tracks self.old items earlier → Tracks self.new (meaning_of piece.now.item ∷ items)
+                (given seen (meaning_of piece.now.item) ++ earlier)) }
+        ensures events { IfOk result (λ seen. is_some seen ≡ is_event (meaning_of piece.now.item)) }
+        ensures memory { IfErr result (λ e. e ≡ Memory) }
     {
         self.summary.take(piece)?;
         match &piece.item {
@@ -83,7 +89,10 @@ impl Tracker {
     }
 
     /// The names of the timeline's driver and of the timeline, each empty if it was not seen.
-    pub fn names(&self, key: &TimelineKey) -> (&[u8], &[u8]) {
+    pub fn names(&self, key: &TimelineKey) -> (&[u8], &[u8])
+        ensures driver { result.0.now ≡ name_or_none self.now.drivers key.now.driver }
+        ensures timeline { result.1.now ≡ name_or_none self.now.timelines key.now.timeline }
+    {
         let driver = self.drivers.name(key.driver).unwrap_or(b"");
         let timeline = self.timelines.name(key.timeline).unwrap_or(b"");
         (driver, timeline)
@@ -98,29 +107,30 @@ impl Tracker {
     }
 
     fn see(&mut self, event: &Record<'_>) -> Result<Seen, Refusal>
-        ensures seen { OnOk result ((items : List Meaning) →
-            Tracks self.old items → Tracks self.new (EventMeaning (printed event.now) ∷ items)) }
+        ensures seen { IfOk result (λ seen. (items : List Meaning) → (earlier : List (Seen × Printed)) →
+            Tracks self.old items earlier → Tracks self.new (EventMeaning (printed event.now) ∷ items)
+                ((seen, printed event.now) ∷ earlier)) }
+        ensures memory { IfErr result (λ e. e ≡ Memory) }
     {
         let sighting = self.sighting(event)?;
         let Sight { life, found } = self.ledger.see(&sighting)?;
-        let ended = self.time(&sighting, life, event.task)?;
+        let wait = self.time(&sighting, life, event.task)?;
         self.ledger.forget(&sighting, life);
         Ok(Seen {
             sighting,
             life,
             found,
-            ended,
+            wait,
         })
     }
 
     /// The event, with its names by number.
-    ///
-    /// Fails only with `Memory`.
     fn sighting(&mut self, event: &Record<'_>) -> Result<Sighting, Refusal>
         ensures says { IfOk result (λ e. Says self.new.drivers self.new.timelines e (printed event.now)) }
         ensures drivers { Keeps self.old.drivers self.new.drivers }
         ensures timelines { Keeps self.old.timelines self.new.timelines }
         ensures ledger { self.new.ledger ≡ self.old.ledger }
+        ensures memory { IfErr result (λ e. e ≡ Memory) }
     {
         let driver = self.drivers.number(event.driver)?;
         let timeline = self.timelines.number(event.timeline)?;
@@ -137,7 +147,7 @@ impl Tracker {
         })
     }
 
-    /// What the event says of waits and of times, where that was known of its key. Gives the wait that it ends.
+    /// What the event says of waits and of times, where that was known of its key. Gives the wait that it begins or ends.
     fn time(
         &mut self,
         sighting: &Sighting,
@@ -147,9 +157,11 @@ impl Tracker {
         ensures drivers { self.new.drivers ≡ self.old.drivers }
         ensures timelines { self.new.timelines ≡ self.old.timelines }
         ensures ledger { self.new.ledger ≡ self.old.ledger }
+        ensures wait { IfOk result (λ wait. IfSome wait (IsWaitOf sighting.now)) }
+        ensures memory { IfErr result (λ e. e ≡ Memory) }
     {
         match sighting.event {
-            Event::WaitStart => self.waits.start(sighting, TaskName::new(task))?,
+            Event::WaitStart => return Ok(Some(self.waits.start(sighting, TaskName::new(task))?)),
             Event::WaitEnd => return self.waits.end(sighting, life.is_pending()),
             Event::Signaled => {
                 if life.pending > 0 {

@@ -1,4 +1,8 @@
 // Waits for fences.
+ghost use Rattle.std.specs.Prelude.{◌≡◌, IfOk, IfErr, IfSome};
+ghost use Rattle.point_core.specs.declared.refusal.Refusal.TheVariants.{Memory};
+ghost use Rattle.trace_core.specs.Waits.{IsWaitOf};
+
 use crate::sighting::{FenceKey, Sighting, TimelineKey};
 use crate::task::TaskName;
 use indexmap::IndexMap;
@@ -107,10 +111,11 @@ impl Waits {
         self.unsignalled
     }
 
-    /// A wait begins.
-    ///
-    /// Fails only with `Memory`.
-    pub fn start(&mut self, sighting: &Sighting, task: TaskName) -> Result<(), Refusal> {
+    /// A wait begins. Gives the wait.
+    pub fn start(&mut self, sighting: &Sighting, task: TaskName) -> Result<Wait, Refusal>
+        ensures begun { IfOk result (IsWaitOf sighting.now) }
+        ensures memory { IfErr result (λ e. e ≡ Memory) }
+    {
         let wait = Wait {
             pid: sighting.pid,
             task,
@@ -122,23 +127,29 @@ impl Waits {
         let Ok(_none) = self.open.insert(key, wait) else {
             return Err(Refusal::Memory);
         };
-        Ok(())
+        Ok(wait)
     }
 
     /// A wait ends, of a fence that is pending or not. Gives the wait, where its start was seen.
-    ///
-    /// Fails only with `Memory`.
-    pub fn end(&mut self, sighting: &Sighting, is_pending: bool) -> Result<Option<Wait>, Refusal> {
+    pub fn end(&mut self, sighting: &Sighting, is_pending: bool) -> Result<Option<Wait>, Refusal>
+        ensures ended { IfOk result (λ wait. IfSome wait (IsWaitOf sighting.now)) }
+        ensures memory { IfErr result (λ e. e ≡ Memory) }
+    {
         let next = self.next_key(sighting);
         let last = WaitKey {
             nth: next.nth.saturating_sub(1),
             ..next
         };
-        let Some(mut wait) = self.open.shift_remove(&last) else {
+        let Some(started) = self.open.shift_remove(&last) else {
             self.without_start = self.without_start.saturating_add(1);
             return Ok(None);
         };
-        wait.length = sighting.time.saturating_sub(wait.start);
+        let wait = Wait {
+            pid: sighting.pid,
+            key: sighting.key,
+            length: sighting.time.saturating_sub(started.start),
+            ..started
+        };
         if is_pending {
             self.unsignalled = self.unsignalled.saturating_add(1);
         }
@@ -148,7 +159,9 @@ impl Waits {
         Ok(Some(wait))
     }
 
-    fn add(&mut self, key: TimelineKey, length: u64) -> Result<(), Refusal> {
+    fn add(&mut self, key: TimelineKey, length: u64) -> Result<(), Refusal>
+        ensures memory { IfErr result (λ e. e ≡ Memory) }
+    {
         let sum = match self.by_timeline.get(&key) {
             Some(sum) => *sum,
             None => WaitSum::NONE,
@@ -176,7 +189,9 @@ impl Waits {
     }
 
     /// Inserts the wait into the top-N if it qualifies.
-    fn keep_longest(&mut self, wait: Wait) -> Result<(), Refusal> {
+    fn keep_longest(&mut self, wait: Wait) -> Result<(), Refusal>
+        ensures memory { IfErr result (λ e. e ≡ Memory) }
+    {
         let mut place = self.longest.len();
         for (index, other) in self.longest.as_slice().iter().enumerate() {
             if other.length < wait.length {

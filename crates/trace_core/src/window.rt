@@ -1,6 +1,6 @@
 // A window of time.
 ghost use Rattle.std.specs.Prelude.{◌≡◌, ◌≤◌, IfSome};
-ghost use Rattle.trace_core.specs.Window.{stage_after, within};
+ghost use Rattle.trace_core.specs.Window.{is_over, stage_after, within};
 
 /// A window of a trace's time, in microseconds, both ends within.
 #[derive(Clone, Copy, Debug)]
@@ -104,6 +104,13 @@ impl Stage {
             Stage::Within => within(span, time),
             Stage::After => Stage::After,
         }
+    }
+
+    /// Whether the window is over.
+    pub(crate) fn is_over(self) -> bool
+        ensures { result ≡ is_over self }
+    {
+        matches!(self, Stage::After)
     }
 }
 

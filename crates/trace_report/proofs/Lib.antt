@@ -1,3 +1,6 @@
 mod Writing
+mod Finding
 mod Adding
 mod Growing
+mod Showing
+mod Ordering

@@ -1,21 +1,39 @@
 -- The fences that hang at the end of a trace.
-use Rattle.std.specs.Prelude.{Bool, not, ◌&&◌, List, map}
+use Rattle.std.specs.Prelude.{Bool, true, false, not, ◌&&◌, if◌then◌else◌, List, [], ◌∷◌, map}
 use Rattle.std.specs.List.{filter}
 use Rattle.std.specs.List.Sorted.{IsPermutation}
 use Rattle.std.specs.Map.{keys_of}
 use Rattle.trace_core.specs.declared.ledger.Ledger.{Ledger}
+use Rattle.trace_core.specs.declared.pending.Pending.{Pending}
+use Rattle.trace_core.specs.declared.pending.PendingKind.{PendingKind}
+use Rattle.trace_core.specs.declared.pending.PendingKind.TheVariants.{Hang, Unknown, Unnumbered}
 use Rattle.trace_core.specs.declared.sighting.FenceKey.{FenceKey}
 use Rattle.trace_core.specs.History.{Step, hangs, is_unnumbered}
-use Rattle.trace_report.specs.declared.found.Pending.{Pending}
+use Rattle.trace_report.specs.declared.found.Listed.{Listed}
 
 abbrev pub key_of : Pending → FenceKey
-key_of p = record { driver = p.driver; timeline = p.timeline; context = p.context; seqno = p.seqno }
+key_of p = p.key
+
+abbrev pub listed_key : Listed → FenceKey
+listed_key l = l.fence.key
+
+abbrev pub hangs_by : PendingKind → Bool
+hangs_by Hang = true
+hangs_by Unknown = false
+hangs_by Unnumbered = false
+
+abbrev pub is_hang : Pending → Bool
+is_hang p = hangs_by p.kind
+
+-- the fence where it hangs
+abbrev pub hanging : Pending → List Pending
+hanging p = if is_hang p then p ∷ [] else []
 
 -- whether a fence of the key is reported as hanging
 abbrev pub is_reported : List Step → FenceKey → Bool
 is_reported steps key = hangs steps key && not (is_unnumbered steps key)
 
 -- The fences are those of the keys that hang, each once. A key that hangs is alive, and a ledger has each that is alive once.
-abbrev pub AreHangs : Ledger → List Step → List Pending → Type 0
+abbrev pub AreHangs : Ledger → List Step → List Listed → Type 0
 AreHangs ledger steps found =
-    IsPermutation (filter (is_reported steps) (keys_of ledger.lives.by_key.entries)) (map key_of found)
+    IsPermutation (filter (is_reported steps) (keys_of ledger.lives.by_key.entries)) (map listed_key found)

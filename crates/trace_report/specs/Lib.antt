@@ -4,4 +4,6 @@ pub mod Document
 pub mod EventPart
 pub mod TraceEvent
 pub mod Slices
+pub mod Rows
 pub mod EventPage
+pub mod Events

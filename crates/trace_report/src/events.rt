@@ -1,22 +1,21 @@
 // A trace from a reader, and its trace events to a writer.
-ghost use Rattle.std.specs.Prelude.{◌≡◌, List, ℕ, Option, IfOk, OnOk};
+ghost use Rattle.std.specs.Prelude.{◌≡◌, ◌⊎◌, [], List, ℕ, Option, IfOk, IfErr, OnOk};
+ghost use Rattle.point_core.specs.declared.refusal.Refusal.TheVariants.{Read as ReadFault, Write as WriteFault, Memory};
+ghost use Rattle.trace_core.specs.Tracker.{Tracks};
 ghost use Rattle.trace_report.specs.TraceEvent.{head};
-ghost use Rattle.trace_report.specs.EventPage.{Carries, GrowsSomehow, HasWritten, WritesDocument};
-ghost use Rattle.trace_report.specs.declared.events.Written.TheVariants.{Document};
+ghost use Rattle.trace_report.specs.Events.{Adds, HasAddedAll, WritesTrace};
 
 mod chart;
 mod event;
 mod page;
 mod part;
-mod pending;
 mod rows;
 
 use chart::Chart;
 use point_core::Refusal;
 use std::alloc::Global;
 use std::io::{Read, Write};
-use trace_core::{Item, Piece, Pieces};
-use trace_core::{Span, Stage, Tracker, read_on};
+use trace_core::{Next, Reading, Span, Tracker};
 
 /// What was written of a trace.
 #[derive(Clone, Copy)]
@@ -30,16 +29,17 @@ pub enum Written {
 /// Reads a trace up to the end of a window, and writes what ended in the window, and what is pending at its end, as trace
 /// events. They are written as the text is read.
 ///
-/// Fails with `Read` or `Write` if the reader or the writer fails, and with `Memory`. Then a prefix of the events may have been
-/// written.
+/// After a refusal a prefix of the events may have been written. A text of more pieces than 64 bits count is refused as one
+/// that can't be read.
 pub fn events_of_trace<R: Read, W: Write>(
     alloc: Global,
     span: Span,
     reader: &mut R,
     writer: &mut W,
 ) -> Result<Written, Refusal>
-    ensures written { IfOk result (λ written. written ≡ Document →
-        WritesDocument (W.contents writer.old) (W.contents writer.new)) }
+    ensures written { IfOk result (WritesTrace span (R.remaining reader.old) (R.remaining reader.new)
+        (W.contents writer.old) (W.contents writer.new)) }
+    ensures refusals { IfErr result (λ e. (e ≡ ReadFault) ⊎ (e ≡ WriteFault) ⊎ (e ≡ Memory)) }
 {
     let mut tracker = Tracker::new(alloc);
     write_by(alloc, span, &mut tracker, reader, writer)
@@ -52,8 +52,10 @@ fn write_by<R: Read, W: Write>(
     reader: &mut R,
     writer: &mut W,
 ) -> Result<Written, Refusal>
-    ensures written { IfOk result (λ written. written ≡ Document →
-        WritesDocument (W.contents writer.old) (W.contents writer.new)) }
+    requires fresh { Tracks tracker.old [] [] }
+    ensures written { IfOk result (WritesTrace span (R.remaining reader.old) (R.remaining reader.new)
+        (W.contents writer.old) (W.contents writer.new)) }
+    ensures refusals { IfErr result (λ e. (e ≡ ReadFault) ⊎ (e ≡ WriteFault) ⊎ (e ≡ Memory)) }
 {
     let mut chart = Chart::new(alloc)?;
     write_trace(span, tracker, &mut chart, reader, writer)
@@ -66,10 +68,13 @@ fn write_trace<R: Read, W: Write>(
     reader: &mut R,
     writer: &mut W,
 ) -> Result<Written, Refusal>
-    ensures written { IfOk result (λ written. written ≡ Document → (before : Option (List ℕ)) →
-        HasWritten chart.old.page before (W.contents writer.old) → WritesDocument before (W.contents writer.new)) }
+    requires fresh { Tracks tracker.old [] [] }
+    requires begun { chart.old.page.held.items ≡ head }
+    ensures written { IfOk result (WritesTrace span (R.remaining reader.old) (R.remaining reader.new)
+        (W.contents writer.old) (W.contents writer.new)) }
+    ensures refusals { IfErr result (λ e. (e ≡ ReadFault) ⊎ (e ≡ WriteFault) ⊎ (e ≡ Memory)) }
 {
-    read_window(span, tracker, chart, reader, writer)?;
+    add_window(span, tracker, chart, reader, writer)?;
     if tracker.ledger.events() == 0 {
         return Ok(Written::NoEvents);
     }
@@ -77,66 +82,51 @@ fn write_trace<R: Read, W: Write>(
     Ok(Written::Document)
 }
 
-/// Reads up to the end of the window.
-fn read_window<R: Read, W: Write>(
+/// Reads up to the end of the window, and adds what comes of its events.
+fn add_window<R: Read, W: Write>(
     span: Span,
     tracker: &mut Tracker,
     chart: &mut Chart,
     reader: &mut R,
     writer: &mut W,
 ) -> Result<(), Refusal>
-    ensures carried { OnOk result (Carries chart.old.page chart.new.page
+    requires fresh { Tracks tracker.old [] [] }
+    requires begun { chart.old.page.held.items ≡ head }
+    ensures added { OnOk result (HasAddedAll span tracker.new chart.new.page (R.remaining reader.old) (R.remaining reader.new)
         (W.contents writer.old) (W.contents writer.new)) }
+    ensures refusals { IfErr result (λ e. (e ≡ ReadFault) ⊎ (e ≡ WriteFault) ⊎ (e ≡ Memory)) }
 {
-    let mut stage = Stage::Before;
-    let mut pieces = Pieces::new();
+    let mut reading = Reading::new(span);
     for _ in 0..u64::MAX {
-        match pieces.next() {
-            Some(piece) => {
-                stage = take(span, stage, tracker, chart, &piece)?;
-                if stage == Stage::After {
-                    return Ok(());
-                }
-                let length = piece.length;
-                pieces.pass(length);
-                chart.page.write_block(writer)?;
-            }
-            None => {
-                if !read_on(&mut pieces, reader)? {
-                    return Ok(());
-                }
-            }
+        let next = reading.next(tracker, reader)?;
+        if next.is_end() {
+            return Ok(());
         }
+        add(next, tracker, chart, writer)?;
     }
-    Ok(())
+    Err(Refusal::Read)
 }
 
-/// Takes in a piece. Gives where the reading is then.
-fn take(
-    span: Span,
-    stage: Stage,
-    tracker: &mut Tracker,
+/// Adds what comes of a step of the reading.
+fn add<W: Write>(
+    next: Next,
+    tracker: &Tracker,
     chart: &mut Chart,
-    piece: &Piece<'_>,
-) -> Result<Stage, Refusal>
-    ensures events { OnOk result (GrowsSomehow chart.old.page chart.new.page) }
+    writer: &mut W,
+) -> Result<(), Refusal>
+    ensures added { OnOk result (Adds next tracker.now chart.old.page chart.new.page
+        (W.contents writer.old) (W.contents writer.new)) }
+    ensures refusals { IfErr result (λ e. (e ≡ WriteFault) ⊎ (e ≡ Memory)) }
 {
-    let Item::Event(record) = piece.item else {
-        chart.lose(&piece.item);
-        tracker.take(piece)?;
-        return Ok(stage);
-    };
-    let next = stage.after(span, record.time);
-    if next == Stage::After {
-        return Ok(next);
+    match next {
+        Next::Within(seen) => {
+            chart.see(tracker, &seen)?;
+            chart.page.write_block(writer)?;
+        }
+        Next::Before(_) => chart.pass_losses(),
+        Next::Lost(events) => chart.lose(events),
+        Next::StartedLate => chart.start_late(),
+        Next::Begin | Next::Other | Next::End => {}
     }
-    let Some(seen) = tracker.take(piece)? else {
-        return Ok(next);
-    };
-    if next == Stage::Before {
-        chart.pass_losses();
-        return Ok(next);
-    }
-    chart.see(tracker, &seen)?;
-    Ok(next)
+    Ok(())
 }

@@ -1,73 +1,30 @@
 // The fences that are pending at the end of a trace.
-ghost use Rattle.std.specs.Prelude.{◌≡◌, List, map, IfOk};
+ghost use Rattle.std.specs.Prelude.{◌≡◌, ◌++◌, [], ◌∷◌, List, map, IfOk, OnOk};
 ghost use Rattle.std.specs.List.{filter};
 ghost use Rattle.std.specs.List.Sorted.{IsPermutation};
-ghost use Rattle.std.specs.Map.{keys_of};
 ghost use Rattle.trace_core.specs.History.{Step, IsLedgerOf};
-ghost use Rattle.trace_report.specs.Found.{AreHangs, is_reported, key_of};
+ghost use Rattle.trace_report.specs.Found.{AreHangs, hanging, is_hang, key_of, listed_key};
 
 use indexmap::IndexMap;
 use point_core::Refusal;
 use std::alloc::Global;
-use trace_core::{FenceKey, Ledger, Life, TimelineKey};
+use trace_core::{Ledger, Pending, PendingKind, TimelineKey, pending_of};
 
-/// A fence that is pending.
+/// A fence that is pending, as a report lists it: with those of its timeline.
 #[derive(Clone, Copy, PartialEq, Eq, PartialOrd, Ord)]
-pub(crate) struct Pending {
-    /// How many events came before the first that is pending of its timeline was made.
+pub(crate) struct Listed {
+    /// How many events came before the first that is listed of its timeline was made.
     group: u64,
-    /// How many events came before it was made or emitted.
-    born: u64,
-    pub(crate) driver: u32,
-    pub(crate) timeline: u32,
-    pub(crate) context: u32,
-    pub(crate) seqno: u32,
-    /// When it was made or emitted, in microseconds.
-    pub(crate) since: u64,
-}
-
-impl Pending {
-    fn new(key: &FenceKey, life: &Life) -> Pending
-        ensures key { key_of result ≡ key.now }
-    {
-        Pending {
-            group: 0,
-            born: life.born,
-            driver: key.driver,
-            timeline: key.timeline,
-            context: key.context,
-            seqno: key.seqno,
-            since: life.since,
-        }
-    }
-
-    /// The same in that group.
-    fn within(&self, group: u64) -> Pending
-        ensures { key_of result ≡ key_of self.now }
-    {
-        Pending { group, ..*self }
-    }
-
-    /// The key of the fence.
-    pub(crate) fn key(&self) -> FenceKey
-        ensures { result ≡ key_of self.now }
-    {
-        FenceKey {
-            driver: self.driver,
-            timeline: self.timeline,
-            context: self.context,
-            seqno: self.seqno,
-        }
-    }
+    pub(crate) fence: Pending,
 }
 
 /// The fences that are pending, those of a timeline together, by the order of their making.
 #[derive(Drop)]
 pub(crate) struct Found {
     /// Those that hang.
-    pub(crate) hangs: Vec<Pending>,
+    pub(crate) hangs: Vec<Listed>,
     /// Those of which signals may have been lost.
-    pub(crate) unknown: Vec<Pending>,
+    pub(crate) unknown: Vec<Listed>,
     /// How many keys wait for a number of their driver, and are no fences yet.
     pub(crate) unnumbered: u64,
 }
@@ -80,65 +37,64 @@ impl Found {
         ensures hangs { IfOk result (λ f. (steps : List Step) →
             IsLedgerOf ledger.now steps → AreHangs ledger.now steps f.hangs.items) }
     {
-        let hangs = ordered(alloc, hangs_of(alloc, ledger)?)?;
-        let unknown = ordered(alloc, unknown_of(alloc, ledger)?)?;
+        let pending = pending_of(alloc, ledger)?;
+        let mut hangs = Vec::new(alloc);
+        let mut unknown = Vec::new(alloc);
+        let unnumbered = split(pending.as_slice(), &mut hangs, &mut unknown)?;
+        let hangs = ordered(alloc, hangs)?;
+        let unknown = ordered(alloc, unknown)?;
         Ok(Found {
             hangs,
             unknown,
-            unnumbered: count_unnumbered(ledger),
+            unnumbered,
         })
     }
 }
 
-/// The fences that hang.
-fn hangs_of(alloc: Global, ledger: &Ledger) -> Result<Vec<Pending>, Refusal>
-    ensures hangs { IfOk result (λ v. (steps : List Step) → IsLedgerOf ledger.now steps →
-        map key_of v.items ≡ filter (is_reported steps) (keys_of ledger.now.lives.by_key.entries)) }
+/// Adds each fence to those that hang or to those whose signals may be lost. Gives how many others there are.
+fn split(
+    pending: &[Pending],
+    hangs: &mut Vec<Pending>,
+    unknown: &mut Vec<Pending>,
+) -> Result<u64, Refusal>
+    ensures hangs { OnOk result (hangs.new.items ≡ hangs.old.items ++ filter is_hang pending.now) }
 {
-    let mut hangs = Vec::new(alloc);
-    for (key, life) in ledger.lives().by_key().iter() {
-        if is_reported(ledger, key) {
-            let Ok(()) = hangs.push(Pending::new(key, life)) else {
-                return Err(Refusal::Memory);
-            };
+    let mut unnumbered: u64 = 0;
+    for fence in pending {
+        if !put(fence, hangs, unknown)? {
+            unnumbered = unnumbered.saturating_add(1);
         }
     }
-    Ok(hangs)
+    Ok(unnumbered)
 }
 
-/// Whether a fence of the key hangs. One that its driver has not numbered is no fence yet.
-fn is_reported(ledger: &Ledger, key: &FenceKey) -> bool
-    ensures reported { (steps : List Step) → IsLedgerOf ledger.now steps → result ≡ is_reported steps key.now }
+/// Adds a fence that has a number. Gives whether it has.
+fn put(
+    fence: &Pending,
+    hangs: &mut Vec<Pending>,
+    unknown: &mut Vec<Pending>,
+) -> Result<bool, Refusal>
+    ensures hangs { OnOk result (hangs.new.items ≡ hangs.old.items ++ hanging fence.now) }
 {
-    ledger.hangs(key) && !ledger.is_unnumbered(key)
+    match fence.kind {
+        PendingKind::Hang => push(hangs, fence),
+        PendingKind::Unknown => push(unknown, fence),
+        PendingKind::Unnumbered => Ok(false),
+    }
 }
 
-/// Pending fences whose signal may have been dropped by the ring buffer.
-fn unknown_of(alloc: Global, ledger: &Ledger) -> Result<Vec<Pending>, Refusal> {
-    let mut unknown = Vec::new(alloc);
-    for (key, life) in ledger.lives().by_key().iter() {
-        if life.is_pending() && !ledger.hangs(key) && !ledger.is_unnumbered(key) {
-            let Ok(()) = unknown.push(Pending::new(key, life)) else {
-                return Err(Refusal::Memory);
-            };
-        }
-    }
-    Ok(unknown)
-}
-
-fn count_unnumbered(ledger: &Ledger) -> u64 {
-    let mut count: u64 = 0;
-    for (key, life) in ledger.lives().by_key().iter() {
-        if life.is_pending() && ledger.is_unnumbered(key) {
-            count = count.saturating_add(1);
-        }
-    }
-    count
+fn push(list: &mut Vec<Pending>, fence: &Pending) -> Result<bool, Refusal>
+    ensures added { OnOk result (list.new.items ≡ list.old.items ++ fence.now ∷ []) }
+{
+    let Ok(()) = list.push(*fence) else {
+        return Err(Refusal::Memory);
+    };
+    Ok(true)
 }
 
 /// Groups the pending fences by timeline, in creation order.
-fn ordered(alloc: Global, pending: Vec<Pending>) -> Result<Vec<Pending>, Refusal>
-    ensures same { IfOk result (λ v. IsPermutation (map key_of pending.items) (map key_of v.items)) }
+fn ordered(alloc: Global, pending: Vec<Pending>) -> Result<Vec<Listed>, Refusal>
+    ensures same { IfOk result (λ v. IsPermutation (map key_of pending.items) (map listed_key v.items)) }
 {
     let mut pending = pending;
     pending.sort()?;
@@ -147,15 +103,19 @@ fn ordered(alloc: Global, pending: Vec<Pending>) -> Result<Vec<Pending>, Refusal
     Ok(grouped)
 }
 
-/// The same, each with the group of its timeline.
-fn grouped(alloc: Global, pending: &[Pending]) -> Result<Vec<Pending>, Refusal>
-    ensures same { IfOk result (λ v. map key_of v.items ≡ map key_of pending.now) }
+/// The fences, each with the group of its timeline.
+fn grouped(alloc: Global, pending: &[Pending]) -> Result<Vec<Listed>, Refusal>
+    ensures same { IfOk result (λ v. map listed_key v.items ≡ map key_of pending.now) }
 {
     let mut firsts = IndexMap::new(alloc);
     let mut grouped = Vec::new(alloc);
     for fence in pending {
         let group = group_of(&mut firsts, fence)?;
-        let Ok(()) = grouped.push(fence.within(group)) else {
+        let listed = Listed {
+            group,
+            fence: *fence,
+        };
+        let Ok(()) = grouped.push(listed) else {
             return Err(Refusal::Memory);
         };
     }
@@ -164,7 +124,7 @@ fn grouped(alloc: Global, pending: &[Pending]) -> Result<Vec<Pending>, Refusal>
 
 /// The place of the first fence of its timeline, which it is itself where there was none.
 fn group_of(firsts: &mut IndexMap<TimelineKey, u64>, fence: &Pending) -> Result<u64, Refusal> {
-    let timeline = fence.key().timeline_key();
+    let timeline = fence.key.timeline_key();
     if let Some(first) = firsts.get(&timeline) {
         return Ok(*first);
     }

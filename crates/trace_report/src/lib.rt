@@ -6,6 +6,7 @@
 mod document;
 mod events;
 mod found;
+pub mod laws;
 mod reading;
 mod report;
 mod table;

@@ -1,27 +1,24 @@
-// A trace from a reader.
+// A trace from a reader, to its end.
 use point_core::Refusal;
 use std::io::Read;
-use trace_core::Pieces;
-use trace_core::{Tracker, read_on};
+use trace_core::{Reading, Span, Tracker};
+
+/// All of a trace's time.
+const ALL: Span = Span {
+    from: 0,
+    to: u64::MAX,
+};
 
 /// Takes in a text to its end.
 ///
-/// Fails with `Read` if the reader fails, and with `Memory`.
+/// Fails with `Read` if the reader fails, and with `Memory`. A text of more pieces than 64 bits count is refused as one
+/// that can't be read.
 pub(crate) fn read_trace<R: Read>(tracker: &mut Tracker, reader: &mut R) -> Result<(), Refusal> {
-    let mut pieces = Pieces::new();
+    let mut reading = Reading::new(ALL);
     for _ in 0..u64::MAX {
-        match pieces.next() {
-            Some(piece) => {
-                tracker.take(&piece)?;
-                let length = piece.length;
-                pieces.pass(length);
-            }
-            None => {
-                if !read_on(&mut pieces, reader)? {
-                    return Ok(());
-                }
-            }
+        if reading.next(tracker, reader)?.is_end() {
+            return Ok(());
         }
     }
-    Ok(())
+    Err(Refusal::Read)
 }

@@ -1,5 +1,5 @@
 // What a report is of.
-use crate::found::{Found, Pending};
+use crate::found::{Found, Listed};
 use indexmap::IndexMap;
 use point_core::Refusal;
 use std::alloc::Global;
@@ -40,9 +40,9 @@ impl Timelines {
         }
     }
 
-    fn add(&mut self, pending: &[Pending]) -> Result<(), Refusal> {
-        for fence in pending {
-            let timeline = fence.key().timeline_key();
+    fn add(&mut self, pending: &[Listed]) -> Result<(), Refusal> {
+        for listed in pending {
+            let timeline = listed.fence.key.timeline_key();
             let count = self.pending(&timeline).saturating_add(1);
             if self.pending.insert(timeline, count).is_err() {
                 return Err(Refusal::Memory);

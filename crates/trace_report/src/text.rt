@@ -1,13 +1,13 @@
 // The report as text.
 mod page;
 
-use crate::found::{Found, Pending};
+use crate::found::{Found, Listed};
 use crate::table::Content;
 use page::{Page, Part};
 use point_core::Refusal;
 use std::alloc::Global;
 use std::io::Write;
-use trace_core::{FenceKey, Summary, Tally, TimelineKey, Tracker, Wait};
+use trace_core::{FenceKey, Pending, Summary, Tally, TimelineKey, Tracker, Wait};
 
 /// Writes what was read, what hangs, who waits, which rules were broken, and what each timeline did.
 ///
@@ -142,13 +142,13 @@ fn add_hangs(page: &mut Page, found: &Found) {
 }
 
 /// Says which of several fences is the first.
-fn add_first(page: &mut Page, tracker: &Tracker, pending: &[Pending]) {
+fn add_first(page: &mut Page, tracker: &Tracker, pending: &[Listed]) {
     if pending.len() < 2 {
         return;
     }
     if let Some(first) = pending.first() {
         page.add(&[Part::Text("  The first is ")]);
-        add_fence(page, tracker, &first.key());
+        add_fence(page, tracker, &first.fence.key);
         page.add(&[Part::Text("; the others were made after it, and may wait for it.\n")]);
     }
 }
@@ -169,11 +169,11 @@ fn add_unknown(page: &mut Page, found: &Found) {
 fn write_pending<W: Write>(
     page: &mut Page,
     tracker: &Tracker,
-    pending: &[Pending],
+    pending: &[Listed],
     writer: &mut W,
 ) -> Result<(), Refusal> {
     for fence in pending {
-        add_pending(page, tracker, fence);
+        add_pending(page, tracker, &fence.fence);
         page.write_block(writer)?;
     }
     Ok(())
@@ -181,7 +181,7 @@ fn write_pending<W: Write>(
 
 /// A fence, and a line for each task that waits for it.
 fn add_pending(page: &mut Page, tracker: &Tracker, fence: &Pending) {
-    let key = fence.key();
+    let key = fence.key;
     page.add(&[Part::Text("  ")]);
     add_fence(page, tracker, &key);
     page.add(&[

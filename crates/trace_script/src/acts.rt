@@ -4,7 +4,7 @@ use indexmap::IndexMap;
 use line_core::SCRIPT_BYTES;
 use point_core::Refusal;
 use std::alloc::Global;
-use trace_core::{FenceKey, Ledger, Life, TaskName, Tracker};
+use trace_core::{FenceKey, Ledger, Life, TaskName, Tracker, Wait, pending_of};
 
 /// The bytes of the shortest line of a script that acts.
 const SHORTEST_LINE: usize = 8;
@@ -54,16 +54,6 @@ impl Act {
     }
 }
 
-/// A fence that is pending where the window begins. The first in order was made first.
-#[derive(Clone, Copy, PartialEq, Eq, PartialOrd, Ord)]
-struct Earlier {
-    born: u64,
-    driver: u32,
-    timeline: u32,
-    context: u32,
-    seqno: u32,
-}
-
 /// What happened in a window.
 #[derive(Drop)]
 pub(crate) struct Acts {
@@ -97,11 +87,10 @@ impl Acts {
     ///
     /// Fails only with `Memory`.
     pub(crate) fn begin(&mut self, alloc: Global, tracker: &Tracker) -> Result<(), Refusal> {
-        let mut earlier = Vec::new(alloc);
-        collect(&tracker.ledger, &mut earlier)?;
+        let mut earlier = pending_of(alloc, &tracker.ledger)?;
         earlier.sort()?;
         for fence in earlier.as_slice() {
-            self.make(alloc, tracker, fence.key())?;
+            self.make(alloc, tracker, fence.key)?;
         }
         Ok(())
     }
@@ -132,22 +121,16 @@ impl Acts {
         Ok(())
     }
 
-    /// Takes in that a task waits for the key.
+    /// Takes in that a wait began.
     ///
     /// Fails only with `Memory`.
-    pub(crate) fn wait(
-        &mut self,
-        key: &FenceKey,
-        task: TaskName,
-        pid: u32,
-        time: u64,
-    ) -> Result<(), Refusal> {
-        match self.place(key) {
+    pub(crate) fn wait(&mut self, wait: &Wait) -> Result<(), Refusal> {
+        match self.place(&wait.key) {
             Some(fence) => self.push(Act::Wait {
                 fence,
-                task,
-                pid,
-                time,
+                task: wait.task,
+                pid: wait.pid,
+                time: wait.start,
             }),
             None => Ok(()),
         }
@@ -209,31 +192,4 @@ impl Acts {
         }
         self.acts.push(act).map_err(|_| Refusal::Memory)
     }
-}
-
-impl Earlier {
-    fn key(&self) -> FenceKey {
-        FenceKey {
-            driver: self.driver,
-            timeline: self.timeline,
-            context: self.context,
-            seqno: self.seqno,
-        }
-    }
-}
-
-fn collect(ledger: &Ledger, earlier: &mut Vec<Earlier>) -> Result<(), Refusal> {
-    for (key, life) in ledger.lives().by_key().iter() {
-        if life.is_pending() {
-            let fence = Earlier {
-                born: life.born,
-                driver: key.driver,
-                timeline: key.timeline,
-                context: key.context,
-                seqno: key.seqno,
-            };
-            earlier.push(fence).map_err(|_| Refusal::Memory)?;
-        }
-    }
-    Ok(())
 }

@@ -12,8 +12,7 @@ use point_core::{CONTEXTS, Refusal};
 use std::alloc::{AllocError, Global};
 use std::io::Read;
 use syncfile_core::FILES;
-use trace_core::{Event, Item, Piece, Pieces};
-use trace_core::{Seen, Span, Stage, TaskName, Tracker, read_on};
+use trace_core::{Event, Next, Reading, Seen, Span, Tracker};
 
 /// What a trace gave.
 #[derive(Drop)]
@@ -81,79 +80,24 @@ fn read_window<R: Read>(
     acts: &mut Acts,
     reader: &mut R,
 ) -> Result<(), Refusal> {
-    let mut stage = Stage::Before;
-    let mut pieces = Pieces::new();
+    let mut reading = Reading::new(span);
     for _ in 0..u64::MAX {
-        match pieces.next() {
-            Some(piece) => {
-                stage = take(alloc, span, stage, tracker, acts, &piece)?;
-                if stage == Stage::After {
-                    return Ok(());
-                }
-                let length = piece.length;
-                pieces.pass(length);
-            }
-            None => {
-                if !read_on(&mut pieces, reader)? {
-                    return end(alloc, stage, tracker, acts);
-                }
-            }
+        match reading.next(tracker, reader)? {
+            Next::Begin => acts.begin(alloc, tracker)?,
+            Next::Within(seen) => see(alloc, tracker, acts, &seen)?,
+            Next::Before(_) | Next::Lost(_) | Next::StartedLate | Next::Other => {}
+            Next::End => return Ok(()),
         }
     }
-    Ok(())
-}
-
-/// At the end of the text begins a window that no event is in.
-fn end(alloc: Global, stage: Stage, tracker: &Tracker, acts: &mut Acts) -> Result<(), Refusal> {
-    if stage == Stage::Before {
-        return acts.begin(alloc, tracker);
-    }
-    Ok(())
-}
-
-/// Takes in a piece. Gives where the reading is then.
-fn take(
-    alloc: Global,
-    span: Span,
-    stage: Stage,
-    tracker: &mut Tracker,
-    acts: &mut Acts,
-    piece: &Piece<'_>,
-) -> Result<Stage, Refusal> {
-    let Item::Event(record) = piece.item else {
-        tracker.take(piece)?;
-        return Ok(stage);
-    };
-    let next = stage.after(span, record.time);
-    if stage == Stage::Before && next != Stage::Before {
-        acts.begin(alloc, tracker)?;
-    }
-    if next == Stage::After {
-        return Ok(next);
-    }
-    let seen = tracker.take(piece)?;
-    if next == Stage::Within {
-        see(alloc, tracker, acts, seen, record.task)?;
-    }
-    Ok(next)
+    Err(Refusal::Read)
 }
 
 /// Takes in an event of the window, after the tracker did.
-fn see(
-    alloc: Global,
-    tracker: &Tracker,
-    acts: &mut Acts,
-    seen: Option<Seen>,
-    task: &[u8],
-) -> Result<(), Refusal> {
-    let Some(seen) = seen else {
-        return Ok(());
-    };
-    let sighting = seen.sighting;
-    let key = sighting.key;
+fn see(alloc: Global, tracker: &Tracker, acts: &mut Acts, seen: &Seen) -> Result<(), Refusal> {
+    let key = seen.sighting.key;
     acts.see(alloc, tracker, key, tracker.ledger.life(&key))?;
-    match sighting.event {
-        Event::WaitStart => acts.wait(&key, TaskName::new(task), sighting.pid, sighting.time),
+    match (seen.sighting.event, seen.wait) {
+        (Event::WaitStart, Some(wait)) => acts.wait(&wait),
         _ => Ok(()),
     }
 }

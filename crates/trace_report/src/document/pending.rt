@@ -6,7 +6,7 @@ use crate::document::add_fence;
 use crate::document::part::Part;
 use crate::document::waits::add_task;
 use crate::document::writing::Document;
-use crate::found::Pending;
+use crate::found::Listed;
 use point_core::Refusal;
 use std::io::Write;
 use trace_core::{FenceKey, Tracker, Wait};
@@ -16,7 +16,7 @@ pub(crate) fn write_pending<W: Write>(
     document: &mut Document,
     name: &str,
     tracker: &Tracker,
-    pending: &[Pending],
+    pending: &[Listed],
     writer: &mut W,
 ) -> Result<(), Refusal>
     ensures carried { OnOk result (Carries document.old.text document.new.text
@@ -33,16 +33,16 @@ pub(crate) fn write_pending<W: Write>(
 fn write_fence<W: Write>(
     document: &mut Document,
     tracker: &Tracker,
-    fence: &Pending,
+    listed: &Listed,
     writer: &mut W,
 ) -> Result<(), Refusal>
     ensures carried { OnOk result (Carries document.old.text document.new.text
         (W.contents writer.old) (W.contents writer.new)) }
 {
-    let key = fence.key();
+    let key = listed.fence.key;
     document.open(&Part::BeginObject, writer)?;
     add_fence(document, tracker, &key)?;
-    document.add(&[Part::Key("since_us"), Part::Number(fence.since)])?;
+    document.add(&[Part::Key("since_us"), Part::Number(listed.fence.since)])?;
     write_waiters(document, tracker, &key, writer)?;
     document.add(&[Part::EndObject])?;
     Ok(())

@@ -1,21 +1,30 @@
 // The trace events that come of a trace's records.
-ghost use Rattle.std.specs.Prelude.{◌≡◌, [], ◌∷◌, List, ℕ, Option, IfOk, OnOk, if◌then◌else◌};
+ghost use Rattle.std.specs.Prelude.{◌≡◌, ◌⊎◌, [], ◌∷◌, ◌++◌, List, ℕ, Option, IfOk, IfErr, OnOk, if◌then◌else◌};
+ghost use Rattle.std.specs.List.{flat_map};
+ghost use Rattle.std.specs.Map.{keys_of};
+ghost use Rattle.point_core.specs.declared.refusal.Refusal.TheVariants.{Write as WriteFault, Memory};
+ghost use Rattle.trace_core.specs.History.{Step, IsLedgerOf};
+ghost use Rattle.trace_core.specs.Names.{name_or_none};
+ghost use Rattle.trace_core.specs.Pending.{pending_among};
 ghost use Rattle.trace_report.specs.TraceEvent.{head};
-ghost use Rattle.trace_report.specs.EventPage.{Carries, Grows, HasWritten, WritesDocument};
-ghost use Rattle.trace_report.specs.Slices.{destroyed, signalled, slices_of, waited, waits_of};
+ghost use Rattle.trace_report.specs.EventPage.{Carries, Grows, HasWritten};
+ghost use Rattle.trace_report.specs.Events.{EndsTrace};
+ghost use Rattle.trace_report.specs.Slices.{Shown, destroyed, left_of, of_fence, of_wait, process_of_driver, signalled};
+ghost use Rattle.trace_report.specs.Rows.{process_of};
+ghost use Rattle.trace_report.specs.Slices.{open_slice, slices_of, unfinished, waited, waits_of};
 
 use crate::events::event::{Kind, Losses, Rule, Slice, TraceEvent};
 use crate::events::page::Page;
 use crate::events::part::{Names, Row};
-use crate::events::pending::{Pending, pending_of};
 use crate::events::rows::{Place, Rows, Track, process_of_driver};
 use indexmap::{IndexMap, IndexSet};
 use itoa::Buffer;
 use point_core::Refusal;
 use std::alloc::{AllocError, Global};
 use std::io::Write;
-use trace_core::{Event, Item};
-use trace_core::{FenceKey, Finding, Seen, TimelineKey, Tracker, Wait};
+use trace_core::{
+    Event, FenceKey, Finding, Pending, PendingKind, Seen, TimelineKey, Tracker, Wait, pending_of,
+};
 
 /// What stands between a timeline's name and the number of a context.
 const CONTEXT: &[u8] = b" context ";
@@ -52,8 +61,6 @@ pub(crate) struct Chart {
 
 impl Chart {
     /// No event.
-    ///
-    /// Fails only with `Memory`.
     pub(crate) fn new(alloc: Global) -> Result<Chart, AllocError>
         ensures begun { IfOk result (λ chart. chart.page.held.items ≡ head) }
     {
@@ -70,20 +77,19 @@ impl Chart {
         })
     }
 
-    /// Takes in an item that is no event: it may say that events were lost.
-    pub(crate) fn lose(&mut self, item: &Item<'_>)
+    /// Takes in that a line says that events were lost, and how many where it does.
+    pub(crate) fn lose(&mut self, events: Option<u64>)
         ensures page { self.new.page ≡ self.old.page }
     {
-        match item {
-            Item::Lost { cpu: _, events } => {
-                self.losses.lines = self.losses.lines.saturating_add(1);
-                self.losses.events = self.losses.events.saturating_add(events.unwrap_or(0));
-            }
-            Item::BufferStarted { cpu: _ } => {
-                self.losses.late_buffers = self.losses.late_buffers.saturating_add(1);
-            }
-            _ => {}
-        }
+        self.losses.lines = self.losses.lines.saturating_add(1);
+        self.losses.events = self.losses.events.saturating_add(events.unwrap_or(0));
+    }
+
+    /// Takes in that a line says that all earlier events of a processor are missing.
+    pub(crate) fn start_late(&mut self)
+        ensures page { self.new.page ≡ self.old.page }
+    {
+        self.losses.late_buffers = self.losses.late_buffers.saturating_add(1);
     }
 
     /// Leaves out what was lost so far.
@@ -94,10 +100,11 @@ impl Chart {
     }
 
     /// Adds what comes of an event that the tracker has taken in.
-    ///
-    /// Fails only with `Memory`.
     pub(crate) fn see(&mut self, tracker: &Tracker, seen: &Seen) -> Result<(), Refusal>
-        ensures slices { OnOk result (Grows self.old.page self.new.page (slices_of seen.now)) }
+        ensures slices { OnOk result (Grows self.old.page self.new.page (slices_of
+            (name_or_none tracker.now.drivers seen.now.sighting.key.driver)
+            (name_or_none tracker.now.timelines seen.now.sighting.key.timeline) seen.now)) }
+        ensures memory { IfErr result (λ e. e ≡ Memory) }
     {
         self.add_losses(seen.sighting.time)?;
         self.add(tracker, seen)?;
@@ -105,7 +112,10 @@ impl Chart {
     }
 
     fn add(&mut self, tracker: &Tracker, seen: &Seen) -> Result<(), Refusal>
-        ensures slices { OnOk result (Grows self.old.page self.new.page (slices_of seen.now)) }
+        ensures slices { OnOk result (Grows self.old.page self.new.page (slices_of
+            (name_or_none tracker.now.drivers seen.now.sighting.key.driver)
+            (name_or_none tracker.now.timelines seen.now.sighting.key.timeline) seen.now)) }
+        ensures memory { IfErr result (λ e. e ≡ Memory) }
     {
         match seen.sighting.event {
             Event::Signaled => self.signal(tracker, seen),
@@ -117,6 +127,7 @@ impl Chart {
 
     fn add_losses(&mut self, time: u64) -> Result<(), Refusal>
         ensures slices { OnOk result (Grows self.old.page self.new.page []) }
+        ensures memory { IfErr result (λ e. e ≡ Memory) }
     {
         let losses = self.losses;
         if losses.lines == 0 && losses.late_buffers == 0 {
@@ -129,7 +140,10 @@ impl Chart {
 
     /// A fence was signalled: its slice ends, and rules may be broken.
     fn signal(&mut self, tracker: &Tracker, seen: &Seen) -> Result<(), Refusal>
-        ensures slices { OnOk result (Grows self.old.page self.new.page (signalled seen.now ∷ [])) }
+        ensures slices { OnOk result (Grows self.old.page self.new.page (of_fence
+            (name_or_none tracker.now.drivers seen.now.sighting.key.driver)
+            (name_or_none tracker.now.timelines seen.now.sighting.key.timeline) (signalled seen.now) ∷ [])) }
+        ensures memory { IfErr result (λ e. e ≡ Memory) }
     {
         let slice = signalled(seen);
         let row = self.add_fence(tracker, &slice)?;
@@ -140,6 +154,7 @@ impl Chart {
 
     fn keep_signal(&mut self, slice: &Slice, row: Row) -> Result<(), Refusal>
         ensures page { self.new.page ≡ self.old.page }
+        ensures memory { IfErr result (λ e. e ≡ Memory) }
     {
         let signal = Signal {
             row,
@@ -158,6 +173,7 @@ impl Chart {
         slice: &Slice,
     ) -> Result<(), Refusal>
         ensures slices { OnOk result (Grows self.old.page self.new.page []) }
+        ensures memory { IfErr result (λ e. e ≡ Memory) }
     {
         self.add_rule(tracker, Rule::Overtaken, found.overtaken, slice)?;
         self.add_rule(tracker, Rule::SignalledTwice, found.signalled_twice, slice)?;
@@ -172,6 +188,7 @@ impl Chart {
         slice: &Slice,
     ) -> Result<(), Refusal>
         ensures slices { OnOk result (Grows self.old.page self.new.page []) }
+        ensures memory { IfErr result (λ e. e ≡ Memory) }
     {
         if !is_broken {
             return Ok(());
@@ -186,7 +203,10 @@ impl Chart {
     /// A fence was destroyed: one that is pending ends so, and of one that is not no wait can end any more.
     fn destroy(&mut self, tracker: &Tracker, seen: &Seen) -> Result<(), Refusal>
         ensures slices { OnOk result (Grows self.old.page self.new.page
-            (if seen.now.found.destroyed_pending then destroyed seen.now ∷ [] else [])) }
+            (if seen.now.found.destroyed_pending then of_fence
+            (name_or_none tracker.now.drivers seen.now.sighting.key.driver)
+            (name_or_none tracker.now.timelines seen.now.sighting.key.timeline) (destroyed seen.now) ∷ [] else [])) }
+        ensures memory { IfErr result (λ e. e ≡ Memory) }
     {
         self.forget_signal(tracker, &seen.sighting.key);
         if !seen.found.destroyed_pending {
@@ -208,13 +228,16 @@ impl Chart {
 
     /// A wait ended. An arrow leads to it from the signal of its fence, where that came while it went on.
     fn end_wait(&mut self, tracker: &Tracker, seen: &Seen) -> Result<(), Refusal>
-        ensures slices { OnOk result (Grows self.old.page self.new.page (waits_of seen.now.ended)) }
+        ensures slices { OnOk result (Grows self.old.page self.new.page (waits_of
+            (name_or_none tracker.now.drivers seen.now.sighting.key.driver)
+            (name_or_none tracker.now.timelines seen.now.sighting.key.timeline) seen.now seen.now.wait)) }
+        ensures memory { IfErr result (λ e. e ≡ Memory) }
     {
-        let Some(wait) = seen.ended else {
+        let Some(wait) = seen.wait else {
             return Ok(());
         };
-        let slice = waited(&wait);
-        let row = self.add_wait(tracker, &wait, &slice)?;
+        let slice = waited(seen, &wait);
+        let row = self.add_wait(tracker, seen.sighting.pid, wait.task.as_bytes(), &slice)?;
         self.add_arrow(&slice, row)?;
         Ok(())
     }
@@ -222,6 +245,7 @@ impl Chart {
     /// The arrow to a wait.
     fn add_arrow(&mut self, slice: &Slice, row: Row) -> Result<(), Refusal>
         ensures slices { OnOk result (Grows self.old.page self.new.page []) }
+        ensures memory { IfErr result (λ e. e ≡ Memory) }
     {
         let Some(signal) = self.signal_within(slice) else {
             return Ok(());
@@ -246,10 +270,11 @@ impl Chart {
     }
 
     /// Adds the slice of a fence. Gives its row.
-    ///
-    /// Fails only with `Memory`.
     fn add_fence(&mut self, tracker: &Tracker, slice: &Slice) -> Result<Row, Refusal>
-        ensures slices { OnOk result (Grows self.old.page self.new.page (slice.now ∷ [])) }
+        ensures slices { OnOk result (Grows self.old.page self.new.page (of_fence
+            (name_or_none tracker.now.drivers slice.now.key.driver)
+            (name_or_none tracker.now.timelines slice.now.key.timeline) slice.now ∷ [])) }
+        ensures memory { IfErr result (λ e. e ≡ Memory) }
     {
         let track = self.track_of(tracker, &slice.key)?;
         let place = self.rows.place(track, slice.begin, slice.end)?;
@@ -260,15 +285,21 @@ impl Chart {
         Ok(place.row)
     }
 
-    /// Adds the slice of a wait. Gives its row.
-    ///
-    /// Fails only with `Memory`.
-    fn add_wait(&mut self, tracker: &Tracker, wait: &Wait, slice: &Slice) -> Result<Row, Refusal>
-        ensures slices { OnOk result (Grows self.old.page self.new.page (slice.now ∷ [])) }
+    /// Adds the slice of a wait of that task. Gives its row.
+    fn add_wait(
+        &mut self,
+        tracker: &Tracker,
+        pid: u32,
+        task: &[u8],
+        slice: &Slice,
+    ) -> Result<Row, Refusal>
+        ensures slices { OnOk result (Grows self.old.page self.new.page (of_wait pid
+            (name_or_none tracker.now.drivers slice.now.key.driver)
+            (name_or_none tracker.now.timelines slice.now.key.timeline) slice.now ∷ [])) }
+        ensures memory { IfErr result (λ e. e ≡ Memory) }
     {
-        let track = Track::Task(wait.pid);
+        let track = Track::Task(pid);
         let place = self.rows.place(track, slice.begin, slice.end)?;
-        let task = wait.task.as_bytes();
         self.begin_row(task, task, &place)?;
         let names = names_of(tracker, &slice.key);
         self.page
@@ -280,6 +311,8 @@ impl Chart {
     /// several points.
     fn track_of(&mut self, tracker: &Tracker, key: &FenceKey) -> Result<Track, Refusal>
         ensures page { self.new.page ≡ self.old.page }
+        ensures process { IfOk result (λ track. process_of track ≡ process_of_driver key.now.driver) }
+        ensures memory { IfErr result (λ e. e ≡ Memory) }
     {
         let timeline = key.timeline_key();
         let Some(first) = self.firsts.get(&timeline) else {
@@ -302,6 +335,7 @@ impl Chart {
         place: &Place,
     ) -> Result<(), Refusal>
         ensures slices { OnOk result (Grows self.old.page self.new.page []) }
+        ensures memory { IfErr result (λ e. e ≡ Memory) }
     {
         if !place.is_new {
             return Ok(());
@@ -313,6 +347,7 @@ impl Chart {
     /// Names a row that is new, and its process where it is the first of that.
     fn begin_row(&mut self, process: &[u8], name: &[u8], place: &Place) -> Result<(), Refusal>
         ensures slices { OnOk result (Grows self.old.page self.new.page []) }
+        ensures memory { IfErr result (λ e. e ≡ Memory) }
     {
         if !place.is_new {
             return Ok(());
@@ -327,6 +362,7 @@ impl Chart {
     /// Names a process that has no name.
     fn begin_process(&mut self, process: u64, name: &[u8]) -> Result<(), Refusal>
         ensures slices { OnOk result (Grows self.old.page self.new.page []) }
+        ensures memory { IfErr result (λ e. e ≡ Memory) }
     {
         let Ok((_, is_new)) = self.processes.insert_full(process) else {
             return Err(Refusal::Memory);
@@ -339,15 +375,15 @@ impl Chart {
     }
 
     /// Adds what ends with the text: what was lost, fences that are pending, waits that go on, and the end. Writes all.
-    ///
-    /// Fails with `Write` where the writer fails, and with `Memory`.
     pub(crate) fn finish<W: Write>(
         &mut self,
         tracker: &Tracker,
         writer: &mut W,
     ) -> Result<(), Refusal>
-        ensures written { OnOk result ((before : Option (List ℕ)) →
-            HasWritten self.old.page before (W.contents writer.old) → WritesDocument before (W.contents writer.new)) }
+        ensures written { OnOk result ((before : Option (List ℕ)) → (slices : List Shown) → (steps : List Step) →
+            IsLedgerOf tracker.now.ledger steps → HasWritten self.old.page slices before (W.contents writer.old) →
+            EndsTrace tracker.now.drivers tracker.now.timelines steps slices before (W.contents writer.new)) }
+        ensures refusals { IfErr result (λ e. (e ≡ WriteFault) ⊎ (e ≡ Memory)) }
     {
         let time = tracker.latest();
         self.add_losses(time)?;
@@ -364,8 +400,12 @@ impl Chart {
         time: u64,
         writer: &mut W,
     ) -> Result<(), Refusal>
-        ensures carried { OnOk result (Carries self.old.page self.new.page
+        ensures carried { OnOk result ((steps : List Step) → IsLedgerOf tracker.now.ledger steps →
+            Carries self.old.page self.new.page
+            (flat_map (left_of tracker.now.drivers tracker.now.timelines time)
+                (pending_among steps (keys_of tracker.now.ledger.lives.by_key.entries)))
             (W.contents writer.old) (W.contents writer.new)) }
+        ensures refusals { IfErr result (λ e. (e ≡ WriteFault) ⊎ (e ≡ Memory)) }
     {
         let pending = pending_of(self.alloc, &tracker.ledger)?;
         self.add_each(tracker, pending.as_slice(), time, writer)
@@ -379,18 +419,49 @@ impl Chart {
         writer: &mut W,
     ) -> Result<(), Refusal>
         ensures carried { OnOk result (Carries self.old.page self.new.page
+            (flat_map (left_of tracker.now.drivers tracker.now.timelines time) pending.now)
             (W.contents writer.old) (W.contents writer.new)) }
+        ensures refusals { IfErr result (λ e. (e ≡ WriteFault) ⊎ (e ≡ Memory)) }
     {
         for fence in pending {
-            let slice = Slice {
-                kind: fence.kind,
-                begin: fence.since,
-                end: time.max(fence.since),
-                key: fence.key,
-            };
-            self.add_fence(tracker, &slice)?;
+            self.add_left(tracker, fence, time)?;
             self.page.write_block(writer)?;
         }
+        Ok(())
+    }
+
+    /// Adds the slice of a fence that is pending, unless its driver has not numbered it.
+    fn add_left(&mut self, tracker: &Tracker, fence: &Pending, time: u64) -> Result<(), Refusal>
+        ensures slices { OnOk result (Grows self.old.page self.new.page
+            (left_of tracker.now.drivers tracker.now.timelines time fence.now)) }
+        ensures memory { IfErr result (λ e. e ≡ Memory) }
+    {
+        match fence.kind {
+            PendingKind::Hang => self.add_open(tracker, Kind::Hang, fence, time),
+            PendingKind::Unknown => self.add_open(tracker, Kind::Unknown, fence, time),
+            PendingKind::Unnumbered => Ok(()),
+        }
+    }
+
+    fn add_open(
+        &mut self,
+        tracker: &Tracker,
+        kind: Kind,
+        fence: &Pending,
+        time: u64,
+    ) -> Result<(), Refusal>
+        ensures slices { OnOk result (Grows self.old.page self.new.page (of_fence
+            (name_or_none tracker.now.drivers fence.now.key.driver)
+            (name_or_none tracker.now.timelines fence.now.key.timeline) (open_slice kind time fence.now) ∷ [])) }
+        ensures memory { IfErr result (λ e. e ≡ Memory) }
+    {
+        let slice = Slice {
+            kind,
+            begin: fence.since,
+            end: time.max(fence.since),
+            key: fence.key,
+        };
+        self.add_fence(tracker, &slice)?;
         Ok(())
     }
 
@@ -400,8 +471,10 @@ impl Chart {
         time: u64,
         writer: &mut W,
     ) -> Result<(), Refusal>
-        ensures carried { OnOk result (Carries self.old.page self.new.page
+        ensures carried { OnOk result ((waits : List Wait) × Carries self.old.page self.new.page
+            (flat_map (unfinished tracker.now.drivers tracker.now.timelines time) waits)
             (W.contents writer.old) (W.contents writer.new)) }
+        ensures refusals { IfErr result (λ e. (e ≡ WriteFault) ⊎ (e ≡ Memory)) }
     {
         let waits = open_waits(self.alloc, tracker)?;
         self.add_each_wait(tracker, waits.as_slice(), time, writer)
@@ -415,18 +488,29 @@ impl Chart {
         writer: &mut W,
     ) -> Result<(), Refusal>
         ensures carried { OnOk result (Carries self.old.page self.new.page
+            (flat_map (unfinished tracker.now.drivers tracker.now.timelines time) waits.now)
             (W.contents writer.old) (W.contents writer.new)) }
+        ensures refusals { IfErr result (λ e. (e ≡ WriteFault) ⊎ (e ≡ Memory)) }
     {
         for wait in waits {
-            let slice = Slice {
-                kind: Kind::Unfinished,
-                begin: wait.start,
-                end: time.max(wait.start),
-                key: wait.key,
-            };
-            self.add_wait(tracker, wait, &slice)?;
+            self.add_unfinished(tracker, wait, time)?;
             self.page.write_block(writer)?;
         }
+        Ok(())
+    }
+
+    fn add_unfinished(&mut self, tracker: &Tracker, wait: &Wait, time: u64) -> Result<(), Refusal>
+        ensures slices { OnOk result (Grows self.old.page self.new.page
+            (unfinished tracker.now.drivers tracker.now.timelines time wait.now)) }
+        ensures memory { IfErr result (λ e. e ≡ Memory) }
+    {
+        let slice = Slice {
+            kind: Kind::Unfinished,
+            begin: wait.start,
+            end: time.max(wait.start),
+            key: wait.key,
+        };
+        self.add_wait(tracker, wait.pid, wait.task.as_bytes(), &slice)?;
         Ok(())
     }
 }
@@ -435,21 +519,16 @@ impl Chart {
 fn signalled(seen: &Seen) -> Slice
     ensures { result ≡ signalled seen.now }
 {
-    let time = seen.sighting.time;
-    let key = seen.sighting.key;
-    if seen.life.pending > 0 {
-        return Slice {
-            kind: Kind::Signalled,
-            begin: seen.life.since,
-            end: time.max(seen.life.since),
-            key,
-        };
-    }
+    let (kind, begin) = if seen.life.pending > 0 {
+        (Kind::Signalled, seen.life.since)
+    } else {
+        (Kind::Unseen, seen.sighting.time)
+    };
     Slice {
-        kind: Kind::Unseen,
-        begin: time,
-        end: time,
-        key,
+        kind,
+        begin,
+        end: seen.sighting.time.max(begin),
+        key: seen.sighting.key,
     }
 }
 
@@ -465,15 +544,15 @@ fn destroyed(seen: &Seen) -> Slice
     }
 }
 
-/// The slice of a wait that ended.
-fn waited(wait: &Wait) -> Slice
-    ensures { result ≡ waited wait.now }
+/// The slice of a wait that the event ends.
+fn waited(seen: &Seen, wait: &Wait) -> Slice
+    ensures { result ≡ waited seen.now wait.now }
 {
     Slice {
         kind: Kind::Wait,
         begin: wait.start,
-        end: wait.start.saturating_add(wait.length),
-        key: wait.key,
+        end: seen.sighting.time.max(wait.start),
+        key: seen.sighting.key,
     }
 }
 
@@ -495,13 +574,18 @@ fn track_name(alloc: Global, track: Track, names: &Names<'_>) -> Result<Vec<u8>,
 }
 
 /// The names of the fence's driver and of its timeline.
-fn names_of<'t>(tracker: &'t Tracker, key: &FenceKey) -> Names<'t> {
+fn names_of<'t>(tracker: &'t Tracker, key: &FenceKey) -> Names<'t>
+    ensures driver { result.driver.now ≡ name_or_none tracker.now.drivers key.now.driver }
+    ensures timeline { result.timeline.now ≡ name_or_none tracker.now.timelines key.now.timeline }
+{
     let (driver, timeline) = tracker.names(&key.timeline_key());
     Names { driver, timeline }
 }
 
 /// The waits that have not ended.
-fn open_waits(alloc: Global, tracker: &Tracker) -> Result<Vec<Wait>, Refusal> {
+fn open_waits(alloc: Global, tracker: &Tracker) -> Result<Vec<Wait>, Refusal>
+    ensures memory { IfErr result (λ e. e ≡ Memory) }
+{
     let mut waits = Vec::new(alloc);
     for (_, wait) in tracker.waits.open().iter() {
         waits.push(*wait).map_err(|_| Refusal::Memory)?;

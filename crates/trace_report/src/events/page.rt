@@ -1,6 +1,7 @@
 // Trace events on their way to a writer.
-ghost use Rattle.std.specs.Prelude.{◌≡◌, ◌++◌, [], IfOk, OnOk, option_to_list};
+ghost use Rattle.std.specs.Prelude.{◌≡◌, ◌++◌, [], IfOk, IfErr, OnOk, option_to_list};
 ghost use Rattle.std.specs.Io.KnownBytes.{Appends};
+ghost use Rattle.point_core.specs.declared.refusal.Refusal.TheVariants.{Write as WriteFault};
 ghost use Rattle.trace_report.specs.TraceEvent.{end_text, head};
 ghost use Rattle.trace_report.specs.EventPage.{Grows, Passes};
 ghost use Rattle.trace_report.specs.Slices.{slice_in};
@@ -24,8 +25,6 @@ pub(crate) struct Page {
 
 impl Page {
     /// What stands before the first event.
-    ///
-    /// Fails only with `Memory`.
     pub(crate) fn new(alloc: Global) -> Result<Page, AllocError>
         ensures begun { IfOk result (λ page. page.held.items ≡ head) }
     {
@@ -35,7 +34,7 @@ impl Page {
 
     /// Adds an event.
     ///
-    /// Fails only with `Memory`; then what was held is lost.
+    /// After a failure what was held is lost.
     pub(crate) fn push(&mut self, event: &TraceEvent<'_>) -> Result<(), AllocError>
         ensures grown { OnOk result (Grows self.old self.new (option_to_list (slice_in event.now))) }
     {
@@ -46,7 +45,7 @@ impl Page {
 
     /// Adds what ends the document, at that time.
     ///
-    /// Fails only with `Memory`; then what was held is lost.
+    /// After a failure what was held is lost.
     pub(crate) fn end(&mut self, time: u64) -> Result<(), AllocError>
         ensures added { OnOk result (self.new.held.items ≡ self.old.held.items ++ end_text time) }
     {
@@ -56,9 +55,8 @@ impl Page {
     }
 
     /// Writes what is held where it is a block.
-    ///
-    /// Fails only with `Write`.
     pub(crate) fn write_block<W: Write>(&mut self, writer: &mut W) -> Result<(), Refusal>
+        ensures refusals { IfErr result (λ e. e ≡ WriteFault) }
         ensures passed { OnOk result (Passes self.old self.new (W.contents writer.old) (W.contents writer.new)) }
     {
         if self.held.len() < BLOCK_BYTES {
@@ -69,9 +67,8 @@ impl Page {
     }
 
     /// Writes what is held.
-    ///
-    /// Fails only with `Write`.
     pub(crate) fn write<W: Write>(&mut self, writer: &mut W) -> Result<(), Refusal>
+        ensures refusals { IfErr result (λ e. e ≡ WriteFault) }
         ensures written { OnOk result (Appends (W.contents writer.old) (W.contents writer.new) self.old.held.items) }
         ensures none { OnOk result (self.new.held.items ≡ []) }
     {

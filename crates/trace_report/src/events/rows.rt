@@ -1,4 +1,9 @@
 // Rows, on which no two slices overlap.
+ghost use Rattle.std.specs.Prelude.{◌≡◌, IfOk, IfErr};
+ghost use Rattle.point_core.specs.declared.refusal.Refusal.TheVariants.{Memory};
+ghost use Rattle.trace_report.specs.Rows.{process_of};
+ghost use Rattle.trace_report.specs.Slices.{process_of_driver};
+
 use crate::events::part::Row;
 use indexmap::IndexSet;
 use point_core::Refusal;
@@ -26,7 +31,9 @@ pub(crate) enum Track {
 
 impl Track {
     /// Pseudo-pid under which Perfetto groups this driver or task.
-    pub(crate) fn process(&self) -> u64 {
+    pub(crate) fn process(&self) -> u64
+        ensures { result ≡ process_of self.now }
+    {
         match self {
             Track::Timeline(key) => process_of_driver(key.driver),
             Track::Context(key) => process_of_driver(key.driver),
@@ -36,8 +43,10 @@ impl Track {
 }
 
 /// The number of the process that stands for a driver.
-pub(crate) fn process_of_driver(driver: u32) -> u64 {
-    u64::from(driver).saturating_add(PIDS + 1)
+pub(crate) fn process_of_driver(driver: u32) -> u64
+    ensures { result ≡ process_of_driver driver }
+{
+    u64::from(driver) + (PIDS + 1)
 }
 
 /// A row, by its track and then by the end of its last slice.
@@ -76,9 +85,10 @@ impl Rows {
 
     /// A row of the track on which each slice ended before this one begins: of several, the one that was left last, and a new
     /// one if there is none.
-    ///
-    /// Fails only with `Memory`.
-    pub(crate) fn place(&mut self, track: Track, begin: u64, end: u64) -> Result<Place, Refusal> {
+    pub(crate) fn place(&mut self, track: Track, begin: u64, end: u64) -> Result<Place, Refusal>
+        ensures process { IfOk result (λ place. place.row.process ≡ process_of track) }
+        ensures memory { IfErr result (λ e. e ≡ Memory) }
+    {
         let Ok((number, is_first)) = self.tracks.insert_full(track) else {
             return Err(Refusal::Memory);
         };
@@ -120,7 +130,9 @@ impl Rows {
         if row.track == track { Some(row) } else { None }
     }
 
-    fn keep(&mut self, row: Used) -> Result<(), Refusal> {
+    fn keep(&mut self, row: Used) -> Result<(), Refusal>
+        ensures memory { IfErr result (λ e. e ≡ Memory) }
+    {
         match self.used.insert(row) {
             Ok(_) => Ok(()),
             Err(_) => Err(Refusal::Memory),

@@ -1,4 +1,16 @@
+use Rattle.std.proofs.Common.{◌≡◌, ◌∙◌, sym, arith}
+use Rattle.trace_core.specs.History.{events_in}
+use Rattle.trace_report.proofs.Showing.{no-events, whole}
 use Rattle.trace_report.proofs.events.write_trace.Goals as goal
 
-pub returns : goal.returns
-returns g c = record { written = λ is before h. c.in_ok-finish.ensures.written before (c.in_ok-read_window.ensures.carried before h) }
+pub returns-then-eq-clause-written : goal.returns-then-eq-clause-written
+returns-then-eq-clause-written g c =
+    let h = c.in_ok-add_window.ensures.added in
+    let counted = c.events.ensures.counted h.tracks.steps h.tracks.ledger in
+    no-events _ _ _ _ _ _ _ h (omega (arith, counted, c.if-eq.true))
+
+pub returns-clause-written : goal.returns-clause-written
+returns-clause-written g c =
+    let h = c.in_ok-add_window.ensures.added in
+    let counted = c.events.ensures.counted h.tracks.steps h.tracks.ledger in
+    whole _ _ _ _ _ _ _ h _ (λ zero. absurd (omega (arith, counted, zero, c.if-eq.false))) (c.in_ok-finish.ensures.written _ _ h.tracks.steps h.tracks.ledger h.written)

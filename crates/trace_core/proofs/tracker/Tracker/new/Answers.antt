@@ -1,6 +1,5 @@
-use Rattle.std.proofs.Common.{[]}
+use Rattle.std.proofs.Common.{[], refl}
 use Rattle.trace_core.proofs.tracker.Tracker.new.Goals as goal
 
--- src/tracker.rt:32:5
 pub returns : goal.returns
-returns c = record { none = record { steps = []; are = tt; ledger = c.new-4.ensures } }
+returns c = record { none = record { steps = []; saw = record { are = tt; seen_are = tt; records = refl }; ledger = c.new-4.ensures } }

@@ -1,0 +1,83 @@
+-- A window of a trace, step by step.
+use Rattle.std.proofs.Common.{◌≡◌, ℕ, ◌⊎◌, inl, inr, Bool, true, false, List, [], ◌∷◌, ◌++◌, reverse, Option, None, Some, refl, sym, ap, subst, ◌∙◌}
+use Rattle.std.specs.Prelude.{is_some}
+use Rattle.std.proofs.lemmas.Bool.{false≢true}
+use Rattle.std.proofs.lemmas.List.{reverse-append}
+use Rattle.trace_core.specs.Item.{Meaning, Event, Other, Unread, Lost, BufferStarted, Counts, Note}
+use Rattle.trace_core.specs.Pieces.{HasPassed, HasReadAll, IsNext, Unpassed}
+use Rattle.trace_core.specs.Record.{Printed}
+use Rattle.trace_core.specs.declared.reading.Next.{Next}
+use Rattle.trace_core.specs.declared.reading.Reading.{Reading}
+use Rattle.trace_core.specs.declared.tracker.Seen.{Seen}
+use Rattle.trace_core.specs.declared.tracker.Tracker.{Tracker}
+use Rattle.trace_core.specs.declared.window.Span.{Span}
+use Rattle.trace_core.specs.declared.window.Stage.{Stage}
+use Rattle.trace_core.specs.declared.window.Stage.TheVariants.{Before, Within, After}
+use Rattle.trace_core.specs.Tracker.{Tracks, given, is_event}
+use Rattle.trace_core.specs.Reading.{GoesOn, HasRead, HasReadWindow, IsPast, next_of, stage_at, stage_with}
+use Rattle.trace_core.specs.Window.{is_over, stage_after}
+
+-- the newest of some items is the last of them in order
+pub reversed : (item : Meaning) (items : List Meaning) → reverse items ++ item ∷ [] ≡ reverse (item ∷ items)
+reversed item items = sym (reverse-append (item ∷ []) items)
+
+-- after a piece that is no event, the events are those that there were
+pub stage-given : (span : Span) (stage : Stage) (o : Option Seen) (item : Meaning) (earlier : List (Seen × Printed)) → is_some o ≡ is_event item → stage ≡ stage_at span earlier → stage_with stage span item ≡ stage_at span (given o item ++ earlier)
+stage-given span stage (Some seen) (Event r) earlier some is = ap (stage_after span r.time) is
+stage-given span stage None (Event r) earlier some is = absurd (false≢true some)
+stage-given span stage None Other earlier some is = is
+stage-given span stage None Unread earlier some is = is
+stage-given span stage None (Lost cpu events) earlier some is = is
+stage-given span stage None (BufferStarted cpu) earlier some is = is
+stage-given span stage None (Counts held written processors) earlier some is = is
+stage-given span stage None Note earlier some is = is
+stage-given span stage (Some seen) Other earlier some is = absurd (false≢true (sym some))
+stage-given span stage (Some seen) Unread earlier some is = absurd (false≢true (sym some))
+stage-given span stage (Some seen) (Lost cpu events) earlier some is = absurd (false≢true (sym some))
+stage-given span stage (Some seen) (BufferStarted cpu) earlier some is = absurd (false≢true (sym some))
+stage-given span stage (Some seen) (Counts held written processors) earlier some is = absurd (false≢true (sym some))
+stage-given span stage (Some seen) Note earlier some is = absurd (false≢true (sym some))
+
+-- what is told of a piece that was taken in
+module _ (span : Span) (r : Reading) (t : Tracker) (before now : Option (List ℕ)) (items : List Meaning) (earlier : List (Seen × Printed)) where
+  pub told : (stage : Stage) (o : Option Seen) (item : Meaning) → is_some o ≡ is_event item → is_over stage ≡ false → stage ≡ stage_at span (given o item ++ earlier) → HasRead span r t before now (item ∷ items) (given o item ++ earlier) → GoesOn span r t before now items earlier (next_of stage o item)
+  told Before (Some seen) (Event printed) some goes is h = (printed, h, sym is)
+  told Within (Some seen) (Event printed) some goes is h = (printed, h, sym is)
+  told After (Some seen) item some goes is h = absurd (false≢true (sym goes))
+  told stage None (Event printed) some goes is h = absurd (false≢true some)
+  told stage None Other some goes is h = (Other ∷ [], h)
+  told stage None Unread some goes is h = (Unread ∷ [], h)
+  told stage None (Lost cpu events) some goes is h = (Lost cpu events ∷ [], h)
+  told stage None (BufferStarted cpu) some goes is h = (BufferStarted cpu ∷ [], h)
+  told stage None (Counts held written processors) some goes is h = (Counts held written processors ∷ [], h)
+  told stage None Note some goes is h = (Note ∷ [], h)
+  told Before (Some seen) Other some goes is h = absurd (false≢true (sym some))
+  told Before (Some seen) Unread some goes is h = absurd (false≢true (sym some))
+  told Before (Some seen) (Lost cpu events) some goes is h = absurd (false≢true (sym some))
+  told Before (Some seen) (BufferStarted cpu) some goes is h = absurd (false≢true (sym some))
+  told Before (Some seen) (Counts held written processors) some goes is h = absurd (false≢true (sym some))
+  told Before (Some seen) Note some goes is h = absurd (false≢true (sym some))
+  told Within (Some seen) Other some goes is h = absurd (false≢true (sym some))
+  told Within (Some seen) Unread some goes is h = absurd (false≢true (sym some))
+  told Within (Some seen) (Lost cpu events) some goes is h = absurd (false≢true (sym some))
+  told Within (Some seen) (BufferStarted cpu) some goes is h = absurd (false≢true (sym some))
+  told Within (Some seen) (Counts held written processors) some goes is h = absurd (false≢true (sym some))
+  told Within (Some seen) Note some goes is h = absurd (false≢true (sym some))
+
+  -- the window is over only where the next piece is an event
+  pub past : (item : Meaning) (len : ℕ) → HasRead span r t before now items earlier → IsNext r.pieces item len → is_over (stage_with r.stage r.span item) ≡ true → IsPast span r.pieces earlier
+  past (Event printed) len h next over = record {
+    record_is = printed;
+    len = len;
+    next = next;
+    past =
+        sym (ap (λ s. is_over (stage_after s printed.time (stage_at span earlier))) h.span_is)
+        ∙ sym (ap (λ s. is_over (stage_after r.span printed.time s)) h.stage)
+        ∙ over;
+  }
+  past Other len h next over = absurd (false≢true (sym h.going ∙ over))
+  past Unread len h next over = absurd (false≢true (sym h.going ∙ over))
+  past (Lost cpu events) len h next over = absurd (false≢true (sym h.going ∙ over))
+  past (BufferStarted cpu) len h next over = absurd (false≢true (sym h.going ∙ over))
+  past (Counts held written processors) len h next over = absurd (false≢true (sym h.going ∙ over))
+  past Note len h next over = absurd (false≢true (sym h.going ∙ over))

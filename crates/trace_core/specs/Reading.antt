@@ -1,0 +1,101 @@
+-- A window of a trace, as it is read.
+use Rattle.std.specs.Prelude.{◌≡◌, ℕ, ◌⊎◌, Bool, true, false, List, [], ◌∷◌, ◌++◌, reverse, Option, None, Some}
+use Rattle.trace_core.specs.Item.{Meaning, Event, Other, Unread, Lost, BufferStarted, Counts, Note}
+use Rattle.trace_core.specs.Pieces.{HasPassed, HasReadAll, IsNext, Unpassed}
+use Rattle.trace_core.specs.Record.{Printed}
+use Rattle.trace_core.specs.declared.reading.Next.{Next}
+use Rattle.trace_core.specs.declared.reading.Next.TheVariants as next
+use Rattle.trace_core.specs.declared.reading.Reading.{Reading}
+use Rattle.trace_core.specs.declared.tracker.Seen.{Seen}
+use Rattle.trace_core.specs.declared.tracker.Tracker.{Tracker}
+use Rattle.trace_core.specs.declared.window.Span.{Span}
+use Rattle.trace_core.specs.declared.window.Stage.{Stage}
+use Rattle.trace_core.specs.declared.window.Stage.TheVariants.{Before, Within, After}
+use Rattle.trace_core.specs.Tracker.{Tracks}
+use Rattle.trace_core.specs.Window.{is_over, stage_after}
+
+-- where a reading is after an item; only events have a time
+abbrev pub stage_with : Stage → Span → Meaning → Stage
+stage_with stage span (Event r) = stage_after span r.time stage
+stage_with stage span Other = stage
+stage_with stage span Unread = stage
+stage_with stage span (Lost cpu events) = stage
+stage_with stage span (BufferStarted cpu) = stage
+stage_with stage span (Counts held written processors) = stage
+stage_with stage span Note = stage
+
+-- where it is after these events, the newest first
+abbrev pub stage_at : Span → List (Seen × Printed) → Stage
+stage_at span [] = Before
+stage_at span (seen ∷ earlier) = stage_after span seen.1.time (stage_at span earlier)
+
+abbrev pub is_end : Next → Bool
+is_end next.Begin = false
+is_end (next.Lost events) = false
+is_end next.StartedLate = false
+is_end (next.Before seen) = false
+is_end (next.Within seen) = false
+is_end next.Other = false
+is_end next.End = true
+
+-- an event is before the window or in it, and losses are told as they come
+abbrev pub event_at : Stage → Seen → Next
+event_at Before seen = next.Before seen
+event_at Within seen = next.Within seen
+event_at After seen = next.Within seen
+
+abbrev pub loss_of : Meaning → Next
+loss_of (Event r) = next.Other
+loss_of Other = next.Other
+loss_of Unread = next.Other
+loss_of (Lost cpu events) = next.Lost events
+loss_of (BufferStarted cpu) = next.StartedLate
+loss_of (Counts held written processors) = next.Other
+loss_of Note = next.Other
+
+abbrev pub next_of : Stage → Option Seen → Meaning → Next
+next_of stage (Some seen) item = event_at stage seen
+next_of stage None item = loss_of item
+
+-- These are the pieces that the tracker took in, and this was given of their events. The newest come first.
+pub record HasRead (span : Span) (r : Reading) (t : Tracker) (before now : Option (List ℕ)) (items : List Meaning) (seen : List (Seen × Printed)) : Type 0 where
+  pub span_is : r.span ≡ span
+  pub passed : HasPassed before now r.pieces (reverse items)
+  pub stage : r.stage ≡ stage_at span seen
+  pub going : is_over r.stage ≡ false
+  pub tracks : Tracks t items seen
+
+-- the next piece is an event after the window
+pub record IsPast (span : Span) (rest : Unpassed) (seen : List (Seen × Printed)) : Type 0 where
+  pub record_is : Printed
+  pub len : ℕ
+  pub next : IsNext rest (Event record_is) len
+  pub past : is_over (stage_after span record_is.time (stage_at span seen)) ≡ true
+
+-- The pieces of a text up to the end of a window: all of them, or those before the first event after the window. The newest come
+-- first.
+pub record HasReadWindow (span : Span) (before now : Option (List ℕ)) (items : List Meaning) (seen : List (Seen × Printed)) : Type 0 where
+  pub rest : Unpassed
+  pub passed : HasPassed before now rest (reverse items)
+  pub over : HasReadAll before now (reverse items) ⊎ IsPast span rest seen
+
+-- an event was taken in, where the reading is at that stage after it
+abbrev pub TookIn : Span → Reading → Tracker → Option (List ℕ) → Option (List ℕ) → List Meaning → List (Seen × Printed) → Seen → Stage → Type 0
+TookIn span r t before now items earlier seen stage =
+    (printed : Printed) × HasRead span r t before now (Event printed ∷ items) ((seen, printed) ∷ earlier)
+    × (stage_at span ((seen, printed) ∷ earlier) ≡ stage)
+
+-- pieces were taken in that are no events
+abbrev pub PassedOver : Span → Reading → Tracker → Option (List ℕ) → Option (List ℕ) → List Meaning → List (Seen × Printed) → Type 0
+PassedOver span r t before now items seen = (more : List Meaning) × HasRead span r t before now (more ++ items) seen
+
+-- what a step tells is so, and nothing else was taken in
+abbrev pub GoesOn : Span → Reading → Tracker → Option (List ℕ) → Option (List ℕ) → List Meaning → List (Seen × Printed) → Next → Type 0
+GoesOn span r t before now items earlier (next.Before seen) = TookIn span r t before now items earlier seen Before
+GoesOn span r t before now items earlier (next.Within seen) = TookIn span r t before now items earlier seen Within
+GoesOn span r t before now items earlier next.End =
+    HasRead span r t before now items earlier × HasReadWindow span before now items earlier
+GoesOn span r t before now items earlier next.Begin = HasRead span r t before now items earlier
+GoesOn span r t before now items earlier (next.Lost events) = PassedOver span r t before now items earlier
+GoesOn span r t before now items earlier next.StartedLate = PassedOver span r t before now items earlier
+GoesOn span r t before now items earlier next.Other = PassedOver span r t before now items earlier
