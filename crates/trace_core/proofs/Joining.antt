@@ -1,4 +1,4 @@
--- The lines of a record, of which only some may be there.
+-- The lines of a record, when perhaps only the first are there.
 use Rattle.std.proofs.Common.{◌≡◌, ℕ, suc, ◌+◌, ◌-◌, ◌<◌, ◌≤◌, ◌⊎◌, inl, inr, Bool, true, false, cond, List, [], ◌∷◌, ◌++◌, length, take, drop, Option, None, Some, IfSome, is_some, codes, refl, sym, ap, ◌∙◌, append_assoc, length-append, length-take, length-drop, take-append-drop, arith}
 use Rattle.std.specs.List.{position_or_len}
 use Rattle.std.proofs.Math.Seq.{take-length}
@@ -76,7 +76,7 @@ module _ (bytes : List ℕ) (whole : Bool) (lines : List ℕ) (end : ℕ) (are :
     take-more k =
         sym (take-append-drop end (take (end + k) bytes)) ∙ ap (λ xs. xs ++ drop end (take (end + k) bytes)) (take-take end (end + k) bytes (omega arith)) ∙ ap (λ xs. take end bytes ++ xs) (drop-take end k bytes)
 
-    -- the lines with the next one, as they stand among the bytes
+    -- the lines with the next one, as they are among the bytes
     pub with_line : take (end + length line) bytes ≡ lines ++ 10 ∷ line
     with_line =
         take-more (length line) ∙ ap (λ xs. xs ++ take (length line) (drop end bytes)) fed ∙ append_assoc lines (10 ∷ []) (take (length line) (drop end bytes)) ∙ ap (λ xs. lines ++ 10 ∷ xs) (sym line-of)

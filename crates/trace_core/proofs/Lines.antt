@@ -25,7 +25,7 @@ place-le bytes = prefix_len-le-length _ bytes
 pub feed-none : (bytes : List ℕ) → position is_line_feed bytes ≡ None → HasNoLineFeed bytes
 feed-none bytes e = omega (arith, unchosen (position_or_len is_line_feed bytes) (length bytes) e, place-le bytes)
 
--- the first bytes hold no line feed, as many as stand before the first one
+-- the bytes before the first line feed hold none
 pub front-alone : (bytes : List ℕ) (k : ℕ) → k ≤ position_or_len is_line_feed bytes → HasNoLineFeed (take k bytes)
 front-alone bytes k h =
     position_or_len_is is_line_feed (take k bytes) (length (take k bytes)) 0 (omega arith) (λ j l. let few : j < k = omega (arith, l, length-take k bytes) in ap is_line_feed (get_or-take k bytes j 0 few) ∙ fails_before_first is_line_feed bytes j 0 (omega arith)) (λ l. absurd (omega (arith, l)))

@@ -34,7 +34,7 @@ drop-front : (front bytes : List ℕ) (len : ℕ) → drop (length front + len) 
 drop-front front bytes len =
     sym (drop-drop len (length front) (front ++ bytes)) ∙ ap (drop len) (drop_at front bytes (length front) refl)
 
--- the rest of a line of which a front was let go
+-- the rest of a line after its front was dropped
 module _ (front bytes : List ℕ) (whole : Bool) (len : ℕ) (alone : HasNoLineFeed front) (long : PIECE_BYTES < length front) (is : IsRestOfLine bytes whole len) where
   line-some : 1 ≤ len → position_or_len is_line_feed bytes ≡ len - 1 → IsLine (front ++ bytes) whole (front ++ take (len - 1) bytes) (length front + len)
   line-some some place =

@@ -1,4 +1,4 @@
--- An event of which nothing was found counts by its kind alone.
+-- An event without a finding counts only by its kind.
 use Rattle.std.proofs.Common.{◌≡◌, Bool, true, false, ◌||◌, refl}
 use Rattle.std.specs.Prelude.{not}
 use Rattle.trace_core.specs.declared.finding.Finding.{Finding}

@@ -1,6 +1,9 @@
--- Keys that compare as the same are equal.
-use Rattle.std.proofs.Common.{◌≡◌, nat_eq, Bool, true, false, ◌&&◌, cond, refl, ap}
+-- Keys that compare as equal are equal.
+use Rattle.std.proofs.Common.{◌≡◌, nat_eq, Bool, true, false, ◌&&◌, cond, refl, sym, ap, ◌∙◌}
+use Rattle.std.specs.Bool.{Decides}
+use Rattle.std.specs.Cmp.{IsEquivalence}
 use Rattle.std.proofs.lemmas.Bool.{eqb-true, and_parts}
+use Rattle.std.proofs.lemmas.Cmp.{and_equiv, nat_eq_equiv, on_equiv}
 use Rattle.trace_core.specs.declared.sighting.ContextKey.{ContextKey}
 use Rattle.trace_core.specs.declared.sighting.FenceKey.{FenceKey}
 use Rattle.trace_core.specs.declared.sighting.TimelineKey.{TimelineKey}
@@ -36,3 +39,11 @@ same_key-is a b same =
     let context : a.context ≡ b.context = eqb-true a.context b.context last.0 in
     let seqno : a.seqno ≡ b.seqno = eqb-true a.seqno b.seqno last.1 in
     λ i. record { driver = driver i; timeline = timeline i; context = context i; seqno = seqno i }
+
+pub same_key-laws : IsEquivalence same_key
+same_key-laws =
+    and_equiv (on_equiv (λ key. key.driver) nat_eq_equiv) (and_equiv (on_equiv (λ key. key.timeline) nat_eq_equiv) (
+    and_equiv (on_equiv (λ key. key.context) nat_eq_equiv) (on_equiv (λ key. key.seqno) nat_eq_equiv)))
+
+pub same_key-decides : (a b : FenceKey) → Decides (same_key a b) (a ≡ b)
+same_key-decides a b = (same_key-is a b, λ is. sym (ap (same_key a) is) ∙ same_key-laws.refl a)

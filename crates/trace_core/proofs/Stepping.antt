@@ -38,7 +38,7 @@ stage-given span stage (Some seen) (BufferStarted cpu) earlier some is = absurd 
 stage-given span stage (Some seen) (Counts held written processors) earlier some is = absurd (false≢true (sym some))
 stage-given span stage (Some seen) Note earlier some is = absurd (false≢true (sym some))
 
--- what is told of a piece that was taken in
+-- what `next` gives for a piece that was taken in
 module _ (span : Span) (r : Reading) (t : Tracker) (before now : Option (List ℕ)) (items : List Meaning) (earlier : List (Seen × Printed)) where
   pub told : (stage : Stage) (o : Option Seen) (item : Meaning) → is_some o ≡ is_event item → is_over stage ≡ false → stage ≡ stage_at span (given o item ++ earlier) → HasRead span r t before now (item ∷ items) (given o item ++ earlier) → GoesOn span r t before now items earlier (next_of stage o item)
   told Before (Some seen) (Event printed) some goes is h = (printed, h, sym is)

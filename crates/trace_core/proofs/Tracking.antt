@@ -43,7 +43,7 @@ pub seen : (d d1 d2 t t1 t2 : Names) (items : List Meaning) (s : Sighting) (r : 
 seen d d1 d2 t t1 t2 items s r steps are drivers timelines says d-is t-is =
     subst (λ x. AreSteps x t2 (Some r ∷ steps_of items) (Seen s ∷ unforgetting steps)) (sym d-is) (subst (λ x. AreSteps d1 x (Some r ∷ steps_of items) (Seen s ∷ unforgetting steps)) (sym t-is) (says, steps-kept d d1 t t1 drivers timelines (steps_of items) (unforgetting steps) are))
 
--- a ledger of the same events, of which a context may have been forgotten
+-- a ledger of the same events that may have forgotten a context
 pub record IsLedgerLike (l : Ledger) (steps : List Step) : Type 0 where
   pub more : List Step
   pub same : unforgetting more ≡ unforgetting steps
@@ -67,7 +67,7 @@ maybe false l m key steps h forgot kept = record {
 pub is-seen : (earlier : List Step) (given : SeenEvent) → given.life ≡ life_in earlier given.sighting.key → given.found ≡ found_in earlier given.sighting → IfSome given.wait (IsWaitOf given.sighting) → IsSeen earlier given.sighting given
 is-seen earlier given life found wait = record { event = refl; life = life; found = found; wait = wait }
 
--- the names of the newest event are those of its record
+-- the newest event has the names of its record
 pub named : (d t : Names) (printed : Printed) (items : List Meaning) (given : SeenEvent) (earlier : List (SeenEvent × Printed)) (steps : List Step) → AreSteps d t (steps_of (Event printed ∷ items)) (unforgetting steps) → AreSeen steps ((given, printed) ∷ earlier) → (name_at d given.sighting.key.driver ≡ Some printed.driver) × (name_at t given.sighting.key.timeline ≡ Some printed.timeline)
 named d t printed items given earlier [] are seen = elim are [ ]
 named d t printed items given earlier (Seen e ∷ steps) are seen = (

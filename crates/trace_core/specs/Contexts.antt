@@ -22,11 +22,11 @@ no_context = record { order = no_order; points = None; tally = none }
 abbrev pub context_at : Contexts → ContextKey → Context
 context_at contexts key = unwrap_or (lookup (same_context key) contexts.by_key.entries) no_context
 
--- what an event of one of its fences is, of whose key that was known, for sure or not
+-- what is found of an event, by what was known of its key, and whether no events were lost since
 abbrev pub found_of : Sighting → Life → Bool → Context → Finding
 found_of e life sure context = finding_of e.event e.key.seqno life context.points context.order sure
 
--- with an event of one of its fences, which so many others came before, and of which that was found
+-- the context after event number `at` of one of its fences, with what was found of it
 abbrev pub context_after : Sighting → ℕ → Finding → Context → Context
 context_after e at found context = record {
   order = order_after e.event e.key.seqno at context.order;
@@ -34,6 +34,6 @@ context_after e at found context = record {
   tally = tally_after found context.tally;
 }
 
--- with an event of one of its fences, which so many others came before, and of whose key that was known, for sure or not
+-- the context after event number `at` of one of its fences, by what was known of its key
 abbrev pub context_seen : Sighting → ℕ → Life → Bool → Context → Context
 context_seen e at life sure context = context_after e at (found_of e life sure context) context

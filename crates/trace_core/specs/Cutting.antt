@@ -1,4 +1,4 @@
--- The first piece of a text of which only a prefix may be there.
+-- The first piece of a text that may be there only up to some byte.
 use Rattle.std.specs.Prelude.{◌≡◌, ℕ, suc, ◌+◌, ◌-◌, ◌≤◌, ◌⊎◌, Bool, true, false, List, [], ◌∷◌, ◌++◌, length, take, drop, Option, None, Some}
 use Rattle.std.specs.List.{position_or_len}
 use Rattle.trace_core.specs.declared.item.TheConstants.{PIECE_BYTES}
@@ -16,7 +16,7 @@ MayFollow whole more = whole ≡ true → more ≡ []
 abbrev pub HasNoLineFeed : List ℕ → Type 0
 HasNoLineFeed bytes = position_or_len is_line_feed bytes ≡ length bytes
 
--- the bytes begin with the line and its line feed, which take so many of them
+-- the bytes begin with the line and its line feed, together `len` bytes
 abbrev pub EndsByLineFeed : List ℕ → List ℕ → ℕ → Type 0
 EndsByLineFeed bytes line len = (bytes ≡ line ++ 10 ∷ drop len bytes) × (len ≡ length line + 1)
 
@@ -24,7 +24,7 @@ EndsByLineFeed bytes line len = (bytes ≡ line ++ 10 ∷ drop len bytes) × (le
 abbrev pub EndsText : List ℕ → Bool → List ℕ → ℕ → Type 0
 EndsText bytes whole line len = (line ≡ bytes) × (len ≡ length bytes) × (whole ≡ true)
 
--- the line is the first of the bytes and takes so many of them, with its line feed, or it is the last of the text
+-- the line comes first, `len` bytes with its line feed, or it is the last line of the text
 pub record IsLine (bytes : List ℕ) (whole : Bool) (line : List ℕ) (len : ℕ) : Type 0 where
   pub some : 1 ≤ len
   pub within : len ≤ length bytes
@@ -53,7 +53,7 @@ IsJoining bytes whole lines end (Longer next) =
     (end ≤ next) × ((longer : List ℕ) × AreLines bytes whole longer next
     × JoinsTo bytes whole lines end (λ n more. joined_from n longer (drop next bytes ++ more)))
 
--- so many bytes are taken, one at least
+-- the piece has at least one byte, and no more than there are
 abbrev pub Takes : List ℕ → Piece → Type 0
 Takes bytes piece = (1 ≤ piece.length) × (piece.length ≤ length bytes)
 
@@ -61,7 +61,7 @@ Takes bytes piece = (1 ≤ piece.length) × (piece.length ≤ length bytes)
 abbrev pub piece_and_rest : List ℕ → Piece → List ℕ → Meaning × List ℕ
 piece_and_rest bytes piece more = (meaning_of piece.item, drop piece.length bytes ++ more)
 
--- the piece is that of the first lines, whichever way the text goes on
+-- the piece is made of the first lines, whichever way the text goes on
 abbrev pub IsJoined : List ℕ → Bool → List ℕ → ℕ → Piece → Type 0
 IsJoined bytes whole line first piece =
     (more : List ℕ) → MayFollow whole more →
@@ -77,7 +77,7 @@ pub record NeedsMore (bytes : List ℕ) (whole : Bool) : Type 0 where
   pub all : whole ≡ true → bytes ≡ []
   pub short : length bytes ≤ PIECE_BYTES ⊎ HasNoLineFeed bytes
 
--- the rest of a line takes so many bytes, its line feed the last of them
+-- the rest of a line is `len` bytes, the last of them its line feed
 abbrev pub RunsToLineFeed : List ℕ → ℕ → Type 0
 RunsToLineFeed bytes len = (1 ≤ len) × (position_or_len is_line_feed bytes ≡ len - 1)
 

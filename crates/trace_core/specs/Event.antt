@@ -28,7 +28,7 @@ kind_at (row ∷ rows) word = if bytes_eq word row.0 then Some row.1 else kind_a
 unfoldable pub kind_of : List ℕ → Option Event
 kind_of word = kind_at kinds word
 
--- what follows the name of the events' system, where it stands before that of the event
+-- the text after the name of the events' system, or all of it if it has no such name
 unfoldable pub without_system : List ℕ → List ℕ
 without_system text = unwrap_or (after text (codes ":dma_fence")) text
 

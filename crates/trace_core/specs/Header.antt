@@ -1,4 +1,4 @@
--- What stands in a record before its event.
+-- The head of a record, before its event.
 use Rattle.std.specs.Prelude.{ℕ, ◌-◌, ◌^◌, Bool, ◌&&◌, nat_le, nat_lt, if◌then◌else◌, List, length, take, drop, Option, None, Some, option_map, codes}
 use Rattle.std.specs.List.{prefix_len, suffix_len}
 use Rattle.std.specs.Option.{option_and_then}

@@ -77,7 +77,7 @@ tally_in test (Forgot past ∷ earlier) = tally_in test earlier
 abbrev pub is_past : Life → Context → FenceKey → Bool
 is_past life context key = is_over life && is_only key.seqno context.points
 
--- only a context is forgotten whose events were of one key, of which no fence is alive
+-- a context is forgotten only if all its events had one key and no fence of that key is alive
 abbrev pub Forgets : List Step → Type 0
 Forgets [] = ⊤
 Forgets (Seen e ∷ earlier) = Forgets earlier
@@ -91,7 +91,7 @@ every key = true
 abbrev pub is_of_timeline : TimelineKey → FenceKey → Bool
 is_of_timeline key fence = same_timeline (timeline_of fence) key
 
--- the key is that of fences to which their driver gives a number when it emits them, and has given none yet
+-- fences of the key get their number only when their driver emits them, and have none yet
 abbrev pub is_unnumbered : List Step → FenceKey → Bool
 is_unnumbered steps key =
     key.seqno == 0 && nat_lt 0 (tally_in (is_of_timeline (timeline_of key)) steps).events.emit

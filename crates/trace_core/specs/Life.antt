@@ -68,7 +68,7 @@ destroyed life =
       since = life.since;
     }
 
--- after an event of the key at that time, which so many others came before
+-- what is known after event number `born`, an event of the key at that time
 unfoldable pub life_after : Event → ℕ → ℕ → Life → Life
 life_after Init born time life = made born time life
 life_after Emit born time life = emitted born time life

@@ -6,7 +6,7 @@ use Rattle.trace_core.specs.Item.{Meaning, BufferStarted, Counts, Note}
 use Rattle.trace_core.specs.Number.{number_at}
 use Rattle.trace_core.specs.Steps.{after, after_blanks}
 
--- the number, where the text alone follows it
+-- the number, if only the text follows it
 unfoldable pub counted : List ℕ → List ℕ → Option (Option ℕ)
 counted bytes text =
     option_and_then (λ n. if bytes_eq n.1 text then Some (Some n.0) else None) (number_at (2 ^ 64) bytes)
@@ -21,7 +21,7 @@ losses bytes =
     if bytes_eq bytes (codes "LOST EVENTS]") || bytes_eq bytes (codes "EVENTS DROPPED]") then Some None
     else counted_behind (after bytes (codes "LOST ")) bytes
 
--- the processor whose events were lost, and how many
+-- the processor that lost events, and how many
 unfoldable pub lost : List ℕ → Option (ℕ × Option ℕ)
 lost line =
     option_and_then

@@ -8,7 +8,7 @@ use Rattle.std.specs.Str.Parse.{digits_value}
 use Rattle.trace_core.specs.declared.number.TheConstants.{DECIMALS, SECOND}
 use Rattle.trace_core.specs.Steps.{after, before}
 
--- one digit or more, whose value is below the limit. Leading zeros are allowed
+-- one digit or more, with a value below the limit; leading zeros are allowed
 abbrev pub is_numeral : ℕ → List ℕ → Bool
 is_numeral limit word =
     nat_le 1 (length word) && all_ascii_digits word && nat_lt (digits_value 10 word) limit
@@ -27,7 +27,7 @@ number_at limit bytes =
 abbrev pub end_digits : List ℕ → ℕ
 end_digits bytes = length bytes - suffix_len is_ascii_digit bytes
 
--- what stands before the text and a number of 32 bits at the end, and that number
+-- the bytes before the text and a number of 32 bits, if they end with these, and that number
 unfoldable pub number_at_end : List ℕ → List ℕ → Option (List ℕ × ℕ)
 number_at_end text bytes =
     option_and_then

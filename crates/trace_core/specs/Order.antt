@@ -24,7 +24,7 @@ is_late order seqno = order.some && nat_lt seqno order.furthest
 abbrev pub is_late_wrapped : Order → ℕ → Bool
 is_late_wrapped order seqno = order.some && is_later order.furthest_wrapped seqno
 
--- whether the last one that was signalled has the same seqno
+-- whether the last fence that was signalled has this seqno
 abbrev pub is_repeat : Order → ℕ → Bool
 is_repeat order seqno = order.some && order.last == seqno
 
@@ -41,7 +41,7 @@ order_signalled seqno at order = record {
   last = seqno;
 }
 
--- after an event of a fence of that seqno, which so many others came before
+-- the order after event number `at`, of a fence of that seqno
 unfoldable pub order_after : Event → ℕ → ℕ → Order → Order
 order_after Init seqno at order = order
 order_after Emit seqno at order = order

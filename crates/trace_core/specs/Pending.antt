@@ -8,7 +8,7 @@ use Rattle.trace_core.specs.declared.sighting.FenceKey.{FenceKey}
 use Rattle.trace_core.specs.History.{Step, hangs, is_unnumbered, life_in}
 use Rattle.trace_core.specs.Life.{is_pending}
 
--- a fence that its driver has not numbered is none yet, and one hangs of which no signal can be lost
+-- A fence that its driver has not numbered doesn't count yet; a fence hangs if its signal can't be among lost events.
 abbrev pub kind_of : List Step → FenceKey → PendingKind
 kind_of steps key = if is_unnumbered steps key then Unnumbered else if hangs steps key then Hang else Unknown
 

@@ -57,7 +57,7 @@ abbrev pub record_or : Option Printed → List ℕ → Option (Printed × List �
 record_or None rest later = later
 record_or (Some r) rest later = Some (r, rest)
 
--- the record that these lines are with the next one, or with the next few, of which none begins as a record
+-- the record that these lines are together with the next line, or the next few, if none of them begins as a record
 unfoldable pub joined_from : ℕ → List ℕ → List ℕ → Option (Printed × List ℕ)
 joined_from zero lines rest = None
 joined_from (suc n) lines [] = None
@@ -75,7 +75,7 @@ abbrev pub joined_or_unread : Option (Printed × List ℕ) → List ℕ → Mean
 joined_or_unread None rest = (Unread, rest)
 joined_or_unread (Some joined) rest = (Event joined.0, joined.1)
 
--- the line with the next few where they are a record together, or the line alone
+-- the line with the next few if they are a record together, else only the line
 abbrev pub joined_or_alone : List ℕ → List ℕ → Meaning × List ℕ
 joined_or_alone line rest = joined_or_unread (joined_from (RECORD_LINES - 1) line rest) rest
 

@@ -51,7 +51,7 @@ pub record AreSomeFlags (bytes : List ℕ) : Type 0 where
 abbrev pub AreFlags : List ℕ → Type 0
 AreFlags bytes = (bytes ≡ []) ⊎ AreSomeFlags bytes
 
--- seconds with six decimals or more, of which the first six are read, in microseconds
+-- seconds with six decimals or more; the first six are read, as microseconds
 pub record IsTime (seconds decimals : List ℕ) (time : ℕ) : Type 0 where
   pub whole : ℕ
   pub spelt : Spells (2 ^ 64) seconds whole
@@ -93,7 +93,7 @@ pub record IsHead (piece : List ℕ) (head : Head) : Type 0 where
   pub flagged : AreFlags flags
   pub time : IsTime seconds decimals head.time
 
--- the event's name, with that of the events' system before it where `perf script` prints it, and then the fields
+-- the event's name, after the name of the events' system if `perf script` printed it, and then the fields
 pub record IsEvent (text : List ℕ) (event : Event) (fields : List ℕ) : Type 0 where
   pub blanks : List ℕ
   pub system : List ℕ

@@ -38,7 +38,7 @@ is_end (next.Within seen) = false
 is_end next.Other = false
 is_end next.End = true
 
--- an event is before the window or in it, and losses are told as they come
+-- an event is before the window or in it
 abbrev pub event_at : Stage → Seen → Next
 event_at Before seen = next.Before seen
 event_at Within seen = next.Within seen

@@ -45,11 +45,11 @@ joined head event body = record {
   seqno = body.seqno;
 }
 
--- the record of a header and an event, where the text is that of its fields
+-- the record of a header and an event, if the text has the fields of one
 unfoldable pub record_with : Head → Event → List ℕ → Option Printed
 record_with head event text = option_map (joined head event) (fields_of text)
 
--- the record of a header, where its text is that of a dma_fence event
+-- the record of a header, if a dma_fence event follows it
 unfoldable pub record_from : Head → Option Printed
 record_from head = option_and_then (λ event. record_with head event.0 event.1) (event_at head.text)
 

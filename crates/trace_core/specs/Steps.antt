@@ -1,4 +1,4 @@
--- Steps of reading: what the bytes begin or end with, and what follows it or stands before it.
+-- Steps of reading: what the bytes begin or end with, and the bytes after it or before it.
 use Rattle.std.specs.Prelude.{ℕ, ◌-◌, if◌then◌else◌, List, [], ◌∷◌, length, take, drop, Option, None, Some, option_map, codes}
 use Rattle.std.specs.List.{prefix_len}
 use Rattle.std.specs.Str.{bytes_eq}
@@ -8,7 +8,7 @@ use Rattle.trace_core.specs.Runs.{is_blank}
 unfoldable pub after : List ℕ → List ℕ → Option (List ℕ)
 after bytes text = if bytes_eq (take (length text) bytes) text then Some (drop (length text) bytes) else None
 
--- what stands before the text, where the bytes end with it
+-- the bytes before the text, if they end with it
 unfoldable pub before : List ℕ → List ℕ → Option (List ℕ)
 before bytes text =
     if bytes_eq (drop (length bytes - length text) bytes) text then Some (take (length bytes - length text) bytes) else None
@@ -29,7 +29,7 @@ abbrev pub here_or : Option (List ℕ) → Option (List ℕ × List ℕ) → Opt
 here_or None later = later
 here_or (Some rest) later = Some ([], rest)
 
--- what stands before the first place at which the text stands, and what follows it
+-- the bytes before the first occurrence of the text, and the bytes after it
 unfoldable pub part_at : List ℕ → List ℕ → Option (List ℕ × List ℕ)
 part_at text [] = None
 part_at text (x ∷ xs) = here_or (after (x ∷ xs) text) (option_map (with_first x) (part_at text xs))

@@ -97,7 +97,7 @@ none = record {
   signalled_twice = 0;
 }
 
--- with an event of which that was found
+-- the tally with one more event, by what was found of it
 unfoldable pub tally_after : Finding → Tally → Tally
 tally_after found t = record {
   events = counts_after found.event t.events;

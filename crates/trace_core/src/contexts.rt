@@ -27,7 +27,7 @@ pub struct Context {
 }
 
 impl Context {
-    /// A context of which nothing was seen.
+    /// A context without an event.
     pub const NONE: Context = Context {
         order: Order::NONE,
         points: Points::None,
@@ -49,7 +49,7 @@ impl Context {
         )
     }
 
-    /// Takes in an event of one of its fences, which so many others came before, and of which that was found.
+    /// Takes in an event of one of its fences, which is number `at`, with what was found of it.
     #[inline(always)]
     fn see(&mut self, sighting: &Sighting, at: u64, found: &Finding)
         ensures { self.new ≡ context_after sighting.now at found.now self.old }
@@ -94,8 +94,8 @@ impl Contexts {
         &self.by_key
     }
 
-    /// Takes in an event, which so many others came before, and of whose key that was known, for sure or not. Gives what it
-    /// is.
+    /// Takes in event number `at`. `life` is what was known of its key before it, and `sure` whether no events were lost
+    /// since. Gives what was found of the event.
     ///
     /// Fails only with `Memory`, and then nothing has changed.
     pub fn see(

@@ -7,13 +7,13 @@ use indexmap::IndexMap;
 use point_core::Refusal;
 use std::alloc::Global;
 
-/// Each doubling of a time has so many steps, so that a middle value is exact to within a sixteenth.
+/// The steps of each doubling of a time, so that a median is exact to within a sixteenth.
 const STEPS: u64 = 16;
 
 /// The first bits of a time that say its step.
 const STEP_BITS: u32 = 4;
 
-/// The last step, that of the greatest time.
+/// The last step, which the greatest time has.
 const LAST_STEP: u32 = 975;
 
 /// Times of a timeline that fall into one step.

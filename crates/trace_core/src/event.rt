@@ -21,7 +21,7 @@ pub enum Event {
     Destroy,
 }
 
-/// The event that an event's text begins with, and the fields after its name. Blanks and `dma_fence:` may stand before it.
+/// The event that an event's text begins with, and the fields after its name. Blanks and `dma_fence:` may precede the name.
 #[tactic(auto, unfolding(crate::specs::Event::event_at))]
 pub(crate) fn event_at(text: &[u8]) -> Option<(Event, &[u8])>
     ensures event { option_map (λ e. (e.0, e.1.now)) result ≡ event_at text.now }
@@ -32,7 +32,7 @@ pub(crate) fn event_at(text: &[u8]) -> Option<(Event, &[u8])>
     Some((event, after_blanks(after(rest, b":")?)?))
 }
 
-/// What follows the name of the events' system, where it stands before that of the event.
+/// The text after the name of the events' system, or all of it if it has no such name.
 #[tactic(auto, unfolding(crate::specs::Event::without_system))]
 fn without_system(text: &[u8]) -> &[u8]
     ensures rest { result.now ≡ without_system text.now }

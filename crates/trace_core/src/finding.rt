@@ -2,10 +2,10 @@
 ghost use Rattle.std.specs.Prelude.{◌≡◌};
 ghost use Rattle.trace_core.specs.Finding.{finding_of, is_overtaken, is_plain, is_signalled_only};
 
+use crate::event::Event;
 use crate::life::Life;
 use crate::order::Order;
 use crate::points::Points;
-use crate::event::Event;
 
 /// What an event is, by what was known of its key and of its context before it. What each says is said at the counts of
 /// [`Tally`](crate::Tally).

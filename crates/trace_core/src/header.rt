@@ -1,4 +1,4 @@
-// What stands in a record before its event: the task, the processor and the time.
+// The head of a record, before its event: the task, the processor and the time.
 ghost use Rattle.std.specs.Prelude.{◌≡◌, option_map};
 ghost use Rattle.trace_core.specs.Header.{header_of, thread, processor, after_dash, after_group, after_flags, trimmed, header_from};
 
@@ -9,14 +9,14 @@ use crate::steps::{after, after_blanks, without_blanks};
 /// The bytes of a record that its task's name takes, blanks before it.
 const TASK_BYTES: usize = 16;
 
-/// The fewest and the most bytes of the flags that stand between the processor and the time.
+/// The fewest and the most bytes of the flags between the processor and the time.
 const FLAGS_FEWEST: usize = 4;
 
 const FLAGS_MOST: usize = 6;
 
 const _: () = prove!(FLAGS_FEWEST == 4 && FLAGS_MOST == 6);
 
-/// What stands in a record before its event, and the event's text.
+/// The head of a record, and the event's text after it.
 #[derive(Clone, Copy)]
 pub(crate) struct Header<'a> {
     pub(crate) task: &'a [u8],

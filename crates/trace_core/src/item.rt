@@ -12,7 +12,7 @@ use crate::steps::after;
 /// The most bytes of a piece that is read. A longer line is unread, whatever it says.
 pub const PIECE_BYTES: usize = 8192;
 
-/// What a piece of the text is: a line, or a record of a `dma_fence` event, whose timeline's name may hold line feeds.
+/// What a piece of the text is: a line, or a record of a `dma_fence` event, which is several lines if a name holds line feeds.
 #[derive(Clone, Copy, Debug)]
 pub enum Item<'a> {
     /// A record of a `dma_fence` event.

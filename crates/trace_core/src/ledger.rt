@@ -7,6 +7,7 @@ ghost use Rattle.trace_core.specs.History.{Step, Seen, Lost, Forgot, IsLedgerOf,
 ghost use Rattle.trace_core.specs.Lives.{life_at};
 
 use crate::contexts::Contexts;
+use crate::event::Event;
 use crate::finding::Finding;
 use crate::life::Life;
 use crate::lives::Lives;
@@ -15,7 +16,6 @@ use crate::tally::Tally;
 use crate::timelines::Timelines;
 use point_core::Refusal;
 use std::alloc::Global;
-use crate::event::Event;
 
 /// What an event came upon.
 #[derive(Clone, Copy, Debug)]
@@ -127,7 +127,7 @@ impl Ledger {
         life.is_pending() && self.loss <= life.born
     }
 
-    /// Whether the key is that of fences to which their driver gives a number when it emits them, and has given none yet.
+    /// Whether fences of the key get their number only when their driver emits them, and have none yet.
     pub fn is_unnumbered(&self, key: &FenceKey) -> bool
         ensures unnumbered { (steps : List Step) → IsLedgerOf self.now steps → result ≡ is_unnumbered steps key.now }
     {

@@ -1,9 +1,9 @@
 //! Traces: the text that Linux's ftrace gives of its `dma_fence` events, and what its records say of fences.
 //!
-//! It reads the text of tracefs (`trace`, `trace_pipe`), of `trace-cmd report` and of `perf script`. What a record is stands
-//! as functions and facts of the bytes (`specs/`). [`Tracker`] takes the records one by one, and holds what is alive: which
-//! fences were made and never signalled, who waits, and what each timeline did. What each number is stands as a fold over the
-//! events (`specs/History.antt`).
+//! It reads the text of tracefs (`trace`, `trace_pipe`), of `trace-cmd report` and of `perf script`; `specs/` defines a record
+//! by its bytes. [`Reading`] cuts a text into pieces, and hands them to a [`Tracker`], which keeps what is alive: the fences that
+//! were made and not signalled, the waits, and what each timeline did. Each of the ledger's numbers is a fold over the events
+//! (`specs/History.antt`). `trace_report` and `trace_script` call it.
 #![tactic(auto)]
 
 mod contexts;

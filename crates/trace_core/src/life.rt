@@ -20,7 +20,7 @@ pub struct Life {
 }
 
 impl Life {
-    /// Of a key whose fences are all gone, nothing is known.
+    /// What is known of a key that has no fence, or whose fences are all gone: nothing.
     pub const UNBORN: Life = Life {
         pending: 0,
         signalled: 0,

@@ -7,12 +7,12 @@ ghost use Rattle.trace_core.specs.Life.{unborn, settled};
 ghost use Rattle.trace_core.specs.Lives.{life_at, life_step, without_number};
 ghost use Rattle.trace_core.specs.Finding.{is_emit};
 
+use crate::event::Event;
 use crate::life::Life;
 use crate::sighting::{FenceKey, Sighting};
 use indexmap::IndexMap;
 use point_core::Refusal;
 use std::alloc::Global;
-use crate::event::Event;
 
 /// What is known of the keys of fences that are alive.
 #[derive(Drop)]
@@ -47,7 +47,7 @@ impl Lives {
         &self.by_key
     }
 
-    /// Takes in an event, which so many others came before. Gives what was known of its key.
+    /// Takes in event number `born`. Gives what was known of its key.
     ///
     /// Fails only with `Memory`; then it is not to be used further.
     #[tactic(auto, unfolding(crate::specs::Lives::life_step))]

@@ -55,7 +55,7 @@ impl Names {
         Ok(number)
     }
 
-    /// The number at that place, where it is that of the name.
+    /// The number at that place, if it is the name's.
     #[inline(always)]
     fn recent(&self, place: usize, name: &[u8]) -> Option<u32>
         requires within { place < RECENT }

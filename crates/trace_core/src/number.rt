@@ -88,7 +88,7 @@ pub(crate) fn wide_number_at(bytes: &[u8]) -> Option<(u64, &[u8])>
     Some((numeral(digits)?, rest))
 }
 
-/// What stands before the text and a number at the end of the bytes, and that number.
+/// The bytes before the text and a number, if they end with these, and that number.
 #[tactic(auto, unfolding(crate::specs::Number::number_at_end))]
 pub(crate) fn number_at_end<'a>(bytes: &'a [u8], text: &[u8]) -> Option<(&'a [u8], u32)>
     ensures value { option_map (λ n. (n.0.now, n.1)) result ≡ number_at_end text.now bytes.now }

@@ -47,14 +47,14 @@ impl Order {
         self.some && is_later(self.furthest_wrapped, seqno)
     }
 
-    /// Whether the last one that was signalled has the same seqno.
+    /// Whether the last fence that was signalled has this seqno.
     pub fn is_repeat(&self, seqno: u32) -> bool
         ensures { result ≡ is_repeat self.now seqno }
     {
         self.some && self.last == seqno
     }
 
-    /// After an event of a fence of that seqno, which so many others came before.
+    /// The order after event number `at`, of a fence of that seqno.
     #[tactic(auto, unfolding(crate::specs::Order::order_after))]
     pub fn after(self, event: Event, seqno: u32, at: u64) -> Order
         ensures { result ≡ order_after event seqno at self }

@@ -1,8 +1,10 @@
 // The fences that are pending.
 ghost use Rattle.std.specs.Prelude.{◌≡◌, List, IfOk, IfErr};
+ghost use Rattle.std.specs.List.{IsDistinct};
 ghost use Rattle.std.specs.Map.{keys_of};
 ghost use Rattle.point_core.specs.declared.refusal.Refusal.TheVariants.{Memory};
 ghost use Rattle.trace_core.specs.History.{Step, IsLedgerOf};
+ghost use Rattle.trace_core.specs.Keys.{same_key};
 ghost use Rattle.trace_core.specs.Pending.{kind_of, pending_among};
 
 use crate::ledger::Ledger;
@@ -36,6 +38,7 @@ pub struct Pending {
 pub fn pending_of(alloc: Global, ledger: &Ledger) -> Result<Vec<Pending>, Refusal>
     ensures pending { IfOk result (λ pending. (steps : List Step) → IsLedgerOf ledger.now steps →
         pending.items ≡ pending_among steps (keys_of ledger.now.lives.by_key.entries)) }
+    ensures distinct { IsDistinct same_key (keys_of ledger.now.lives.by_key.entries) }
     ensures memory { IfErr result (λ e. e ≡ Memory) }
 {
     let mut pending = Vec::new(alloc);

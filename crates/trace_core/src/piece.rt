@@ -132,7 +132,7 @@ fn joined<'a>(bytes: &'a [u8], line: &[u8], first: usize, whole: bool) -> Option
     Some(unread_line(first))
 }
 
-/// A line that is unread, and takes so many bytes.
+/// An unread line of `length` bytes.
 fn unread_line<'a>(length: usize) -> Piece<'a>
     ensures unread { meaning_of result.item ≡ Unread }
     ensures length { result.length ≡ length }

@@ -10,7 +10,7 @@ use std::marker::Model;
 /// The most bytes of one read.
 const BLOCK_BYTES: usize = 65536;
 
-/// The bytes that are held: those of a block, and before them the beginning of a piece.
+/// The bytes that are held: the beginning of a piece, and the bytes of a block after it.
 const HELD_BYTES: usize = PIECE_BYTES + BLOCK_BYTES;
 
 /// What a read gave.
@@ -88,7 +88,7 @@ impl Pieces {
         }
     }
 
-    /// Goes on after the piece that takes so many bytes.
+    /// Goes on after a piece of `count` bytes.
     pub fn pass(&mut self, count: usize)
         requires within { count ≤ length self.old.bytes }
         ensures passed { self.new ≡ passed self.old count }

@@ -7,21 +7,21 @@ ghost use Rattle.trace_core.specs.Record.{Printed};
 ghost use Rattle.trace_core.specs.Reading.{GoesOn, HasRead, event_at, is_end, loss_of, next_of, stage_with};
 ghost use Rattle.trace_core.specs.Tracker.{Tracks};
 
+use crate::item::Item;
+use crate::pieces::{Pieces, Progress};
 use crate::tracker::{Seen, Tracker};
 use crate::window::{Span, Stage};
 use point_core::Refusal;
 use std::io::Read;
-use crate::item::Item;
-use crate::pieces::{Pieces, Progress};
 
-/// What a reading came upon.
+/// One step of a reading.
 #[derive(Clone, Copy, Debug)]
 pub enum Next {
     /// The window begins: what comes next is its first event, or its end.
     Begin,
     /// A line says that events were lost here, and how many where that is known.
     Lost(Option<u64>),
-    /// A line says that of a processor all events before it are missing.
+    /// A line says that all earlier events of a processor are missing.
     StartedLate,
     /// An event before the window.
     Before(Seen),
@@ -71,11 +71,7 @@ impl Reading {
     /// Goes on to the next piece of the text, which the tracker takes in, or reads more.
     ///
     /// After a refusal neither is to be used further.
-    pub fn next<R: Read>(
-        &mut self,
-        tracker: &mut Tracker,
-        reader: &mut R,
-    ) -> Result<Next, Refusal>
+    pub fn next<R: Read>(&mut self, tracker: &mut Tracker, reader: &mut R) -> Result<Next, Refusal>
         ensures more { IfOk result (λ next. (span : Span) → (before : Option (List ℕ)) →
             (items : List Meaning) → (seen : List (Seen × Printed)) →
             HasRead span self.old tracker.old before (R.remaining reader.old) items seen →

@@ -7,10 +7,10 @@ use crate::event::{Event, event_at};
 use crate::fields::fields_of;
 use crate::header::{Header, header_of};
 
-/// One `dma_fence` event, as the kernel printed it. Names are raw bytes: any but NUL may stand in them, a line feed too.
+/// One `dma_fence` event, as the kernel printed it. Names are raw bytes without NUL; a line feed may be among them.
 #[derive(Clone, Copy, Debug)]
 pub struct Record<'a> {
-    /// The task's name, without the blanks around it. `<...>` stands for a name that the kernel forgot.
+    /// The task's name, without the blanks around it. The kernel prints `<...>` for a name that it forgot.
     pub task: &'a [u8],
     pub pid: u32,
     pub cpu: u32,
@@ -34,7 +34,7 @@ pub fn record_of(piece: &[u8]) -> Option<Record<'_>>
     record_from(header_of(piece)?)
 }
 
-/// The record of a header, where its text is that of a `dma_fence` event.
+/// The record of a header, if a `dma_fence` event follows it.
 #[tactic(auto, unfolding(crate::specs::Record::record_from))]
 fn record_from(header: Header<'_>) -> Option<Record<'_>>
     ensures record { option_map printed result ≡ record_from (header_from header.entry) }
@@ -43,7 +43,7 @@ fn record_from(header: Header<'_>) -> Option<Record<'_>>
     record_with(header, event, text)
 }
 
-/// The record of a header and an event, where the text is that of its fields.
+/// The record of a header and an event, if the text has the fields of one.
 #[inline(always)]
 #[tactic(auto, unfolding(crate::specs::Record::record_with))]
 pub(crate) fn record_with<'a>(

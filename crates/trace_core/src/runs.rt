@@ -12,7 +12,7 @@ pub(crate) enum Class {
     Dark,
     /// Any but the colon.
     Word,
-    /// What stands in the parentheses of a thread's group: blanks, dashes and digits.
+    /// The bytes between the parentheses of a thread's group: blanks, dashes and digits.
     Group,
 }
 
@@ -41,7 +41,7 @@ pub(crate) fn run(bytes: &[u8], class: Class) -> usize
     bytes.len()
 }
 
-/// How many bytes stand before those of the class at the end.
+/// How many bytes come before the bytes of the class at the end.
 pub(crate) fn before_run(bytes: &[u8], class: Class) -> usize
     ensures count { result + suffix_len (is_of class) bytes.now ≡ length bytes.now }
 {
@@ -52,7 +52,7 @@ pub(crate) fn before_run(bytes: &[u8], class: Class) -> usize
     count
 }
 
-/// The bytes after those of the class that come first.
+/// The bytes after the run of the class at the beginning.
 pub(crate) fn without_run(bytes: &[u8], class: Class) -> &[u8]
     ensures rest { result.now ≡ drop (prefix_len (is_of class) bytes.now) bytes.now }
 {

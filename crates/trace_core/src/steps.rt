@@ -33,7 +33,7 @@ pub(crate) fn after<'a>(bytes: &'a [u8], text: &[u8]) -> Option<&'a [u8]>
     }
 }
 
-/// What stands before the text, where the bytes end with it.
+/// The bytes before the text, if they end with it.
 pub(crate) fn before<'a>(bytes: &'a [u8], text: &[u8]) -> Option<&'a [u8]>
     ensures front { option_map (λ r. r.now) result ≡ before bytes.now text.now }
 {
@@ -64,7 +64,7 @@ pub(crate) fn after_blanks(bytes: &[u8]) -> Option<&[u8]>
     Some(without_blanks(after(bytes, b" ")?))
 }
 
-/// What stands before the first place at which the text stands, and what follows it.
+/// The bytes before the first occurrence of the text, and the bytes after it.
 pub(crate) fn part_at<'a>(bytes: &'a [u8], text: &[u8]) -> Option<(&'a [u8], &'a [u8])>
     ensures parts { option_map (λ p. (p.0.now, p.1.now)) result ≡ part_at text.now bytes.now }
 {

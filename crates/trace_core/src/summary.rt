@@ -2,12 +2,12 @@
 ghost use Rattle.std.specs.Prelude.{◌≡◌, IfErr};
 ghost use Rattle.point_core.specs.declared.refusal.Refusal.TheVariants.{Memory};
 
-use point_core::Refusal;
-use std::alloc::Global;
 use crate::item::Item;
 use crate::piece::Piece;
+use point_core::Refusal;
+use std::alloc::Global;
 
-/// The most processors that are kept whose buffers started late.
+/// The most processors with buffers that started late of which the numbers are kept.
 const LATE_BUFFERS: usize = 4096;
 
 /// How many events the buffer had, how many were written to it, and how many processors there were, as a header says.
@@ -38,7 +38,7 @@ pub struct Summary {
     pub others: u64,
     /// Lines that are no records and no notes.
     pub unread: u64,
-    /// Records whose timeline's name holds a line feed.
+    /// Records with a line feed in the timeline's name.
     pub over_lines: u64,
     /// Lines that say that events were lost.
     pub loss_markers: u64,
@@ -47,7 +47,7 @@ pub struct Summary {
     /// Lines that don't say how many.
     pub unnumbered_losses: u64,
     pub counts: Option<Counts>,
-    /// Processors of which all earlier events are missing.
+    /// The processors that lack all events before some time, since their buffers started late.
     pub late_buffers: Vec<u32>,
     pub clock: Option<Clock>,
 }

@@ -2,8 +2,8 @@
 ghost use Rattle.std.specs.Prelude.{◌≡◌};
 ghost use Rattle.trace_core.specs.Tally.{counts_after, tally_after, count_if};
 
-use crate::finding::Finding;
 use crate::event::Event;
+use crate::finding::Finding;
 
 /// How many events there were of each kind. A count stops at the greatest u64.
 #[derive(Clone, Copy, Debug)]

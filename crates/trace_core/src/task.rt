@@ -10,7 +10,7 @@ pub struct TaskName {
 }
 
 impl TaskName {
-    /// The name, of which at most `TASK_BYTES` bytes are kept.
+    /// The name, cut to `TASK_BYTES` bytes.
     pub fn new(name: &[u8]) -> TaskName {
         let mut bytes = [0; TASK_BYTES];
         for (place, byte) in name.iter().enumerate() {

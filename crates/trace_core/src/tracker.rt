@@ -8,20 +8,20 @@ ghost use Rattle.trace_core.specs.Tracker.{Keeps, Says, Tracks, given, is_event}
 ghost use Rattle.trace_core.specs.Waits.{IsWaitOf};
 
 use crate::delays::Delays;
+use crate::event::Event;
 use crate::finding::Finding;
+use crate::item::Item;
 use crate::ledger::{Ledger, Sight};
 use crate::life::Life;
 use crate::names::Names;
+use crate::piece::Piece;
+use crate::record::Record;
 use crate::sighting::{FenceKey, Sighting, TimelineKey};
 use crate::summary::Summary;
 use crate::task::TaskName;
 use crate::waits::{Wait, Waits};
 use point_core::Refusal;
 use std::alloc::Global;
-use crate::event::Event;
-use crate::item::Item;
-use crate::piece::Piece;
-use crate::record::Record;
 
 /// An event of a fence, as it was taken in.
 #[derive(Clone, Copy, Debug)]
@@ -31,11 +31,11 @@ pub struct Seen {
     pub life: Life,
     /// What it is, by that.
     pub found: Finding,
-    /// The wait that it begins, or the one that it ends, where the start of that was seen.
+    /// The wait that it begins, or the wait that it ends, if that began within the text.
     pub wait: Option<Wait>,
 }
 
-/// What a trace says, as far as it was read.
+/// What a trace says of fences, as far as it was read.
 #[derive(Drop)]
 pub struct Tracker {
     pub summary: Summary,
@@ -68,7 +68,7 @@ impl Tracker {
     pub fn take(&mut self, piece: &Piece<'_>) -> Result<Option<Seen>, Refusal>
         ensures more { IfOk result (λ seen. (items : List Meaning) → (earlier : List (Seen × Printed)) →
             Tracks self.old items earlier → Tracks self.new (meaning_of piece.now.item ∷ items)
-                (given seen (meaning_of piece.now.item) ++ earlier)) }
+            (given seen (meaning_of piece.now.item) ++ earlier)) }
         ensures events { IfOk result (λ seen. is_some seen ≡ is_event (meaning_of piece.now.item)) }
         ensures memory { IfErr result (λ e. e ≡ Memory) }
     {
@@ -109,7 +109,7 @@ impl Tracker {
     fn see(&mut self, event: &Record<'_>) -> Result<Seen, Refusal>
         ensures seen { IfOk result (λ seen. (items : List Meaning) → (earlier : List (Seen × Printed)) →
             Tracks self.old items earlier → Tracks self.new (EventMeaning (printed event.now) ∷ items)
-                ((seen, printed event.now) ∷ earlier)) }
+            ((seen, printed event.now) ∷ earlier)) }
         ensures memory { IfErr result (λ e. e ≡ Memory) }
     {
         let sighting = self.sighting(event)?;

@@ -48,16 +48,16 @@ impl WaitSum {
     }
 }
 
-/// One of the waits of a thread for a key. A thread that began the same wait several times ends the last of them first.
+/// One of the waits of a thread for a key. If a thread began several waits for it, the wait that began last ends first.
 #[derive(Clone, Copy, Debug, PartialEq, Eq, Hash)]
 pub struct WaitKey {
     pub pid: u32,
     pub key: FenceKey,
-    /// How many of the same had begun before.
+    /// How many waits of the thread for the key were open when it began.
     pub nth: u32,
 }
 
-/// Who waits, and what the waits were that ended.
+/// The waits that are open, and sums of the waits that ended.
 #[derive(Drop)]
 pub struct Waits {
     open: IndexMap<WaitKey, Wait>,
@@ -96,7 +96,7 @@ impl Waits {
         self.longest.as_slice()
     }
 
-    /// The sum of all that ended and whose start was seen.
+    /// The sum of all waits that ended and began within the text.
     pub fn ended(&self) -> WaitSum {
         self.ended
     }

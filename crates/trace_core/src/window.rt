@@ -79,7 +79,7 @@ fn digit(byte: u8) -> Option<u64> {
     }
 }
 
-/// Where a reading of a trace is, of which a window is asked for.
+/// Where a reading of a trace is: before its window, within it or after it.
 #[derive(Clone, Copy, Debug, PartialEq, Eq)]
 pub enum Stage {
     Before,
