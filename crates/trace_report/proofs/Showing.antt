@@ -1,10 +1,9 @@
 -- The slices of a window's events, as the text is read.
 use Rattle.std.proofs.Common.{◌≡◌, ℕ, Bool, true, false, List, [], ◌∷◌, ◌++◌, Option, None, Some, refl, sym, ap, ◌∙◌, append-nil, subst}
 use Rattle.std.specs.Prelude.{unwrap_or, IfOk, Result, Ok, Err}
-use Rattle.std.specs.Prelude.{Contains, IsSome}
-use Rattle.std.specs.Map.{keys_of, lookup}
+use Rattle.std.specs.List.{IsDistinct}
+use Rattle.std.specs.Map.{keys_of}
 use Rattle.std.proofs.lemmas.Bool.{false≢true}
-use Rattle.std.proofs.lemmas.Map.Views.{Contains-keys_from_lookup}
 use Rattle.trace_core.specs.Item.{Meaning, Event}
 use Rattle.trace_core.specs.Record.{Printed}
 use Rattle.trace_core.specs.declared.names.Names.{Names}
@@ -16,15 +15,11 @@ use Rattle.trace_core.specs.declared.tracker.Tracker.{Tracker}
 use Rattle.trace_core.specs.declared.window.Span.{Span}
 use Rattle.trace_core.specs.declared.window.Stage.TheVariants.{Before, Within}
 use Rattle.trace_core.specs.declared.ledger.Ledger.{Ledger}
-use Rattle.trace_core.specs.declared.life.Life.{Life}
-use Rattle.trace_core.specs.declared.sighting.FenceKey.{FenceKey}
 use Rattle.trace_core.specs.History.{Step, IsLedgerOf, events_in}
 use Rattle.trace_core.specs.Keys.{same_key}
-use Rattle.trace_core.specs.Life.{is_pending, unborn}
 use Rattle.trace_core.specs.Names.{name_or_none}
 use Rattle.trace_core.specs.Reading.{GoesOn, HasRead, is_end, stage_at}
 use Rattle.trace_core.specs.Tracker.{AreSeen, Tracks}
-use Rattle.trace_core.proofs.Same.{same_key-is}
 use Rattle.trace_core.proofs.Tracking.{named, none-given, none-seen}
 use Rattle.trace_report.specs.declared.events.page.Page.{Page}
 use Rattle.trace_report.specs.declared.events.Written.TheVariants.{Document, NoEvents}
@@ -32,16 +27,17 @@ use Rattle.trace_report.specs.TraceEvent.{head}
 use Rattle.trace_report.specs.EventPage.{Grows, HasWritten, Passes}
 use Rattle.trace_report.specs.Slices.{Shown, slices_during, slices_of, slices_within}
 use Rattle.trace_report.specs.Events.{Adds, EndsTrace, HasAdded, HasAddedAll, HasEachPending, WritesTrace}
+use Rattle.trace_report.proofs.Finding.{is-alive}
 use Rattle.trace_report.proofs.Growing.{has-begun, written-as, written-more, written-passed}
 
-is_nil : {X : Type 0} → List X → Bool
+abbrev is_nil : {X : Type 0} → List X → Bool
 is_nil [] = true
 is_nil (x ∷ xs) = false
 
 some : {X : Type 0} (x : X) (xs : List X) → x ∷ xs ≡ [] → ⊥
 some x xs is = absurd (false≢true (ap is_nil is))
 
--- the names of the newest event are those that the tracker has for its key
+-- the record of the newest event has the names that the tracker has for its key
 same-slices : (t : Tracker) (printed : Printed) (items : List Meaning) (seen : Seen) (earlier : List (Seen × Printed)) → Tracks t (Event printed ∷ items) ((seen, printed) ∷ earlier) → slices_of (name_or_none t.drivers seen.sighting.key.driver) (name_or_none t.timelines seen.sighting.key.timeline) seen ≡ slices_of printed.driver printed.timeline seen
 same-slices t printed items seen earlier tracks =
     let names = named t.drivers t.timelines printed items seen earlier tracks.steps tracks.saw.are tracks.saw.seen_are in
@@ -107,14 +103,8 @@ module _ (span : Span) (old new : Reading) (told t : Tracker) (page : Page) (tex
   added-all next.Other end goes = absurd (false≢true end)
   added-all next.Begin end goes = absurd (false≢true end)
 
--- a key that is pending is one of those that the ledger has
-found-alive : (key : FenceKey) (es : List (FenceKey × Life)) (o : Option Life) → lookup (same_key key) es ≡ o → is_pending (unwrap_or o unborn) ≡ true → Contains (keys_of es) key
-found-alive key es (Some life) is pending = Contains-keys_from_lookup same_key-is key es (subst IsSome (sym is) tt)
-found-alive key es None is pending = absurd (false≢true pending)
-
-pub each-pending : (ledger : Ledger) (steps : List Step) → IsLedgerOf ledger steps → HasEachPending steps (keys_of ledger.lives.by_key.entries)
-each-pending ledger steps h key pending =
-    found-alive key ledger.lives.by_key.entries (lookup (same_key key) ledger.lives.by_key.entries) refl (ap is_pending (h.lives key) ∙ pending)
+pub each-pending : (ledger : Ledger) (steps : List Step) → IsLedgerOf ledger steps → IsDistinct same_key (keys_of ledger.lives.by_key.entries) → HasEachPending steps (keys_of ledger.lives.by_key.entries)
+each-pending ledger steps h once = record { each = is-alive ledger steps h; once = once }
 
 -- nothing was read
 pub added-none : (span : Span) (r : Reading) (t : Tracker) (page : Page) (text before : Option (List ℕ)) → HasRead span r t text text [] [] → page.held.items ≡ head → HasAdded span r t page text text before before

@@ -51,7 +51,7 @@ carried-on a b c x y z first next = λ before h. next before (first before h)
 pub carried-none : (text : Written) (now : Option (List ℕ)) → Carries text text now now
 carried-none text now = λ before h. h
 
--- what follows a token after which no comma is due is printed as if it stood alone
+-- what follows a token after which no comma is due is printed as if there were nothing before it
 print-opened : (ts : List Token) (t : Token) (more : List Token) → ends t ≡ false → print ((ts ++ t ∷ []) ++ more) ≡ print (ts ++ t ∷ []) ++ print more
 print-opened ts t more opens = print_from-append false (ts ++ t ∷ []) more ∙ ap (λ b. print (ts ++ t ∷ []) ++ print_from b more) (ends_push false ts t ∙ opens)
 

@@ -28,8 +28,8 @@ pub record HasWritten (text : Written) (before after : Option (List ℕ)) : Type
 abbrev pub Carries : Written → Written → Option (List ℕ) → Option (List ℕ) → Type 0
 Carries old new now after = (before : Option (List ℕ)) → HasWritten old before now → HasWritten new before after
 
--- The JSON text of some tokens and a line feed were written, and nothing else: commas and colons stand where they have to, and
--- strings are quoted and escaped.
+-- The JSON text of some tokens and a line feed were written, and nothing else: commas and colons are where they have to be,
+-- and strings are quoted and escaped.
 pub record WritesDocument (before after : Option (List ℕ)) : Type 0 where
   pub tokens : List Token
   pub appended : Appends before after (print tokens ++ 10 ∷ [])

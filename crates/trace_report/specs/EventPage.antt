@@ -19,7 +19,7 @@ pub record Passes (old new : Page) (before after : Option (List ℕ)) : Type 0 w
   pub whole : old.held.items ≡ written ++ new.held.items
   pub appended : Appends before after written
 
--- what stands before the first event, and the texts of events with these slices, were written but for what is held
+-- The head and the texts of events with these slices were written, except for the bytes that are held.
 pub record HasWritten (page : Page) (slices : List Shown) (before after : Option (List ℕ)) : Type 0 where
   pub events : List TraceEvent
   pub written : List ℕ

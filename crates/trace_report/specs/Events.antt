@@ -1,5 +1,6 @@
 -- What is written of a trace.
 use Rattle.std.specs.Prelude.{◌≡◌, ⊤, ℕ, true, List, [], ◌++◌, Option, Contains}
+use Rattle.std.specs.List.{IsDistinct}
 use Rattle.trace_core.specs.Item.{Meaning}
 use Rattle.trace_core.specs.Record.{Printed}
 use Rattle.trace_core.specs.declared.names.Names.{Names}
@@ -12,6 +13,7 @@ use Rattle.trace_core.specs.declared.sighting.FenceKey.{FenceKey}
 use Rattle.trace_core.specs.declared.waits.Wait.{Wait}
 use Rattle.trace_core.specs.declared.window.Span.{Span}
 use Rattle.trace_core.specs.History.{Forgets, Step}
+use Rattle.trace_core.specs.Keys.{same_key}
 use Rattle.trace_core.specs.Names.{name_or_none}
 use Rattle.trace_core.specs.Pending.{is_pending_in, pending_among}
 use Rattle.trace_core.specs.Reading.{HasRead, HasReadWindow}
@@ -22,7 +24,7 @@ use Rattle.trace_report.specs.declared.events.Written.TheVariants.{Document, NoE
 use Rattle.trace_report.specs.EventPage.{Grows, HasWritten, Passes, WritesDocument}
 use Rattle.trace_report.specs.Slices.{Shown, slices_left, slices_of, slices_within}
 
--- the slices of an event of the window are added, and of what else is read none
+-- the slices of an event of the window are added, and nothing for any other piece
 abbrev pub Adds : Next → Tracker → Page → Page → Option (List ℕ) → Option (List ℕ) → Type 0
 Adds (next.Within seen) t old new before after =
     (middle : Page) × Grows old middle (slices_of (name_or_none t.drivers seen.sighting.key.driver) (name_or_none t.timelines seen.sighting.key.timeline) seen)
@@ -51,9 +53,10 @@ pub record HasAddedAll (span : Span) (t : Tracker) (page : Page) (text rest befo
   pub written : HasWritten page (slices_within span seen) before after
   pub none : seen ≡ [] → after ≡ before
 
--- each key of a fence that is pending is among these
-abbrev pub HasEachPending : List Step → List FenceKey → Type 0
-HasEachPending steps keys = (key : FenceKey) → is_pending_in steps key ≡ true → Contains keys key
+-- the keys of all fences that are pending are among these, and no key twice
+pub record HasEachPending (steps : List Step) (keys : List FenceKey) : Type 0 where
+  pub each : (key : FenceKey) → is_pending_in steps key ≡ true → Contains keys key
+  pub once : IsDistinct same_key keys
 
 -- the document was ended, with the slices of what is pending at the end after those that it had
 abbrev pub EndsTrace : Names → Names → List Step → List Shown → Option (List ℕ) → Option (List ℕ) → Type 0
@@ -61,14 +64,14 @@ EndsTrace drivers timelines steps slices before after =
     (keys : List FenceKey) × HasEachPending steps keys × ((waits : List Wait) × (time : ℕ)
     × WritesDocument (slices ++ slices_left drivers timelines time (pending_among steps keys) waits) time before after)
 
--- A document has the slices of the window's events, in order, and then those of what is pending at its end, and no others. Without
--- an event up to the end of the window nothing is written.
+-- A document has the slices of the window's events, in order, then the slices of what is pending at its end, and no others.
+-- Without an event up to the end of the window nothing is written.
 abbrev pub IsOutput : Span → Names → Names → List Step → List (Seen × Printed) → Option (List ℕ) → Option (List ℕ) → Written → Type 0
 IsOutput span drivers timelines steps seen before after NoEvents = (seen ≡ []) × (after ≡ before)
 IsOutput span drivers timelines steps seen before after Document =
     (seen ≡ [] → ⊥) × EndsTrace drivers timelines steps (slices_within span seen) before after
 
--- The trace was read up to the end of the window, and this is what was made of it. The newest items, events and steps come first.
+-- The trace was read up to the end of the window, and this was written. The newest items, events and steps come first.
 pub record WritesTrace (span : Span) (text rest before after : Option (List ℕ)) (written : Written) : Type 0 where
   pub items : List Meaning
   pub seen : List (Seen × Printed)

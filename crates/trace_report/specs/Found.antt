@@ -1,14 +1,12 @@
 -- The fences that hang at the end of a trace.
-use Rattle.std.specs.Prelude.{Bool, true, false, not, ◌&&◌, if◌then◌else◌, List, [], ◌∷◌, map}
-use Rattle.std.specs.List.{filter}
-use Rattle.std.specs.List.Sorted.{IsPermutation}
-use Rattle.std.specs.Map.{keys_of}
-use Rattle.trace_core.specs.declared.ledger.Ledger.{Ledger}
+use Rattle.std.specs.Prelude.{◌≡◌, ◌↔◌, Bool, true, false, not, ◌&&◌, if◌then◌else◌, List, [], ◌∷◌, map, Contains}
+use Rattle.std.specs.List.{IsDistinct}
 use Rattle.trace_core.specs.declared.pending.Pending.{Pending}
 use Rattle.trace_core.specs.declared.pending.PendingKind.{PendingKind}
 use Rattle.trace_core.specs.declared.pending.PendingKind.TheVariants.{Hang, Unknown, Unnumbered}
 use Rattle.trace_core.specs.declared.sighting.FenceKey.{FenceKey}
 use Rattle.trace_core.specs.History.{Step, hangs, is_unnumbered}
+use Rattle.trace_core.specs.Keys.{same_key}
 use Rattle.trace_report.specs.declared.found.Listed.{Listed}
 
 abbrev pub key_of : Pending → FenceKey
@@ -33,7 +31,7 @@ hanging p = if is_hang p then p ∷ [] else []
 abbrev pub is_reported : List Step → FenceKey → Bool
 is_reported steps key = hangs steps key && not (is_unnumbered steps key)
 
--- The fences are those of the keys that hang, each once. A key that hangs is alive, and a ledger has each that is alive once.
-abbrev pub AreHangs : Ledger → List Step → List Listed → Type 0
-AreHangs ledger steps found =
-    IsPermutation (filter (is_reported steps) (keys_of ledger.lives.by_key.entries)) (map listed_key found)
+-- The fences that are reported as hanging are exactly those, each once.
+pub record AreHangs (steps : List Step) (found : List Listed) : Type 0 where
+  pub are : (key : FenceKey) → Contains (map listed_key found) key ↔ (is_reported steps key ≡ true)
+  pub once : IsDistinct same_key (map listed_key found)

@@ -59,8 +59,8 @@ abbrev pub of_wait : ℕ → List ℕ → List ℕ → Slice → Shown
 of_wait pid driver timeline slice =
     record { slice = slice; process = process_of_task pid; driver = driver; timeline = timeline }
 
--- A fence that was signalled, from when it was made or emitted, or, where that was not seen, from its signal. Where the time stepped
--- back it ends as it begins.
+-- A fence that was signalled, from when it was made or emitted, or from its signal if that was not seen. If the time stepped
+-- back, the slice ends where it begins.
 abbrev pub signalled : Seen → Slice
 signalled seen =
     let begin = if nat_lt 0 seen.life.pending then seen.life.since else seen.sighting.time in
@@ -89,8 +89,8 @@ abbrev pub waits_of : List ℕ → List ℕ → Seen → Option Wait → List Sh
 waits_of driver timeline seen None = []
 waits_of driver timeline seen (Some wait) = of_wait seen.sighting.pid driver timeline (waited seen wait) ∷ []
 
--- What comes of an event, with the names of its fence: a signal ends a fence, as an end does that comes before it, and the end of a
--- wait that wait.
+-- The slices of an event, with the names of its fence: a signal ends the slice of the fence, and so does a destruction before
+-- the signal; the end of a wait ends the slice of the wait.
 abbrev pub slices_by : List ℕ → List ℕ → Event → Seen → List Shown
 slices_by driver timeline Signaled seen = of_fence driver timeline (signalled seen) ∷ []
 slices_by driver timeline Destroy seen =
@@ -104,7 +104,7 @@ slices_by driver timeline WaitStart seen = []
 abbrev pub slices_of : List ℕ → List ℕ → Seen → List Shown
 slices_of driver timeline seen = slices_by driver timeline seen.sighting.event seen
 
--- the slices of an event at a stage of the reading: those of its window
+-- the slices of an event, by the stage of the reading: only events of the window have slices
 abbrev pub slices_during : Stage → Seen × Printed → List Shown
 slices_during Before seen = []
 slices_during Within seen = slices_of seen.1.driver seen.1.timeline seen.0

@@ -46,7 +46,7 @@ category_of Unfinished = codes "unfinished"
 abbrev pub fence_tokens : Slice → Names → List Token
 fence_tokens slice names = arguments (fence slice.key names)
 
--- its length is no less than 0
+-- A slice ends at or after its beginning, so the difference is its length.
 abbrev pub slice_tokens : Row → Slice → Names → List Token
 slice_tokens row slice names = object (text (codes "name") (point_text slice.key.context slice.key.seqno)
     ++ text (codes "cat") (category_of slice.kind) ++ phase (codes "X")
@@ -103,7 +103,7 @@ event_text e = print (event_tokens e) ++ 44 ∷ 10 ∷ []
 abbrev pub end_text : ℕ → List ℕ
 end_text time = print (end_tokens time) ++ 10 ∷ 93 ∷ 125 ∷ 10 ∷ []
 
--- what stands before the first object
+-- the text before the first object
 abbrev pub head : List ℕ
 head = codes "{\"traceEvents\":[\n"
 

@@ -26,11 +26,11 @@ pub enum Written {
     NoEvents,
 }
 
-/// Reads a trace up to the end of a window, and writes what ended in the window, and what is pending at its end, as trace
-/// events. They are written as the text is read.
+/// Reads a trace up to the end of a window, and writes as trace events what ended in the window and what is pending at its
+/// end. They are written while the text is read.
 ///
-/// After a refusal a prefix of the events may have been written. A text of more pieces than 64 bits count is refused as one
-/// that can't be read.
+/// After a refusal a prefix of the events may have been written. A text of more pieces than 64 bits count is refused with
+/// `Read`.
 pub fn events_of_trace<R: Read, W: Write>(
     alloc: Global,
     span: Span,
@@ -82,7 +82,7 @@ fn write_trace<R: Read, W: Write>(
     Ok(Written::Document)
 }
 
-/// Reads up to the end of the window, and adds what comes of its events.
+/// Reads up to the end of the window, and adds the slices of its events.
 fn add_window<R: Read, W: Write>(
     span: Span,
     tracker: &mut Tracker,
@@ -107,7 +107,7 @@ fn add_window<R: Read, W: Write>(
     Err(Refusal::Read)
 }
 
-/// Adds what comes of a step of the reading.
+/// Adds the slices of one step of the reading.
 fn add<W: Write>(
     next: Next,
     tracker: &Tracker,

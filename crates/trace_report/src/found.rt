@@ -10,7 +10,7 @@ use point_core::Refusal;
 use std::alloc::Global;
 use trace_core::{Ledger, Pending, PendingKind, TimelineKey, pending_of};
 
-/// A fence that is pending, as a report lists it: with those of its timeline.
+/// A fence that is pending, as a report lists it: beside the other fences of its timeline.
 #[derive(Clone, Copy, PartialEq, Eq, PartialOrd, Ord)]
 pub(crate) struct Listed {
     /// How many events came before the first that is listed of its timeline was made.
@@ -18,24 +18,24 @@ pub(crate) struct Listed {
     pub(crate) fence: Pending,
 }
 
-/// The fences that are pending, those of a timeline together, by the order of their making.
+/// The fences that are pending, grouped by timeline, in the order in which they were made.
 #[derive(Drop)]
 pub(crate) struct Found {
-    /// Those that hang.
+    /// The fences that hang.
     pub(crate) hangs: Vec<Listed>,
-    /// Those of which signals may have been lost.
+    /// The fences whose signals may have been lost.
     pub(crate) unknown: Vec<Listed>,
     /// How many keys wait for a number of their driver, and are no fences yet.
     pub(crate) unnumbered: u64,
 }
 
 impl Found {
-    /// What is pending at the end. Of the fences that hang each is there once, and no other.
+    /// What is pending, by what the ledger knows.
     ///
     /// Fails only with `Memory`.
     pub(crate) fn new(alloc: Global, ledger: &Ledger) -> Result<Found, Refusal>
         ensures hangs { IfOk result (λ f. (steps : List Step) →
-            IsLedgerOf ledger.now steps → AreHangs ledger.now steps f.hangs.items) }
+            IsLedgerOf ledger.now steps → AreHangs steps f.hangs.items) }
     {
         let pending = pending_of(alloc, ledger)?;
         let mut hangs = Vec::new(alloc);
@@ -51,7 +51,7 @@ impl Found {
     }
 }
 
-/// Adds each fence to those that hang or to those whose signals may be lost. Gives how many others there are.
+/// Adds each fence to the list that its kind belongs to. Gives how many fences have no number yet.
 fn split(
     pending: &[Pending],
     hangs: &mut Vec<Pending>,

@@ -1,6 +1,8 @@
-//! Reports of traces: what hangs, who waits, which rules were broken and what each timeline did, as text or as JSON;
-//! and traces as trace events, the JSON that Perfetto and `chrome://tracing` open: a slice stands for each fence and each wait, on rows
-//! of its driver or its task, and is written when its end is read.
+//! Reports of traces, as text or as JSON: the fences that hang, the tasks that wait, the rules that were broken, and what
+//! each timeline did. And traces as trace events, the JSON that Perfetto and `chrome://tracing` open: each fence and each
+//! wait is a slice of time, on a row of its driver or its task, and is written when its end is read.
+//!
+//! [`Tracker`](trace_core::Tracker) knows what the events mean; this crate only chooses and writes. `fencectl trace` calls it.
 #![tactic(auto)]
 
 mod document;

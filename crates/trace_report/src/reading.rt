@@ -11,8 +11,7 @@ const ALL: Span = Span {
 
 /// Takes in a text to its end.
 ///
-/// Fails with `Read` if the reader fails, and with `Memory`. A text of more pieces than 64 bits count is refused as one
-/// that can't be read.
+/// Fails with `Read` if the reader fails, and with `Memory`. A text of more pieces than 64 bits count is refused with `Read`.
 pub(crate) fn read_trace<R: Read>(tracker: &mut Tracker, reader: &mut R) -> Result<(), Refusal> {
     let mut reading = Reading::new(ALL);
     for _ in 0..u64::MAX {

@@ -9,7 +9,7 @@ use std::alloc::Global;
 use std::io::Write;
 use trace_core::{FenceKey, Pending, Summary, Tally, TimelineKey, Tracker, Wait};
 
-/// Writes what was read, what hangs, who waits, which rules were broken, and what each timeline did.
+/// Writes the counts of what was read, the fences that hang, the waits, the broken rules, and what each timeline did.
 ///
 /// Fails with `Memory`, and with `Write` where the writer fails.
 pub(crate) fn write_text<W: Write>(

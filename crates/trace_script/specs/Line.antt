@@ -26,8 +26,8 @@ said (line.Wait file task pid time) = Wait file.timeline.now file.context file.s
 abbrev pub name_noted : List ℕ → List ℕ
 name_noted name = map noted (take NOTED_BYTES name)
 
--- A timeline has a note before it, with the names that it stands for. A fence is a file at a point of its timeline, which its
--- signal reaches by one step, and its end closes. A wait is a note.
+-- Before each timeline a note gives its driver's and its own name. A fence is a file at a point of its timeline; its signal
+-- reaches the point by one step, and its end closes the file. A wait is a note.
 abbrev pub line_text : Said → List ℕ
 line_text (Timeline driver raw name) =
     codes "# " ++ (name_noted driver ++ (codes "/" ++ (name_noted raw ++ (codes "\ntimeline " ++ (name ++ codes "\n")))))
@@ -43,7 +43,7 @@ line_text (Wait name context seqno task pid time) =
     ++ (name_noted task
     ++ (codes "-" ++ (decimal pid ++ (codes " waits for " ++ (file_name name context seqno ++ codes "\n")))))))
 
--- the text is that of these lines, one after another
+-- the text has these lines, one after another
 abbrev pub IsOf : List Said → List ℕ → Type 0
 IsOf lines text = text ≡ flat_map line_text lines
 

@@ -95,7 +95,7 @@ impl Acts {
         Ok(())
     }
 
-    /// Takes in that this is known of the key after one of its events.
+    /// Takes in what is known of the key after one of its events.
     ///
     /// Fails only with `Memory`.
     pub(crate) fn see(
@@ -136,7 +136,8 @@ impl Acts {
         }
     }
 
-    /// Gives the fences that were not signalled the points after those of the others. One that its driver has not numbered has none.
+    /// Gives the fences that were not signalled the points after the last signalled one. A fence that its driver has not
+    /// numbered gets no point.
     pub(crate) fn number_the_rest(&mut self, ledger: &Ledger) {
         for fence in self.fences.as_mut_slice() {
             if fence.point == 0 && !ledger.is_unnumbered(&fence.key) {

@@ -8,7 +8,7 @@ use std::alloc::AllocError;
 /// A line of a script.
 #[derive(Clone, Copy)]
 pub(crate) enum Line<'a> {
-    /// A note with the names of a driver and a timeline, and the timeline that stands for it.
+    /// A note with the names of a driver and a timeline, and the timeline of the script for it.
     Timeline {
         driver: &'a [u8],
         raw: &'a [u8],

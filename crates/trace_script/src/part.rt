@@ -23,7 +23,7 @@ pub(crate) enum Part<'a> {
     File(File<'a>),
 }
 
-/// A fence's file, whose name is that of its timeline in the script, its context and its seqno.
+/// A fence's file. Its name is made of its timeline's name in the script, its context and its seqno.
 #[derive(Clone, Copy)]
 pub(crate) struct File<'a> {
     pub(crate) timeline: &'a [u8],

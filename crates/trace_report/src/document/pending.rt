@@ -1,4 +1,4 @@
-// The fences that are pending, and who waits for them.
+// The fences that are pending, and the tasks that wait for them.
 ghost use Rattle.std.specs.Prelude.{OnOk};
 ghost use Rattle.trace_report.specs.Document.{Carries};
 

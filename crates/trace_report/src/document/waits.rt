@@ -1,4 +1,4 @@
-// Who waits, and what the waits were that ended.
+// The waits that go on, and sums of the waits that ended.
 ghost use Rattle.std.specs.Prelude.{OnOk};
 ghost use Rattle.trace_report.specs.Document.{Carries, Grows};
 

@@ -1,9 +1,10 @@
 // The trace events that come of a trace's records.
 ghost use Rattle.std.specs.Prelude.{◌≡◌, ◌⊎◌, [], ◌∷◌, ◌++◌, List, ℕ, Option, IfOk, IfErr, OnOk, if◌then◌else◌};
-ghost use Rattle.std.specs.List.{flat_map};
+ghost use Rattle.std.specs.List.{IsDistinct, flat_map};
 ghost use Rattle.std.specs.Map.{keys_of};
 ghost use Rattle.point_core.specs.declared.refusal.Refusal.TheVariants.{Write as WriteFault, Memory};
 ghost use Rattle.trace_core.specs.History.{Step, IsLedgerOf};
+ghost use Rattle.trace_core.specs.Keys.{same_key};
 ghost use Rattle.trace_core.specs.Names.{name_or_none};
 ghost use Rattle.trace_core.specs.Pending.{pending_among};
 ghost use Rattle.trace_report.specs.TraceEvent.{head};
@@ -26,7 +27,7 @@ use trace_core::{
     Event, FenceKey, Finding, Pending, PendingKind, Seen, TimelineKey, Tracker, Wait, pending_of,
 };
 
-/// What stands between a timeline's name and the number of a context.
+/// The word between a timeline's name and the number of a context.
 const CONTEXT: &[u8] = b" context ";
 
 /// Nothing was lost.
@@ -200,7 +201,8 @@ impl Chart {
         Ok(())
     }
 
-    /// A fence was destroyed: one that is pending ends so, and of one that is not no wait can end any more.
+    /// A fence was destroyed. The slice of a fence that is pending ends here. The signal of a fence that is gone is forgotten,
+    /// since no wait for it can end any more.
     fn destroy(&mut self, tracker: &Tracker, seen: &Seen) -> Result<(), Refusal>
         ensures slices { OnOk result (Grows self.old.page self.new.page
             (if seen.now.found.destroyed_pending then of_fence
@@ -226,7 +228,7 @@ impl Chart {
         }
     }
 
-    /// A wait ended. An arrow leads to it from the signal of its fence, where that came while it went on.
+    /// A wait ended. An arrow leads to it from the signal of its fence, if that came during the wait.
     fn end_wait(&mut self, tracker: &Tracker, seen: &Seen) -> Result<(), Refusal>
         ensures slices { OnOk result (Grows self.old.page self.new.page (waits_of
             (name_or_none tracker.now.drivers seen.now.sighting.key.driver)
@@ -259,7 +261,7 @@ impl Chart {
         Ok(())
     }
 
-    /// The last signal of the fence of a wait, where it came while the wait went on.
+    /// The last signal of the fence of a wait, if it came during the wait.
     fn signal_within(&self, slice: &Slice) -> Option<Signal> {
         let signal = *self.signals.get(&slice.key)?;
         if slice.begin <= signal.time && signal.time <= slice.end {
@@ -307,8 +309,8 @@ impl Chart {
         Ok(place.row)
     }
 
-    /// The track of a fence: that of its timeline, or of its context, where that is not the first of the timeline and has
-    /// several points.
+    /// The track of a fence: its timeline, or its context, if that is not the first context of the timeline and has several
+    /// points.
     fn track_of(&mut self, tracker: &Tracker, key: &FenceKey) -> Result<Track, Refusal>
         ensures page { self.new.page ≡ self.old.page }
         ensures process { IfOk result (λ track. process_of track ≡ process_of_driver key.now.driver) }
@@ -344,7 +346,7 @@ impl Chart {
         self.begin_row(names.driver, name.as_slice(), place)
     }
 
-    /// Names a row that is new, and its process where it is the first of that.
+    /// Names a row that is new, and its process if that has no name.
     fn begin_row(&mut self, process: &[u8], name: &[u8], place: &Place) -> Result<(), Refusal>
         ensures slices { OnOk result (Grows self.old.page self.new.page []) }
         ensures memory { IfErr result (λ e. e ≡ Memory) }
@@ -374,7 +376,8 @@ impl Chart {
         Ok(())
     }
 
-    /// Adds what ends with the text: what was lost, fences that are pending, waits that go on, and the end. Writes all.
+    /// Adds the losses since the last event, the fences that are pending, the waits that go on, and the end of the document.
+    /// Writes all.
     pub(crate) fn finish<W: Write>(
         &mut self,
         tracker: &Tracker,
@@ -403,8 +406,9 @@ impl Chart {
         ensures carried { OnOk result ((steps : List Step) → IsLedgerOf tracker.now.ledger steps →
             Carries self.old.page self.new.page
             (flat_map (left_of tracker.now.drivers tracker.now.timelines time)
-                (pending_among steps (keys_of tracker.now.ledger.lives.by_key.entries)))
+            (pending_among steps (keys_of tracker.now.ledger.lives.by_key.entries)))
             (W.contents writer.old) (W.contents writer.new)) }
+        ensures distinct { OnOk result (IsDistinct same_key (keys_of tracker.now.ledger.lives.by_key.entries)) }
         ensures refusals { IfErr result (λ e. (e ≡ WriteFault) ⊎ (e ≡ Memory)) }
     {
         let pending = pending_of(self.alloc, &tracker.ledger)?;
@@ -515,7 +519,7 @@ impl Chart {
     }
 }
 
-/// The slice of a fence that was signalled. One that was not seen to be made begins with its signal.
+/// The slice of a fence that was signalled. It begins with the signal if the trace lacks the making.
 fn signalled(seen: &Seen) -> Slice
     ensures { result ≡ signalled seen.now }
 {
@@ -544,7 +548,7 @@ fn destroyed(seen: &Seen) -> Slice
     }
 }
 
-/// The slice of a wait that the event ends.
+/// The slice of the wait that the event ends.
 fn waited(seen: &Seen, wait: &Wait) -> Slice
     ensures { result ≡ waited seen.now wait.now }
 {
@@ -562,7 +566,7 @@ fn has_several(tracker: &Tracker, key: &FenceKey) -> bool {
     !points.are_none() && !points.is_only(key.seqno)
 }
 
-/// The name of the rows of fences: that of the timeline, or `TIMELINE context N`.
+/// The name of the rows of fences: `TIMELINE`, or `TIMELINE context N`.
 fn track_name(alloc: Global, track: Track, names: &Names<'_>) -> Result<Vec<u8>, AllocError> {
     let mut name = Vec::from_slice(alloc, names.timeline)?;
     if let Track::Context(key) = track {

@@ -10,7 +10,7 @@ use json::Writer;
 use std::alloc::{AllocError, Global};
 use trace_core::FenceKey;
 
-/// What a slice stands for, by which it has its category.
+/// What a slice shows, from which its category follows.
 #[derive(Clone, Copy)]
 pub(crate) enum Kind {
     /// A fence, from making or emitting to its signal.
@@ -29,7 +29,7 @@ pub(crate) enum Kind {
     Unfinished,
 }
 
-/// A slice: what it stands for, when it begins and ends, in microseconds, and the fence.
+/// A slice of time: what it shows, when it begins and ends, in microseconds, and the fence.
 #[derive(Clone, Copy)]
 pub(crate) struct Slice {
     pub(crate) kind: Kind,
@@ -64,7 +64,7 @@ pub(crate) enum TraceEvent<'a> {
     Process(u64, &'a [u8]),
     /// The name of a row.
     Thread(Row, &'a [u8]),
-    /// A row's place among those of its process.
+    /// A row's place among the rows of its process.
     Order(Row, u64),
     /// A fence or a wait.
     Slice(Row, Slice, Names<'a>),
@@ -78,7 +78,7 @@ pub(crate) enum TraceEvent<'a> {
     Lost(u64, Losses),
 }
 
-/// Adds the object of the event after the text, and what stands between objects.
+/// Adds the object of the event after the text, and the separator that follows an object.
 ///
 /// Fails only with `Memory`.
 pub(crate) fn push_event(

@@ -24,7 +24,7 @@ pub(crate) struct Page {
 }
 
 impl Page {
-    /// What stands before the first event.
+    /// The head of the document, and no event.
     pub(crate) fn new(alloc: Global) -> Result<Page, AllocError>
         ensures begun { IfOk result (λ page. page.held.items ≡ head) }
     {

@@ -11,7 +11,7 @@ use json::Writer;
 use std::alloc::{AllocError, Global};
 use trace_core::FenceKey;
 
-/// A row: a thread of a process, by its number and that of the process.
+/// A row: a thread of a process, by their numbers.
 #[derive(Clone, Copy)]
 pub(crate) struct Row {
     pub(crate) process: u64,
@@ -38,9 +38,9 @@ pub(crate) enum Part<'a> {
     Count(&'a str, u64),
     /// The name of a fence: its context and its seqno, as `120:31`.
     Point(FenceKey),
-    /// Where the event stands.
+    /// The row of the event.
     Row(Row),
-    /// Where an event of the whole process stands: its thread has the same number.
+    /// The row of an event of the whole process: the thread with the number of the process.
     Process(u64),
     /// The number of an arrow, and the time and the row of one of its ends.
     Arrow(u64, u64, Row),

@@ -11,21 +11,21 @@ use std::alloc::Global;
 use std::collections::BTreeSet;
 use trace_core::{ContextKey, TimelineKey};
 
-/// The numbers that Linux gives to threads are less than this one, its `PID_MAX_LIMIT`. Processes that stand for drivers have greater
-/// numbers.
+/// The numbers that Linux gives to threads are less than this one, its `PID_MAX_LIMIT`. Processes that show drivers have
+/// greater numbers.
 const PIDS: u64 = 4_194_304;
 
-/// Rows that stand for no thread of the kernel have this number or a greater one.
+/// Rows that show no thread of the kernel have this number or a greater one.
 const ROWS: u64 = 8_388_608;
 
 /// What has rows of its own.
 #[derive(Clone, Copy, PartialEq, Eq, Hash)]
 pub(crate) enum Track {
-    /// A timeline: of its fences those of its first context, and of contexts of one point.
+    /// A timeline: the fences of its first context, and of its contexts that have one point.
     Timeline(TimelineKey),
     /// Another context.
     Context(ContextKey),
-    /// A thread, whose waits it has.
+    /// The waits of a thread.
     Task(u32),
 }
 
@@ -42,7 +42,7 @@ impl Track {
     }
 }
 
-/// The number of the process that stands for a driver.
+/// The number of the process that shows a driver.
 pub(crate) fn process_of_driver(driver: u32) -> u64
     ensures { result ≡ process_of_driver driver }
 {
@@ -139,7 +139,7 @@ impl Rows {
         }
     }
 
-    /// The number of the next row: for the first row of a thread that of the thread.
+    /// The number of the next row. The first row of a thread has the number of the thread.
     fn next_thread(&self, track: Track, is_first: bool) -> u64 {
         if let Track::Task(pid) = track {
             if u64::from(pid) < PIDS && is_first {

@@ -85,7 +85,7 @@ fn push_name(text: &mut Vec<u8>, name: &[u8]) -> Result<(), AllocError> {
     Ok(())
 }
 
-/// Whether the byte stands for itself: a printable character of ASCII that does not begin an escape.
+/// Whether the byte is written as it is: a printable character of ASCII that does not begin an escape.
 fn is_plain(byte: u8) -> bool {
     b' ' <= byte && byte <= b'~' && byte != b'\\'
 }

@@ -1,3 +1,4 @@
+use Rattle.std.proofs.Common.{sym}
 use Rattle.trace_report.proofs.Showing.{added, added-all, added-none}
 use Rattle.trace_report.proofs.events.add_window.Goals as goal
 
@@ -7,7 +8,7 @@ loop-init g c = added-none _ _ _ _ _ _ (c.new-reading.ensures.none (g.R.Read.rem
 pub returns-then-is_end-clause-added : goal.returns-then-is_end-clause-added
 returns-then-is_end-clause-added g c =
     let h = c.loop.invariant in
-    added-all _ _ _ _ _ _ _ _ _ _ _ h c.in_ok-next.next c.if-is_end.ensures (c.in_ok-next.ensures.more _ _ h.items h.seen h.read)
+    added-all _ _ _ _ _ _ _ _ _ _ _ h c.in_ok-next.next (sym c.if-is_end.ensures) (c.in_ok-next.ensures.more _ _ h.items h.seen h.read)
 
 pub loop-preserved : goal.loop-preserved
 loop-preserved g c =

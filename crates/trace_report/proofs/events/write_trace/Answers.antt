@@ -3,14 +3,14 @@ use Rattle.trace_core.specs.History.{events_in}
 use Rattle.trace_report.proofs.Showing.{no-events, whole}
 use Rattle.trace_report.proofs.events.write_trace.Goals as goal
 
-pub returns-then-eq-clause-written : goal.returns-then-eq-clause-written
-returns-then-eq-clause-written g c =
+pub returns-then-events-eq0-clause-written : goal.returns-then-events-eq0-clause-written
+returns-then-events-eq0-clause-written g c =
     let h = c.in_ok-add_window.ensures.added in
     let counted = c.events.ensures.counted h.tracks.steps h.tracks.ledger in
-    no-events _ _ _ _ _ _ _ h (omega (arith, counted, c.if-eq.true))
+    no-events _ _ _ _ _ _ _ h (omega (arith, counted, c.if-events-eq0.true))
 
 pub returns-clause-written : goal.returns-clause-written
 returns-clause-written g c =
     let h = c.in_ok-add_window.ensures.added in
     let counted = c.events.ensures.counted h.tracks.steps h.tracks.ledger in
-    whole _ _ _ _ _ _ _ h _ (λ zero. absurd (omega (arith, counted, zero, c.if-eq.false))) (c.in_ok-finish.ensures.written _ _ h.tracks.steps h.tracks.ledger h.written)
+    whole _ _ _ _ _ _ _ h _ (λ zero. absurd (omega (arith, counted, zero, c.if-events-eq0.false))) (c.in_ok-finish.ensures.written _ _ h.tracks.steps h.tracks.ledger h.written)

@@ -8,4 +8,4 @@ pub returns-clause-fences : goal.returns-clause-fences
 returns-clause-fences c = λ drivers timelines time fence. ends-left fence.kind drivers timelines time fence
 
 pub returns-clause-waits : goal.returns-clause-waits
-returns-clause-waits c = λ drivers timelines time wait. (ends-unfinished time wait, tt)
+returns-clause-waits c = λ drivers timelines time wait. ends-unfinished drivers timelines time wait

@@ -1,4 +1,4 @@
--- What is UTF-8 is written as it stands.
+-- Text that is UTF-8 is written unchanged.
 use Rattle.std.proofs.lemmas.Str.{utf8_lossy-IsUtf8}
 use Rattle.trace_report.proofs.Adding.{added-by}
 use Rattle.trace_report.proofs.events.part.put_lossy.Goals as goal
