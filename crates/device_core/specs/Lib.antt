@@ -2,6 +2,7 @@ pub mod Wrapping
 pub mod Fences
 pub mod Buffers
 pub mod State
+pub mod Due
 pub mod Floors
 pub mod Woken
 pub mod Names

@@ -1,10 +1,11 @@
 //! `Device`: timelines, sync files and buffers by number, with the kernel's requests as calls. Each call finds its
 //! causes of refusal first, and changes nothing if one holds.
-ghost use Rattle.std.specs.Prelude.{◌≡◌, ◌⊎◌, ℕ, ◌+◌, ◌^◌, ◌≤◌, nat_eq, if◌then◌else◌, Some, None, is_some, option_map, ◌||◌, IsSome, IfSome, IfNone, OnOk, OnErr, IfOk, IfErr, MatchOption, Ok, Err, true, false, ◌<◌, ◌↔◌, Contains, length};
+ghost use Rattle.std.specs.Prelude.{◌≡◌, ◌⊎◌, ℕ, ◌+◌, ◌^◌, ◌≤◌, nat_eq, if◌then◌else◌, Some, None, is_some, option_map, ◌||◌, IsSome, IfSome, IfNone, OnOk, OnErr, IfOk, IfErr, MatchOption, Ok, Err, true, false, ◌<◌, ◌↔◌, Contains, length, ok_or, slice_get};
 ghost use Rattle.std.specs.List.Sorted.{IsStrictlyIncreasing};
-ghost use Rattle.device_core.specs.declared.refusal.Refusal.TheVariants.{NoEntry, NoMemory, NoNumber, Overflow};
+ghost use Rattle.device_core.specs.declared.refusal.Refusal.TheVariants.{Invalid, NoEntry, NoMemory, NoNumber, Overflow};
 ghost use Rattle.device_core.specs.declared.fence.Text.{Text as Name};
 ghost use Rattle.point_core.specs.Reach.{GREATEST};
+ghost use Rattle.device_core.specs.Due.{IsDueAnswer};
 ghost use Rattle.device_core.specs.Fences.{are_signalled, signal_at, status_of};
 ghost use Rattle.device_core.specs.Info.{IsInfo};
 ghost use Rattle.device_core.specs.Memory.{KeepsWhatIsAlive, kept_of};
@@ -339,6 +340,21 @@ impl Device {
         }
     }
 
+    /// The fence of a file at an index, by rising timeline.
+    ///
+    /// Fails with `NoEntry`, or with `WrongKind` at a timeline or a buffer, then with `Invalid` past the last fence. Takes
+    /// no memory.
+    pub fn fence_of(&self, file: u64, index: usize) -> Result<Fence, Refusal>
+        ensures known { MatchOption (file_at self.now file)
+            (result ≡ Err (missing_file (objects_of self.now) file))
+            (λ f. result ≡ ok_or (slice_get f.fences index) Invalid) }
+    {
+        match self.files.get(&file) {
+            Some(known) => known.fence(index).ok_or(Refusal::Invalid),
+            None => Err(self.unknown_file(file)),
+        }
+    }
+
     /// The number of open files.
     pub fn open_files(&self) -> usize
         ensures { result ≡ length self.now.files }
@@ -358,6 +374,32 @@ impl Device {
         ensures { result ≡ is_some (timeline_at self.now number) }
     {
         self.timelines.contains_key(&number)
+    }
+
+    /// The value of a timeline.
+    ///
+    /// Fails with `NoEntry`, or with `WrongKind` at a file or a buffer. Takes no memory.
+    pub fn value(&self, timeline: u64) -> Result<u64, Refusal>
+        ensures known { MatchOption (timeline_at self.now timeline)
+            (result ≡ Err (missing_timeline (objects_of self.now) timeline))
+            (λ t. result ≡ Ok t.value) }
+    {
+        match self.timelines.get(&timeline) {
+            Some(known) => Ok(known.value),
+            None => Err(self.unknown_timeline(timeline)),
+        }
+    }
+
+    /// The least point at which an increment by n would signal a fence of a file, if there is one. A caller that reads a
+    /// clock only for signals asks this before. By the greatest n it is the least point of the timeline that is pending.
+    ///
+    /// Fails with `NoEntry`, or with `WrongKind` at a file or a buffer. Takes no memory.
+    pub fn first_due(&self, timeline: u64, n: u64) -> Result<Option<u64>, Refusal>
+        ensures { IsDueAnswer (objects_of self.now) timeline n result }
+    {
+        let known = self.timeline(timeline)?;
+        let value = known.value.saturating_add(n);
+        Ok(self.timelines.first_due(timeline, value))
     }
 
     /// Whether an increment needs no memory to report the files that it wakes. Does not allocate.

@@ -8,8 +8,9 @@ ghost use Rattle.std.specs.Map.{keys_of};
 ghost use Rattle.point_core.specs.Reach.{GREATEST};
 ghost use Rattle.device_core.specs.declared.refusal.Refusal.TheVariants.{NoMemory};
 ghost use Rattle.device_core.specs.declared.waiting.Waiting.{Waiting as Key};
+ghost use Rattle.device_core.specs.Due.{IsFirstHeld};
 ghost use Rattle.device_core.specs.Floors.{HasRisenQuietly, lowered, lowered_by, settled, timelines_in, timelines_state};
-ghost use Rattle.device_core.specs.State.{AreInOrder, AreSignalled, IsIndexed, at, holds, raised, waits_of};
+ghost use Rattle.device_core.specs.State.{AreInOrder, AreSignalled, IsIndexed, at, holds, is_due_at, raised, waits_of};
 ghost use Rattle.device_core.specs.Woken.{WakesSome, file_wakes};
 
 use crate::fence::{Fence, Signal, Timeline};
@@ -175,6 +176,29 @@ impl Timelines {
         ensures none { result ≡ false → (n : ℕ) → file_wakes number value (at files.now.entries n) ≡ false }
     {
         self.waiting.wakes_some(files, number, value)
+    }
+
+    /// The least point at which a file waits for a timeline, up to the value. Below the timeline's floor none is looked
+    /// for.
+    pub(crate) fn first_due(&self, number: u64, value: u64) -> Option<u64>
+        ensures { IsFirstHeld self.now.index number value result }
+    {
+        if self.is_below_floor(number, value) {
+            return None;
+        }
+        match self.waiting.first_due(number, value) {
+            Some(first) => Some(first.value),
+            None => None,
+        }
+    }
+
+    fn is_below_floor(&self, number: u64, value: u64) -> bool
+        ensures { result ≡ true → (k : Key) → is_due_at number value k ≡ true → holds self.now.index k ≡ false }
+    {
+        match self.by_number.get(&number) {
+            Some(known) => value < known.floor,
+            None => false,
+        }
     }
 
     /// Raises an open timeline to a value, and signals its pending fences up to there in each file.
