@@ -382,6 +382,26 @@ int bim_device_import(bim_device *device, uint64_t buffer, uint64_t file, uint32
  * EINVAL (the number is no usage; this comes first), ENOENT and ENOTTY. poll(2) on a dma-buf. */
 int bim_device_test(bim_device *device, uint64_t buffer, int usage, int32_t *signalled);
 
+/* Stores a timeline's value. Fails with ENOENT and ENOTTY. The value in debugfs's sync/info. */
+int bim_device_value(bim_device *device, uint64_t timeline, uint64_t *value);
+
+/* Stores the least point at which an increment of a timeline by n would signal a fence of a file, or 0 if it would
+ * signal none: then the increment needs no time. With UINT64_MAX that is the timeline's first pending fence, which its
+ * release would cancel. Fails with ENOENT and ENOTTY. */
+int bim_device_first_due(bim_device *device, uint64_t timeline, uint64_t n, uint64_t *point);
+
+/* A fence of a file, by its timeline's number and its point. A point that is asked for has 32 bits; this is the point
+ * of 64 bits that it stands for, to compare with the timeline's value. */
+typedef struct bim_device_point {
+    uint64_t timeline;
+    uint64_t value;
+    int32_t is_pending; /* 1, or 0 once it has signalled or was cancelled */
+} bim_device_point;
+
+/* Stores the fence of a file at an index, by rising timeline from 0. Fails with ENOENT, ENOTTY and EINVAL (the file has
+ * no more fences). */
+int bim_device_fence_of(bim_device *device, uint64_t file, size_t index, bim_device_point *point);
+
 /* Takes the first files that have signalled and weren't taken yet, at most `room` of them, in order of the calls that
  * signalled them and by rising number within one, and returns how many. The others wait: no file is lost. Files that
  * were released are left out. Returns 0 for a closed device. Takes no memory. */

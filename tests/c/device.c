@@ -31,11 +31,15 @@ static void refused(bim_device *device, uint64_t no_timeline, uint64_t no_file, 
     int32_t status = KEPT;
     bim_device_file_info info;
     bim_device_fence_info row;
+    bim_device_point point = { KEPT, KEPT, KEPT };
 
     memset(&info, KEPT, sizeof info);
     memset(&row, KEPT, sizeof row);
     EXPECT(bim_device_fence(device, no_timeline, 1, 0, &number), wanted);
     EXPECT(bim_device_inc(device, no_timeline, 1, 0), wanted);
+    EXPECT(bim_device_value(device, no_timeline, &number), wanted);
+    EXPECT(bim_device_first_due(device, no_timeline, 1, &number), wanted);
+    EXPECT(bim_device_fence_of(device, no_file, 0, &point), wanted);
     EXPECT(bim_device_merge(device, no_file, no_file, "m", &number), wanted);
     EXPECT(bim_device_merge_n(device, no_file, no_file, "m", 1, &number), wanted);
     EXPECT(bim_device_status(device, no_file, &status), wanted);
@@ -49,6 +53,7 @@ static void refused(bim_device *device, uint64_t no_timeline, uint64_t no_file, 
     EXPECT(bim_device_test(device, no_buffer, BIM_READ, &status), wanted);
     EXPECT(number, KEPT);
     EXPECT(status, KEPT);
+    HOLDS(point.timeline == KEPT && point.value == KEPT && point.is_pending == KEPT);
     HOLDS(info.name[0] == KEPT && info.status == row.status && row.timeline[0] == KEPT);
 }
 
@@ -125,6 +130,25 @@ static void takes(bim_device *device, size_t room, const uint64_t *wanted, size_
     EXPECT(bim_device_take_woken(device, files, room), count);
     for (size_t i = 0; i < 8; i++)
         EXPECT(files[i], i < count ? wanted[i] : KEPT);
+}
+
+/* The least point that an increment by n signals. */
+static void is_due(bim_device *device, uint64_t timeline, uint64_t n, uint64_t wanted)
+{
+    uint64_t point = KEPT;
+
+    EXPECT(bim_device_first_due(device, timeline, n, &point), 0);
+    EXPECT(point, wanted);
+}
+
+static void has_fence(bim_device *device, uint64_t file, size_t index, uint64_t timeline, uint64_t value, int pending)
+{
+    bim_device_point fence = { KEPT, KEPT, KEPT };
+
+    EXPECT(bim_device_fence_of(device, file, index, &fence), 0);
+    EXPECT(fence.timeline, timeline);
+    EXPECT(fence.value, value);
+    EXPECT(fence.is_pending, pending);
 }
 
 static void woken(bim_device *device)
@@ -342,6 +366,52 @@ static void buffers(bim_device *device)
     takes(device, 8, (uint64_t[]){ read, writes }, 2);
 }
 
+/* What an increment would signal, and the fences of a file, are what the calls make of them. */
+static void looks(bim_device *device)
+{
+    uint64_t timeline, other, files[3], both, last, value = KEPT, point = KEPT;
+    bim_device_point fence = { KEPT, KEPT, KEPT };
+
+    EXPECT(bim_device_timeline(device, "a", &timeline), 0);
+    EXPECT(bim_device_timeline(device, "b", &other), 0);
+    is_due(device, timeline, UINT64_MAX, 0);
+    EXPECT(bim_device_inc(device, timeline, 4, 0), 0);
+    EXPECT(bim_device_fence(device, timeline, 9, 1, &files[0]), 0);
+    EXPECT(bim_device_fence(device, timeline, 7, 1, &files[1]), 0);
+    EXPECT(bim_device_fence(device, other, 3, 1, &files[2]), 0);
+    EXPECT(bim_device_value(device, timeline, &value), 0);
+    EXPECT(value, 4);
+    is_due(device, timeline, 0, 0);
+    is_due(device, timeline, 2, 0);
+    is_due(device, timeline, 3, 7);
+    is_due(device, timeline, UINT64_MAX, 7);
+    is_due(device, other, 2, 0);
+    is_due(device, other, 3, 3);
+    EXPECT(bim_device_merge(device, files[2], files[1], "m", &both), 0);
+    has_fence(device, both, 0, timeline, 7, 1);
+    has_fence(device, both, 1, other, 3, 1);
+    EXPECT(bim_device_fence_of(device, both, 2, &fence), BIM_EINVAL);
+    EXPECT(bim_device_fence_of(device, both, SIZE_MAX, &fence), BIM_EINVAL);
+    EXPECT(bim_device_inc(device, timeline, 3, 2), 0);
+    EXPECT(bim_device_value(device, timeline, &value), 0);
+    EXPECT(value, 7);
+    has_fence(device, both, 0, timeline, 7, 0);
+    is_due(device, timeline, 1, 0);
+    is_due(device, timeline, 2, 9);
+    EXPECT(bim_device_release(device, files[0], 3), 0);
+    is_due(device, timeline, UINT64_MAX, 0);
+    EXPECT(bim_device_release(device, other, 4), 0);
+    EXPECT(bim_device_first_due(device, other, 3, &point), BIM_ENOENT);
+    EXPECT(point, KEPT);
+    has_fence(device, both, 1, other, 3, 0);
+    EXPECT(bim_device_fence(device, timeline, UINT32_MAX, 5, &last), 0);
+    has_fence(device, last, 0, timeline, 0, 0);
+    EXPECT(bim_device_merge(device, last, last, "stub", &last), 0);
+    EXPECT(bim_device_fence_of(device, last, 0, &fence), BIM_EINVAL);
+    HOLDS(fence.timeline == KEPT && fence.value == KEPT && fence.is_pending == KEPT);
+    takes(device, 8, (uint64_t[]){ files[1], files[2], both }, 3);
+}
+
 /* There are as many objects as memory holds. What is never taken is not lost, and what is released is no longer there to
  * be taken. */
 static void many(bim_device *device)
@@ -387,6 +457,7 @@ int main(void)
     names(&device);
     points(&device);
     buffers(&device);
+    looks(&device);
     many(&device);
     bim_device_close(&device);
     HOLDS(device.at == NULL);

@@ -103,6 +103,7 @@ static struct {
     bim_counts counts;
     bim_device_file_info reported;
     bim_device_fence_info fence;
+    bim_device_point point;
     char answer[2 * BIM_ANSWER_ROOM];
     size_t length;
 } it;
@@ -275,6 +276,9 @@ static void run_device(void)
     CALL(bim_device_info(&it.device, 5, &it.reported, &it.fence, 1), 0);
     CALL(bim_device_status(&it.device, 5, &it.status), 0);
     CALL(bim_device_is_signalled(&it.device, 5, &it.status), 0);
+    CALL(bim_device_value(&it.device, 1, &it.number), 0);
+    CALL(bim_device_first_due(&it.device, 1, 3, &it.number), 0);
+    CALL(bim_device_fence_of(&it.device, 5, 0, &it.point), 0);
     MAKES(bim_device_buffer(&it.device, 1, &it.number), 6);
     CALL(bim_device_import(&it.device, 6, 5, BIM_SYNC_WRITE), 0);
     MAKES(bim_device_export(&it.device, 6, BIM_SYNC_RW, &it.number), 7);

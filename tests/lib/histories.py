@@ -227,6 +227,20 @@ class Model:
         puts = self.find(number, Buffer).puts
         return int(not any(put_for <= usage and self.is_pending(fence) for fence, put_for in puts))
 
+    def value(self, timeline):
+        return self.find(timeline, Timeline).value
+
+    def first_due(self, timeline, n):
+        most = self.find(timeline, Timeline).value + n
+        fences = (fence for file in self.alive[File].values() for fence in file.fences if fence.timeline == timeline)
+        return min((fence.value for fence in fences if fence.value <= most and self.is_pending(fence)), default=0)
+
+    def fence_of(self, file, index):
+        fences = self.find(file, File).fences
+        if index >= len(fences):
+            raise Refused(EINVAL)
+        return fences[index].timeline, fences[index].value, int(self.is_pending(fences[index]))
+
     def take_woken(self, room):
         taken, self.woken = self.woken[:room], self.woken[room:]
         return taken
@@ -252,6 +266,10 @@ class FileInfo(ctypes.Structure):
     _fields_ = [("name", ctypes.c_char * NAME_ROOM), ("fences", ctypes.c_uint64), ("status", ctypes.c_int32)]
 
 
+class Point(ctypes.Structure):
+    _fields_ = [("timeline", ctypes.c_uint64), ("value", ctypes.c_uint64), ("is_pending", ctypes.c_int32)]
+
+
 POINTER, NUMBER, BITS, INT, TEXT, SIZE = (
     ctypes.c_void_p,
     ctypes.c_uint64,
@@ -275,6 +293,9 @@ CALLS = {
     "export": [NUMBER, BITS, POINTER],
     "import": [NUMBER, NUMBER, BITS],
     "test": [NUMBER, INT, POINTER],
+    "value": [NUMBER, POINTER],
+    "first_due": [NUMBER, NUMBER, POINTER],
+    "fence_of": [NUMBER, SIZE, POINTER],
     "take_woken": [POINTER, SIZE],
 }
 
@@ -290,7 +311,7 @@ class Device:
         self.functions["close"].restype = None
         self.functions["take_woken"].restype = SIZE
         self.handle = Handle()
-        self.number, self.word = ctypes.c_uint64(), ctypes.c_int32()
+        self.number, self.word, self.point = ctypes.c_uint64(), ctypes.c_int32(), Point()
         self.file, self.rows, self.taken = FileInfo(), (FenceInfo * (ROOM + 1))(), (ctypes.c_uint64 * ROOM)()
         self.call("open")
 
@@ -363,6 +384,16 @@ class Device:
     def test(self, buffer, usage):
         return self.stored(self.word, "test", buffer, usage)
 
+    def value(self, timeline):
+        return self.stored(self.number, "value", timeline)
+
+    def first_due(self, timeline, n):
+        return self.stored(self.number, "first_due", timeline, n)
+
+    def fence_of(self, file, index):
+        self.stored(self.point, "fence_of", file, index)
+        return self.point.timeline, self.point.value, self.point.is_pending
+
     def take_woken(self, room):
         count = self.functions["take_woken"](ctypes.byref(self.handle), self.taken, room)
         return self.taken[:count]
@@ -373,7 +404,7 @@ class Device:
 MAKERS = {"timeline": Timeline, "fence": File, "merge": File, "buffer": Buffer, "export_file": File}
 # How many of the first arguments of a request are numbers of objects.
 OBJECTS = {"fence": 1, "inc": 1, "merge": 2, "status": 1, "is_signalled": 1, "info": 1, "release": 1}
-OBJECTS |= {"export_file": 1, "import_file": 2, "test": 1}
+OBJECTS |= {"export_file": 1, "import_file": 2, "test": 1, "value": 1, "first_due": 1, "fence_of": 1}
 
 
 def answer(service, request, arguments):
@@ -406,6 +437,8 @@ class History:
             self.ask("info", file, ROOM)
             self.ask("status", file)
             self.ask("is_signalled", file)
+        for timeline in self.model.alive[Timeline]:
+            self.ask("first_due", timeline, 2**64 - 1)
         for buffer in self.model.alive[Buffer]:
             for usage in range(KERNEL, BOOKKEEP + 1):
                 self.ask("test", buffer, usage)
@@ -424,6 +457,9 @@ WEIGHTS = {
     "is_signalled": 4,
     "info": 8,
     "test": 6,
+    "value": 2,
+    "first_due": 8,
+    "fence_of": 8,
     "take_woken": 6,
 }
 FLAGS = [1, 2, 3] * 4 + [0, 4, 5, 2**31, 2**32 - 1]
@@ -515,6 +551,12 @@ class Generator:
                 return self.some(File), self.random.choice([0, 1, 3, ROOM, ROOM])
             case "test":
                 return self.some(Buffer), self.random.choice(USAGES)
+            case "value":
+                return (self.some(Timeline),)
+            case "first_due":
+                return self.some(Timeline), self.random.choice([0, self.step(), self.step(), 2**64 - 1])
+            case "fence_of":
+                return self.some(File), self.random.choice([0, 0, 1, 2, 2**63])
             case "take_woken":
                 return (self.random.choice([0, 1, 2, ROOM, ROOM]),)
 

@@ -24,7 +24,7 @@ errno_of NoNumber = pos 28
 errno_of Overflow = pos 75
 
 -- 0 if the request was accepted, else the errno of the refusal: EBADF for a closed handle
-abbrev pub number_of : Given → ℤ
+abbrev pub number_of : {A : Type 0} → Option (Result A Refusal) → ℤ
 number_of None = pos 9
 number_of (Some (Ok answer)) = pos 0
 number_of (Some (Err refusal)) = errno_of refusal

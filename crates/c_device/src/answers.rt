@@ -2,11 +2,12 @@
 //! no value keep their old ones.
 ghost use Rattle.std.specs.Prelude.{◌≡◌};
 ghost use Rattle.c_device.specs.Call.{errno_of, number_of};
+ghost use Rattle.c_device.specs.Looks.{due_or, row_or, value_or};
 ghost use Rattle.c_device.specs.Reported.{StoresInfo, number_or, status_or, yes_or};
 
-use crate::handle::Given;
-use crate::rows::{FenceRow, FileRow, put};
-use device_core::{Answer, Refusal};
+use crate::handle::{Given, Look};
+use crate::rows::{FenceRow, FileRow, PointRow, point_row, put};
+use device_core::{Answer, Fence, Refusal};
 
 /// The errno for a closed handle, as for a bad descriptor.
 const EBADF: i32 = 9;
@@ -16,7 +17,7 @@ pub const EEXIST: i32 = 17;
 
 /// 0, or the errno of the refusal.
 #[inline(always)]
-pub fn number(given: &Given) -> i32
+pub fn number<T>(given: &Look<T>) -> i32
     ensures { result ≡ number_of given.now }
 {
     match given {
@@ -61,6 +62,36 @@ pub fn store_if(given: &Given, yes: &mut i32)
 {
     if let Some(Ok(Answer::Signalled(signalled))) = given {
         *yes = i32::from(*signalled);
+    }
+}
+
+/// Stores the value, and nothing if the look failed.
+#[inline(always)]
+pub fn store_value(found: &Look<u64>, value: &mut u64)
+    ensures { value.new ≡ value_or found.now value.old }
+{
+    if let Some(Ok(known)) = found {
+        *value = *known;
+    }
+}
+
+/// Stores the point, or 0 if there is none, and nothing if the look failed.
+#[inline(always)]
+pub fn store_due(found: &Look<Option<u64>>, point: &mut u64)
+    ensures { point.new ≡ due_or found.now point.old }
+{
+    if let Some(Ok(first)) = found {
+        *point = first.unwrap_or(0);
+    }
+}
+
+/// Stores the fence's row, and nothing if the look failed.
+#[inline(always)]
+pub fn store_point(found: &Look<Fence>, row: &mut PointRow)
+    ensures { row.new ≡ row_or found.now row.old }
+{
+    if let Some(Ok(fence)) = found {
+        *row = point_row(fence);
     }
 }
 

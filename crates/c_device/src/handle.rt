@@ -6,12 +6,15 @@ ghost use Rattle.c_device.specs.Service.{ServiceState};
 
 use crate::service::Service;
 use c_handle::Handle;
-use device_core::{Answer, Refusal, Request};
+use device_core::{Answer, Fence, Refusal, Request};
 use std::alloc::Global;
 use std::marker::Model;
 
-/// The answer of a call, or none if its handle is closed.
-pub type Given = Option<Result<Answer, Refusal>>;
+/// What a look finds, or none if its handle is closed.
+pub type Look<T> = Option<Result<T, Refusal>>;
+
+/// The answer of a call, likewise.
+pub type Given = Look<Answer>;
 
 /// A device that C programs use: `struct bim_device { void *at; }`. It is closed while the pointer is null.
 #[repr(C)]
@@ -33,6 +36,7 @@ impl DeviceHandle {
     ghost use Rattle.c_device.specs.Handle.{is_open};
     ghost use Rattle.c_device.specs.Lending.{as_handle, LendsHandle, LendsService};
     ghost use Rattle.c_device.specs.Call.{IsAsked};
+    ghost use Rattle.c_device.specs.Looks.{AnswersDue, AnswersFence, AnswersValue, IsLook};
 
     /// Whether the handle is open.
     pub fn is_open(&mut self) -> bool
@@ -77,6 +81,42 @@ impl DeviceHandle {
         match asked {
             Ok(request) => Some(self.get_mut().step(request)),
             Err(refusal) => Some(Err(refusal)),
+        }
+    }
+
+    /// The value of a timeline.
+    #[inline(always)]
+    pub fn value(&mut self, timeline: u64) -> Look<u64>
+        ensures { IsLook self.old self.new (AnswersValue timeline) result }
+    {
+        if self.is_open() {
+            Some(self.get_mut().value(timeline))
+        } else {
+            None
+        }
+    }
+
+    /// The least point at which an increment would signal a fence of a file.
+    #[inline(always)]
+    pub fn first_due(&mut self, timeline: u64, n: u64) -> Look<Option<u64>>
+        ensures { IsLook self.old self.new (AnswersDue timeline n) result }
+    {
+        if self.is_open() {
+            Some(self.get_mut().first_due(timeline, n))
+        } else {
+            None
+        }
+    }
+
+    /// The fence of a file at an index.
+    #[inline(always)]
+    pub fn fence_of(&mut self, file: u64, index: usize) -> Look<Fence>
+        ensures { IsLook self.old self.new (AnswersFence file index) result }
+    {
+        if self.is_open() {
+            Some(self.get_mut().fence_of(file, index))
+        } else {
+            None
         }
     }
 

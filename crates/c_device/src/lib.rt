@@ -1,5 +1,5 @@
-//! The device for C programs: one export for each request, and one that takes the files that were woken. `bimphlai-run`
-//! serves its processes with it.
+//! The device for C programs: one export for each request, one that takes the files that were woken, and looks that
+//! change nothing. `bimphlai-run` serves its processes with it.
 //!
 //! `include/bimphlai.h` has the signatures. A name is a pointer and a length.
 #![tactic(auto)]
@@ -11,6 +11,7 @@ ghost use Rattle.device_core.specs.Names.{as_text};
 ghost use Rattle.c_device.specs.Asked.{asked_test};
 ghost use Rattle.c_device.specs.Call.{IsCall, IsNew, IsOpening, IsTaking};
 ghost use Rattle.c_device.specs.Handle.{is_open};
+ghost use Rattle.c_device.specs.Looks.{AnswersDue, AnswersFence, AnswersValue, IsLookCall, due_or, row_or, value_or};
 ghost use Rattle.c_device.specs.Reported.{StoresInfo, number_or, status_or, yes_or};
 
 mod answers;
@@ -19,9 +20,12 @@ mod handle;
 mod rows;
 mod service;
 
-use crate::answers::{EEXIST, errno, number, store, store_if, store_info, store_status};
+use crate::answers::{
+    EEXIST, errno, number, store, store_due, store_if, store_info, store_point, store_status,
+    store_value,
+};
 use crate::handle::DeviceHandle;
-use crate::rows::{FenceRow, FileRow};
+use crate::rows::{FenceRow, FileRow, PointRow};
 use crate::service::Service;
 use device_core::{Refusal, Request, Text};
 use std::alloc::Global;
@@ -231,6 +235,49 @@ pub extern "C" fn bim_device_test(
     let given = device.ask(asked::test(buffer, usage));
     store_if(&given, signalled);
     number(&given)
+}
+
+/// Stores the value of a timeline.
+#[unsafe(no_mangle)]
+pub extern "C" fn bim_device_value(device: &mut DeviceHandle, timeline: u64, value: &mut u64) -> i32
+    ensures { IsLookCall device.old device.new (AnswersValue timeline) result (λ found.
+        value.new ≡ value_or found value.old) }
+{
+    let found = device.value(timeline);
+    store_value(&found, value);
+    number(&found)
+}
+
+/// Stores the least point at which an increment by n would signal a fence of a file, and 0 if it would signal none.
+#[unsafe(no_mangle)]
+pub extern "C" fn bim_device_first_due(
+    device: &mut DeviceHandle,
+    timeline: u64,
+    n: u64,
+    point: &mut u64,
+) -> i32
+    ensures { IsLookCall device.old device.new (AnswersDue timeline n) result (λ found.
+        point.new ≡ due_or found point.old) }
+{
+    let found = device.first_due(timeline, n);
+    store_due(&found, point);
+    number(&found)
+}
+
+/// Stores the point of the fence of a file at an index, and whether it is pending.
+#[unsafe(no_mangle)]
+pub extern "C" fn bim_device_fence_of(
+    device: &mut DeviceHandle,
+    file: u64,
+    index: usize,
+    point: &mut PointRow,
+) -> i32
+    ensures { IsLookCall device.old device.new (AnswersFence file index) result (λ found.
+        point.new ≡ row_or found point.old) }
+{
+    let found = device.fence_of(file, index);
+    store_point(&found, point);
+    number(&found)
 }
 
 /// Takes files that were woken and are still open, in order, as many as there is room for, and returns how many. A

@@ -1,9 +1,10 @@
 //! Information on files and fences as C structs.
 ghost use Rattle.std.specs.Prelude.{◌≡◌, map};
 ghost use Rattle.c_handle.specs.Rows.{over};
+ghost use Rattle.c_device.specs.Looks.{point_row};
 ghost use Rattle.c_device.specs.Reported.{driver_text, fence_row};
 
-use device_core::{Driver, FenceInfo, TEXT_BYTES};
+use device_core::{Driver, Fence, FenceInfo, TEXT_BYTES};
 
 /// A driver name, NUL-terminated and NUL-padded.
 pub const DRIVER_TEXT_BYTES: usize = 8;
@@ -27,12 +28,32 @@ pub struct FileRow {
     pub status: i32,
 }
 
+/// A fence by its point: `struct bim_device_point`.
+#[repr(C)]
+#[derive(Clone, Copy, Drop)]
+pub struct PointRow {
+    pub timeline: u64,
+    pub value: u64,
+    pub is_pending: i32,
+}
+
 /// Stores rows, as many as there is room for.
 pub fn put(fences: &[FenceInfo], rows: &mut [FenceRow])
     ensures { rows.new ≡ over (map fence_row fences.now) rows.old }
 {
     for index in 0..fences.len().min(rows.len()) {
         rows[index] = row_of(&fences[index]);
+    }
+}
+
+#[inline(always)]
+pub fn point_row(fence: &Fence) -> PointRow
+    ensures { result ≡ point_row fence.now }
+{
+    PointRow {
+        timeline: fence.timeline,
+        value: fence.value,
+        is_pending: i32::from(fence.signal.is_none()),
     }
 }
 

@@ -6,9 +6,10 @@ ghost use Rattle.device_core.specs.declared.request.Request.TheVariants as reque
 ghost use Rattle.device_core.specs.Request.{IsAnswer, takes_memory};
 ghost use Rattle.device_core.specs.State.{nothing, objects_of};
 ghost use Rattle.c_handle.specs.Rows.{over};
+ghost use Rattle.c_device.specs.Looks.{AnswersDue, AnswersFence, AnswersValue};
 ghost use Rattle.c_device.specs.Service.{IsStep, AreGiven, may_wake, open_among, woken_of};
 
-use device_core::{Answer, Device, Refusal, Request};
+use device_core::{Answer, Device, Fence, Refusal, Request};
 use std::alloc::Global;
 use std::collections::VecDeque;
 use std::marker::Model;
@@ -56,6 +57,30 @@ impl Service {
         let given = self.device.serve(request);
         keep(&mut self.woken, &given);
         given
+    }
+
+    /// The value of a timeline, as `Device::value`.
+    #[inline(always)]
+    pub fn value(&self, timeline: u64) -> Result<u64, Refusal>
+        ensures { AnswersValue timeline self.now.device result }
+    {
+        self.device.value(timeline)
+    }
+
+    /// The least point at which an increment would signal a fence of a file, as `Device::first_due`.
+    #[inline(always)]
+    pub fn first_due(&self, timeline: u64, n: u64) -> Result<Option<u64>, Refusal>
+        ensures { AnswersDue timeline n self.now.device result }
+    {
+        self.device.first_due(timeline, n)
+    }
+
+    /// The fence of a file at an index, as `Device::fence_of`.
+    #[inline(always)]
+    pub fn fence_of(&self, file: u64, index: usize) -> Result<Fence, Refusal>
+        ensures { AnswersFence file index self.now.device result }
+    {
+        self.device.fence_of(file, index)
     }
 
     /// Takes files that were woken and are still open, in order, as many as there is room for, and returns how many.
