@@ -1,5 +1,5 @@
 -- Pages to which events are added one after another, and which go on to a writer.
-use Rattle.std.proofs.Common.{◌≡◌, ℕ, ◌+◌, List, [], ◌∷◌, ◌++◌, take, Option, refl, sym, ap, ◌∙◌, append_assoc, append-nil, subst}
+use Rattle.std.proofs.Common.{◌≡◌, ℕ, List, [], ◌∷◌, ◌++◌, Option, refl, sym, ap, ◌∙◌, append_assoc, append-nil, subst}
 use Rattle.std.specs.List.{flat_map, filter_map}
 use Rattle.std.specs.Io.KnownBytes.{Appends}
 use Rattle.std.proofs.KnownBytes.{Appends-nil, Appends-trans}
@@ -10,7 +10,7 @@ use Rattle.trace_report.specs.declared.events.event.Slice.{Slice}
 use Rattle.trace_report.specs.declared.events.event.TraceEvent.{TraceEvent}
 use Rattle.trace_report.specs.declared.events.event.TraceEvent.TheVariants as event
 use Rattle.trace_report.specs.declared.events.page.Page.{Page}
-use Rattle.trace_report.specs.TraceEvent.{document, end_text, event_text, head}
+use Rattle.trace_report.specs.TraceEvent.{end_text, event_text, head}
 use Rattle.trace_report.specs.EventPage.{Carries, Grows, Passes, HasWritten, WritesDocument}
 use Rattle.trace_report.specs.Slices.{Shown, slice_in}
 

@@ -1,5 +1,5 @@
 -- No slice ends before it begins.
-use Rattle.std.proofs.Common.{◌≡◌, ℕ, ◌≤◌, max, Bool, true, false, cond, List, [], ◌∷◌, Option, None, Some, All}
+use Rattle.std.proofs.Common.{ℕ, ◌≤◌, max, Bool, true, false, cond, List, [], ◌∷◌, Option, None, Some, All}
 use Rattle.std.proofs.Math.Nat.{le-max_right}
 use Rattle.std.proofs.lemmas.List.Elements.{All-cons, All-nil}
 use Rattle.trace_core.specs.declared.event.Event.{Event}

@@ -1,12 +1,11 @@
 -- The slices of a window's events, as the text is read.
-use Rattle.std.proofs.Common.{◌≡◌, ℕ, Bool, true, false, List, [], ◌∷◌, ◌++◌, Option, None, Some, refl, sym, ap, ◌∙◌, append-nil, subst}
-use Rattle.std.specs.Prelude.{unwrap_or, IfOk, Result, Ok, Err}
+use Rattle.std.proofs.Common.{◌≡◌, ℕ, Bool, true, false, List, [], ◌∷◌, ◌++◌, Option, refl, sym, ap, ◌∙◌, append-nil, subst}
+use Rattle.std.specs.Prelude.{unwrap_or}
 use Rattle.std.specs.List.{IsDistinct}
 use Rattle.std.specs.Map.{keys_of}
 use Rattle.std.proofs.lemmas.Bool.{false≢true}
 use Rattle.trace_core.specs.Item.{Meaning, Event}
 use Rattle.trace_core.specs.Record.{Printed}
-use Rattle.trace_core.specs.declared.names.Names.{Names}
 use Rattle.trace_core.specs.declared.reading.Next.{Next}
 use Rattle.trace_core.specs.declared.reading.Next.TheVariants as next
 use Rattle.trace_core.specs.declared.reading.Reading.{Reading}
@@ -25,7 +24,7 @@ use Rattle.trace_report.specs.declared.events.page.Page.{Page}
 use Rattle.trace_report.specs.declared.events.Written.TheVariants.{Document, NoEvents}
 use Rattle.trace_report.specs.TraceEvent.{head}
 use Rattle.trace_report.specs.EventPage.{Grows, HasWritten, Passes}
-use Rattle.trace_report.specs.Slices.{Shown, slices_during, slices_of, slices_within}
+use Rattle.trace_report.specs.Slices.{slices_during, slices_of, slices_within}
 use Rattle.trace_report.specs.Events.{Adds, EndsTrace, HasAdded, HasAddedAll, HasEachPending, WritesTrace}
 use Rattle.trace_report.proofs.Finding.{is-alive}
 use Rattle.trace_report.proofs.Growing.{has-begun, written-as, written-more, written-passed}

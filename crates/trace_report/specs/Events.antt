@@ -1,5 +1,5 @@
 -- What is written of a trace.
-use Rattle.std.specs.Prelude.{◌≡◌, ⊤, ℕ, true, List, [], ◌++◌, Option, Contains}
+use Rattle.std.specs.Prelude.{◌≡◌, ℕ, true, List, [], ◌++◌, Option, Contains}
 use Rattle.std.specs.List.{IsDistinct}
 use Rattle.trace_core.specs.Item.{Meaning}
 use Rattle.trace_core.specs.Record.{Printed}

@@ -9,7 +9,6 @@ use Rattle.trace_core.specs.declared.pending.PendingKind.{PendingKind}
 use Rattle.trace_core.specs.declared.pending.PendingKind.TheVariants as pending
 use Rattle.trace_core.specs.declared.tracker.Seen.{Seen}
 use Rattle.trace_core.specs.declared.names.Names.{Names}
-use Rattle.trace_core.specs.declared.sighting.FenceKey.{FenceKey}
 use Rattle.trace_core.specs.declared.waits.Wait.{Wait}
 use Rattle.trace_core.specs.declared.window.Span.{Span}
 use Rattle.trace_core.specs.declared.window.Stage.{Stage}

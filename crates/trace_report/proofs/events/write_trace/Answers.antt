@@ -1,5 +1,4 @@
-use Rattle.std.proofs.Common.{◌≡◌, ◌∙◌, sym, arith}
-use Rattle.trace_core.specs.History.{events_in}
+use Rattle.std.proofs.Common.{arith}
 use Rattle.trace_report.proofs.Showing.{no-events, whole}
 use Rattle.trace_report.proofs.events.write_trace.Goals as goal
 

@@ -1,7 +1,5 @@
-use Rattle.std.proofs.Common.{◌≡◌, [], ◌∷◌, ◌∙◌, subst}
-use Rattle.trace_core.specs.Names.{name_or_none}
+use Rattle.std.proofs.Common.{[], ◌∷◌, ◌∙◌, subst}
 use Rattle.trace_report.specs.EventPage.{Grows}
-use Rattle.trace_report.specs.Slices.{Shown, of_fence}
 use Rattle.trace_report.proofs.Growing.{grows-same, grows-then, shown-as}
 use Rattle.trace_report.proofs.events.chart.Chart.add_fence.Goals as goal
 

@@ -1,4 +1,4 @@
-use Rattle.std.proofs.Common.{◌≡◌, [], ◌∷◌, subst}
+use Rattle.std.proofs.Common.{[], ◌∷◌, subst}
 use Rattle.trace_report.specs.EventPage.{Grows}
 use Rattle.trace_report.proofs.Growing.{grows-then, shown-as}
 use Rattle.trace_report.proofs.events.chart.Chart.add_wait.Goals as goal
