@@ -6,7 +6,7 @@ use Rattle.std.specs.declared.thread.PromisedHandle.{PromisedHandle}
 use Rattle.std.proofs.lemmas.List.Elements.{All-head, All-tail}
 use Rattle.std.proofs.lemmas.Option.{none-some, same_Some}
 use Rattle.point_core.specs.declared.refusal.Refusal.{Refusal}
-use Rattle.point_core.specs.declared.refusal.Refusal.TheVariants.{Memory}
+use Rattle.point_core.specs.declared.refusal.Refusal.TheVariants.{Memory, Torn}
 use Rattle.words_core.specs.declared.trace.Step.{Step}
 use Rattle.words_core.specs.Seat.{SeatModel, both_of}
 use Rattle.words_core.specs.Words.{WordsModel}
@@ -14,7 +14,7 @@ use Rattle.resv_core.specs.declared.plan.Act.{Act}
 use Rattle.clients_core.specs.declared.workers.Ended.{Ended}
 use Rattle.clients_core.specs.declared.workers.Loan.{Loan}
 use Rattle.clients_core.specs.Acting.{ClientModel, Puts, Exports}
-use Rattle.clients_core.specs.Working.{AreWorkedOff, AreWorkers, HasEnded, HasKept, HasRefused, HasWorked, HaveEnded, HaveJoined, HaveKept, HaveWorked, IsWorkerOf, answer_of, joined_of, steps_of, steps_of_all}
+use Rattle.clients_core.specs.Working.{AreWorkedOff, AreWorkers, HasEnded, HasFailed, HasKept, HasRefused, HasWorked, HaveEnded, HaveJoined, HaveKept, HaveWorked, IsWorkerOf, answer_of, joined_of, steps_of, steps_of_all}
 
 -- ---- workers that are joined one after another
 
@@ -201,3 +201,23 @@ HasRefused-ended puts exports words plans count before after ended started e mem
   ended = all.ended;
   first = first-refusal ended started all.endings e all.first memory is;
 }
+
+-- the failures of a run whose clients were started
+module _ {T : Type 0} (puts : T → Puts) (exports : T → Exports) (made_for : T → WordsModel) (plans : List (List Act)) (table : T) (words : WordsModel) (own : made_for table ≡ words) (contexts : words.contexts ≡ length plans) where
+  contexts-made : (made_for table).contexts ≡ length plans
+  contexts-made = ap (λ (w : WordsModel). w.contexts) own ∙ contexts
+
+  buffers-made : (made_for table).buffers ≡ words.buffers
+  buffers-made = ap (λ (w : WordsModel). w.buffers) own
+
+  pub HasFailed-refused : {buffers : ℕ} {e : Refusal} → words.buffers ≡ buffers → HasRefused (puts table) (exports table) words plans e
+      → HasFailed puts exports made_for buffers plans e
+  HasFailed-refused {buffers} {e} at refused =
+      inr (table, contexts-made, buffers-made ∙ at, inl (subst (λ (w : WordsModel). HasRefused (puts table) (exports table) w plans e) (sym own) refused))
+
+  pub HasFailed-unsettled : {buffers : ℕ} {e : Refusal} → words.buffers ≡ buffers → (all : SeatModel) → AreWorkedOff (puts table) (exports table) words plans all
+      → (e ≡ Torn) ⊎ (e ≡ Memory) → HasFailed puts exports made_for buffers plans e
+  HasFailed-unsettled {buffers} {e} at all worked cause = elim cause [
+    | inl torn ↦ inr (table, contexts-made, buffers-made ∙ at, inr (torn, (all, subst (λ (w : WordsModel). AreWorkedOff (puts table) (exports table) w plans all) (sym own) worked)))
+    | inr memory ↦ inl memory
+  ]

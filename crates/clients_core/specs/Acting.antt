@@ -39,7 +39,7 @@ abbrev pub KnowPuts : ℕ → List OwnPuts → List Act → Type 0
 KnowPuts contexts own done =
     (buffer : ℕ) (puts : OwnPuts) → slice_get own buffer ≡ Some puts → AreOwnPuts contexts puts (puts_of buffer done)
 
--- what a look is answered, by what the table has listed: Torn where that doesn't show what the client has put
+-- the answer of a look, given the table's: Torn if the listing doesn't show the client's own puts
 abbrev pub judged : ℕ → List Entry → Result Listing Refusal → Result (Unit {0}) Refusal
 judged level own (Ok listed) = if shows_all listed level own then Ok tt else Err Torn
 judged level own (Err refusal) = Err refusal
@@ -48,7 +48,7 @@ judged level own (Err refusal) = Err refusal
 abbrev pub Puts : Type 1
 Puts = ℕ → Entry → SeatModel → SeatModel → Result (Unit {0}) Refusal → Type 0
 
--- the same of a look at a usage
+-- what a table says of a look at a usage, by the seat before it and after it, and the answer
 abbrev pub Exports : Type 1
 Exports = ℕ → Usage → SeatModel → SeatModel → Result Listing Refusal → Type 0
 

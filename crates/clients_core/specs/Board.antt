@@ -40,7 +40,7 @@ place_to level ctx usage = if nat_le (usage_number usage) (usage_number level) t
 abbrev pub places_at : Usage → ℕ → List Place
 places_at level ctx = flat_map (place_to level ctx) (Kernel ∷ Write ∷ Read ∷ Bookkeep ∷ [])
 
--- those of the first contexts, by rising number
+-- the places of the first contexts up to the level, by rising number
 abbrev pub places_to : Usage → ℕ → List Place
 places_to level contexts = flat_map (places_at level) (range_with_len 1 contexts)
 

@@ -1,4 +1,4 @@
--- What clients on threads are given, and what they give back.
+-- Seats, plans and refusals of clients on threads.
 use Rattle.std.specs.Prelude.{◌≡◌, ◌⊎◌, ◌^◌, ◌<◌, ◌≤◌, List, length, All, IfErr}
 use Rattle.point_core.specs.declared.context.TheConstants.{CONTEXTS}
 use Rattle.point_core.specs.declared.refusal.Refusal.{Refusal}
@@ -10,7 +10,7 @@ use Rattle.resv_core.specs.declared.plan.Act.{Act}
 use Rattle.resv_core.specs.Settled.{IsWithin, increments_of}
 use Rattle.clients_core.specs.declared.workers.Ended.{Ended}
 
--- a client's acts fail with one of these alone
+-- a client's acts fail only with one of these
 abbrev pub IsClientRefusal : Refusal → Type 0
 IsClientRefusal e = (e ≡ Exists) ⊎ ((e ≡ TimedOut) ⊎ ((e ≡ Torn) ⊎ (e ≡ Memory)))
 
@@ -26,7 +26,7 @@ IsDriving words driver = IsSinglePart words driver.seat
 abbrev pub IsPlan : WordsModel → List Act → Type 0
 IsPlan words acts = All (IsWithin words.contexts words.buffers) acts × (increments_of acts < 2 ^ 64)
 
--- both seats came back, and no other refusal
+-- both seats came back, and a refusal is one of a client's
 abbrev pub IsGivenBack : WordsModel → Ended → Type 0
 IsGivenBack words ended = IsSinglePart words ended.driving × IsSinglePart words ended.looking × IfErr ended.answer IsClientRefusal
 

@@ -1,4 +1,4 @@
--- What lies under the lock of a buffer, as its callers see it.
+-- The data of a buffer's lock, as callers see it.
 use Rattle.std.specs.Prelude.{ℕ, List}
 use Rattle.point_core.specs.declared.entry.Entry.{Entry}
 

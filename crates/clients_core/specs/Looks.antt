@@ -15,10 +15,10 @@ is_as_late point listed = (listed.ctx == point.ctx) && nat_le point.value listed
 abbrev pub shows_point : Listing → Point → Bool
 shows_point listing point = is_reached listing.floor point || list_any (is_as_late point) listing.points
 
--- it does where the entry is of the usage or a stronger one
+-- the listing shows the entry, if the entry is of the usage or a stronger one
 abbrev pub shows_entry : Listing → ℕ → Entry → Bool
 shows_entry listing usage e = not (nat_le (usage_number e.usage) usage) || shows_point listing e.point
 
--- it does of each entry
+-- the listing shows each entry of the usage or a stronger one
 abbrev pub shows_all : Listing → ℕ → List Entry → Bool
 shows_all listing usage es = list_all (shows_entry listing usage) es

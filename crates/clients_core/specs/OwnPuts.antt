@@ -10,7 +10,7 @@ use Rattle.clients_core.specs.declared.own_puts.OwnPuts.{OwnPuts}
 abbrev pub point_at : OwnPuts → ℕ → ℕ → ℕ
 point_at own usage ctx = slice_index own.latest.items (USAGES * (ctx - 1) + usage)
 
--- for each of so many contexts there are the latest points at each usage or a stronger one; if nothing was put it is 0
+-- for each context up to the count there are the latest points at each usage or a stronger one, 0 if nothing was put
 pub record AreOwnPuts (contexts : ℕ) (own : OwnPuts) (es : List Entry) : Type 0 where
   pub valid : HasContexts es
   pub full : length own.latest.items ≡ USAGES * contexts

@@ -17,7 +17,7 @@ is_within contexts buffers (Inc n) = true
 is_within contexts buffers (Put into point usage) = nat_lt into buffers && nat_le point.ctx contexts
 is_within contexts buffers (Look into usage) = nat_lt into buffers
 
--- each act of each plan is
+-- each act of each plan is on a context and a buffer that there is
 abbrev pub are_within : ℕ → ℕ → List (List Act) → Bool
 are_within contexts buffers plans = list_all (λ acts. list_all (is_within contexts buffers) acts) plans
 
@@ -29,7 +29,7 @@ are_clients count = nat_le 1 count && nat_le count CLIENTS
 abbrev pub has_few_acts : List Act → Bool
 has_few_acts acts = nat_le (length acts) ACTS
 
--- it does not advance its timeline past the greatest value
+-- the plan does not advance its timeline past the greatest value
 abbrev pub never_wraps : List Act → Bool
 never_wraps acts = nat_lt (increments_of acts) (2 ^ 64)
 
@@ -43,6 +43,6 @@ cause_to_refuse_plans buffers plans =
     else if not (list_all never_wraps plans) then Some Overflow
     else None
 
--- the values and tables that the plans alone come to
+-- the values and tables that the plans come to
 abbrev pub settled_of : ℕ → List (List Act) → Settled
 settled_of buffers plans = record { values = values_of plans; tables = tables_of buffers plans (values_of plans) }

@@ -1,9 +1,9 @@
 -- Clients that have worked their plans off, and the promises of their threads.
-use Rattle.std.specs.Prelude.{◌≡◌, ◌⊎◌, ℕ, ◌+◌, List, [], ◌∷◌, ◌++◌, Some, slice_get, Result, Ok, Err, OnOk}
+use Rattle.std.specs.Prelude.{◌≡◌, ◌⊎◌, ℕ, ◌+◌, List, [], ◌∷◌, ◌++◌, length, Some, slice_get, Result, Ok, Err, OnOk}
 use Rattle.std.specs.Result.{result_and}
 use Rattle.std.specs.declared.thread.PromisedHandle.{PromisedHandle}
 use Rattle.point_core.specs.declared.refusal.Refusal.{Refusal}
-use Rattle.point_core.specs.declared.refusal.Refusal.TheVariants.{Memory}
+use Rattle.point_core.specs.declared.refusal.Refusal.TheVariants.{Memory, Torn}
 use Rattle.words_core.specs.declared.trace.Step.{Step}
 use Rattle.words_core.specs.Driver.{DriverModel}
 use Rattle.words_core.specs.Layout.{claim_word}
@@ -36,7 +36,7 @@ abbrev pub HasWorked : Puts → Exports → WordsModel → ℕ → List Act → 
 HasWorked puts exports words number plan after =
     (before : ClientModel) × HasClaimed words number before × HaveActed puts exports [] plan before after
 
--- each plan was worked off, by the client of its number, which is this one for the first
+-- each plan was worked off, by the client of its number; `number` is the first client's
 abbrev pub HaveWorked : Puts → Exports → WordsModel → ℕ → List (List Act) → List ClientModel → Type 0
 HaveWorked puts exports words number [] [] = Unit {0}
 HaveWorked puts exports words number [] (c ∷ cs) = ⊥
@@ -96,7 +96,7 @@ HaveKept puts exports [] (e ∷ es) = ⊥
 HaveKept puts exports (w ∷ ws) [] = ⊥
 HaveKept puts exports (w ∷ ws) (e ∷ es) = HasKept puts exports w e × HaveKept puts exports ws es
 
--- the refusal of the first that was refused, if one was
+-- the refusal of the first client that was refused, if one was
 abbrev pub answer_of : List Ended → Result (Unit {0}) Refusal
 answer_of [] = Ok tt
 answer_of (e ∷ es) = result_and e.answer (answer_of es)
@@ -106,7 +106,7 @@ abbrev pub joined_of : SeatModel → List Ended → SeatModel
 joined_of seat [] = seat
 joined_of seat (e ∷ es) = joined_of (both_of (both_of seat e.driving) e.looking) es
 
--- all workers were joined, in order: the seat has taken in what they gave back, and the answer is of the first that was refused
+-- all workers were joined, in order: the seat has taken in their seats, and the answer is the first refusal
 pub record HaveJoined {T : Type 0} (puts : T → Puts) (exports : T → Exports) (workers : List (PromisedHandle Ended (Loan T)))
     (before after : SeatModel) (answer : Result (Unit {0}) Refusal) : Type 0 where
   pub endings : List Ended
@@ -114,16 +114,25 @@ pub record HaveJoined {T : Type 0} (puts : T → Puts) (exports : T → Exports)
   pub seat : after ≡ joined_of before endings
   pub first : answer ≡ answer_of endings
 
--- the clients of the first of these plans have ended so; the number is that of the first
+-- the clients of the first of these plans have ended so; `number` is the first client's
 abbrev pub HaveEnded : Puts → Exports → WordsModel → ℕ → List (List Act) → List Ended → Type 0
 HaveEnded puts exports words number plans [] = Unit {0}
 HaveEnded puts exports words number [] (e ∷ es) = ⊥
 HaveEnded puts exports words number (plan ∷ plans) (e ∷ es) =
     HasEnded puts exports words number plan e × HaveEnded puts exports words (number + 1) plans es
 
--- clients were started, in the order of the plans; the refusal is that of the first of them that was refused, or else memory was
--- refused to start the next
+-- clients were started, in the order of the plans; the refusal is the first refused client's, or else memory was refused to start
+-- the next client
 pub record HasRefused (puts : Puts) (exports : Exports) (words : WordsModel) (plans : List (List Act)) (refusal : Refusal) : Type 0 where
   pub endings : List Ended
   pub ended : HaveEnded puts exports words 1 plans endings
   pub first : (answer_of endings ≡ Err refusal) ⊎ ((answer_of endings ≡ Ok tt) × (refusal ≡ Memory))
+
+-- Why a run whose plans have no cause of refusal fails. Memory was refused; or on a table made for the plans a client was refused,
+-- and of the refused clients the one with the least number was refused so; or all plans were worked off, and the table is torn
+abbrev pub HasFailed : {T : Type 0} → (T → Puts) → (T → Exports) → (T → WordsModel) → ℕ → List (List Act) → Refusal → Type 0
+HasFailed {T} puts exports made_for buffers plans refusal =
+    (refusal ≡ Memory)
+    ⊎ ((table : T) × ((made_for table).contexts ≡ length plans) × ((made_for table).buffers ≡ buffers)
+    × (HasRefused (puts table) (exports table) (made_for table) plans refusal
+    ⊎ ((refusal ≡ Torn) × ((all : SeatModel) × AreWorkedOff (puts table) (exports table) (made_for table) plans all))))

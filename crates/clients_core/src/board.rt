@@ -79,10 +79,10 @@ impl Board {
         Ok(listing)
     }
 
-    /// The same look, into a listing that its caller keeps for many looks: what it had goes. Its list takes memory only if
-    /// there is no room in it for a point of each context of the words.
+    /// Like `export`, into a listing that the caller reuses. Its list grows only if it has no room for a point of each context
+    /// of the words.
     ///
-    /// Fails only with `Memory`. Nothing is said of the listing then.
+    /// Fails only with `Memory`, and then the listing is unspecified.
     pub fn export_into(
         &self,
         alloc: Global,
@@ -207,7 +207,7 @@ impl SharedTable for Board {
 }
 
 /// The latest point that a buffer shows of each context up to the level, if it is above the reach, by one look at each
-/// place. What the list had goes.
+/// place. The list is cleared first.
 ///
 /// Fails only with `Memory`, before the first look.
 fn latest_shown(

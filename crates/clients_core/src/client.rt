@@ -1,4 +1,4 @@
-// What one client does.
+// One client: its acts, in order.
 ghost use Rattle.std.specs.Prelude.{◌≡◌, ◌+◌, ◌^◌, ◌<◌, ◌≤◌, ◌⊎◌, ◌++◌, ◌∷◌, [], length, All, IfErr, OnOk, List, Result};
 ghost use Rattle.point_core.specs.declared.entry.Entry.{Entry};
 ghost use Rattle.point_core.specs.declared.listing.Listing.{Listing};

@@ -1,5 +1,5 @@
 // Clients on threads against shared buffers.
-ghost use Rattle.std.specs.Prelude.{◌≡◌, ℕ, ◌<◌, ◌≤◌, map, length, None, ◌↔◌, IsTrue, IfErr, IfOk, IfSome};
+ghost use Rattle.std.specs.Prelude.{◌≡◌, ◌⊎◌, ℕ, ◌<◌, ◌≤◌, map, length, None, ◌↔◌, IsTrue, IfErr, IfOk, IfSome};
 ghost use Rattle.std.specs.List.{range_with_len};
 ghost use Rattle.point_core.specs.declared.context.TheConstants.{CONTEXTS};
 ghost use Rattle.point_core.specs.Reach.{value_at};
@@ -8,7 +8,7 @@ ghost use Rattle.words_core.specs.Seat.{SeatModel};
 ghost use Rattle.resv_core.specs.Settled.{increments_of, values_of};
 ghost use Rattle.clients_core.specs.Clients.{IsClientRefusal, ArePlans};
 ghost use Rattle.clients_core.specs.Plans.{cause_to_refuse_plans, settled_of};
-ghost use Rattle.clients_core.specs.Working.{AreWorkedOff};
+ghost use Rattle.clients_core.specs.Working.{AreWorkedOff, HasFailed};
 
 use crate::gate::Gate;
 use crate::gathered::gathered;
@@ -49,6 +49,8 @@ pub fn run_clients<R: Threads + Wait + Sync, T: SharedTable, G: Gate>(
         × AreWorkedOff (T.puts r.1) (T.exports r.1) (T.made_for r.1) plans.now all) }
     ensures refused { IfSome (cause_to_refuse_plans buffers plans.now) (λ e. result ≡ Err e) }
     ensures started { cause_to_refuse_plans buffers plans.now ≡ None → IfErr result IsClientRefusal }
+    ensures first { cause_to_refuse_plans buffers plans.now ≡ None →
+        IfErr result (HasFailed T.puts T.exports T.made_for buffers plans.now) }
 {
     check_plans(buffers, plans)?;
     let (words, all) = Words::new(alloc, plans.len(), buffers, 0)?;
@@ -60,7 +62,7 @@ pub fn run_clients<R: Threads + Wait + Sync, T: SharedTable, G: Gate>(
 
 /// Gathers the seat and settles the table.
 ///
-/// Fails with `Torn`, if a context's value is not what its plan adds up to, and as the table's `settle`.
+/// Fails with `Torn` if a context's value is not what its plan adds up to, and as the table's `settle` does.
 fn settle<R: Wait, T: SharedTable>(
     rt: &R,
     alloc: Global,
@@ -73,7 +75,7 @@ fn settle<R: Wait, T: SharedTable>(
     requires whole { all.parts ≡ PARTS }
     requires plans { ArePlans words.now plans.now }
     ensures settled { IfOk result (λ settled. settled ≡ settled_of words.now.buffers plans.now) }
-    ensures refusals { IfErr result IsClientRefusal }
+    ensures refusals { IfErr result (λ e. (e ≡ Refusal.Torn) ⊎ (e ≡ Refusal.Memory)) }
 {
     let Ok(mut all) = all.gather() else {
         unreachable!()

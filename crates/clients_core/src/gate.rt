@@ -1,7 +1,7 @@
-// What lets a client's acts begin.
+// `Gate`: the caller's hook before and after each act.
 ghost use Rattle.std.specs.Prelude.{◌≡◌, true};
 
-/// Stands round every act of every client. Clients are numbered from 1, and the acts of each from 0.
+/// Is called before and after every act of every client. Clients are numbered from 1, and the acts of each from 0.
 pub trait Gate: Sync {
     /// Before an act. If it is false, the client ends there with `TimedOut`.
     fn enter(&self, client: usize, act: usize) -> bool;

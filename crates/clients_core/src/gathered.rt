@@ -11,7 +11,7 @@ use point_core::{Context, Point, Reach, Refusal};
 use std::alloc::Global;
 use words_core::{Whole, Words};
 
-/// The value of each context, by one load each. Those past the last context are 0.
+/// The value of each context, by one load each; 0 past the last context.
 pub(crate) fn gathered(words: &Words, all: &mut Whole) -> Reach
     requires own { all.old.words ≡ words.now }
     ensures stepped { HasStepped all.old all.new }
@@ -29,9 +29,9 @@ pub(crate) fn gathered(words: &Words, all: &mut Whole) -> Reach
     reach
 }
 
-/// The same values, if no context is closed.
+/// Like `gathered`, if no context is closed.
 ///
-/// Fails with `Torn` if one is: a floor that was loaded then is the greatest value, above the gathered one.
+/// Fails with `Torn` if a context is closed: a floor that was loaded then is the greatest value, above the gathered one.
 pub(crate) fn gathered_open(words: &Words, all: &mut Whole) -> Result<Reach, Refusal>
     requires own { all.old.words ≡ words.now }
     ensures stepped { HasStepped all.old all.new }

@@ -1,7 +1,7 @@
 //! Clients on threads against shared buffers.
 //!
-//! A shared buffer lies under a lock, whose type keeps what is known each time that the lock is taken: the entries
-//! that are kept say the same above the floor as all that was ever put.
+//! A locked buffer has an invariant, which is known each time that its lock is taken: its entries agree above its floor
+//! with all that was ever put.
 #![tactic(auto)]
 
 mod board;

@@ -1,4 +1,4 @@
-// What lies under the lock of a buffer.
+// A buffer, as the data of its lock.
 ghost use Rattle.std.specs.Prelude.{◌≡◌, ◌⊎◌, ◌++◌, ◌∷◌, [], Ok, Err, IfErr, IfOk, IsErr, OnErr, OnOk, ◌↔◌, replicate};
 ghost use Rattle.point_core.specs.declared.context.TheConstants.{CONTEXTS};
 ghost use Rattle.point_core.specs.declared.refusal.Refusal.TheVariants as refusal;
@@ -94,8 +94,7 @@ impl LockedBuffer {
         })
     }
 
-    /// The same points as `export` lists, into a list that is kept, by a table that is kept: what both had goes. The reach is
-    /// their floor.
+    /// Like `export`, into a list and by a table that the caller reuses. The reach is the points' floor.
     ///
     /// Fails as `put` does.
     pub(crate) fn export_into(

@@ -41,7 +41,7 @@ impl Model for LockedTable {
 impl SharedTable for LockedTable {
     ghost made_for = { λ table. table };
 
-    // What happens under a lock is no step on words: the one load of all values is all that the seat's trace has of it.
+    // A call under a lock makes no step on words but one load of all values, so the seat's trace has only that.
     ghost puts = { λ table buffer e before after answer. HasLoadedAll before after (reach_seen after) };
 
     ghost exports = { λ table buffer usage before after answer. HasLoadedAll before after (reach_seen after) };
@@ -124,7 +124,7 @@ impl SharedTable for LockedTable {
     }
 }
 
-/// What lies under a lock: a buffer, and the tables by which a put and a look go, which are kept for the next.
+/// The data of a lock: a buffer, and the tables that its puts and looks reuse.
 #[derive(Drop)]
 struct Locked {
     buffer: LockedBuffer,
@@ -164,7 +164,7 @@ impl Locked {
         self.buffer.put(point, usage, &self.loaded)
     }
 
-    /// The pending points above values that are loaded in this call, which are the listing's floor. What it had goes.
+    /// The pending points above values that are loaded in this call, which are the listing's floor. The listing is cleared first.
     fn export(
         &mut self,
         alloc: Global,

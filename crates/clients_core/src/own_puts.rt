@@ -1,4 +1,4 @@
-// What a client has put into a buffer, for its looks there.
+// A client's own puts into a buffer, which its looks there must show.
 ghost use Rattle.std.specs.Prelude.{◌≡◌, ℕ, ◌+◌, ◌*◌, ◌<◌, ◌≤◌, ◌↔◌, ◌++◌, ◌∷◌, [], true, All, List, IsTrue, length, IfErr, IfOk, vec_len};
 ghost use Rattle.std.specs.List.{list_any};
 ghost use Rattle.point_core.specs.declared.context.TheConstants.{CONTEXTS};
@@ -116,7 +116,7 @@ fn is_as_late(point: &Point, listed: &Point) -> bool
     listed.ctx == point.ctx && point.value <= listed.value
 }
 
-/// For each buffer that nothing was put.
+/// No puts, for each buffer.
 pub(crate) fn no_puts(
     alloc: Global,
     buffers: usize,

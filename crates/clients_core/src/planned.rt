@@ -21,7 +21,7 @@ pub(crate) fn planned_tops(buffer: usize, plans: &[Plan], reach: &Reach) -> Tops
     tops
 }
 
-/// Puts what the last round puts: no point of a round before it is later than its own.
+/// Puts the entries of the last round: no point of an earlier round is later.
 fn put_plan(tops: &mut Tops, buffer: usize, plan: &Plan)
     ensures tops { TakesIn (puts_of buffer plan.now) tops.old tops.new }
 {

@@ -9,12 +9,12 @@ ghost use Rattle.resv_core.specs.Settled.{increment_by, increments_of};
 use point_core::{BUFFERS, LimitKind, Refusal};
 use resv_core::{Act, Plan};
 
-/// The most clients.
+/// Limit of clients.
 pub const CLIENTS: usize = 8;
 
 const _: () = prove!(CLIENTS == 8);
 
-/// The most acts of a plan.
+/// Limit of a plan's acts.
 pub const ACTS: usize = 65_536;
 
 const _: () = prove!(ACTS == 65_536);
@@ -57,7 +57,7 @@ fn are_within(plans: &[Plan], contexts: usize, buffers: usize) -> bool
         .all(|plan| is_plan_within(plan, contexts, buffers))
 }
 
-/// Whether each act of the plan is. Every round has the same contexts and buffers.
+/// Whether each act of the plan is on a context and a buffer that there is. Every round has the same contexts and buffers.
 fn is_plan_within(plan: &Plan, contexts: usize, buffers: usize) -> bool
     ensures { result ≡ list_all (is_within contexts buffers) plan.now }
 {

@@ -9,7 +9,7 @@ use point_core::{Context, Point, Refusal, Usage};
 use resv_core::{Act, Plan};
 use std::alloc::Global;
 
-/// The most rounds of a run.
+/// Limit of rounds of a run.
 pub const ROUNDS: u64 = 10_000;
 
 const _: () = prove!(ROUNDS == 10_000);
@@ -60,7 +60,7 @@ pub fn plans_of_rounds(alloc: Global, clients: usize, rounds: u64) -> Result<Vec
     Ok(plans)
 }
 
-/// What a client does in each round.
+/// A client's acts in each round.
 fn client_round(client: Context, next: Context) -> [Act; ROUND_ACTS]
     ensures acts { result ≡ client_round client next }
 {

@@ -17,7 +17,7 @@ use std::thread;
 use std::thread::{Promise, PromisedHandle, Scope, Threads};
 use words_core::{Seat, Words};
 
-/// What a worker gives back: its two seats, and how its acts ended.
+/// The result of a worker: its two seats, and how its acts ended.
 #[derive(Drop)]
 pub(crate) struct Ended {
     pub driving: Seat,
@@ -168,7 +168,7 @@ fn start_others<'s, E, R: Wait + Sync, T: SharedTable, G: Gate>(
     Ok(())
 }
 
-/// Joins the workers and takes their seats in. The refusal is that of the first that was refused.
+/// Joins the workers and takes their seats in. Fails with the refusal of the first worker that was refused.
 fn join_all<R: Threads, T: SharedTable>(
     rt: &R,
     words: &Words,

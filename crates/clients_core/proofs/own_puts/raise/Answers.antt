@@ -1,4 +1,4 @@
-use Rattle.clients_core.proofs.OwnLatest.{AreRaised-more, AreRaised-none}
+use Rattle.clients_core.proofs.OwnLatest.{AreRaised-none}
 use Rattle.clients_core.proofs.own_puts.raise.Goals as goal
 
 pub loop-place-init : goal.loop-place-init

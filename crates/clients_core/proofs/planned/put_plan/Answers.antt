@@ -2,7 +2,7 @@ use Rattle.std.proofs.Common.{List, subst}
 use Rattle.resv_core.specs.declared.plan.Act.{Act}
 use Rattle.resv_core.specs.Settled.{puts_of}
 use Rattle.clients_core.specs.Board.{TakesIn}
-use Rattle.clients_core.proofs.LastRound.{TakesIn-last, TakesIn-no_rounds}
+use Rattle.clients_core.proofs.LastRound.{TakesIn-last}
 use Rattle.clients_core.proofs.planned.put_plan.Goals as goal
 
 pub returns-then-round-gt0 : goal.returns-then-round-gt0
